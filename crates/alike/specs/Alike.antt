@@ -22,17 +22,20 @@ IsIdle H = (machine : Name) → in_work_on H machine ≡ None
 pub record IsSameReel (H H' : History) (reel : Name) : Type 0 where
   pub part : part_of H reel ≡ part_of H' reel
   pub lot : lot_of H reel ≡ lot_of H' reel
-  pub moisture : option_map (λ (r : Receipt). r.moisture) (receipt_of H reel) ≡ option_map (λ (r : Receipt). r.moisture) (receipt_of H' reel)
+  pub moisture : option_map (λ (r : Receipt). r.moisture) (receipt_of H reel) ≡ option_map
+      (λ (r : Receipt). r.moisture) (receipt_of H' reel)
   pub unbaked : is_unbaked H reel ≡ is_unbaked H' reel
   pub out : is_some (out_since H reel) ≡ is_some (out_since H' reel)
-  pub minutes : is_unbaked H reel ≡ false → (minute : ℕ) → now_of H ≤ minute → minutes_left H reel minute ≡ minutes_left H' reel minute
+  pub minutes : is_unbaked H reel ≡ false → (minute : ℕ)
+      → now_of H ≤ minute → minutes_left H reel minute ≡ minutes_left H' reel minute
 
 -- The new desk, whose history is H', was begun as the old one, whose history is H, ended.
 pub record AreAlike (H H' : History) : Type 0 where
   pub minute : desk_minute H ≡ desk_minute H'
   -- The setup.
   pub parts : (part : Name) → is_part H part ≡ is_part H' part
-  pub alternates : (part alternate : Name) → is_alternate H part alternate ≡ is_alternate H' part alternate
+  pub alternates : (part alternate : Name)
+      → is_alternate H part alternate ≡ is_alternate H' part alternate
   pub sheets : (product machine : Name) → sheet_of H product machine ≡ sheet_of H' product machine
   pub selections : (machine : Name) → selected_on H machine ≡ selected_on H' machine
   -- The work.
@@ -45,4 +48,5 @@ pub record AreAlike (H H' : History) : Type 0 where
   pub reels : (reel : Name) → 0 < left_of H reel → IsSameReel H H' reel
   -- The new desk knows no board and no reel that the old one doesn't.
   pub boards_known : (board : Name) → is_started H' board ≡ true → is_started H board ≡ true
-  pub reels_known : (reel : Name) → is_some (receipt_of H' reel) ≡ true → is_some (receipt_of H reel) ≡ true
+  pub reels_known : (reel : Name) → is_some (receipt_of H' reel) ≡ true
+      → is_some (receipt_of H reel) ≡ true

@@ -29,7 +29,8 @@ quantity_of H reel = option_map_or (λ (r : Receipt). r.quantity) (receipt_of H 
 -- The desk with history H' was begun as the one with history H ended. Each carried reel was received with the pieces that were left.
 pub record Carries (H H' : History) : Type 0 where
   pub alike : AreAlike H H'
-  pub quantities : (reel : Name) → is_some (receipt_of H' reel) ≡ true → quantity_of H' reel ≡ left_of H reel
+  pub quantities : (reel : Name) → is_some (receipt_of H' reel) ≡ true
+      → quantity_of H' reel ≡ left_of H reel
 
 -- The file follows the older ones, newest first. The desk of the first file was begun empty.
 abbrev pub Follows : DeskFile → List DeskFile → Type 0
@@ -39,7 +40,8 @@ Follows file (before ∷ older) = Carries before.whole file.begun
 -- The files of a line, newest first as the entries of a history.
 abbrev pub IsChain : List DeskFile → Type 0
 IsChain [] = ⊤
-IsChain (file ∷ older) = IsJudged file.rules file.whole × IsPrefix file.begun file.whole × Follows file older × IsChain older
+IsChain (file ∷ older) = IsJudged file.rules file.whole × IsPrefix file.begun file.whole
+    × Follows file older × IsChain older
 
 -- ---- the pieces of a reel
 
@@ -70,7 +72,8 @@ left_over (file ∷ older) reel = left_of file.whole reel
 -- the newest file doesn't know the reel.
 abbrev pub receipt_over : List DeskFile → Name → Option Receipt
 receipt_over [] reel = None
-receipt_over (file ∷ older) reel = if is_some (receipt_of file.begun reel) then receipt_over older reel else receipt_of file.whole reel
+receipt_over (file ∷ older) reel = if is_some (receipt_of file.begun reel)
+    then receipt_over older reel else receipt_of file.whole reel
 
 -- The part and the lot of a receipt, which a placement keeps.
 abbrev pub origin : Receipt → Name × Name
@@ -83,12 +86,15 @@ lot_over files reel = option_map_or (λ (r : Receipt). r.lot) (receipt_over file
 -- The board and the lot of each placed piece. Its lot is the one with which its reel came to the line.
 abbrev pub pieces_over : List DeskFile → List (Name × Name)
 pieces_over [] = []
-pieces_over (file ∷ older) = map (λ (p : Placement). (p.board, lot_over (file ∷ older) p.reel)) (placements_of file.whole) ++ pieces_over older
+pieces_over (file ∷ older) = map (λ (p : Placement). (p.board, lot_over (file ∷ older) p.reel))
+    (placements_of file.whole) ++ pieces_over older
 
 -- The lots with a piece on the board.
 abbrev pub lots_over : List DeskFile → Name → List Name
-lots_over files board = set_of (map (λ (b, l). l) (filter (λ (b, l). same b board) (pieces_over files)))
+lots_over files board =
+    set_of (map (λ (b, l). l) (filter (λ (b, l). same b board) (pieces_over files)))
 
 -- The boards with a piece from the lot.
 abbrev pub boards_over : List DeskFile → Name → List Name
-boards_over files lot = set_of (map (λ (b, l). b) (filter (λ (b, l). same l lot) (pieces_over files)))
+boards_over files lot =
+    set_of (map (λ (b, l). b) (filter (λ (b, l). same l lot) (pieces_over files)))

@@ -24,13 +24,16 @@ ghost use Rattle.alike.specs.Past.{NamesNothingPast};
 /// Repeats of a UniqueID and the greatest number are the owner's matter, so replies do not depend on them
 /// here.
 pub fn alike_desks_answer_alike()
-    ensures replies { (rules : Rules) (H H' : History) (commands : List Stamped) → IsJudged rules H → IsJudged rules H'
+    ensures replies { (rules : Rules) (H H' : History) (commands : List Stamped)
+        → IsJudged rules H → IsJudged rules H'
         → AreAlike H H' → All IsStamped commands
         → All (λ (s : Stamped). NamesNothingPast H s.command) commands
         → replies_to rules H commands ≡ replies_to rules H' commands }
-    ensures alike { (rules : Rules) (H H' : History) (commands : List Stamped) → IsJudged rules H → IsJudged rules H'
+    ensures alike { (rules : Rules) (H H' : History) (commands : List Stamped)
+        → IsJudged rules H → IsJudged rules H'
         → AreAlike H H' → All IsStamped commands
-        → All (λ (s : Stamped). NamesNothingPast H s.command) commands → IsIdle (after_commands rules H commands)
+        → All (λ (s : Stamped). NamesNothingPast H s.command) commands
+        → IsIdle (after_commands rules H commands)
         → AreAlike (after_commands rules H commands) (after_commands rules H' commands) }
 {}
 
@@ -47,14 +50,16 @@ pub fn alike_desks_chain()
 /// the line too.
 pub fn chain_pieces_balance()
     ensures { (files : List DeskFile) (reel : Name) → IsChain files
-        → received_over files reel ≡ placed_over files reel + scrapped_over files reel + left_over files reel }
+        → received_over files reel
+        ≡ placed_over files reel + scrapped_over files reel + left_over files reel }
 {}
 
 /// Each placed piece of the newest file has the part and the lot with which its reel came to the line, in
 /// whichever file that was. So do those of an older file, by the chain up to it.
 pub fn chain_keeps_receipts()
     ensures { (file : DeskFile) (older : List DeskFile) → IsChain (file ∷ older)
-        → All (λ (p : Placement). option_map origin (receipt_over (file ∷ older) p.reel) ≡ Some (p.part, p.lot))
+        → All (λ (p : Placement). option_map origin (receipt_over (file ∷ older) p.reel)
+        ≡ Some (p.part, p.lot))
         (placements_of file.whole) }
 {}
 

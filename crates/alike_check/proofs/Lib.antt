@@ -1,5 +1,6 @@
 pub mod Covered
 pub mod EqualLists
+pub mod Refuted
 pub mod SameMinutes
 pub mod SameReels
 pub mod SameRows
@@ -7,4 +8,3 @@ pub mod SameSheets
 pub mod SameSlots
 pub mod SameTables
 pub mod StartedBoards
-pub mod Unlike

@@ -1,6 +1,6 @@
 -- Reels of two histories, by their views.
 use Rattle.std.specs.Prelude.{◌≢◌}
-use Rattle.std.proofs.Common.{◌≡◌, ◌<◌, Bool, true, false, is_some, Option, Some, None, [], refl, sym, ap, subst, ◌∙◌, arith}
+use Rattle.std.proofs.Common.{◌≡◌, ℕ, ◌+◌, ◌-◌, ◌<◌, Bool, true, false, is_some, Option, Some, None, [], refl, sym, ap, subst, ◌∙◌, arith}
 use Rattle.std.specs.Prelude.{if◌then◌else◌}
 use Rattle.std.specs.Option.{option_and_then, option_map, option_map_or}
 use Rattle.desk_types.specs.declared.command.Receipt.{Receipt}
@@ -12,16 +12,17 @@ use Rattle.desk_types.specs.Id.{Name}
 use Rattle.desk_types.specs.Level.{LevelWithLabel, limit_of}
 use Rattle.desk_types.specs.History.{History, now_of}
 use Rattle.desk_types.specs.Setup.{receipt_of}
-use Rattle.desk_types.specs.Pieces.{left_of}
+use Rattle.desk_types.specs.Pieces.{left_of, found_of}
 use Rattle.desk_types.specs.FloorLife.{out_since, floor_life, minutes_left, is_unbaked}
 use Rattle.desk_types.specs.View.{part_of, lot_of, view_of, reel_view, life_left}
 use Rattle.desk_types.specs.Judged.{IsJudged}
 use Rattle.desk_laws.proofs.Balance.{unreceived-empty}
 use Rattle.alike.specs.Alike.{IsSameReel}
+use Rattle.alike.specs.Chain.{quantity_of}
 use Rattle.alike_check.specs.declared.difference.Difference.{Difference}
-use Rattle.alike_check.specs.declared.difference.Difference.TheVariants.{Minute, Part, Alternate, Sheet, Selection, OldWork, NewWork, Board, Reel, Remaining, ReelPart, Lot, Level, Open, Life, Slot}
+use Rattle.alike_check.specs.declared.difference.Difference.TheVariants.{Minute, Part, Alternate, Sheet, Selection, OldWork, NewWork, Board, Reel, Remaining, Received, ReelPart, Lot, Level, Open, Life, Slot}
 use Rattle.alike_check.specs.Difference.{Changes, IsDifference, IsViewDifference, AreViewsDifferent}
-use Rattle.alike_check.specs.Views.{IsSameView, IsCarried}
+use Rattle.alike_check.specs.Views.{IsSameView, IsCarried, quantity_in}
 use Rattle.alike_check.proofs.SameMinutes.{minutes-same, life-parts}
 
 -- The reel was received, and this is its view.
@@ -36,6 +37,14 @@ received H reel view is = by (receipt_of H reel) refl is
     by : (said : Option Receipt) → receipt_of H reel ≡ said → option_map (view_of H reel) said ≡ Some view → IsReceived H reel view
     by None says is = cc
     by (Some receipt) says is = record { receipt = receipt; is = says; view_is = ap (λ o. option_map_or (λ (v : ReelView). v) o view) is }
+
+without-found : (q f n : ℕ) → (q + f) - f ≡ n → q ≡ n
+without-found q f n is = omega (arith, is)
+
+quantity-by : (H : History) (reel : Name) (view : ReelView) → reel_view H reel ≡ Some view → quantity_of H reel ≡ quantity_in view
+quantity-by H reel view is =
+    let it = received H reel view is in
+    without-found (quantity_of H reel) (found_of H reel) (quantity_in view) (ap quantity_in it.view_is)
 
 unreceived : (H : History) (reel : Name) → reel_view H reel ≡ None → receipt_of H reel ≡ None
 unreceived H reel is = by (receipt_of H reel) is
@@ -82,6 +91,7 @@ pub record IsReelCarried (H H' : History) (reel : Name) : Type 0 where
   pub left : left_of H reel ≡ left_of H' reel
   pub same : 0 < left_of H reel → IsSameReel H H' reel
   pub known : is_some (receipt_of H' reel) ≡ true → is_some (receipt_of H reel) ≡ true
+  pub quantity : is_some (receipt_of H' reel) ≡ true → quantity_of H' reel ≡ left_of H reel
 
 pub carried : (H H' : History) (reel : Name) → IsJudged Two H → IsJudged Two H' → now_of H ≡ now_of H' → IsCarried (reel_view H reel) (reel_view H' reel) → IsReelCarried H H' reel
 carried H H' reel judged judged' now = by (reel_view H reel) (reel_view H' reel) refl refl
@@ -101,6 +111,7 @@ carried H H' reel judged judged' now = by (reel_view H reel) (reel_view H' reel)
           left = old ∙ sym new;
           same = λ some. absurd (omega (arith, old, some));
           known = absent (receipt_of H' reel) (unreceived H' reel is_w);
+          quantity = absent (receipt_of H' reel) (unreceived H' reel is_w);
         }
     by None (Some w) is_v is_w is = absurd is
     by (Some v) None is_v is_w is =
@@ -110,14 +121,16 @@ carried H H' reel judged judged' now = by (reel_view H reel) (reel_view H' reel)
           left = old ∙ is ∙ sym new;
           same = λ some. absurd (omega (arith, old, is, some));
           known = absent (receipt_of H' reel) (unreceived H' reel is_w);
+          quantity = absent (receipt_of H' reel) (unreceived H' reel is_w);
         }
     by (Some v) (Some w) is_v is_w is =
         let old = pieces H v is_v in
         let new = pieces H' w is_w in
         record {
           left = old ∙ is.0 ∙ sym new;
-          same = λ some. same-reel H H' reel v w judged judged' now is_v is_w (is.1 (omega (arith, old, some)));
+          same = λ some. same-reel H H' reel v w judged judged' now is_v is_w (is.2 (omega (arith, old, some)));
           known = λ _. ap is_some (received H reel v is_v).is;
+          quantity = λ _. quantity-by H' reel w is_w ∙ is.1 ∙ sym old;
         }
 
 -- ---- alike histories
@@ -172,6 +185,9 @@ reel-difference H H' reel d judged judged' = by (reel_view H reel) (reel_view H'
     views : (d : Difference) (v w : ReelView) → reel_view H reel ≡ Some v → reel_view H' reel ≡ Some w → IsViewDifference reel v w d → IsDifference H H' d
     views (Remaining r old new) v w is is' (same, change) =
         subst (λ x. Changes (left_of H x) (left_of H' x) old new) (sym same) (changes _ _ _ _ old new (pieces H v is) (pieces H' w is') change)
+    views (Received r old new) v w is is' (same, change) =
+        subst (λ x. (is_some (receipt_of H' x) ≡ true) × Changes (left_of H x) (quantity_of H' x) old new) (sym same)
+        (ap is_some (received H' reel w is').is, changes _ _ _ _ old new (pieces H v is) (quantity-by H' reel w is') change)
     views (ReelPart r old new) v w is is' (same, some, change) =
         subst (λ x. (0 < left_of H x) × Changes (part_of H x) (part_of H' x) old new) (sym same)
         (subst (λ n. 0 < n) (sym (pieces H v is)) some, changes _ _ _ _ old new (part H v is) (part H' w is') change)

@@ -1,5 +1,6 @@
 -- Slots of a history, by the rows of mounted reels.
 use Rattle.std.proofs.Common.{◌≡◌, ℕ, Bool, true, false, cond, is_some, Option, Some, None, List, [], ◌∷◌, refl, ap, subst, ◌∙◌}
+use Rattle.std.specs.List.{slice_get}
 use Rattle.std.specs.List.{AllByRecursion, list_any}
 use Rattle.std.specs.Map.{lookup}
 use Rattle.std.specs.Option.{option_map, option_map_or}
@@ -11,27 +12,34 @@ use Rattle.desk_types.specs.History.{History}
 use Rattle.desk_types.specs.Pieces.{live_on, first}
 use Rattle.desk_types.specs.Tables.{Tables, tables_of, mount_row}
 use Rattle.desk_types.specs.Judged.{IsJudged}
-use Rattle.desk_types.proofs.Keys.{same-refl}
+use Rattle.desk_types.proofs.Keys.{same-refl, same-true}
 use Rattle.state_rows.specs.Kept.{KeptRows, tables_in, unnumbered, without_number, ListsMounts}
 use Rattle.state_rows.proofs.MountedRows.{IsMountOf, live-mount}
 
-module _ (P : Name → Name → Type 0) where
-  listed : (r : Name) (es : List ((ℕ × Name) × MountRow)) (m : MountRow) → lookup (λ k. same r k.1) es ≡ Some m
-      → AllByRecursion (λ (e : (ℕ × Name) × MountRow). P e.1.machine e.1.slot) es → P m.machine m.slot
-  listed r [] m at all = cc
-  listed r (e ∷ es) m at (here, all) = by (same r e.0.1) at (λ later. listed r es m later all)
-    where
-      by : (b : Bool) → cond b (Some e.1) (lookup (λ k. same r k.1) es) ≡ Some m → (lookup (λ k. same r k.1) es ≡ Some m → P m.machine m.slot) → P m.machine m.slot
-      by true at later = subst (λ (x : MountRow). P x.machine x.slot) (ap (λ o. option_map_or (λ (x : MountRow). x) o m) at) here
-      by false at later = later at
+-- If the mount's reel is the first one of its slot, this holds of the slot.
+abbrev pub HoldsAtFront : (Name → Name → List Name) → (Name → Name → Type 0) → (ℕ × Name) × MountRow → Type 0
+HoldsAtFront reels P e = slice_get (reels e.1.machine e.1.slot) 0 ≡ Some e.0.1 → P e.1.machine e.1.slot
 
-  -- What holds of the slot of each row holds of each slot with live reels.
+module _ (reels : Name → Name → List Name) (P : Name → Name → Type 0) where
+  listed : (r : Name) (es : List ((ℕ × Name) × MountRow)) (m : MountRow) → lookup (λ k. same r k.1) es ≡ Some m → AllByRecursion (HoldsAtFront reels P) es
+      → slice_get (reels m.machine m.slot) 0 ≡ Some r → P m.machine m.slot
+  listed r [] m at all front = cc
+  listed r (e ∷ es) m at (here, all) front = by (same r e.0.1) refl at (λ later. listed r es m later all front)
+    where
+      by : (b : Bool) → same r e.0.1 ≡ b → cond b (Some e.1) (lookup (λ k. same r k.1) es) ≡ Some m → (lookup (λ k. same r k.1) es ≡ Some m → P m.machine m.slot) → P m.machine m.slot
+      by true is at later =
+          let row : e.1 ≡ m = ap (λ o. option_map_or (λ (x : MountRow). x) o m) at in
+          subst (λ (x : MountRow). P x.machine x.slot) row
+          (here (ap (λ (x : MountRow). slice_get (reels x.machine x.slot) 0) row ∙ front ∙ ap (λ n. Some n) (same-true r e.0.1 is)))
+      by false is at later = later at
+
+  -- What holds of the slot of each first reel holds of each slot with live reels.
   pub covered-slots : (G : History) (rows : KeptRows) (es : List ((ℕ × Name) × MountRow)) (machine slot : Name) → IsJudged Two G
       → unnumbered (tables_in rows) ≡ unnumbered (tables_of G) → ListsMounts es (tables_in rows).mounts
-      → AllByRecursion (λ (e : (ℕ × Name) × MountRow). P e.1.machine e.1.slot) es → is_some (first (live_on G machine slot)) ≡ true → P machine slot
-  covered-slots G rows es machine slot judged is lists all some = by (live_on G machine slot) refl some
+      → AllByRecursion (HoldsAtFront reels P) es → ((m s : Name) → reels m s ≡ live_on G m s) → is_some (first (live_on G machine slot)) ≡ true → P machine slot
+  covered-slots G rows es machine slot judged is lists all live_there some = by (live_on G machine slot) refl some
     where
-      by : (reels : List Name) → live_on G machine slot ≡ reels → is_some (first reels) ≡ true → P machine slot
+      by : (tape : List Name) → live_on G machine slot ≡ tape → is_some (first tape) ≡ true → P machine slot
       by [] live some = cc
       by (r ∷ rs) live some = found ((tables_in rows).mounts r) (lists.rows r) (ap (λ (t : Tables). t.mounts r) is ∙ ap (option_map without_number) put.is)
         where
@@ -43,7 +51,9 @@ module _ (P : Name → Name → Type 0) where
           found (Some m) at is =
               let on_machine : m.machine ≡ machine = ap (λ o. option_map_or (λ (x : MountRow). x.machine) o []) is ∙ put.machine_is in
               let on_slot : m.slot ≡ slot = ap (λ o. option_map_or (λ (x : MountRow). x.slot) o []) is ∙ put.slot_is in
-              subst (λ s. P machine s) on_slot (subst (λ x. P x m.slot) on_machine (listed r es m at all))
+              let front : slice_get (reels m.machine m.slot) 0 ≡ Some r =
+              ap (λ x. slice_get (reels x m.slot) 0) on_machine ∙ ap (λ s. slice_get (reels machine s) 0) on_slot ∙ ap (λ xs. slice_get xs 0) (live_there machine slot ∙ live) in
+              subst (λ s. P machine s) on_slot (subst (λ x. P x m.slot) on_machine (listed r es m at all front))
 
 -- Lists that are the same where either has an element are the same.
 pub either-list : (a b : List Name) → (is_some (first a) ≡ true → a ≡ b) → (is_some (first b) ≡ true → a ≡ b) → a ≡ b

@@ -11,12 +11,14 @@ use Rattle.alike.specs.Past.{is_started}
 
 -- The machine where the board is in work, by its row.
 abbrev pub machine_at : KeptRows → Name → Option Name
-machine_at rows board = option_and_then (λ (r : BoardRow). r.machine) ((tables_in rows).boards board)
+machine_at rows board = option_and_then
+    (λ (r : BoardRow). r.machine) ((tables_in rows).boards board)
 
 -- The parts of `AreAlike` on the setup, except for sheets.
 pub record IsSetupAlike (H H' : History) : Type 0 where
   pub parts : (part : Name) → is_part H part ≡ is_part H' part
-  pub alternates : (part alternate : Name) → is_alternate H part alternate ≡ is_alternate H' part alternate
+  pub alternates : (part alternate : Name)
+      → is_alternate H part alternate ≡ is_alternate H' part alternate
   pub selections : (machine : Name) → selected_on H machine ≡ selected_on H' machine
 
 -- The parts of `AreAlike` on the work.

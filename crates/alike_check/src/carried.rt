@@ -40,7 +40,8 @@ pub fn first_reel<D: Desk>(
     new: &D,
 ) -> Option<Difference>
     ensures same { (H H' : History) → unnumbered (tables_in old_rows.now) ≡ unnumbered (tables_of H)
-        → unnumbered (tables_in new_rows.now) ≡ unnumbered (tables_of H') → D.Stands old.now H → D.Stands new.now H'
+        → unnumbered (tables_in new_rows.now) ≡ unnumbered (tables_of H')
+        → D.Stands old.now H → D.Stands new.now H'
         → (reel : Name) → IfNone result (IsCarried (reel_view H reel) (reel_view H' reel)) }
     ensures differs { (H H' : History) → D.Stands old.now H → D.Stands new.now H'
         → IfSome result (IsReelDifference H H') }

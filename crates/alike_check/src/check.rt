@@ -1,12 +1,12 @@
-//! Whether two desks are alike.
+//! Whether a new desk carries on an old one.
 
 ghost use Rattle.std.specs.Prelude.{◌≡◌, IfNone, IfSome};
 ghost use Rattle.desk_types.specs.Id.{Name};
 ghost use Rattle.desk_types.specs.History.{History};
 ghost use Rattle.desk_types.specs.Pieces.{live_on};
 ghost use Rattle.feeder_state.specs.State.{IsState};
-ghost use Rattle.alike.specs.Alike.{AreAlike};
-ghost use Rattle.alike_check.specs.Difference.{IsDifference};
+ghost use Rattle.alike.specs.Chain.{Carries};
+ghost use Rattle.alike_check.specs.Difference.{IsDifference, Refutes};
 
 use crate::carried::first_reel;
 use crate::difference::Difference;
@@ -24,13 +24,13 @@ fn slot_difference(old: &StateDesk, new: &StateDesk) -> Option<Difference>
     ensures differs { (H H' : History) → IsState H old.now → IsState H' new.now
         → IfSome result (IsDifference H H') }
 {
-    if let Some(key) = slot_in(old.rows(), old, new) {
+    if let Some(key) = slot_in(old.rows(), old, old, new) {
         return Some(Difference::Slot {
             machine: key.0,
             slot: key.1,
         });
     }
-    if let Some(key) = slot_in(new.rows(), old, new) {
+    if let Some(key) = slot_in(new.rows(), new, old, new) {
         return Some(Difference::Slot {
             machine: key.0,
             slot: key.1,
@@ -40,7 +40,8 @@ fn slot_difference(old: &StateDesk, new: &StateDesk) -> Option<Difference>
 }
 
 fn find(old: &StateDesk, new: &StateDesk) -> Option<Difference>
-    ensures alike { (H H' : History) → IsState H old.now → IsState H' new.now → IfNone result (AreAlike H H') }
+    ensures carries { (H H' : History) → IsState H old.now → IsState H' new.now
+        → IfNone result (Carries H H') }
     ensures differs { (H H' : History) → IsState H old.now → IsState H' new.now
         → IfSome result (IsDifference H H') }
 {
@@ -69,12 +70,15 @@ fn find(old: &StateDesk, new: &StateDesk) -> Option<Difference>
     None
 }
 
-/// Returns the first way in which the new desk isn't alike to the old one, or `None` if it is alike.
+/// Returns the first way in which the new desk isn't alike to the old one, or received other pieces of a reel than were left.
+/// Returns `None` if there is none.
 pub fn first_difference(old: &StateDesk, new: &StateDesk) -> Option<Difference>
-    ensures alike { (H H' : History) → IsState H old.now → IsState H' new.now → IfNone result (AreAlike H H') }
-    ensures differs { (H H' : History) → IsState H old.now → IsState H' new.now → IfSome result (IsDifference H H') }
-    ensures unlike { (H H' : History) → IsState H old.now → IsState H' new.now
-        → IfSome result (λ _. AreAlike H H' → ⊥) }
+    ensures carries { (H H' : History) → IsState H old.now → IsState H' new.now
+        → IfNone result (Carries H H') }
+    ensures differs { (H H' : History) → IsState H old.now → IsState H' new.now
+        → IfSome result (IsDifference H H') }
+    ensures refutes { (H H' : History) → IsState H old.now → IsState H' new.now
+        → IfSome result (Refutes H H') }
 {
     find(old, new)
 }

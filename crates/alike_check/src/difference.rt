@@ -2,7 +2,7 @@
 
 use desk_types::{Id, Left, Minute};
 
-/// The first way in which a new desk isn't alike to the old desk that it follows.
+/// The first way in which a new desk doesn't carry on the old desk that it follows.
 #[derive(Clone, Copy, Debug, PartialEq, Eq)]
 pub enum Difference {
     /// The desk minutes.
@@ -46,6 +46,12 @@ pub enum Difference {
     },
     /// The pieces left on the reel.
     Remaining {
+        reel: Id,
+        old: u64,
+        new: u64,
+    },
+    /// The pieces left on the reel on the old desk, and those of its receipt on the new one.
+    Received {
         reel: Id,
         old: u64,
         new: u64,

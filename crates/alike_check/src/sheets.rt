@@ -22,7 +22,8 @@ fn same_rows(old: &SheetRows, new: &SheetRows) -> bool
 /// Returns whether the product has the same sheet on the machine on both desks, or none.
 fn same_sheet<F: Facts>(old: &F, new: &F, product: &Id, machine: &Id) -> bool
     ensures { (H H' : History) → F.Stands old.now H → F.Stands new.now H'
-        → IsTrue result ↔ (sheet_of H product.now machine.now ≡ sheet_of H' product.now machine.now) }
+        → IsTrue result
+        ↔ (sheet_of H product.now machine.now ≡ sheet_of H' product.now machine.now) }
 {
     match (
         old.sheet_of(product, machine),
@@ -36,7 +37,8 @@ fn same_sheet<F: Facts>(old: &F, new: &F, product: &Id, machine: &Id) -> bool
 
 /// Returns whether this is the first row of a sheet that differs.
 fn is_changed<F: Facts>(old: &F, new: &F, key: &(Id, Id, u64)) -> bool
-    ensures same { (H H' : History) → F.Stands old.now H → F.Stands new.now H' → result ≡ false → key.now.2 ≡ 1
+    ensures same { (H H' : History) → F.Stands old.now H → F.Stands new.now H'
+        → result ≡ false → key.now.2 ≡ 1
         → sheet_of H key.now.0 key.now.1 ≡ sheet_of H' key.now.0 key.now.1 }
     ensures differs { (H H' : History) → F.Stands old.now H → F.Stands new.now H' → result ≡ true
         → sheet_of H key.now.0 key.now.1 ≢ sheet_of H' key.now.0 key.now.1 }
@@ -47,7 +49,8 @@ fn is_changed<F: Facts>(old: &F, new: &F, key: &(Id, Id, u64)) -> bool
 /// Returns the first of these sheets that differs, by its product and its machine.
 fn sheet_in<F: Facts>(sheets: &RowSet, old: &F, new: &F) -> Option<(Id, Id)>
     ensures same { (G H H' : History) → IsJudged Two G
-        → unnumbered (tables_in sheets.now) ≡ unnumbered (tables_of G) → F.Stands old.now H → F.Stands new.now H'
+        → unnumbered (tables_in sheets.now) ≡ unnumbered (tables_of G)
+        → F.Stands old.now H → F.Stands new.now H'
         → (product machine : Name)
         → IfNone result (is_some (sheet_of G product machine) ≡ true
         → sheet_of H product machine ≡ sheet_of H' product machine) }
@@ -70,8 +73,10 @@ pub fn first_sheet<F: Facts>(
     new: &F,
 ) -> Option<(Id, Id)>
     ensures same { (H H' : History) → unnumbered (tables_in old_rows.now) ≡ unnumbered (tables_of H)
-        → unnumbered (tables_in new_rows.now) ≡ unnumbered (tables_of H') → F.Stands old.now H → F.Stands new.now H'
-        → (product machine : Name) → IfNone result (sheet_of H product machine ≡ sheet_of H' product machine) }
+        → unnumbered (tables_in new_rows.now) ≡ unnumbered (tables_of H')
+        → F.Stands old.now H → F.Stands new.now H'
+        → (product machine : Name)
+        → IfNone result (sheet_of H product machine ≡ sheet_of H' product machine) }
     ensures differs { (H H' : History) → F.Stands old.now H → F.Stands new.now H'
         → IfSome result (λ k. sheet_of H k.0 k.1 ≢ sheet_of H' k.0 k.1) }
 {

@@ -19,7 +19,8 @@ fn part_in(parts: &RowSet, old: &RowSet, new: &RowSet) -> Option<Id>
     ensures same { (part : Name)
         → IfNone result ((tables_in parts.now).parts part ≡ true
         → (tables_in old.now).parts part ≡ (tables_in new.now).parts part) }
-    ensures differs { IfSome result (λ part. (tables_in old.now).parts part ≢ (tables_in new.now).parts part) }
+    ensures differs { IfSome result
+        (λ part. (tables_in old.now).parts part ≢ (tables_in new.now).parts part) }
 {
     for part in parts.parts() {
         if old.part_set().has(part) != new.part_set().has(part) {
@@ -31,8 +32,10 @@ fn part_in(parts: &RowSet, old: &RowSet, new: &RowSet) -> Option<Id>
 
 /// Returns the first part that only one of the desks has.
 fn first_part(old: &RowSet, new: &RowSet) -> Option<Id>
-    ensures same { (part : Name) → IfNone result ((tables_in old.now).parts part ≡ (tables_in new.now).parts part) }
-    ensures differs { IfSome result (λ part. (tables_in old.now).parts part ≢ (tables_in new.now).parts part) }
+    ensures same { (part : Name)
+        → IfNone result ((tables_in old.now).parts part ≡ (tables_in new.now).parts part) }
+    ensures differs { IfSome result
+        (λ part. (tables_in old.now).parts part ≢ (tables_in new.now).parts part) }
 {
     if let Some(part) = part_in(old, old, new) {
         return Some(part);
@@ -89,7 +92,8 @@ fn selection_in(selected: &RowSet, old: &RowSet, new: &RowSet) -> Option<Id>
 /// Returns the first machine where the desks have another product selected.
 fn first_selection(old: &RowSet, new: &RowSet) -> Option<Id>
     ensures same { (machine : Name)
-        → IfNone result ((tables_in old.now).selected machine ≡ (tables_in new.now).selected machine) }
+        → IfNone result ((tables_in old.now).selected machine
+        ≡ (tables_in new.now).selected machine) }
     ensures differs { IfSome result
         (λ machine. (tables_in old.now).selected machine ≢ (tables_in new.now).selected machine) }
 {
@@ -129,7 +133,8 @@ fn has_board(rows: &RowSet, board: &Id) -> bool
 
 fn is_new_board(old: &RowSet, new: &RowSet, board: &Id) -> bool
     ensures { result
-        ≡ (is_some ((tables_in new.now).boards board.now) && not (is_some ((tables_in old.now).boards board.now))) }
+        ≡ (is_some ((tables_in new.now).boards board.now)
+        && not (is_some ((tables_in old.now).boards board.now))) }
 {
     has_board(new, board) && !has_board(old, board)
 }
@@ -154,7 +159,8 @@ fn first_new_board(old: &RowSet, new: &RowSet) -> Option<Id>
 /// Returns the first difference of the setup, except for sheets.
 fn setup_difference(old: &RowSet, new: &RowSet) -> Option<Difference>
     ensures same { (H H' : History) → unnumbered (tables_in old.now) ≡ unnumbered (tables_of H)
-        → unnumbered (tables_in new.now) ≡ unnumbered (tables_of H') → IfNone result (IsSetupAlike H H') }
+        → unnumbered (tables_in new.now) ≡ unnumbered (tables_of H')
+        → IfNone result (IsSetupAlike H H') }
     ensures differs { (H H' : History) → unnumbered (tables_in old.now) ≡ unnumbered (tables_of H)
         → unnumbered (tables_in new.now) ≡ unnumbered (tables_of H')
         → IfSome result (IsDifference H H') }
@@ -178,7 +184,8 @@ fn setup_difference(old: &RowSet, new: &RowSet) -> Option<Difference>
 fn work_difference(old: &RowSet, new: &RowSet) -> Option<Difference>
     ensures same { (H H' : History) → IsJudged Two H → IsJudged Two H'
         → unnumbered (tables_in old.now) ≡ unnumbered (tables_of H)
-        → unnumbered (tables_in new.now) ≡ unnumbered (tables_of H') → IfNone result (IsWorkAlike H H') }
+        → unnumbered (tables_in new.now) ≡ unnumbered (tables_of H')
+        → IfNone result (IsWorkAlike H H') }
     ensures differs { (H H' : History) → IsJudged Two H → IsJudged Two H'
         → unnumbered (tables_in old.now) ≡ unnumbered (tables_of H)
         → unnumbered (tables_in new.now) ≡ unnumbered (tables_of H')

@@ -11,7 +11,8 @@ use desk_types::{Id, ReelView};
 /// Returns the first difference between the views of a reel that has pieces left on both desks.
 fn view_difference(reel: Id, old: &ReelView, new: &ReelView) -> Option<Difference>
     ensures same { IfNone result (IsSameView old.now new.now) }
-    ensures differs { 0 < old.now.remaining → IfSome result (IsViewDifference reel old.now new.now) }
+    ensures differs { 0 < old.now.remaining
+        → IfSome result (IsViewDifference reel old.now new.now) }
 {
     if old.part != new.part {
         return Some(Difference::ReelPart {
@@ -59,6 +60,14 @@ fn received_difference(reel: Id, old: &ReelView, new: &ReelView) -> Option<Diffe
             new: new.remaining,
         });
     }
+    let received = new.received.saturating_sub(new.found);
+    if received != old.remaining {
+        return Some(Difference::Received {
+            reel,
+            old: old.remaining,
+            new: received,
+        });
+    }
     if old.remaining == 0 {
         return None;
     }
@@ -68,7 +77,8 @@ fn received_difference(reel: Id, old: &ReelView, new: &ReelView) -> Option<Diffe
 /// Returns the difference of a reel that only the old desk received.
 fn lost_difference(reel: Id, old: &ReelView) -> Option<Difference>
     ensures same { IfNone result (old.now.remaining ≡ 0) }
-    ensures differs { IfSome result (λ d. (0 < old.now.remaining) × (d ≡ Remaining reel old.now.remaining 0)) }
+    ensures differs { IfSome result
+        (λ d. (0 < old.now.remaining) × (d ≡ Remaining reel old.now.remaining 0)) }
 {
     if old.remaining == 0 {
         return None;

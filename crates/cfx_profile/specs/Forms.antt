@@ -46,7 +46,8 @@ id_in m body = ok_or (id_at m body) (BodyMember m)
 
 -- 1 to 16 ASCII letters, digits, `_`, `.` and `-`.
 abbrev pub is_designator : List ℕ → Bool
-is_designator bytes = nat_lt 0 (length bytes) && nat_le (length bytes) LONGEST_DESIGNATOR && list_all is_designator_byte bytes
+is_designator bytes = nat_lt 0 (length bytes) && nat_le (length bytes) LONGEST_DESIGNATOR
+    && list_all is_designator_byte bytes
 
 -- The text as a name, if it is a designator.
 unfoldable pub designator_of : List ℕ → Option Name
@@ -54,13 +55,15 @@ designator_of text = if is_designator text then Some text else None
 
 -- A designator in a list.
 unfoldable pub designator_in : Data → Result Name MessageFault
-designator_in item = ok_or (option_and_then designator_of (as_str item)) (BodyMember member.Designators)
+designator_in item = ok_or (option_and_then designator_of (as_str item))
+    (BodyMember member.Designators)
 
 -- ---- numbers
 
 -- A whole number below 2^64, without sign, point or exponent.
 unfoldable pub number_in : Member → Data → Result ℕ MessageFault
-number_in m body = ok_or (option_and_then as_u64 (option_and_then as_number (get (member_text m) body))) (BodyMember m)
+number_in m body = ok_or
+    (option_and_then as_u64 (option_and_then as_number (get (member_text m) body))) (BodyMember m)
 
 -- The number, if it is at most the greatest.
 abbrev pub at_most : Member → ℕ → ℕ → Result ℕ MessageFault

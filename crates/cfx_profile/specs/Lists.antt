@@ -17,14 +17,17 @@ items_list (item d ds) = d ∷ items_list ds
 
 -- 1 to 5,000 items.
 abbrev pub some_items : Member → List Data → Result (List Data) MessageFault
-some_items m ds = if length ds == 0 then Err (BodyMember m) else (if nat_le (length ds) LONGEST_LIST then Ok ds else Err (OverLimit m))
+some_items m ds = if length ds == 0 then Err (BodyMember m)
+    else (if nat_le (length ds) LONGEST_LIST then Ok ds else Err (OverLimit m))
 
 -- The member's items, if it is a list of 1 to 5,000.
 unfoldable pub items_in : Member → Data → Result (List Data) MessageFault
-items_in m body = ok_or (option_map items_list (option_and_then as_array (get (member_text m) body))) (BodyMember m) >>= some_items m
+items_in m body = ok_or (option_map items_list
+    (option_and_then as_array (get (member_text m) body))) (BodyMember m) >>= some_items m
 
 -- Each item's value in order, or the first fault.
-abbrev pub each : {X : Type 0} → (Data → Result X MessageFault) → List Data → Result (List X) MessageFault
+abbrev pub each : {X : Type 0} → (Data → Result X MessageFault) → List Data
+    → Result (List X) MessageFault
 each reading [] = Ok []
 each reading (d ∷ ds) = do
   x ← reading d
@@ -32,7 +35,8 @@ each reading (d ∷ ds) = do
   Ok (x ∷ xs)
 
 -- The member's value as a list.
-unfoldable pub list_in : {X : Type 0} → (Data → Result X MessageFault) → Member → Data → Result (List X) MessageFault
+unfoldable pub list_in : {X : Type 0} → (Data → Result X MessageFault) → Member → Data
+    → Result (List X) MessageFault
 list_in reading m body = do
   ds ← items_in m body
   each reading ds

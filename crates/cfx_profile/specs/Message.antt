@@ -37,7 +37,8 @@ unfoldable pub envelope_id : Member → Data → Result Name MessageFault
 envelope_id m envelope = ok_or (id_at m envelope) (EnvelopeMember m)
 
 unfoldable pub envelope_object : Member → Data → Result Data MessageFault
-envelope_object m envelope = ok_or (option_and_then object_of (get (member_text m) envelope)) (EnvelopeMember m)
+envelope_object m envelope =
+    ok_or (option_and_then object_of (get (member_text m) envelope)) (EnvelopeMember m)
 
 -- The minute of a time text.
 unfoldable pub minute_in : List ℕ → Result ℕ MessageFault

@@ -19,7 +19,8 @@ minute_of_day (negsuc d) hour minute = None
 -- The minute of a date with an optional time of day.
 abbrev pub minute_of_civil : Result (DateParts × TimeParts) Error → Option ℕ
 minute_of_civil (Err e) = None
-minute_of_civil (Ok p) = minute_of_day (days_from_civil p.0.year p.0.month p.0.day) p.1.hour p.1.minute
+minute_of_civil (Ok p) =
+    minute_of_day (days_from_civil p.0.year p.0.month p.0.day) p.1.hour p.1.minute
 
 -- The minute of the text's instant, or else of its civil date and time.
 abbrev pub minute_of_reading : List ℕ → Result ℤ Error → Option ℕ

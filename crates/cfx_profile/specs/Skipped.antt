@@ -29,7 +29,8 @@ AgreeOn (m ∷ ms) a b = SameOf m a b × AgreeOn ms a b
 
 -- Two rows are the same, or objects that agree on these members.
 abbrev pub RowsAgree : List Member → Data → Data → Type 0
-RowsAgree ms a b = (a ≡ b) ⊎ ((p : Members) × (q : Members) × (a ≡ object p) × (b ≡ object q) × AgreeOn ms (object p) (object q))
+RowsAgree ms a b = (a ≡ b) ⊎ ((p : Members) × (q : Members) × (a ≡ object p) × (b ≡ object q)
+    × AgreeOn ms (object p) (object q))
 
 -- Equally many rows, and each pair agrees.
 abbrev pub AllRowsAgree : List Member → List Data → List Data → Type 0
@@ -42,7 +43,8 @@ AllRowsAgree ms (a ∷ ds) [] = ⊥
 abbrev pub ListsAgree : List Member → Member → Data → Data → Type 0
 ListsAgree ms m a b =
     SameOf m a b
-    ⊎ ((xs : Items) × (ys : Items) × (get (member_text m) a ≡ Some (array xs)) × (get (member_text m) b ≡ Some (array ys)) × AllRowsAgree ms (items_list xs) (items_list ys))
+    ⊎ ((xs : Items) × (ys : Items) × (get (member_text m) a ≡ Some (array xs)) × (get
+    (member_text m) b ≡ Some (array ys)) × AllRowsAgree ms (items_list xs) (items_list ys))
 
 -- ---- bodies
 
@@ -54,9 +56,11 @@ LabelsAgree a b = level_in Level a ≡ Ok Six → SameOf LabelMinutes a b
 abbrev pub BodiesAgree : Word → Data → Data → Type 0
 BodiesAgree word.PartDefined a b = AgreeOn (PartNumber ∷ []) a b
 BodiesAgree word.AlternateAllowed a b = AgreeOn (PartNumber ∷ Alternate ∷ []) a b
-BodiesAgree word.SheetDefined a b = AgreeOn (Product ∷ Machine ∷ []) a b × ListsAgree (Slot ∷ PartNumber ∷ Designators ∷ []) Rows a b
+BodiesAgree word.SheetDefined a b = AgreeOn (Product ∷ Machine ∷ []) a b
+    × ListsAgree (Slot ∷ PartNumber ∷ Designators ∷ []) Rows a b
 BodiesAgree word.ProductSelected a b = AgreeOn (Machine ∷ Product ∷ []) a b
-BodiesAgree word.ReelReceived a b = AgreeOn (Reel ∷ PartNumber ∷ Lot ∷ Level ∷ Quantity ∷ []) a b × LabelsAgree a b
+BodiesAgree word.ReelReceived a b =
+    AgreeOn (Reel ∷ PartNumber ∷ Lot ∷ Level ∷ Quantity ∷ []) a b × LabelsAgree a b
 BodiesAgree word.ReelOpened a b = AgreeOn (Reel ∷ []) a b
 BodiesAgree word.ReelSealed a b = AgreeOn (Reel ∷ []) a b
 BodiesAgree word.ReelBaked a b = AgreeOn (Reel ∷ []) a b
@@ -76,7 +80,8 @@ BodiesAgree word.ClockSet a b = ⊤
 abbrev pub BodiesAgreeIn : Word → Data → Data → Type 0
 BodiesAgreeIn w a b =
     SameOf MessageBody a b
-    ⊎ ((p : Members) × (q : Members) × (get (member_text MessageBody) a ≡ Some (object p)) × (get (member_text MessageBody) b ≡ Some (object q))
+    ⊎ ((p : Members) × (q : Members) × (get (member_text MessageBody) a ≡ Some (object p))
+    × (get (member_text MessageBody) b ≡ Some (object q))
     × BodiesAgree w (object p) (object q))
 
 -- Nothing else is read in a message with another name.
@@ -87,7 +92,9 @@ EnvelopesAgree (Some w) a b = AgreeOn (UniqueId ∷ Source ∷ TimeStamp ∷ [])
 -- Two objects with the same name that agree on the members read under it have the same content.
 abbrev pub OthersAreSkipped : Type 0
 OthersAreSkipped =
-    (bytes others : List ℕ) (a b : Members) → value_of bytes ≡ Some (object a) → value_of others ≡ Some (object b)
+    (bytes others : List ℕ) (a b : Members) → value_of bytes ≡ Some (object a)
+    → value_of others ≡ Some (object b)
     → SameOf MessageName (object a) (object b)
-    → ((name : List ℕ) → text_at MessageName (object a) ≡ Some name → EnvelopesAgree (word_of name) (object a) (object b))
+    → ((name : List ℕ) → text_at MessageName (object a) ≡ Some name
+    → EnvelopesAgree (word_of name) (object a) (object b))
     → said_in bytes ≡ said_in others

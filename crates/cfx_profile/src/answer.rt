@@ -61,7 +61,8 @@ pub fn unavailable_text() -> &'static str
 }
 
 fn compact(alloc: Global, answer: &Value) -> Result<Text, AllocError>
-    ensures { IfOk result (λ text. has_float (view answer.now) ≡ false → text ≡ compact_text (view answer.now)) }
+    ensures { IfOk result (λ text. has_float (view answer.now) ≡ false
+        → text ≡ compact_text (view answer.now)) }
 {
     Ok(Listing::new(answer.to_string(alloc)?.into_bytes()))
 }

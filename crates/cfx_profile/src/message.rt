@@ -51,8 +51,10 @@ pub fn read_message(alloc: Global, bytes: &[u8]) -> Result<Said, MessageFault>
 #[tactic(auto, unfolding(crate::specs::Message::value_of))]
 fn value_of(alloc: Global, bytes: &[u8]) -> Result<Value, MessageFault>
     ensures ok { IfOk result (λ value. value_of bytes.now ≡ Some (view value)) }
-    ensures kind { IfErr result (λ fault. fault ≢ MessageFault.NoMemory → fault ≡ MessageFault.NotJson) }
-    ensures bad { IfErr result (λ fault. fault ≢ MessageFault.NoMemory → value_of bytes.now ≡ None) }
+    ensures kind { IfErr result
+        (λ fault. fault ≢ MessageFault.NoMemory → fault ≡ MessageFault.NotJson) }
+    ensures bad { IfErr result
+        (λ fault. fault ≢ MessageFault.NoMemory → value_of bytes.now ≡ None) }
 {
     match Value::from_slice(alloc, bytes) {
         Ok(value) => Ok(value),
@@ -96,7 +98,8 @@ fn envelope_id(envelope: &Value, member: Member) -> Result<Id, MessageFault>
 
 #[tactic(auto, unfolding(crate::specs::Message::envelope_object))]
 fn envelope_object(envelope: &Value, member: Member) -> Result<&Value, MessageFault>
-    ensures ok { IfOk result (λ object. envelope_object member (view envelope.now) ≡ Ok (view object.now)) }
+    ensures ok { IfOk result
+        (λ object. envelope_object member (view envelope.now) ≡ Ok (view object.now)) }
     ensures err { IfErr result (λ fault. envelope_object member (view envelope.now) ≡ Err fault) }
 {
     match envelope.get(member.as_str()) {

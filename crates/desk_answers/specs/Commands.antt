@@ -30,16 +30,19 @@ texts_of (e ∷ G) = first_text G e ∷ texts_of G
 -- The answer to a message with the UniqueID of an entry accepted after G: the first answer again
 -- for the same message, or else that the UniqueID is in use.
 abbrev pub answer_under : History → Entry → Stamped → Answer
-answer_under G e s = if is_same e.stamped s then Accepted e.number (first_text G e) else IdReused e.number
+answer_under G e s = if is_same e.stamped s then Accepted e.number (first_text G e)
+    else IdReused e.number
 
 -- The answer from the entry with the same UniqueID, if there is one.
 abbrev pub earlier_answer : History → Stamped → Option Answer
 earlier_answer [] s = None
-earlier_answer (e ∷ G) s = if same e.stamped.uid s.uid then Some (answer_under G e s) else earlier_answer G s
+earlier_answer (e ∷ G) s = if same e.stamped.uid s.uid then Some (answer_under G e s)
+    else earlier_answer G s
 
 -- The answer from judging the command.
 abbrev pub judged_answer : History → Stamped → Reply → Answer
-judged_answer H s (reply.Accepted detail) = Accepted (length H + 1) (accepted_text (length H + 1) s.uid detail)
+judged_answer H s (reply.Accepted detail) =
+    Accepted (length H + 1) (accepted_text (length H + 1) s.uid detail)
 judged_answer H s (reply.Refused refusal) = Refused refusal
 
 -- Whether all numbers are in use.
@@ -49,11 +52,13 @@ is_full greatest H = nat_le greatest (length H)
 -- The answer to a command after H, from the first of: an entry with its UniqueID, a full desk, the
 -- judgement.
 abbrev pub command_answer : Rules → ℕ → History → Stamped → Answer
-command_answer rules greatest H s = unwrap_or (earlier_answer H s) (if is_full greatest H then DeskFull else judged_answer H s (reply_to rules H s))
+command_answer rules greatest H s = unwrap_or (earlier_answer H s)
+    (if is_full greatest H then DeskFull else judged_answer H s (reply_to rules H s))
 
 -- The history after the command, extended only if the command is judged and accepted.
 abbrev pub command_after : Rules → ℕ → History → Stamped → History
-command_after rules greatest H s = if is_some (earlier_answer H s) || is_full greatest H then H else after_command rules H s
+command_after rules greatest H s = if is_some (earlier_answer H s) || is_full greatest H then H
+    else after_command rules H s
 
 -- ---- texts
 

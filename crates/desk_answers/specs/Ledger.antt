@@ -25,5 +25,7 @@ ledger_after L s answer = record L { history = command_after L.rules L.greatest 
 
 -- If the owner's storage has not lied, then for each ledger represented before, it now represents
 -- one that differs only in its history, which satisfies `Fact`.
-abbrev pub ForLists : {S : Type 0} → (S → Ledger → Type 0) → (S → Type 0) → S → S → (Ledger → History → Type 0) → Type 0
-ForLists Stands Trusts old new Fact = (G : Ledger) → Stands old G → Trusts new → (H : History) × Stands new (record G { history = H }) × Fact G H
+abbrev pub ForLists : {S : Type 0} → (S → Ledger → Type 0) → (S → Type 0) → S → S
+    → (Ledger → History → Type 0) → Type 0
+ForLists Stands Trusts old new Fact = (G : Ledger) → Stands old G → Trusts new
+    → (H : History) × Stands new (record G { history = H }) × Fact G H

@@ -128,7 +128,8 @@ abbrev pub desk_full_object : Name → Data
 desk_full_object uid = refused_object (codes "DeskFull") None uid
 
 unfoldable pub refused_text : Refusal → Name → List ℕ
-refused_text refusal uid = compact_text (refused_object (refusal_word refusal) (place_of refusal) uid)
+refused_text refusal uid =
+    compact_text (refused_object (refusal_word refusal) (place_of refusal) uid)
 
 unfoldable pub id_reused_text : ℕ → Name → List ℕ
 id_reused_text n uid = compact_text (id_reused_object n uid)

@@ -33,7 +33,8 @@ impl Answer {
     /// Returns the text of the answer to the message with this UniqueID. Takes no memory for
     /// `Accepted`.
     pub fn into_text(self, alloc: Global, uid: &Id) -> Result<Text, AllocError>
-        ensures accepted { (number : ℕ) (text : List ℕ) → self ≡ Answer.Accepted number text → result ≡ Ok text }
+        ensures accepted { (number : ℕ) (text : List ℕ)
+            → self ≡ Answer.Accepted number text → result ≡ Ok text }
         ensures text { IfOk result (λ text. text ≡ answer_text uid.now self) }
     {
         match self {
@@ -75,7 +76,8 @@ fn accepted_object(
     uid: &str,
     detail: &Detail,
 ) -> Result<Value, AllocError>
-    ensures value { IfOk result (λ answer. view answer ≡ accepted_object number uid.now detail.now) }
+    ensures value { IfOk result
+        (λ answer. view answer ≡ accepted_object number uid.now detail.now) }
     ensures whole { IfOk result (λ answer. has_float (view answer) ≡ false) }
 {
     match detail {
@@ -139,7 +141,8 @@ fn desk_full_text(alloc: Global, uid: &Id) -> Result<Text, AllocError>
 }
 
 fn compact(alloc: Global, answer: &Value) -> Result<Text, AllocError>
-    ensures { IfOk result (λ text. has_float (view answer.now) ≡ false → text ≡ compact_text (view answer.now)) }
+    ensures { IfOk result (λ text. has_float (view answer.now) ≡ false
+        → text ≡ compact_text (view answer.now)) }
 {
     Ok(Listing::new(answer.to_string(alloc)?.into_bytes()))
 }

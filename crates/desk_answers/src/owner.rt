@@ -23,11 +23,13 @@ pub trait Owner {
         requires ready { Ready self.old }
         ensures ready { Ready self.new }
         ensures trusts { Trusts self.new → Trusts self.old }
-        ensures answer { (L : Ledger) → Stands self.old L → Trusts self.new → IsAnswer L stamped.now result }
+        ensures answer { (L : Ledger) → Stands self.old L → Trusts self.new
+            → IsAnswer L stamped.now result }
         ensures stands { (L : Ledger) → Stands self.old L → Trusts self.new
             → Stands self.new (ledger_after L stamped.now result) };
 
     /// A law, without code: an owner with these rules and numbers can reach this history.
     fn is_lawful(&self)
-        ensures { (L : Ledger) → Stands self.now L → Trusts self.now → IsLawful L.rules L.greatest L.history };
+        ensures { (L : Ledger) → Stands self.now L → Trusts self.now
+            → IsLawful L.rules L.greatest L.history };
 }

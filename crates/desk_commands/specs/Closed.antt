@@ -41,21 +41,26 @@ abbrev pub MayRead : {D : Type 0} → disk.Ghosts D → Files D → Image → Ty
 MayRead g files image = (image ≡ image_of g files) ⊎ outcomes g files.log files.db image
 
 -- The connection was closed in this way.
-abbrev pub ClosesConn : {D : Type 0} {g : disk.Ghosts D} → Close → Held (FileStore D g) → Files D → Type 0
+abbrev pub ClosesConn : {D : Type 0} {g : disk.Ghosts D} → Close
+    → Held (FileStore D g) → Files D → Type 0
 ClosesConn whole conn files = KeepsTables conn files × Copies conn files
 ClosesConn failed conn files = Leaves conn files
 
 -- A desk was closed in this way.
-abbrev pub ClosesDesk : {D : Type 0} {g : disk.Ghosts D} → Close → LineStore (FileStore D g) StateDesk → Files D → Type 0
-ClosesDesk whole desk files = Closes state.Stands state.kept_rules desk files × Copies (conn_of desk) files
+abbrev pub ClosesDesk : {D : Type 0} {g : disk.Ghosts D} → Close
+    → LineStore (FileStore D g) StateDesk → Files D → Type 0
+ClosesDesk whole desk files = Closes state.Stands state.kept_rules desk files
+    × Copies (conn_of desk) files
 ClosesDesk failed desk files = Leaves (conn_of desk) files
 
 -- So were the files that a command left, if it opened any.
-abbrev pub ClosesLeft : {D : Type 0} {g : disk.Ghosts D} → Close → Left D g → Option (Files D) → Type 0
+abbrev pub ClosesLeft : {D : Type 0} {g : disk.Ghosts D} → Close → Left D g
+    → Option (Files D) → Type 0
 ClosesLeft how Nothing files = files ≡ None
 ClosesLeft how (Desk desk) files = IsSomeAnd files (ClosesDesk how desk)
 ClosesLeft how (Migrated conn) files = IsSomeAnd files (ClosesConn how conn)
-ClosesLeft how (Refused r) files = MatchOption r.file (files ≡ None) (λ conn. IsSomeAnd files (ClosesConn how conn))
+ClosesLeft how (Refused r) files = MatchOption r.file (files ≡ None)
+    (λ conn. IsSomeAnd files (ClosesConn how conn))
 
 -- ---- contents of the files
 
@@ -66,37 +71,53 @@ HoldsTables failed g files tables = ⊤
 
 -- They hold the database that an open of the first files finds.
 abbrev pub HoldsFound : {D : Type 0} → Close → disk.Ghosts D → Files D → Image → Type 0
-HoldsFound whole g files first = (db : Database) × IsFoundIn first db × ((image : Image) → MayRead g files image → HoldsAlone image db.trees)
+HoldsFound whole g files first = (db : Database) × IsFoundIn first db
+    × ((image : Image) → MayRead g files image → HoldsAlone image db.trees)
 HoldsFound failed g files first = ⊤
 
 -- ---- effect of the run
 
 -- Honest files that held only the desk's tables led the run from their history to one that the fact gives, and hold the
 -- tables of that one.
-abbrev pub RunsTo : {T D : Type 0} → Close → start.Ghosts T → disk.Ghosts D → Option (Files D) → Option ℕ → (Ledger → History → Type 0) → Type 0
-RunsTo how first g files make Fact = IsSomeAnd files (λ f. AreClean g f.log f.db → HasOursFirst (image_at first)
-    → (greatest : ℕ) × (H : History) × Begins (image_at first) make greatest H × IsLawful Two greatest H
-    × (H' : History) × IsLawful Two greatest H' × IsConsistent H' × HoldsTables how g f (ledger_tables greatest H')
+abbrev pub RunsTo : {T D : Type 0} → Close → start.Ghosts T → disk.Ghosts D → Option (Files D)
+    → Option ℕ → (Ledger → History → Type 0) → Type 0
+RunsTo how first g files make Fact =
+    IsSomeAnd files (λ f. AreClean g f.log f.db → HasOursFirst (image_at first)
+    → (greatest : ℕ) × (H : History) × Begins (image_at first) make greatest H
+    × IsLawful Two greatest H
+    × (H' : History) × IsLawful Two greatest H' × IsConsistent H'
+    × HoldsTables how g f (ledger_tables greatest H')
     × Fact (record { rules = Two; greatest = greatest; history = H }) H')
 
 -- An audit found this number of commands.
-abbrev pub AuditsTo : {T D : Type 0} → Close → start.Ghosts T → disk.Ghosts D → Option (Files D) → ℕ → Type 0
-AuditsTo how first g files count = RunsTo how first g files None (λ G H. (H ≡ G.history) × (count ≡ length H))
+abbrev pub AuditsTo : {T D : Type 0} → Close → start.Ghosts T → disk.Ghosts D
+    → Option (Files D) → ℕ → Type 0
+AuditsTo how first g files count = RunsTo how first g files None
+    (λ G H. (H ≡ G.history) × (count ≡ length H))
 
 -- Files that held the tables of a history by version 1 hold them by version 2.
-abbrev pub MigratesTo : {T D : Type 0} → Close → start.Ghosts T → disk.Ghosts D → Option (Files D) → Type 0
-MigratesTo how first g files = IsSomeAnd files (λ f. AreClean g f.log f.db → HasOursFirst (image_at first)
-    → (greatest : ℕ) × (H : History) × IsOfOne (image_at first) greatest H × HoldsTables how g f (ledger_tables greatest H))
+abbrev pub MigratesTo : {T D : Type 0} → Close → start.Ghosts T → disk.Ghosts D
+    → Option (Files D) → Type 0
+MigratesTo how first g files =
+    IsSomeAnd files (λ f. AreClean g f.log f.db → HasOursFirst (image_at first)
+    → (greatest : ℕ) × (H : History) × IsOfOne (image_at first) greatest H
+    × HoldsTables how g f (ledger_tables greatest H))
 
 -- The files were refused for this fault. If they never lied, the fault is in their contents, which are unchanged.
-abbrev pub IsRefusedTo : {T D : Type 0} → Close → start.Ghosts T → disk.Ghosts D → Option (Files D) → (OpenFault → Type 0) → Type 0 → OpenFault → Type 0
+abbrev pub IsRefusedTo : {T D : Type 0} → Close → start.Ghosts T → disk.Ghosts D → Option (Files D)
+    → (OpenFault → Type 0) → Type 0 → OpenFault → Type 0
 IsRefusedTo how first g files StandsIn MakesNone fault =
-    MatchOption files ((fault ≡ Unavailable) ⊎ ((fault ≡ NotADesk) × MakesNone)) (λ f. AreClean g f.log f.db → StandsIn fault × HoldsFound how g f (image_at first))
+    MatchOption files ((fault ≡ Unavailable) ⊎ ((fault ≡ NotADesk) × MakesNone))
+    (λ f. AreClean g f.log f.db → StandsIn fault × HoldsFound how g f (image_at first))
     × (MakesNone → fault ≢ NotBlank)
 
 -- The same for a run that may make a desk up to this number, or for a migration.
-abbrev pub RefusesTo : {T D : Type 0} → Close → start.Ghosts T → disk.Ghosts D → Option (Files D) → Option ℕ → OpenFault → Type 0
-RefusesTo how first g files make = IsRefusedTo how first g files (IsFaultFor (image_at first) make) (make ≡ None)
+abbrev pub RefusesTo : {T D : Type 0} → Close → start.Ghosts T → disk.Ghosts D → Option (Files D)
+    → Option ℕ → OpenFault → Type 0
+RefusesTo how first g files make =
+    IsRefusedTo how first g files (IsFaultFor (image_at first) make) (make ≡ None)
 
-abbrev pub RefusesToMigrateTo : {T D : Type 0} → Close → start.Ghosts T → disk.Ghosts D → Option (Files D) → OpenFault → Type 0
-RefusesToMigrateTo how first g files = IsRefusedTo how first g files (IsFaultIn (image_at first) One) ⊤
+abbrev pub RefusesToMigrateTo : {T D : Type 0} → Close → start.Ghosts T → disk.Ghosts D
+    → Option (Files D) → OpenFault → Type 0
+RefusesToMigrateTo how first g files =
+    IsRefusedTo how first g files (IsFaultIn (image_at first) One) ⊤

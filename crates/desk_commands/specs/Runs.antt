@@ -29,33 +29,41 @@ fresh greatest = record { rules = Two; greatest = greatest; history = [] }
 
 -- If the disk did not lie and the file held only the desk's tables, the open desk went from their history to one that
 -- the fact gives. A run begins with tables of version 2 or with none, so a file of version 1 gives no answers.
-abbrev pub RunsOn : {T D : Type 0} {g : disk.Ghosts D} → start.Ghosts T → Option ℕ → Left D g → (Ledger → History → Type 0) → Type 0
+abbrev pub RunsOn : {T D : Type 0} {g : disk.Ghosts D} → start.Ghosts T → Option ℕ → Left D g
+    → (Ledger → History → Type 0) → Type 0
 RunsOn first make (Desk d) Fact =
     HasCleanDisk (state_of over_files d) → HasOursFirst (image_at first)
-    → (greatest : ℕ) × (H : History) × Begins (image_at first) make greatest H × IsLawful Two greatest H
-    × (H' : History) × Stands over_files state.Stands state.kept_rules d (record { greatest = greatest; history = H'; own = true })
+    → (greatest : ℕ) × (H : History) × Begins (image_at first) make greatest H
+    × IsLawful Two greatest H
+    × (H' : History) × Stands over_files state.Stands state.kept_rules d
+    (record { greatest = greatest; history = H'; own = true })
     × Fact (record { rules = Two; greatest = greatest; history = H }) H'
 RunsOn first make _ Fact = ⊥
 
 -- An audit found this number of commands, the length of a judged history, even if the disk lied. If it did not lie, and
 -- the file held only the desk's tables, this is the history at the start of the run.
 abbrev pub Audits : {T D : Type 0} {g : disk.Ghosts D} → start.Ghosts T → Left D g → ℕ → Type 0
-Audits first (Desk d) count = ((L : Kept) × Stands over_files state.Stands state.kept_rules d L × (count ≡ length L.history)) × RunsOn first None (Desk d) (λ G H. (H ≡ G.history) × (count ≡ length H))
+Audits first (Desk d) count =
+    ((L : Kept) × Stands over_files state.Stands state.kept_rules d L × (count ≡ length L.history))
+    × RunsOn first None (Desk d) (λ G H. (H ≡ G.history) × (count ≡ length H))
 Audits first _ count = ⊥
 
 -- A file was migrated. If its disk did not lie, and it held only the desk's tables, its connection holds those of its
 -- history by version 2, and a crash leaves only these.
 abbrev pub Migrates : {T D : Type 0} {g : disk.Ghosts D} → start.Ghosts T → Left D g → Type 0
-Migrates first (Migrated conn) = HasCleanDisk (file_state conn) → HasOursFirst (image_at first) → MigratedFrom (image_at first) conn
+Migrates first (Migrated conn) = HasCleanDisk (file_state conn) → HasOursFirst (image_at first)
+    → MigratedFrom (image_at first) conn
 Migrates first _ = ⊥
 
 -- A run that may make a desk up to this number refused the files for this fault.
-abbrev pub Refuses : {T D : Type 0} {g : disk.Ghosts D} → start.Ghosts T → Option ℕ → Left D g → OpenFault → Type 0
+abbrev pub Refuses : {T D : Type 0} {g : disk.Ghosts D} → start.Ghosts T → Option ℕ
+    → Left D g → OpenFault → Type 0
 Refuses first make (Refused r) fault = (r.fault ≡ fault) × RefusesRun (image_at first) make r
 Refuses first make _ fault = ⊥
 
 -- A migration refused them.
-abbrev pub RefusesToMigrate : {T D : Type 0} {g : disk.Ghosts D} → start.Ghosts T → Left D g → OpenFault → Type 0
+abbrev pub RefusesToMigrate : {T D : Type 0} {g : disk.Ghosts D} → start.Ghosts T
+    → Left D g → OpenFault → Type 0
 RefusesToMigrate first (Refused r) fault = (r.fault ≡ fault) × RefusesMigration (image_at first) r
 RefusesToMigrate first _ fault = ⊥
 
@@ -71,7 +79,8 @@ LeavesFile _ = ⊤
 
 -- Connections were answered, each by the history that the previous one left.
 abbrev pub ServesEach : List Exchange → Ledger → History → Type 0
-ServesEach exchanges G H = ConnectedEach (request_rule report_of G.rules G.greatest) G.history exchanges H
+ServesEach exchanges G H =
+    ConnectedEach (request_rule report_of G.rules G.greatest) G.history exchanges H
 
 -- The line that says why the desk's file was refused.
 abbrev pub refusal_line : OpenFault → List ℕ

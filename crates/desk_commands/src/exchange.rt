@@ -42,18 +42,22 @@ pub fn feed_in_memory<R: Read, W: Write, E: Write>(
     ensures status { (result ≡ 0) ⊎ (result ≡ 1) ⊎ (result ≡ 3) ⊎ (result ≡ 4) }
     ensures done { result ≡ 0
         → (served : Served) × (served.refused ≡ 0) × (H : History) × IsConsistent H
-        × AnswersAll R.remaining W.contents input.old output.old output.new served (fresh greatest) H }
+        × AnswersAll R.remaining W.contents input.old output.old output.new served
+        (fresh greatest) H }
     ensures refused { result ≡ 1
         → (served : Served) × (0 < served.refused) × (H : History) × IsConsistent H
-        × AnswersAll R.remaining W.contents input.old output.old output.new served (fresh greatest) H }
-    ensures no_desk { result ≡ 3 → TellsLine E.contents errors.old errors.new (refusal_line Unavailable) }
+        × AnswersAll R.remaining W.contents input.old output.old output.new served
+        (fresh greatest) H }
+    ensures no_desk { result ≡ 3
+        → TellsLine E.contents errors.old errors.new (refusal_line Unavailable) }
     ensures untouched { result ≡ 3 → (input.new ≡ input.old) × (output.new ≡ output.old) }
     ensures failed { result ≡ 4
         → (fault : ServeFault) × IsShown fault input.old input.new output.old output.new
         × LeavesNone (R.remaining (inner_of input.old)) (R.remaining (inner_of input.new)) fault
         × TellsLine E.contents errors.old errors.new (fault_line fault)
         × (H : History) × IsConsistent H
-        × AnswersUpTo R.remaining W.contents input.old output.old output.new fault (fresh greatest) H }
+        × AnswersUpTo R.remaining W.contents input.old output.old output.new fault
+        (fresh greatest) H }
     ensures well { (result ≡ 0) ⊎ (result ≡ 1)
         → FeedsWell R.remaining input.old input.new output.old output.new errors.old errors.new }
     ensures few_reads { reads_of input.new ≤ reads_of input.old + MOST_READS }
@@ -93,7 +97,8 @@ pub fn feed_in_file<T: Start, R: Read, W: Write, E: Write>(
         × RunsOn T.Start (Some greatest) result.1
         (AnswersAll R.remaining W.contents input.old output.old output.new served) }
     ensures no_desk { result.0 ≡ 3
-        → HasNoDesk (Refuses T.Start (Some greatest) result.1) ⊥ (TellsLine E.contents errors.old errors.new) }
+        → HasNoDesk (Refuses T.Start (Some greatest) result.1) ⊥
+        (TellsLine E.contents errors.old errors.new) }
     ensures left { LeavesDesk result.1 }
     ensures untouched { result.0 ≡ 3 → (input.new ≡ input.old) × (output.new ≡ output.old) }
     ensures failed { result.0 ≡ 4
@@ -134,10 +139,12 @@ pub fn import_in_file<T: Start, F: Folder, W: Write, E: Write>(
     ensures status { (result.0 ≡ 0) ⊎ (result.0 ≡ 1) ⊎ (result.0 ≡ 3) ⊎ (result.0 ≡ 4) }
     ensures done { result.0 ≡ 0
         → RunsOn T.Start None result.1
-        (AnswersImport W.contents output.old output.new false import.now (F.holds folder.now from.now)) }
+        (AnswersImport W.contents output.old output.new false import.now
+        (F.holds folder.now from.now)) }
     ensures refused { result.0 ≡ 1
         → RunsOn T.Start None result.1
-        (AnswersImport W.contents output.old output.new true import.now (F.holds folder.now from.now)) }
+        (AnswersImport W.contents output.old output.new true import.now
+        (F.holds folder.now from.now)) }
     ensures no_desk { result.0 ≡ 3
         → HasNoDesk (Refuses T.Start None result.1) (RunsOn T.Start None result.1 StaysSame)
         (TellsLine E.contents errors.old errors.new) }
@@ -150,7 +157,8 @@ pub fn import_in_file<T: Start, F: Folder, W: Write, E: Write>(
         ⊎ (F.may_fail folder.now from.now × (output.new ≡ output.old)
         × TellsLine E.contents errors.old errors.new (fault_line (ReadFault none_served))
         × RunsOn T.Start None result.1 StaysSame) }
-    ensures well { (result.0 ≡ 0) ⊎ (result.0 ≡ 1) → GoesWell output.old output.new errors.old errors.new }
+    ensures well { (result.0 ≡ 0) ⊎ (result.0 ≡ 1)
+        → GoesWell output.old output.new errors.old errors.new }
 {
     let opened = open_desk::<T, StateDesk>(rt, file, start, None);
     match opened {

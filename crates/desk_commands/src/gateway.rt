@@ -47,7 +47,8 @@ pub fn serve_in_file<T: Start, C: Clients, W: Write, E: Write>(
     ensures status { (result.0 ≡ 0) ⊎ (result.0 ≡ 1) ⊎ (result.0 ≡ 3) ⊎ (result.0 ≡ 4) }
     ensures served { (result.0 ≡ 0) ⊎ (result.0 ≡ 1) ⊎ (result.0 ≡ 4)
         → (exchanges : List Exchange)
-        × TellsConnections connections (ends_of exchanges) result.0 (W.contents (inner_of output.old))
+        × TellsConnections connections (ends_of exchanges) result.0
+        (W.contents (inner_of output.old))
         (W.contents (inner_of output.new)) (failures_of output.old) (failures_of output.new)
         × ServesAt C.Saw clients.old clients.new port exchanges
         × RunsOn T.Start (Some greatest) result.1 (ServesEach exchanges) }
@@ -57,8 +58,10 @@ pub fn serve_in_file<T: Start, C: Clients, W: Write, E: Write>(
     ensures left { LeavesDesk result.1 }
     ensures untouched { result.0 ≡ 3 → output.new ≡ output.old }
     ensures unasked { result.0 ≡ 3 → clients.new ≡ clients.old }
-    ensures failed { result.0 ≡ 4 → TellsEnd E.contents output.old output.new errors.old errors.new }
-    ensures well { (result.0 ≡ 0) ⊎ (result.0 ≡ 1) → GoesWell output.old output.new errors.old errors.new }
+    ensures failed { result.0 ≡ 4
+        → TellsEnd E.contents output.old output.new errors.old errors.new }
+    ensures well { (result.0 ≡ 0) ⊎ (result.0 ≡ 1)
+        → GoesWell output.old output.new errors.old errors.new }
 {
     let Ok(routes) = RouteTable::new(rt.alloc()) else {
         return (unavailable(errors), Left::Nothing);
@@ -98,22 +101,27 @@ pub fn report_in_file<T: Start, W: Write, E: Write>(
     ensures status { (result.0 ≡ 0) ⊎ (result.0 ≡ 1) ⊎ (result.0 ≡ 3) ⊎ (result.0 ≡ 4) }
     ensures done { result.0 ≡ 0
         → (answer : Told) × (code_of answer.status ≡ 200)
-        × Appends (W.contents (inner_of output.old)) (W.contents (inner_of output.new)) (report_output answer)
+        × Appends (W.contents (inner_of output.old)) (W.contents (inner_of output.new))
+        (report_output answer)
         × RunsOn T.Start None result.1 (AnswersReport report_of target.now answer) }
     ensures refused { result.0 ≡ 1
         → (answer : Told) × (code_of answer.status ≢ 200)
-        × Appends (W.contents (inner_of output.old)) (W.contents (inner_of output.new)) (report_output answer)
+        × Appends (W.contents (inner_of output.old)) (W.contents (inner_of output.new))
+        (report_output answer)
         × RunsOn T.Start None result.1 (AnswersReport report_of target.now answer) }
     ensures no_desk { result.0 ≡ 3
-        → HasNoDesk (Refuses T.Start None result.1) (result.1 ≡ Nothing) (TellsLine E.contents errors.old errors.new) }
+        → HasNoDesk (Refuses T.Start None result.1) (result.1 ≡ Nothing)
+        (TellsLine E.contents errors.old errors.new) }
     ensures left { LeavesDesk result.1 }
     ensures untouched { result.0 ≡ 3 → output.new ≡ output.old }
     ensures failed { result.0 ≡ 4
         → TellsUnwritten E.contents output.old output.new errors.old errors.new
         × (answer : Told)
-        × SendsFront (W.contents (inner_of output.old)) (W.contents (inner_of output.new)) (report_output answer)
+        × SendsFront (W.contents (inner_of output.old)) (W.contents (inner_of output.new))
+        (report_output answer)
         × RunsOn T.Start None result.1 (AnswersReport report_of target.now answer) }
-    ensures well { (result.0 ≡ 0) ⊎ (result.0 ≡ 1) → GoesWell output.old output.new errors.old errors.new }
+    ensures well { (result.0 ≡ 0) ⊎ (result.0 ≡ 1)
+        → GoesWell output.old output.new errors.old errors.new }
 {
     let Ok(routes) = RouteTable::new(rt.alloc()) else {
         return (unavailable(errors), Left::Nothing);

@@ -31,7 +31,8 @@ pub fn audit_file<T: Start, W: Write, E: Write>(
     ensures status { (result.0 ≡ 0) ⊎ (result.0 ≡ 3) ⊎ (result.0 ≡ 4) }
     ensures done { result.0 ≡ 0
         → (count : ℕ)
-        × Appends (W.contents (inner_of output.old)) (W.contents (inner_of output.new)) (lawful_line count)
+        × Appends (W.contents (inner_of output.old))
+        (W.contents (inner_of output.new)) (lawful_line count)
         × Audits T.Start result.1 count }
     ensures no_desk { result.0 ≡ 3
         → HasNoDesk (Refuses T.Start None result.1) (RunsOn T.Start None result.1 StaysSame)
@@ -41,7 +42,8 @@ pub fn audit_file<T: Start, W: Write, E: Write>(
     ensures failed { result.0 ≡ 4
         → TellsUnwritten E.contents output.old output.new errors.old errors.new
         × (count : ℕ)
-        × SendsFront (W.contents (inner_of output.old)) (W.contents (inner_of output.new)) (lawful_line count)
+        × SendsFront (W.contents (inner_of output.old))
+        (W.contents (inner_of output.new)) (lawful_line count)
         × Audits T.Start result.1 count }
     ensures well { result.0 ≡ 0 → GoesWell output.old output.new errors.old errors.new }
 {
@@ -72,12 +74,14 @@ pub fn migrate_file<T: Start, W: Write, E: Write>(
         → Appends (W.contents (inner_of output.old)) (W.contents (inner_of output.new)) version_line
         × Migrates T.Start result.1 }
     ensures no_desk { result.0 ≡ 3
-        → HasNoDesk (RefusesToMigrate T.Start result.1) ⊥ (TellsLine E.contents errors.old errors.new) }
+        → HasNoDesk (RefusesToMigrate T.Start result.1) ⊥
+        (TellsLine E.contents errors.old errors.new) }
     ensures left { LeavesFile result.1 }
     ensures untouched { result.0 ≡ 3 → output.new ≡ output.old }
     ensures failed { result.0 ≡ 4
         → TellsUnwritten E.contents output.old output.new errors.old errors.new
-        × SendsFront (W.contents (inner_of output.old)) (W.contents (inner_of output.new)) version_line
+        × SendsFront (W.contents (inner_of output.old))
+        (W.contents (inner_of output.new)) version_line
         × Migrates T.Start result.1 }
     ensures well { result.0 ≡ 0 → GoesWell output.old output.new errors.old errors.new }
 {

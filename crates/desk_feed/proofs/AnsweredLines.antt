@@ -1,5 +1,5 @@
 -- Lines answered one after another.
-use Rattle.std.proofs.Common.{◌≡◌, ◌∙◌, ◌+◌, ℕ, Bool, true, false, cond, List, [], ◌∷◌, ◌++◌, sym, ap, refl, subst, Option, append-nil, length, length-append, take, arith, count_by, Result, Err, Some, ◌<◌, ◌≤◌, ◌-◌, ◌==◌, get_or}
+use Rattle.std.proofs.Common.{◌≡◌, ◌∙◌, ◌+◌, ℕ, Bool, true, false, cond, List, [], ◌∷◌, ◌++◌, sym, ap, refl, subst, Option, append-nil, length, length-append, take, arith, count_by, Some, ◌<◌, ◌≤◌, ◌-◌, ◌==◌, get_or}
 use Rattle.std.specs.List.{flat_map}
 use Rattle.std.proofs.lemmas.Bool.{lt-ltb}
 use Rattle.std.proofs.lemmas.Grind.{flat_map-append, common_steps}
@@ -8,8 +8,6 @@ use Rattle.std.specs.Io.KnownBytes.{Appends}
 use Rattle.std.proofs.KnownBytes.{Appends-trans}
 use Rattle.desk_types.specs.declared.rules.Rules.{Rules}
 use Rattle.desk_types.specs.History.{History}
-use Rattle.served.specs.declared.serving.ServeFault.{ServeFault}
-use Rattle.served.specs.declared.serving.ServeFault.TheVariants.{Write}
 use Rattle.served.specs.declared.serving.Served.{Served}
 use Rattle.desk_types.specs.declared.limits.TheConstants.{LONGEST_INPUT}
 use Rattle.desk_feed.specs.declared.line.LineAnswer.TheVariants.{TooLong}
@@ -76,9 +74,6 @@ answered_more rules greatest ls ks ms ns H₀ H₁ H₂ out₀ out₁ out₂ s�
       answered = omega (arith, a.answered, b.answered, length-append ls ks);
       refused = omega (arith, a.refused, b.refused, ap (count_by is_refused) all, count_by-append is_refused (answers_to rules greatest ms H₀ ls) (answers_to rules greatest ns H₁ ks));
     }
-
-pub same_write : (a b : Served) → ◌≡◌ {A = Result Served ServeFault} (Err (Write a)) (Err (Write b)) → a ≡ b
-same_write a b e = cc
 
 -- ---- a line over the limit
 

@@ -15,11 +15,13 @@ is_empty (x ∷ xs) = false
 
 -- The non-empty pieces between line feeds, each without a carriage return at its end.
 abbrev pub lines_of : List ℕ → List (List ℕ)
-lines_of input = filter (λ line. not (is_empty line)) (map without_return (slice_split is_feed input))
+lines_of input = filter
+    (λ line. not (is_empty line)) (map without_return (slice_split is_feed input))
 
 -- The lines that end with a line feed.
 abbrev pub ended_lines : List ℕ → List (List ℕ)
-ended_lines input = filter (λ line. not (is_empty line)) (map without_return (take (count_by is_feed input) (slice_split is_feed input)))
+ended_lines input = filter (λ line. not (is_empty line))
+    (map without_return (take (count_by is_feed input) (slice_split is_feed input)))
 
 -- The line in one piece, unless it is empty.
 abbrev pub lines_in : List ℕ → List (List ℕ)

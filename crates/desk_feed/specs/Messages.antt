@@ -13,11 +13,16 @@ use Rattle.desk_answers.specs.Commands.{command_answer, command_after, answer_te
 
 -- The answer to a command; all except Accepted count as refused.
 abbrev pub answer_asked : Rules → ℕ → History → Stamped → Told
-answer_asked rules greatest H s = record { text = answer_text s.uid (command_answer rules greatest H s); refused = is_refused (command_answer rules greatest H s) }
+answer_asked rules greatest H s = record {
+  text = answer_text s.uid
+      (command_answer rules greatest H s);
+  refused = is_refused (command_answer rules greatest H s);
+}
 
 -- The answer to a message's content; faults and refusals count as refused, Ignored doesn't.
 abbrev pub answer_heard : Rules → ℕ → History → Result Said MessageFault → Told
-answer_heard rules greatest H (Ok (Ignored name)) = record { text = ignored_text name; refused = false }
+answer_heard rules greatest H (Ok (Ignored name)) =
+    record { text = ignored_text name; refused = false }
 answer_heard rules greatest H (Ok (Asked s)) = answer_asked rules greatest H s
 answer_heard rules greatest H (Err fault) = record { text = fault_text fault; refused = true }
 

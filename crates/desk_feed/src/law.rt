@@ -9,5 +9,6 @@ ghost use Rattle.desk_feed.specs.Repeats.{after_all, without_repeats};
 /// final history. Holds for any history.
 pub fn repeats_act_once()
     ensures { (rules : Rules) (greatest : ℕ) (H : History) (lines : List (List ℕ))
-        → after_all rules greatest H lines ≡ after_all rules greatest H (without_repeats rules greatest H lines) }
+        → after_all rules greatest H lines
+        ≡ after_all rules greatest H (without_repeats rules greatest H lines) }
 {}

@@ -1,8 +1,7 @@
 //! The answer to one line.
 
 ghost use Rattle.std.specs.Prelude.{◌≡◌, ◌∷◌, [], ℕ, List, MatchOption};
-ghost use Rattle.desk_types.specs.History.{History};
-ghost use Rattle.desk_answers.specs.Ledger.{Ledger};
+ghost use Rattle.desk_answers.specs.Ledger.{ForLists};
 ghost use Rattle.desk_feed.specs.Taking.{HoldsLine};
 ghost use Rattle.desk_feed.specs.LineAnswers.{line_told, AnswersRaw};
 ghost use Rattle.desk_feed.specs.Lines.{lines_in, without_return};
@@ -60,11 +59,12 @@ pub fn answer_line<L: Owner>(alloc: Global, owner: &mut L, raw: RawLine) -> Opti
     requires ready { L.Ready owner.old }
     ensures ready { L.Ready owner.new }
     ensures trusts { L.Trusts owner.new → L.Trusts owner.old }
-    ensures answer { (G : Ledger) → L.Stands owner.old G → L.Trusts owner.new → (bytes : List ℕ) → HoldsLine raw bytes
-        → (H : History) × L.Stands owner.new (record G { history = H })
-        × AnswersRaw G.rules G.greatest G.history bytes result H }
+    ensures answer { (bytes : List ℕ) → HoldsLine raw bytes
+        → ForLists L.Stands L.Trusts owner.old owner.new
+        (λ G. AnswersRaw G.rules G.greatest G.history bytes result) }
     ensures empty { (bytes : List ℕ) → HoldsLine raw bytes
-        → MatchOption result (lines_in bytes ≡ []) (λ answer. lines_in bytes ≡ without_return bytes ∷ []) }
+        → MatchOption result (lines_in bytes ≡ [])
+        (λ answer. lines_in bytes ≡ without_return bytes ∷ []) }
 {
     match raw {
         RawLine::NoMemoryReturn => None,

@@ -29,8 +29,10 @@ pub fn answer_message<L: Owner>(
     ensures told { (G : Ledger) → L.Stands owner.old G → L.Trusts owner.new
         → IfOk result (λ told. told ≡ answer_to G.rules G.greatest G.history bytes.now) }
     ensures after { (G : Ledger) → L.Stands owner.old G → L.Trusts owner.new
-        → OnOk result (L.Stands owner.new (record G { history = list_after G.rules G.greatest G.history bytes.now })) }
-    ensures err { (G : Ledger) → L.Stands owner.old G → L.Trusts owner.new → OnErr result (L.Stands owner.new G) }
+        → OnOk result (L.Stands owner.new
+        (record G { history = list_after G.rules G.greatest G.history bytes.now })) }
+    ensures err { (G : Ledger) → L.Stands owner.old G → L.Trusts owner.new
+        → OnErr result (L.Stands owner.new G) }
 {
     match read_message(alloc, bytes) {
         Ok(Said::Ignored(name)) => Ok(Told {
@@ -59,9 +61,10 @@ pub fn answer_command<L: Owner>(
     ensures told { (G : Ledger) → L.Stands owner.old G → L.Trusts owner.new
         → IfOk result (λ told. told ≡ answer_asked G.rules G.greatest G.history stamped.now) }
     ensures after { (G : Ledger) → L.Stands owner.old G → L.Trusts owner.new
-        → OnOk result
-        (L.Stands owner.new (record G { history = command_after G.rules G.greatest G.history stamped.now })) }
-    ensures err { (G : Ledger) → L.Stands owner.old G → L.Trusts owner.new → OnErr result (L.Stands owner.new G) }
+        → OnOk result (L.Stands owner.new
+        (record G { history = command_after G.rules G.greatest G.history stamped.now })) }
+    ensures err { (G : Ledger) → L.Stands owner.old G → L.Trusts owner.new
+        → OnErr result (L.Stands owner.new G) }
 {
     match owner.command(stamped) {
         Answer::Accepted(_, text) => Ok(Told {

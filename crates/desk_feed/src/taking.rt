@@ -1,11 +1,11 @@
 //! Taking lines from a reader's blocks.
 
-ghost use Rattle.std.specs.Prelude.{◌≡◌, ◌+◌, ◌<◌, ◌≤◌, ◌++◌, ℕ, List, length, true, false, IfOk, OnOk, OnErr, Ok};
-ghost use Rattle.std.specs.Io.KnownBytes.{Consumes, Keeps, IsAtEnd};
-ghost use Rattle.desk_types.specs.Wire.{inner_of, reads_of};
-ghost use Rattle.served.specs.Block.{IsBlock, pending_bytes, source, fuel};
-ghost use Rattle.served.specs.Reads.{MayRead, ReadsUpTo};
-ghost use Rattle.desk_feed.specs.Taking.{HasNoFeed, IsFirstFeed, HoldsLine, TakesLine};
+ghost use Rattle.std.specs.Prelude.{◌≡◌, ◌<◌, ◌++◌, ℕ, List, IfOk, OnOk, OnErr};
+ghost use Rattle.std.specs.Io.KnownBytes.{Keeps};
+ghost use Rattle.desk_types.specs.Wire.{inner_of};
+ghost use Rattle.served.specs.Block.{source, fuel};
+ghost use Rattle.served.specs.Reads.{MayReadInto, ReadsInto};
+ghost use Rattle.desk_feed.specs.Taking.{FallsAtEnd, HasPending, IsFirstFeed, HoldsLine, ReadsInside, TakesNext};
 ghost use Rattle.desk_feed.specs.Lines.{without_return};
 
 use desk_types::{LONGEST_INPUT, Wire};
@@ -44,17 +44,16 @@ pub fn take_line<R: Read>(
     wire: &mut Wire<R>,
     most_reads: u64,
 ) -> Result<Taken, ReadFault>
-    requires valid { IsBlock block.old }
-    requires reads { MayRead most_reads wire.old }
-    ensures valid { IsBlock block.new }
-    ensures line { IfOk result (λ taken. (raw : List ℕ) × HoldsLine taken.line raw
-        × TakesLine (source block.old (R.remaining (inner_of wire.old))) raw taken.last
+    requires reads { MayReadInto most_reads wire.old block.old }
+    ensures reads { ReadsInto most_reads result wire.old wire.new block.new }
+    ensures line { IfOk result
+        (λ taken. TakesNext (source block.old (R.remaining (inner_of wire.old))) taken
         (source block.new (R.remaining (inner_of wire.new)))) }
-    ensures unread { OnErr result ((rest : List ℕ) × HasNoFeed rest
-        × Consumes (source block.old (R.remaining (inner_of wire.old))) (R.remaining (inner_of wire.new)) rest) }
+    ensures unread { OnErr result
+        (ReadsInside (source block.old (R.remaining (inner_of wire.old)))
+        (R.remaining (inner_of wire.new))) }
     ensures falls { OnOk result
-        (fuel most_reads (reads_of wire.new) block.new < fuel most_reads (reads_of wire.old) block.old) }
-    ensures reads { ReadsUpTo most_reads result wire.old wire.new }
+        (fuel most_reads wire.new block.new < fuel most_reads wire.old block.old) }
 {
     let mut line = RawLine::Whole(Vec::new(alloc));
     while ready(block, wire, most_reads)? {
@@ -77,21 +76,16 @@ pub fn take_line<R: Read>(
 
 /// Reads at most once, so that a byte is pending. Returns false at the end.
 fn ready<R: Read>(block: &mut Block, wire: &mut Wire<R>, most_reads: u64) -> Result<bool, ReadFault>
-    requires valid { IsBlock block.old }
-    requires reads { MayRead most_reads wire.old }
-    ensures valid { IsBlock block.new }
+    requires reads { MayReadInto most_reads wire.old block.old }
+    ensures reads { ReadsInto most_reads result wire.old wire.new block.new }
     ensures source { OnOk result
         (Keeps (source block.old (R.remaining (inner_of wire.old)))
         (source block.new (R.remaining (inner_of wire.new)))) }
     ensures unread { OnErr result
-        (Keeps (source block.old (R.remaining (inner_of wire.old))) (R.remaining (inner_of wire.new))) }
-    ensures some { result ≡ Ok true → 0 < length (pending_bytes block.new) }
-    ensures end { result ≡ Ok false → IsAtEnd (source block.new (R.remaining (inner_of wire.new))) }
-    ensures falls { OnOk result
-        (fuel most_reads (reads_of wire.new) block.new ≤ fuel most_reads (reads_of wire.old) block.old) }
-    ensures falls_at_end { result ≡ Ok false
-        → fuel most_reads (reads_of wire.new) block.new < fuel most_reads (reads_of wire.old) block.old }
-    ensures reads { ReadsUpTo most_reads result wire.old wire.new }
+        (Keeps (source block.old (R.remaining (inner_of wire.old)))
+        (R.remaining (inner_of wire.new))) }
+    ensures pending { HasPending result block.new (R.remaining (inner_of wire.new)) }
+    ensures falls { FallsAtEnd most_reads result wire.old block.old wire.new block.new }
 {
     if block.pending().is_empty() {
         return block.more(wire, most_reads);

@@ -33,7 +33,8 @@ pub record IsFoundIn (image : Image) (db : Database) : Type 0 where
 -- Any open of the files finds no table at all, or the tables of a line. Those of version 1 are alone. Those of version
 -- 2 come first, and no other table refers to them.
 abbrev pub HasOursFirst : Image → Type 0
-HasOursFirst image = (db : Database) → IsFoundIn image db → IsOurs db.schema ⊎ (db.schema ≡ no_schema)
+HasOursFirst image = (db : Database) → IsFoundIn image db
+    → IsOurs db.schema ⊎ (db.schema ≡ no_schema)
 
 -- The files hold these tables, by version 2.
 abbrev pub HasTables : Image → Tables → Type 0
@@ -50,7 +51,8 @@ FindsNoTable image = (db : Database) → IsFoundIn image db → db.schema ≡ no
 -- A run on the files begins with the greatest number and the history whose tables they hold by version 2. If they hold
 -- no table and a desk may be made, it begins with an empty history and the requested greatest number.
 abbrev pub Begins : Image → Option ℕ → ℕ → History → Type 0
-Begins image make greatest H = HasTables image (ledger_tables greatest H) ⊎ (HasNoTable image × (make ≡ Some greatest) × (H ≡ []))
+Begins image make greatest H = HasTables image (ledger_tables greatest H)
+    ⊎ (HasNoTable image × (make ≡ Some greatest) × (H ≡ []))
 
 -- The files hold the tables of this history by version 1, and it is lawful by the rules of both versions.
 pub record IsOfOne (image : Image) (greatest : ℕ) (H : History) : Type 0 where
@@ -61,8 +63,10 @@ pub record IsOfOne (image : Image) (greatest : ℕ) (H : History) : Type 0 where
 -- The files held the tables of a history by version 1. The connection holds its tables by version 2, and a crash leaves
 -- only these.
 abbrev pub MigratedFrom : {D : Type 0} {g : disk.Ghosts D} → Image → Held (FileStore D g) → Type 0
-MigratedFrom image conn = (greatest : ℕ) × (H : History) × IsOfOne image greatest H × Holds (file_state conn).committed (ledger_tables greatest H)
-    × ((trees : Trees) → (file_state conn).may_leave trees → HoldsAt (ledger_tables greatest H) trees)
+MigratedFrom image conn = (greatest : ℕ) × (H : History) × IsOfOne image greatest H
+    × Holds (file_state conn).committed (ledger_tables greatest H)
+    × ((trees : Trees) → (file_state conn).may_leave trees
+    → HoldsAt (ledger_tables greatest H) trees)
 
 -- The two files hold these tables, and so does the database file without its log.
 abbrev pub IsWhole : Tables → Image → Type 0
@@ -79,10 +83,16 @@ Leaves {g = g} conn files = AreClean g files.log files.db → HasCleanDisk (file
 -- The files of a connection hold whatever tables it held, now and after any crash, if it was sound and open and the
 -- disk never lied.
 abbrev pub KeepsTables : {D : Type 0} {g : disk.Ghosts D} → Held (FileStore D g) → Files D → Type 0
-KeepsTables {g = g} conn files = (tables : Tables) → (HasCleanDisk (file_state conn) → IsTrue (file_state conn).is_open → Holds (file_state conn).committed tables) → AreClean g files.log files.db
-    → (image : Image) → (image ≡ image_of g files) ⊎ outcomes g files.log files.db image → IsWhole tables image
+KeepsTables {g = g} conn files = (tables : Tables) → (HasCleanDisk (file_state conn)
+    → IsTrue (file_state conn).is_open → Holds (file_state conn).committed tables)
+    → AreClean g files.log files.db
+    → (image : Image) → (image ≡ image_of g files) ⊎ outcomes g files.log files.db image
+    → IsWhole tables image
 
 -- The files of a desk with its own tables hold those of its history, now and after any crash, if the disk never lied.
-abbrev pub Closes : {D E : Type 0} {g : disk.Ghosts D} → (E → History → Type 0) → (E → Rules) → LineStore (FileStore D g) E → Files D → Type 0
-Closes {g = g} StandsFor kept_rules desk files = (L : Kept) → Stands over_files StandsFor kept_rules desk L → IsTrue L.own → AreClean g files.log files.db
-    → (image : Image) → (image ≡ image_of g files) ⊎ outcomes g files.log files.db image → IsWhole (ledger_tables L.greatest L.history) image
+abbrev pub Closes : {D E : Type 0} {g : disk.Ghosts D} → (E → History → Type 0) → (E → Rules)
+    → LineStore (FileStore D g) E → Files D → Type 0
+Closes {g = g} StandsFor kept_rules desk files = (L : Kept)
+    → Stands over_files StandsFor kept_rules desk L → IsTrue L.own → AreClean g files.log files.db
+    → (image : Image) → (image ≡ image_of g files) ⊎ outcomes g files.log files.db image
+    → IsWhole (ledger_tables L.greatest L.history) image

@@ -27,7 +27,8 @@ pub record FindsAs (image : Image) (s : State) : Type 0 where
   pub reads : AreReadIn image s.committed.trees
 
 -- An empty database was made in files that did not lie.
-pub record IsMadeOf {D : Type 0} {g : Ghosts D} (files : Files D) (store : FileStore D g) : Type 0 where
+pub record IsMadeOf {D : Type 0} {g : Ghosts D} (files : Files D)
+    (store : FileStore D g) : Type 0 where
   pub honest : AreClean g files.log files.db
   pub fresh : IsFresh (view store)
   pub empty : IsEmpty (view store).trees

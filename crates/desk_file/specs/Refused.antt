@@ -42,33 +42,41 @@ idle_state db = record {
 
 -- The fault is in a database that an open of the files finds, as a desk of the version of these rules.
 abbrev pub IsFaultIn : Image → Rules → OpenFault → Type 0
-IsFaultIn image rules fault = (db : Database) × IsFoundIn image db × IsFaultBy rules (idle_state db) fault × IsToldBy rules (idle_state db) fault
+IsFaultIn image rules fault = (db : Database) × IsFoundIn image db
+    × IsFaultBy rules (idle_state db) fault × IsToldBy rules (idle_state db) fault
 
 -- The files hold a table with one of our names.
 abbrev pub HasOurName : Image → Type 0
-HasOurName image = (db : Database) × IsFoundIn image db × (list_any has_name db.schema.tables ≡ true)
+HasOurName image = (db : Database) × IsFoundIn image db
+    × (list_any has_name db.schema.tables ≡ true)
 
 -- Why a run refuses the files: the fault of a desk of version 2, or a table with one of our names in files in which to
 -- make a desk.
 abbrev pub IsFaultFor : Image → Option ℕ → OpenFault → Type 0
-IsFaultFor image make fault = IsFaultIn image Two fault ⊎ (IsSome make × (fault ≡ NotBlank) × HasOurName image)
+IsFaultFor image make fault = IsFaultIn image Two fault
+    ⊎ (IsSome make × (fault ≡ NotBlank) × HasOurName image)
 
 -- ---- the files
 
 -- An open of the files made the connection `first`, which became `last`. Nothing was committed, and a crash leaves what
 -- it left of `first`, or this.
-pub record IsUnchangedSince {D : Type 0} {g : disk.Ghosts D} (image : Image) (Leaves : State → Trees → Type 0) (first last : Held (FileStore D g)) : Type 0 where
+pub record IsUnchangedSince {D : Type 0} {g : disk.Ghosts D} (image : Image)
+    (Leaves : State → Trees → Type 0) (first last : Held (FileStore D g)) : Type 0 where
   pub opened : HasCleanDisk (file_state first) → IsOpened first × FindsAs image (file_state first)
   pub kept : HasCleanDisk (file_state last) → KeepsCommit (file_state first) (file_state last)
   pub survives : Survives (file_state first) (file_state last) (Leaves (file_state first))
 
 -- The files were refused. If the disk did not lie, the fault is in their contents, which are those that the connection
 -- has committed. Without a connection it is Unavailable, or NotADesk if none may be made.
-pub record IsRefused {D : Type 0} {g : disk.Ghosts D} (image : Image) (StandsIn : OpenFault → Type 0) (Leaves : State → Trees → Type 0) (MakesNone : Type 0) (r : Refusal D g) : Type 0 where
+pub record IsRefused {D : Type 0} {g : disk.Ghosts D} (image : Image)
+    (StandsIn : OpenFault → Type 0) (Leaves : State → Trees → Type 0) (MakesNone : Type 0)
+    (r : Refusal D g) : Type 0 where
   pub unopened : r.file ≡ None → (r.fault ≡ Unavailable) ⊎ ((r.fault ≡ NotADesk) × MakesNone)
   pub fault : IfSome r.file (λ conn. HasCleanDisk (file_state conn) → StandsIn r.fault)
-  pub found : IfSome r.file (λ conn. HasCleanDisk (file_state conn) → IsTrue (file_state conn).is_open → IsFoundIn image (file_state conn).committed)
-  pub since : IfSome r.file (λ conn. (first : Held (FileStore D g)) × IsUnchangedSince image Leaves first conn)
+  pub found : IfSome r.file (λ conn. HasCleanDisk (file_state conn)
+      → IsTrue (file_state conn).is_open → IsFoundIn image (file_state conn).committed)
+  pub since : IfSome r.file
+      (λ conn. (first : Held (FileStore D g)) × IsUnchangedSince image Leaves first conn)
   pub never : MakesNone → r.fault ≢ NotBlank
 
 -- The tables that a crash may also leave of a run that may make a desk: those of an empty history.

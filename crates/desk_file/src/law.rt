@@ -17,12 +17,15 @@ use line_rows::rows_tell_lists_apart;
 /// A law: each run on files that hold the tables of a judged history begins with that history and its greatest number,
 /// whatever greatest number is requested. It serves proofs and does nothing when it runs.
 pub fn next_run_goes_on()
-    ensures ours_first { (image : Image) (trees : Trees) (greatest : ℕ) (H : History) → ∥ HoldsDatabase image trees ∥₁
+    ensures ours_first { (image : Image) (trees : Trees) (greatest : ℕ) (H : History)
+        → ∥ HoldsDatabase image trees ∥₁
         → HoldsAt (ledger_tables greatest H) trees → HasOursFirst image }
-    ensures held { (image : Image) (trees : Trees) (greatest : ℕ) (H : History) → ∥ HoldsDatabase image trees ∥₁
+    ensures held { (image : Image) (trees : Trees) (greatest : ℕ) (H : History)
+        → ∥ HoldsDatabase image trees ∥₁
         → HoldsAt (ledger_tables greatest H) trees
         → (db : Database) → IsFoundIn image db → Holds db (ledger_tables greatest H) }
-    ensures same { (image : Image) (trees : Trees) (greatest : ℕ) (H : History) → ∥ HoldsDatabase image trees ∥₁
+    ensures same { (image : Image) (trees : Trees) (greatest : ℕ) (H : History)
+        → ∥ HoldsDatabase image trees ∥₁
         → HoldsAt (ledger_tables greatest H) trees → IsJudged Two H
         → (make : Option ℕ) (next : ℕ) (H' : History) → Begins image make next H' → IsJudged Two H'
         → (next ≡ greatest) × (H' ≡ H) }

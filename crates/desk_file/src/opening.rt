@@ -41,12 +41,16 @@ pub fn open_desk<T: Start, D: KeepsRows + Drop>(
     make: Option<u32>,
 ) -> Result<FileDesk<T, D>, Refusal<FileFrom<T>>>
     requires range { IfSome make (λ greatest. (1 ≤ greatest) × (greatest ≤ MOST_ENTRIES)) }
-    ensures stands { IfOk result (λ store. (L : Kept) × Stands over_files D.Stands D.kept_rules store L) }
+    ensures stands { IfOk result
+        (λ store. (L : Kept) × Stands over_files D.Stands D.kept_rules store L) }
     ensures refused { IfErr result (RefusesRun (image_at T.Start) make) }
-    ensures begins { IfOk result (λ store. HasCleanDisk (state_of over_files store) → HasOursFirst (image_at T.Start)
+    ensures begins { IfOk result
+        (λ store. HasCleanDisk (state_of over_files store) → HasOursFirst (image_at T.Start)
         → (greatest : _) × (H : History) × Begins (image_at T.Start) make greatest H
-        × Stands over_files D.Stands D.kept_rules store (record { greatest = greatest; history = H; own = true })) }
-    ensures alone { IfOk result (λ store. HasCleanDisk (state_of over_files store) → FindsNoTable (image_at T.Start)
+        × Stands over_files D.Stands D.kept_rules store
+        (record { greatest = greatest; history = H; own = true })) }
+    ensures alone { IfOk result
+        (λ store. HasCleanDisk (state_of over_files store) → FindsNoTable (image_at T.Start)
         → IfSome make (λ greatest. (trees : Trees) → (state_of over_files store).may_leave trees
         → HoldsAt (blank greatest) trees)) }
 {
@@ -69,7 +73,8 @@ pub fn migrate_desk<T: Start, D: KeepsRows + Drop>(
     path: &str,
     start: T,
 ) -> Result<DeskFile<T>, Refusal<FileFrom<T>>>
-    ensures migrated { IfOk result (λ conn. HasCleanDisk (file_state conn) → HasOursFirst (image_at T.Start)
+    ensures migrated { IfOk result
+        (λ conn. HasCleanDisk (file_state conn) → HasOursFirst (image_at T.Start)
         → MigratedFrom (image_at T.Start) conn) }
     ensures refused { IfErr result (RefusesMigration (image_at T.Start)) }
 {
@@ -136,7 +141,8 @@ fn is_blank<T: Start>(rt: &HostRuntime, path: &str) -> Result<bool, Refusal<File
 /// Returns whether a file is empty. A path that is no regular file is not.
 fn has_no_byte(found: &Metadata) -> Option<bool>
     ensures none { IfNone result (¬ IsFile (file_type found.now)) }
-    ensures some { IfSome result (λ blank. IsFile (file_type found.now) × (blank ≡ (metadata_len found.now == 0))) }
+    ensures some { IfSome result
+        (λ blank. IsFile (file_type found.now) × (blank ≡ (metadata_len found.now == 0))) }
 {
     if found.is_file() {
         Some(found.len() == 0)
@@ -164,12 +170,17 @@ fn new_desk<T: Start, D: KeepsRows + Drop>(
     requires least { 1 ≤ greatest }
     requires most { greatest ≤ MOST_ENTRIES }
     ensures refused { IfErr result (RefusesRun (image_at T.Start) (Some greatest)) }
-    ensures stands { IfOk result (λ store. (L : Kept) × Stands over_files D.Stands D.kept_rules store L) }
-    ensures begins { IfOk result (λ store. HasCleanDisk (state_of over_files store) → HasOursFirst (image_at T.Start)
+    ensures stands { IfOk result
+        (λ store. (L : Kept) × Stands over_files D.Stands D.kept_rules store L) }
+    ensures begins { IfOk result
+        (λ store. HasCleanDisk (state_of over_files store) → HasOursFirst (image_at T.Start)
         → Begins (image_at T.Start) (Some greatest) greatest []
-        × Stands over_files D.Stands D.kept_rules store (record { greatest = greatest; history = []; own = true })) }
-    ensures alone { IfOk result (λ store. HasCleanDisk (state_of over_files store) → FindsNoTable (image_at T.Start)
-        → (trees : Trees) → (state_of over_files store).may_leave trees → HoldsAt (blank greatest) trees) }
+        × Stands over_files D.Stands D.kept_rules store
+        (record { greatest = greatest; history = []; own = true })) }
+    ensures alone { IfOk result
+        (λ store. HasCleanDisk (state_of over_files store) → FindsNoTable (image_at T.Start)
+        → (trees : Trees) → (state_of over_files store).may_leave trees
+        → HoldsAt (blank greatest) trees) }
 {
     let conn = connect(rt, path, start)?;
     match LineStore::create(rt.alloc(), conn, greatest) {
@@ -186,11 +197,15 @@ fn kept_desk<T: Start, D: KeepsRows + Drop>(
     path: &str,
     start: T,
 ) -> Result<FileDesk<T, D>, Refusal<FileFrom<T>>>
-    ensures stands { IfOk result (λ store. (L : Kept) × Stands over_files D.Stands D.kept_rules store L) }
-    ensures begins { IfOk result (λ store. HasCleanDisk (state_of over_files store) → HasOursFirst (image_at T.Start)
+    ensures stands { IfOk result
+        (λ store. (L : Kept) × Stands over_files D.Stands D.kept_rules store L) }
+    ensures begins { IfOk result
+        (λ store. HasCleanDisk (state_of over_files store) → HasOursFirst (image_at T.Start)
         → (greatest : _) × (H : History) × Begins (image_at T.Start) None greatest H
-        × Stands over_files D.Stands D.kept_rules store (record { greatest = greatest; history = H; own = true })) }
-    ensures refused { IfErr result (IsRefused (image_at T.Start) (IsFaultIn (image_at T.Start) Two) (λ _ _. ⊥) ⊥) }
+        × Stands over_files D.Stands D.kept_rules store
+        (record { greatest = greatest; history = H; own = true })) }
+    ensures refused { IfErr result
+        (IsRefused (image_at T.Start) (IsFaultIn (image_at T.Start) Two) (λ _ _. ⊥) ⊥) }
     ensures never { IfErr result (λ r. r.fault ≢ Fault.NotBlank) }
 {
     let conn = connect(rt, path, start)?;

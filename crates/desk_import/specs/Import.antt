@@ -12,6 +12,7 @@ use Rattle.imports.specs.declared.fault.ImportFault.{ImportFault}
 use Rattle.imports.specs.Answer.{fault_text}
 use Rattle.imports.specs.File.{setup_said, counts_said}
 use Rattle.served.specs.Sent.{SendsFront}
+use Rattle.served.specs.declared.sending.WriteFailed.{WriteFailed}
 use Rattle.desk_feed.specs.declared.message.Told.{Told}
 use Rattle.desk_feed.specs.Messages.{answer_asked}
 use Rattle.desk_feed.specs.Stream.{sent_line}
@@ -28,7 +29,8 @@ rows_said Counts bytes = counts_said bytes
 
 -- The command with the import's UniqueID, source and minute.
 abbrev pub stamped_by : Import → Command → Stamped
-stamped_by import command = record { uid = import.uid; source = import.source; minute = import.minute; command = command }
+stamped_by import command =
+    record { uid = import.uid; source = import.source; minute = import.minute; command = command }
 
 -- The import's command from the file's bytes, or the first fault.
 unfoldable pub command_said : Import → List ℕ → Result Stamped ImportFault
@@ -63,10 +65,20 @@ import_after true G said = G.history
 import_after false G said = after_said G said
 
 -- The answer was sent whole with its line feed, with this history and refusal.
-abbrev pub IsAnswered : Result Stamped ImportFault → Option (List ℕ) → Option (List ℕ) → Bool → Ledger → History → Type 0
+abbrev pub IsAnswered : Result Stamped ImportFault → Option (List ℕ) → Option (List ℕ) → Bool
+    → Ledger → History → Type 0
 IsAnswered said out out' refused G H = (mark : Bool) × (H ≡ import_after mark G said)
-    × Appends out out' (sent_line (import_answer mark G said)) × (refused ≡ (import_answer mark G said).refused)
+    × Appends out out' (sent_line (import_answer mark G said))
+    × (refused ≡ (import_answer mark G said).refused)
 
 -- Only the first bytes of the answer were sent.
-abbrev pub IsCutOff : Result Stamped ImportFault → Option (List ℕ) → Option (List ℕ) → Ledger → History → Type 0
-IsCutOff said out out' G H = (mark : Bool) × (H ≡ import_after mark G said) × SendsFront out out' (sent_line (import_answer mark G said))
+abbrev pub IsCutOff : Result Stamped ImportFault → Option (List ℕ) → Option (List ℕ)
+    → Ledger → History → Type 0
+IsCutOff said out out' G H = (mark : Bool) × (H ≡ import_after mark G said)
+    × SendsFront out out' (sent_line (import_answer mark G said))
+
+-- The answer was sent: whole, with this refusal, or only its first bytes.
+abbrev pub AnswersFile : Result Stamped ImportFault → Option (List ℕ) → Option (List ℕ)
+    → Result Bool WriteFailed → Ledger → History → Type 0
+AnswersFile said out out' (Ok refused) G H = IsAnswered said out out' refused G H
+AnswersFile said out out' (Err fault) G H = IsCutOff said out out' G H

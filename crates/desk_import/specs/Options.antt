@@ -30,4 +30,9 @@ setup_import id source time product machine = do
   stamp ← counts_import id source time
   made ← id_in product bad.Product
   maker ← id_in machine bad.Machine
-  Ok (record { uid = stamp.uid; source = stamp.source; minute = stamp.minute; content = Sheet made maker })
+  Ok (record {
+    uid = stamp.uid;
+    source = stamp.source;
+    minute = stamp.minute;
+    content = Sheet made maker;
+  })

@@ -1,9 +1,11 @@
 //! Answers to imports.
 
-ghost use Rattle.std.specs.Prelude.{◌≡◌, ◌+◌, ◌^◌, ◌<◌, IfOk, OnOk, OnErr};
+ghost use Rattle.std.specs.Prelude.{◌≡◌, ◌^◌, ◌<◌, IfOk, OnOk, OnErr};
 ghost use Rattle.desk_types.specs.Wire.{inner_of, failures_of};
 ghost use Rattle.desk_answers.specs.Ledger.{Ledger, ForLists};
-ghost use Rattle.desk_import.specs.Import.{after_said, answer_said, command_said, IsAnswered, IsCutOff};
+ghost use Rattle.served.specs.Owners.{StaysReady};
+ghost use Rattle.served.specs.Sent.{CountsWrite};
+ghost use Rattle.desk_import.specs.Import.{after_said, answer_said, command_said, AnswersFile};
 
 use crate::options::Import;
 use desk_answers::Owner;
@@ -28,8 +30,10 @@ pub fn answer_import<L: Owner>(
     ensures told { (G : Ledger) → L.Stands owner.old G → L.Trusts owner.new
         → IfOk result (λ told. told ≡ answer_said G (command_said import.now bytes.now)) }
     ensures after { (G : Ledger) → L.Stands owner.old G → L.Trusts owner.new
-        → OnOk result (L.Stands owner.new (record G { history = after_said G (command_said import.now bytes.now) })) }
-    ensures err { (G : Ledger) → L.Stands owner.old G → L.Trusts owner.new → OnErr result (L.Stands owner.new G) }
+        → OnOk result (L.Stands owner.new
+        (record G { history = after_said G (command_said import.now bytes.now) })) }
+    ensures err { (G : Ledger) → L.Stands owner.old G → L.Trusts owner.new
+        → OnErr result (L.Stands owner.new G) }
 {
     match import.command(alloc, bytes) {
         Ok(stamped) => answer_command(alloc, owner, &stamped),
@@ -51,16 +55,11 @@ pub fn serve_import<W: Write, L: Owner>(
 ) -> Result<bool, WriteFailed>
     requires few_failures { failures_of output.old < 2 ^ 63 }
     requires ready { L.Ready owner.old }
-    ensures ready { L.Ready owner.new }
-    ensures trusts { L.Trusts owner.new → L.Trusts owner.old }
-    ensures ok { IfOk result (λ refused. ForLists L.Stands L.Trusts owner.old owner.new
-        (IsAnswered (command_said import.now bytes.now) (W.contents (inner_of output.old))
-        (W.contents (inner_of output.new)) refused)) }
-    ensures err { OnErr result (ForLists L.Stands L.Trusts owner.old owner.new
-        (IsCutOff (command_said import.now bytes.now) (W.contents (inner_of output.old))
-        (W.contents (inner_of output.new)))) }
-    ensures kept { OnOk result (failures_of output.new ≡ failures_of output.old) }
-    ensures failed { OnErr result (failures_of output.new ≡ failures_of output.old + 1) }
+    ensures stays { StaysReady L.Ready L.Trusts owner.old owner.new }
+    ensures answers { ForLists L.Stands L.Trusts owner.old owner.new
+        (AnswersFile (command_said import.now bytes.now) (W.contents (inner_of output.old))
+        (W.contents (inner_of output.new)) result) }
+    ensures writes { CountsWrite result output.old output.new }
 {
     let answer = match answer_import(alloc, owner, import, bytes) {
         Ok(told) => LineAnswer::Made(told),

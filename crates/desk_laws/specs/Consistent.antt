@@ -11,8 +11,11 @@ use Rattle.desk_laws.specs.Verified.{IsRightlyPlaced}
 -- slot, and only once there. Each placed piece came from the first reel of its slot with a piece
 -- left, and that reel had been verified for the slot. Board and lot traces agree.
 pub record IsConsistent (H : History) : Type 0 where
-  pub balance : (reel : Name) → received_of H reel ≡ placed_of H reel + scrapped_of H reel + left_of H reel
-  pub one_slot : (m s machine slot reel : Name) → Contains (live_on H m s) reel → Contains (live_on H machine slot) reel → (m ≡ machine) × (s ≡ slot)
+  pub balance : (reel : Name)
+      → received_of H reel ≡ placed_of H reel + scrapped_of H reel + left_of H reel
+  pub one_slot : (m s machine slot reel : Name) → Contains (live_on H m s) reel
+      → Contains (live_on H machine slot) reel → (m ≡ machine) × (s ≡ slot)
   pub once : (machine slot : Name) → IsDistinct same (live_on H machine slot)
   pub rightly_placed : All (IsRightlyPlaced H) (placements_of H)
-  pub converse : (board lot : Name) → Contains (lots_of H board) lot ↔ Contains (boards_of H lot) board
+  pub converse : (board lot : Name)
+      → Contains (lots_of H board) lot ↔ Contains (boards_of H lot) board

@@ -14,4 +14,5 @@ comes_off Counted machine slot = false
 
 -- The pick's reel is on no slot other than the pick's own, for the given reels of each slot.
 abbrev pub IsOnItsSlot : (Name → Name → List Name) → Pick → Type 0
-IsOnItsSlot reels_on p = (machine slot : Name) → list_any (same p.reel) (reels_on machine slot) ≡ true → comes_off p.purpose machine slot ≡ true
+IsOnItsSlot reels_on p = (machine slot : Name) → list_any (same p.reel) (reels_on machine slot)
+    ≡ true → comes_off p.purpose machine slot ≡ true

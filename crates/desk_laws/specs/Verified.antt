@@ -44,7 +44,8 @@ pub record WasVerified (H : History) (machine slot reel : Name) : Type 0 where
 
 -- The first reel on the slot's tape with a piece left after earlier picks.
 abbrev pub next_reel : History → Name → Name → List Pick → Option Name
-next_reel H machine slot before = find (λ reel. nat_lt (pieces_picked before reel) (left_of H reel)) (tape_of H machine slot)
+next_reel H machine slot before =
+    find (λ reel. nat_lt (pieces_picked before reel) (left_of H reel)) (tape_of H machine slot)
 
 -- The install with the placement's number placed the piece for its designator, at that designator's
 -- slot. The piece came from the slot's first reel with a piece left, which was verified for the
@@ -60,7 +61,8 @@ pub record IsRightlyPlaced (H : History) (p : Placement) : Type 0 where
   pub place : 1 ≤ p.place
   pub named : slice_get designators (p.place - 1) ≡ Some p.designator
   pub slot : slot_on before p.machine p.designator ≡ Some p.slot
-  pub next : next_reel before p.machine p.slot (take (p.place - 1) (picks_of before entry.stamped.command)) ≡ Some p.reel
+  pub next : next_reel before p.machine p.slot
+      (take (p.place - 1) (picks_of before entry.stamped.command)) ≡ Some p.reel
   pub receipt : Receipt
   pub received : receipt_of before p.reel ≡ Some receipt
   pub part : p.part ≡ receipt.part

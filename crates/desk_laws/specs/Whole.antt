@@ -13,12 +13,18 @@ pub record Spot : Type 0 where
 
 -- The spot of a placement.
 abbrev pub spot_of : Placement → Spot
-spot_of p = record { place = p.place; machine = p.machine; board = p.board; designator = p.designator }
+spot_of p = record {
+  place = p.place;
+  machine = p.machine;
+  board = p.board;
+  designator = p.designator;
+}
 
 -- One spot for each designator in order, numbered from this place.
 abbrev pub spots_from : ℕ → Name → Name → List Name → List Spot
 spots_from first machine board designators =
-    map (λ (place, d). record { place = place; machine = machine; board = board; designator = d }) (enumerate_from first designators)
+    map (λ (place, d). record { place = place; machine = machine; board = board; designator = d })
+    (enumerate_from first designators)
 
 -- The spots that an install names.
 abbrev pub spots_named : Name → Name → List Name → List Spot

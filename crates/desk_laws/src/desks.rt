@@ -19,7 +19,8 @@ pub fn desk_is_consistent<D: Desk>(desk: &D)
         → Contains (live_on H machine slot) reel → (m ≡ machine) × (s ≡ slot) }
     ensures once { (H : History) (machine slot : Name) → D.Stands desk.now H
         → IsDistinct same (live_on H machine slot) }
-    ensures rightly_placed { (H : History) → D.Stands desk.now H → All (IsRightlyPlaced H) (placements_of H) }
+    ensures rightly_placed { (H : History) → D.Stands desk.now H
+        → All (IsRightlyPlaced H) (placements_of H) }
     ensures traces { (H : History) (board lot : Name) → D.Stands desk.now H
         → Contains (lots_of H board) lot ↔ Contains (boards_of H lot) board }
 {

@@ -35,7 +35,8 @@ pub fn spent_stays_spent()
 
 /// An accepted command finds no piece on a mounted reel. Holds for any history.
 pub fn mounted_reels_gain_nothing()
-    ensures { (rules : Rules) (H : History) (s : Stamped) (reel : Name) → refusal_of rules H s ≡ None
+    ensures { (rules : Rules) (H : History) (s : Stamped) (reel : Name)
+        → refusal_of rules H s ≡ None
         → is_mounted H reel ≡ true
         → found_of (accept H s) reel ≡ found_of H reel }
 {}
@@ -44,12 +45,14 @@ pub fn mounted_reels_gain_nothing()
 pub fn scraps_are_whole()
     ensures { (rules : Rules) (H : History) (s : Stamped) (machine slot : Name) (quantity : ℕ)
         → refusal_of rules H s ≡ None
-        → s.command ≡ MaterialsScrapped machine slot quantity → pieces_of (picks_of H s.command) ≡ quantity }
+        → s.command ≡ MaterialsScrapped machine slot quantity
+        → pieces_of (picks_of H s.command) ≡ quantity }
 {}
 
 /// An accepted count leaves exactly the counted pieces on each reel. Holds for any history.
 pub fn counts_are_exact()
-    ensures { (rules : Rules) (H : History) (s : Stamped) (counts : List CountRow) → refusal_of rules H s ≡ None
+    ensures { (rules : Rules) (H : History) (s : Stamped) (counts : List CountRow)
+        → refusal_of rules H s ≡ None
         → s.command ≡ CountsTaken counts
         → All (λ (row : CountRow). left_of (accept H s) row.reel ≡ row.quantity) counts }
 {}

@@ -20,29 +20,34 @@ ghost use Rattle.desk_laws.specs.Whole.{spot_of, spots_named};
 
 /// Placements are final: no later command changes one. Holds for any history.
 pub fn placements_are_final()
-    ensures { (G H : History) → IsPrefix G H → (later : List Placement) × (placements_of H ≡ placements_of G ++ later) }
+    ensures { (G H : History) → IsPrefix G H
+        → (later : List Placement) × (placements_of H ≡ placements_of G ++ later) }
 {}
 
 /// No designator of a board is placed twice.
 pub fn no_designator_twice()
     ensures { (rules : Rules) (H : History) → IsJudged rules H
-        → IsDistinct same_pair (map (λ (p : Placement). (p.board, p.designator)) (placements_of H)) }
+        → IsDistinct same_pair
+        (map (λ (p : Placement). (p.board, p.designator)) (placements_of H)) }
 {}
 
 /// An accepted install places one piece for each designator of its message, in order, and its reply
 /// names their reels. No designator appears twice. Holds for any history.
 pub fn installs_are_whole()
-    ensures spots { (rules : Rules) (H : History) (s : Stamped) (machine board : Name) (designators : List Name)
+    ensures spots { (rules : Rules) (H : History) (s : Stamped) (machine board : Name)
+        (designators : List Name)
         → refusal_of rules H s ≡ None
         → s.command ≡ MaterialsInstalled machine board designators
         → (more : List Placement) × (placements_of (accept H s) ≡ placements_of H ++ more)
         × (map spot_of more ≡ spots_named machine board designators) }
-    ensures told { (rules : Rules) (H : History) (s : Stamped) (machine board : Name) (designators : List Name)
+    ensures told { (rules : Rules) (H : History) (s : Stamped) (machine board : Name)
+        (designators : List Name)
         (more : List Placement)
         → refusal_of rules H s ≡ None → s.command ≡ MaterialsInstalled machine board designators
         → placements_of (accept H s) ≡ placements_of H ++ more
         → reply_to rules H s ≡ Accepted (Reels (map (λ (p : Placement). p.reel) more)) }
-    ensures once { (rules : Rules) (H : History) (s : Stamped) (machine board : Name) (designators : List Name)
+    ensures once { (rules : Rules) (H : History) (s : Stamped) (machine board : Name)
+        (designators : List Name)
         → refusal_of rules H s ≡ None
         → s.command ≡ MaterialsInstalled machine board designators → IsDistinct same designators }
 {}
@@ -56,5 +61,6 @@ pub fn installs_are_whole()
 /// A sheet selected later may not allow the part: a start of work verifies the front reel of each
 /// slot, but not the reels spliced behind it.
 pub fn only_verified_reels_are_placed()
-    ensures { (rules : Rules) (H : History) → IsJudged rules H → All (IsRightlyPlaced H) (placements_of H) }
+    ensures { (rules : Rules) (H : History) → IsJudged rules H
+        → All (IsRightlyPlaced H) (placements_of H) }
 {}

@@ -18,19 +18,23 @@ pub fn run_in_parts()
         → replies_to rules H (first ++ second) ≡ replies_to rules H first
         ++ replies_to rules (after_commands rules H first) second }
     ensures entries { (rules : Rules) (H : History) (first second : List Stamped)
-        → after_commands rules H (first ++ second) ≡ after_commands rules (after_commands rules H first) second }
+        → after_commands rules H (first ++ second)
+        ≡ after_commands rules (after_commands rules H first) second }
 {}
 
 /// Rules Two accept every command that rules One accept, with the same reply. So every lawful
 /// history under rules One is lawful under rules Two.
 pub fn accepted_under_both()
-    ensures answers { (H : History) (s : Stamped) → refusal_of One H s ≡ None → reply_to Two H s ≡ reply_to One H s }
-    ensures lawful { (greatest : ℕ) (H : History) → IsLawful One greatest H → IsLawful Two greatest H }
+    ensures answers { (H : History) (s : Stamped)
+        → refusal_of One H s ≡ None → reply_to Two H s ≡ reply_to One H s }
+    ensures lawful { (greatest : ℕ) (H : History) → IsLawful One greatest H
+        → IsLawful Two greatest H }
 {}
 
 /// The two sets of rules refuse all commands except counts for the same reasons. Holds for any
 /// history.
 pub fn rules_differ_in_counts_alone()
-    ensures { (H : History) (s : Stamped) → ((counts : List CountRow) → s.command ≢ CountsTaken counts)
+    ensures { (H : History) (s : Stamped)
+        → ((counts : List CountRow) → s.command ≢ CountsTaken counts)
         → refusal_of One H s ≡ refusal_of Two H s }
 {}

@@ -19,7 +19,8 @@ ghost use Rattle.desk_types.specs.View.{loaded_slots};
 /// others for any history.
 pub fn searches_say_the_rule()
     ensures mounted { (H : History) (reel : Name)
-        → (is_mounted H reel ≡ true) ↔ ((machine : Name) × (slot : Name) × Contains (live_on H machine slot) reel) }
+        → (is_mounted H reel ≡ true)
+        ↔ ((machine : Name) × (slot : Name) × Contains (live_on H machine slot) reel) }
     ensures placed { (rules : Rules) (H : History) (board designator : Name) → IsJudged rules H
         → (is_placed_on H board designator ≡ true) ↔ Any (λ (p : Placement). (p.board ≡ board)
         × (p.designator ≡ designator)) (placements_of H) }

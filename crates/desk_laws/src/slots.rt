@@ -13,7 +13,8 @@ ghost use Rattle.desk_laws.specs.TapeOrder.{restarts};
 
 /// A reel is live on at most one slot, and only once there.
 pub fn one_place()
-    ensures one_slot { (rules : Rules) (H : History) (m s machine slot reel : Name) → IsJudged rules H
+    ensures one_slot { (rules : Rules) (H : History)
+        (m s machine slot reel : Name) → IsJudged rules H
         → Contains (live_on H m s) reel
         → Contains (live_on H machine slot) reel → (m ≡ machine) × (s ≡ slot) }
     ensures once { (rules : Rules) (H : History) (machine slot : Name) → IsJudged rules H
@@ -25,5 +26,6 @@ pub fn one_place()
 pub fn tapes_keep_their_order()
     ensures { (G : History) (more : List Entry) (machine slot : Name)
         → All (λ (e : Entry). restarts machine slot e.stamped.command ≡ false) more
-        → (joined : List Name) × (tape_of (more ++ G) machine slot ≡ tape_of G machine slot ++ joined) }
+        → (joined : List Name)
+        × (tape_of (more ++ G) machine slot ≡ tape_of G machine slot ++ joined) }
 {}

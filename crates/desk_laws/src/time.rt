@@ -23,28 +23,34 @@ pub fn desk_minute_never_falls()
 pub fn exposure_never_falls()
     ensures minutes { (H : History) (reel : Name) (earlier later : ℕ) → earlier ≤ later
         → exposure_of H reel earlier ≤ exposure_of H reel later }
-    ensures entries { (rules : Rules) (G : History) (more : List Entry) (reel : Name) (earlier later : ℕ)
+    ensures entries { (rules : Rules) (G : History) (more : List Entry)
+        (reel : Name) (earlier later : ℕ)
         → IsJudged rules (more ++ G)
-        → All (λ (e : Entry). e.stamped.command ≢ ReelBaked reel) more → All (λ (e : Entry). earlier ≤ e.effective) more
+        → All (λ (e : Entry). e.stamped.command ≢ ReelBaked reel) more
+        → All (λ (e : Entry). earlier ≤ e.effective) more
         → earlier ≤ later
         → exposure_of G reel earlier ≤ exposure_of (more ++ G) reel later }
 {}
 
 /// Exposure is at most the minutes since the last bake, or else the receipt. Holds for any history.
 pub fn exposure_is_no_longer()
-    ensures { (H : History) (reel : Name) (minute : ℕ) → exposure_of H reel minute ≤ minute - exposure_starts H reel }
+    ensures { (H : History) (reel : Name) (minute : ℕ)
+        → exposure_of H reel minute ≤ minute - exposure_starts H reel }
 {}
 
 /// A reel is not expired when its load or splice takes effect. It may expire on its slot.
 pub fn expired_reels_are_not_mounted()
-    ensures { (rules : Rules) (G H : History) (e : Entry) (machine slot reel : Name) → IsPrefix (e ∷ G) H
+    ensures { (rules : Rules) (G H : History) (e : Entry) (machine slot reel : Name)
+        → IsPrefix (e ∷ G) H
         → IsJudged rules H
-        → mounts machine slot reel e.stamped.command ≡ true → is_expired G reel e.effective ≡ false }
+        → mounts machine slot reel e.stamped.command ≡ true
+        → is_expired G reel e.effective ≡ false }
 {}
 
 /// A mounted reel is out of its bag, so its exposure grows every minute from the desk minute on.
 pub fn mounted_reels_are_out()
-    ensures out { (rules : Rules) (H : History) (reel : Name) → IsJudged rules H → is_mounted H reel ≡ true
+    ensures out { (rules : Rules) (H : History) (reel : Name) → IsJudged rules H
+        → is_mounted H reel ≡ true
         → is_some (out_since H reel) ≡ true }
     ensures exposure { (rules : Rules) (H : History) (reel : Name) (minute : ℕ) → IsJudged rules H
         → is_mounted H reel ≡ true → now_of H ≤ minute

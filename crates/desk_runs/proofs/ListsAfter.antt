@@ -1,13 +1,12 @@
 -- The history after connections, with one more connection, and whether one was faulty.
-use Rattle.std.proofs.Common.{◌≡◌, ◌∙◌, ◌++◌, ◌∷◌, [], ℕ, List, Option, Ok, Err, IfOk, Bool, true, false, ◌||◌, refl, sym, ap, subst}
+use Rattle.std.proofs.Common.{◌≡◌, ◌∙◌, ◌++◌, ◌∷◌, [], ℕ, List, Option, Ok, Err, Bool, true, false, ◌||◌, refl, sym, ap, subst}
 use Rattle.std.specs.List.{list_any}
 use Rattle.std.proofs.lemmas.List.{map-append}
 use Rattle.std.proofs.lemmas.List.Folds.{list_any-append}
 use Rattle.desk_answers.specs.Ledger.{Ledger, ForLists}
 use Rattle.desk_types.specs.History.{History}
-use Rattle.served.specs.declared.serving.Served.{Served}
 use Rattle.served.specs.declared.serving.ServeFault.TheVariants.{Read, Write, TooManyReads}
-use Rattle.http_stream.specs.Stream.{Rule, RuleBy, AnsweredAll, AnsweredFront, AnsweredInto}
+use Rattle.http_stream.specs.Stream.{Rule, RuleBy, AnswersConnection}
 use Rattle.desk_runs.specs.Clients.{Ended, Exchange, ends_of}
 use Rattle.desk_runs.specs.Connections.{Connected, ConnectedEach, is_faulty}
 
@@ -43,12 +42,9 @@ module _ {S : Type 0} (rule : RuleBy) (Stands : S → Ledger → Type 0) (Trusts
       (l.0, l.1, each_more (rule G.rules G.greatest) G.history es e f.0 l.0 f.2 l.2)
 
   pub serves_one : (old new : S) (sent unread before after : Option (List ℕ)) (ended : Ended)
-      → IfOk ended (λ served. ForLists Stands Trusts old new (λ G H. AnsweredAll (rule G.rules G.greatest) sent G.history before H after served))
-      → ((served : Served) → ended ≡ Err (Read served) → ForLists Stands Trusts old new (λ G H. AnsweredFront (rule G.rules G.greatest) sent unread G.history before H after served))
-      → ((served : Served) → ended ≡ Err (TooManyReads served) → ForLists Stands Trusts old new (λ G H. AnsweredFront (rule G.rules G.greatest) sent unread G.history before H after served))
-      → ((served : Served) → ended ≡ Err (Write served) → ForLists Stands Trusts old new (λ G H. AnsweredInto (rule G.rules G.greatest) sent G.history before H after served))
+      → ForLists Stands Trusts old new (AnswersConnection rule sent unread before after ended)
       → ServesOne old (record { sent = sent; unread = unread; before = before; after = after; ended = ended }) new
-  serves_one old new sent unread before after (Ok served) all read many write = all
-  serves_one old new sent unread before after (Err (Read served)) all read many write = read served refl
-  serves_one old new sent unread before after (Err (TooManyReads served)) all read many write = many served refl
-  serves_one old new sent unread before after (Err (Write served)) all read many write = write served refl
+  serves_one old new sent unread before after (Ok served) all = all
+  serves_one old new sent unread before after (Err (Read served)) all = all
+  serves_one old new sent unread before after (Err (TooManyReads served)) all = all
+  serves_one old new sent unread before after (Err (Write served)) all = all

@@ -33,7 +33,8 @@ events_in e = Event.came e.sent e.before ∷ Event.left e.unread e.after ∷ []
 
 -- The port had exactly these connections, one after another.
 abbrev pub ServesAt : {S : Type 0} → (S → List Event → Type 0) → S → S → ℕ → List Exchange → Type 0
-ServesAt Saw old new port exchanges = Sees Saw old new (Event.asked port ∷ flat_map events_in exchanges)
+ServesAt Saw old new port exchanges =
+    Sees Saw old new (Event.asked port ∷ flat_map events_in exchanges)
 
 -- Their ends.
 abbrev pub ends_of : List Exchange → List Ended

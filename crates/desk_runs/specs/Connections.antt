@@ -13,11 +13,16 @@ use Rattle.desk_runs.specs.Clients.{Ended, Exchange}
 
 -- The client of this connection sent these bytes and received their answers by the history before it, and the history
 -- became this one.
-abbrev pub ConnectedSo : Rule → Option (List ℕ) → Option (List ℕ) → History → Option (List ℕ) → Ended → History → Option (List ℕ) → Type 0
-ConnectedSo rule sent unread H before (Ok served) H' after = AnsweredAll rule sent H before H' after served
-ConnectedSo rule sent unread H before (Err (Read served)) H' after = AnsweredFront rule sent unread H before H' after served
-ConnectedSo rule sent unread H before (Err (TooManyReads served)) H' after = AnsweredFront rule sent unread H before H' after served
-ConnectedSo rule sent unread H before (Err (Write served)) H' after = AnsweredInto rule sent H before H' after served
+abbrev pub ConnectedSo : Rule → Option (List ℕ) → Option (List ℕ) → History → Option (List ℕ)
+    → Ended → History → Option (List ℕ) → Type 0
+ConnectedSo rule sent unread H before (Ok served) H' after =
+    AnsweredAll rule sent H before H' after served
+ConnectedSo rule sent unread H before (Err (Read served)) H' after =
+    AnsweredFront rule sent unread H before H' after served
+ConnectedSo rule sent unread H before (Err (TooManyReads served)) H' after =
+    AnsweredFront rule sent unread H before H' after served
+ConnectedSo rule sent unread H before (Err (Write served)) H' after =
+    AnsweredInto rule sent H before H' after served
 
 abbrev pub Connected : Rule → History → Exchange → History → Type 0
 Connected rule H e H' = ConnectedSo rule e.sent e.unread H e.before e.ended H' e.after
@@ -25,7 +30,8 @@ Connected rule H e H' = ConnectedSo rule e.sent e.unread H e.before e.ended H' e
 -- Each connection was answered by the history that the previous one left.
 abbrev pub ConnectedEach : Rule → History → List Exchange → History → Type 0
 ConnectedEach rule H [] H' = H' ≡ H
-ConnectedEach rule H (e ∷ es) H' = (H₁ : History) × Connected rule H e H₁ × ConnectedEach rule H₁ es H'
+ConnectedEach rule H (e ∷ es) H' = (H₁ : History) × Connected rule H e H₁
+    × ConnectedEach rule H₁ es H'
 
 -- ---- the lines
 
@@ -44,7 +50,8 @@ fault_word (Err (TooManyReads served)) = codes " TooManyReads\n"
 
 -- The line of a connection: its number, the number of answered requests, and the name of its fault.
 abbrev pub connection_line : ℕ → Ended → List ℕ
-connection_line number ended = decimal number ++ codes " " ++ decimal (served_of ended).answered ++ fault_word ended
+connection_line number ended =
+    decimal number ++ codes " " ++ decimal (served_of ended).answered ++ fault_word ended
 
 -- The lines of connections, numbered from this number on.
 abbrev pub lines_from : ℕ → List Ended → List ℕ
@@ -60,22 +67,30 @@ is_faulty (Err fault) = true
 
 -- All were served, and each has its line. The status is 0, or 1 if one of them was faulty.
 abbrev pub TellsAll : ℕ → List Ended → ℕ → Option (List ℕ) → Option (List ℕ) → ℕ → ℕ → Type 0
-TellsAll connections ends status out out' failures failures' = (length ends ≡ connections) × (status ≡ (if list_any is_faulty ends then 1 else 0))
+TellsAll connections ends status out out' failures failures' = (length ends ≡ connections)
+    × (status ≡ (if list_any is_faulty ends then 1 else 0))
     × Appends out out' (lines_from 1 ends) × (failures' ≡ failures)
 
 -- The next one could not be accepted. The earlier ones have their lines.
 abbrev pub TellsSome : ℕ → List Ended → ℕ → Option (List ℕ) → Option (List ℕ) → ℕ → ℕ → Type 0
-TellsSome connections ends status out out' failures failures' = (length ends < connections) × (status ≡ 4)
+TellsSome connections ends status out out' failures failures' = (length ends < connections)
+    × (status ≡ 4)
     × Appends out out' (lines_from 1 ends) × (failures' ≡ failures)
 
 -- A line could not be written, as the writer's count shows. Only its first bytes were sent, after the lines of all
 -- earlier connections.
 abbrev pub TellsFront : ℕ → List Ended → ℕ → Option (List ℕ) → Option (List ℕ) → ℕ → ℕ → Type 0
-TellsFront connections ends status out out' failures failures' = (length ends ≤ connections) × (status ≡ 4) × (failures' ≡ failures + 1)
-    × (before : List Ended) × (last : Ended) × (mid : Option (List ℕ)) × (ends ≡ before ++ last ∷ [])
-    × Appends out mid (lines_from 1 before) × SendsFront mid out' (connection_line (length before + 1) last)
+TellsFront connections ends status out out' failures failures' = (length ends ≤ connections)
+    × (status ≡ 4) × (failures' ≡ failures + 1)
+    × (before : List Ended) × (last : Ended) × (mid : Option (List ℕ))
+    × (ends ≡ before ++ last ∷ [])
+    × Appends out mid (lines_from 1 before)
+    × SendsFront mid out' (connection_line (length before + 1) last)
 
 -- The lines and the exit status of connections with these ends.
-abbrev pub TellsConnections : ℕ → List Ended → ℕ → Option (List ℕ) → Option (List ℕ) → ℕ → ℕ → Type 0
-TellsConnections connections ends status out out' failures failures' = TellsAll connections ends status out out' failures failures'
-    ⊎ TellsSome connections ends status out out' failures failures' ⊎ TellsFront connections ends status out out' failures failures'
+abbrev pub TellsConnections : ℕ → List Ended → ℕ → Option (List ℕ)
+    → Option (List ℕ) → ℕ → ℕ → Type 0
+TellsConnections connections ends status out out' failures failures' =
+    TellsAll connections ends status out out' failures failures'
+    ⊎ TellsSome connections ends status out out' failures failures'
+    ⊎ TellsFront connections ends status out out' failures failures'

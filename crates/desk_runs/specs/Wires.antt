@@ -11,19 +11,22 @@ pub record HaveFewFailures {W E : Type 0} (output : Wire W) (errors : Wire E) : 
   pub error_failures : failures_of errors < 2 ^ 63
 
 -- The counts of all three wires are so low that each read and failure of this run can still be counted.
-pub record HaveFewCounts {R W E : Type 0} (input : Wire R) (output : Wire W) (errors : Wire E) : Type 0 where
+pub record HaveFewCounts {R W E : Type 0} (input : Wire R) (output : Wire W)
+    (errors : Wire E) : Type 0 where
   pub reads : reads_of input < 2 ^ 63
   pub read_failures : failures_of input < 2 ^ 63
   pub write_failures : failures_of output < 2 ^ 63
   pub error_failures : failures_of errors < 2 ^ 63
 
 -- No write to the output failed, and nothing was printed on standard error.
-pub record GoesWell {W E : Type 0} (output output' : Wire W) (errors errors' : Wire E) : Type 0 where
+pub record GoesWell {W E : Type 0} (output output' : Wire W)
+    (errors errors' : Wire E) : Type 0 where
   pub kept : failures_of output' ≡ failures_of output
   pub quiet : errors' ≡ errors
 
 -- The input was read to its end, no read or write failed, and nothing was printed on standard error.
-pub record FeedsWell {R W E : Type 0} (remaining : R → Option (List ℕ)) (input input' : Wire R) (output output' : Wire W) (errors errors' : Wire E) : Type 0 where
+pub record FeedsWell {R W E : Type 0} (remaining : R → Option (List ℕ)) (input input' : Wire R)
+    (output output' : Wire W) (errors errors' : Wire E) : Type 0 where
   pub end : IsAtEnd (remaining (inner_of input'))
   pub kept : FailsNever input input' output output'
   pub quiet : errors' ≡ errors

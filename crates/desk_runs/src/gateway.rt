@@ -49,7 +49,8 @@ pub fn serve_port<A: Handler, C: Clients, W: Write, E: Write>(
         × ForLists A.Stands A.Trusts handler.old handler.new
         (λ G H. ConnectedEach (A.rule G.rules G.greatest) G.history exchanges H) }
     ensures failed { result ≡ 4 → TellsEnd E.contents output.old output.new errors.old errors.new }
-    ensures well { (result ≡ 0) ⊎ (result ≡ 1) → GoesWell output.old output.new errors.old errors.new }
+    ensures well { (result ≡ 0) ⊎ (result ≡ 1)
+        → GoesWell output.old output.new errors.old errors.new }
 {
     if let Err(NoClient) = clients.listen(port) {
         tell_line(errors, "tracedesk: Read");
@@ -65,7 +66,8 @@ pub fn serve_port<A: Handler, C: Clients, W: Write, E: Write>(
 
 fn tell_end<E: Write>(errors: &mut Wire<E>, unwritten: bool)
     requires error_failures { failures_of errors.old < 2 ^ 63 }
-    ensures read { unwritten ≡ false → TellsLine E.contents errors.old errors.new (fault_line (ReadFault none_served)) }
+    ensures read { unwritten ≡ false
+        → TellsLine E.contents errors.old errors.new (fault_line (ReadFault none_served)) }
     ensures write { unwritten ≡ true
         → TellsLine E.contents errors.old errors.new (fault_line (WriteFault none_served)) }
 {
@@ -91,21 +93,25 @@ pub fn tell_report<L: ReportedOwner, W: Write, E: Write>(
     ensures status { (result ≡ 0) ⊎ (result ≡ 1) ⊎ (result ≡ 4) }
     ensures done { result ≡ 0
         → (answer : Told) × (code_of answer.status ≡ 200)
-        × Appends (W.contents (inner_of output.old)) (W.contents (inner_of output.new)) (report_output answer)
+        × Appends (W.contents (inner_of output.old)) (W.contents (inner_of output.new))
+        (report_output answer)
         × ForLists L.Stands L.Trusts (owner_of gateway.old) (owner_of gateway.new)
         (AnswersReport L.reports target.now answer) }
     ensures refused { result ≡ 1
         → (answer : Told) × (code_of answer.status ≢ 200)
-        × Appends (W.contents (inner_of output.old)) (W.contents (inner_of output.new)) (report_output answer)
+        × Appends (W.contents (inner_of output.old)) (W.contents (inner_of output.new))
+        (report_output answer)
         × ForLists L.Stands L.Trusts (owner_of gateway.old) (owner_of gateway.new)
         (AnswersReport L.reports target.now answer) }
     ensures failed { result ≡ 4
         → TellsUnwritten E.contents output.old output.new errors.old errors.new
         × (answer : Told)
-        × SendsFront (W.contents (inner_of output.old)) (W.contents (inner_of output.new)) (report_output answer)
+        × SendsFront (W.contents (inner_of output.old)) (W.contents (inner_of output.new))
+        (report_output answer)
         × ForLists L.Stands L.Trusts (owner_of gateway.old) (owner_of gateway.new)
         (AnswersReport L.reports target.now answer) }
-    ensures well { (result ≡ 0) ⊎ (result ≡ 1) → GoesWell output.old output.new errors.old errors.new }
+    ensures well { (result ≡ 0) ⊎ (result ≡ 1)
+        → GoesWell output.old output.new errors.old errors.new }
 {
     let response = gateway.ask(alloc, target.as_bytes());
     match send_report(output, &response) {

@@ -32,10 +32,12 @@ pub fn import_rows<F: Folder, W: Write, E: Write, L: Owner>(
     ensures status { (result ≡ 0) ⊎ (result ≡ 1) ⊎ (result ≡ 3) ⊎ (result ≡ 4) }
     ensures done { result ≡ 0
         → ForLists L.Stands L.Trusts owner.old owner.new
-        (AnswersImport W.contents output.old output.new false import.now (F.holds folder.now from.now)) }
+        (AnswersImport W.contents output.old output.new false import.now
+        (F.holds folder.now from.now)) }
     ensures refused { result ≡ 1
         → ForLists L.Stands L.Trusts owner.old owner.new
-        (AnswersImport W.contents output.old output.new true import.now (F.holds folder.now from.now)) }
+        (AnswersImport W.contents output.old output.new true import.now
+        (F.holds folder.now from.now)) }
     ensures no_memory { result ≡ 3 → TellsLine E.contents errors.old errors.new unavailable_line }
     ensures untouched { result ≡ 3 → (owner.new ≡ owner.old) × (output.new ≡ output.old) }
     ensures failed { result ≡ 4
@@ -45,7 +47,8 @@ pub fn import_rows<F: Folder, W: Write, E: Write, L: Owner>(
         ⊎ (F.may_fail folder.now from.now × (output.new ≡ output.old)
         × TellsLine E.contents errors.old errors.new (fault_line (ReadFault none_served))
         × ForLists L.Stands L.Trusts owner.old owner.new StaysSame) }
-    ensures well { (result ≡ 0) ⊎ (result ≡ 1) → GoesWell output.old output.new errors.old errors.new }
+    ensures well { (result ≡ 0) ⊎ (result ≡ 1)
+        → GoesWell output.old output.new errors.old errors.new }
 {
     let bytes = match folder.read(alloc, from) {
         Ok(bytes) => bytes,

@@ -62,7 +62,8 @@ fn serve_next<A: Handler, C: Clients>(
     requires ready { A.Ready handler.old }
     ensures ready { A.Ready handler.new }
     ensures trusts { A.Trusts handler.new → A.Trusts handler.old }
-    ensures none { result ≡ None → (handler.new ≡ handler.old) × Sees C.Saw clients.old clients.new [] }
+    ensures none { result ≡ None → (handler.new ≡ handler.old)
+        × Sees C.Saw clients.old clients.new [] }
     ensures served { IfSome result (λ ended. (exchange : Exchange) × (exchange.ended ≡ ended)
         × Sees C.Saw clients.old clients.new (events_in exchange)
         × ForLists A.Stands A.Trusts handler.old handler.new

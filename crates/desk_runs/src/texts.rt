@@ -23,12 +23,15 @@ pub fn tell_lawful<W: Write, E: Write>(
     requires few { HaveFewFailures output.old errors.old }
     ensures status { (result ≡ 0) ⊎ (result ≡ 3) ⊎ (result ≡ 4) }
     ensures done { result ≡ 0
-        → Appends (W.contents (inner_of output.old)) (W.contents (inner_of output.new)) (lawful_line count) }
+        → Appends (W.contents (inner_of output.old))
+        (W.contents (inner_of output.new)) (lawful_line count) }
     ensures no_desk { result ≡ 3 → TellsLine E.contents errors.old errors.new unavailable_line }
     ensures untouched { result ≡ 3 → output.new ≡ output.old }
-    ensures failed { result ≡ 4 → TellsUnwritten E.contents output.old output.new errors.old errors.new }
+    ensures failed { result ≡ 4
+        → TellsUnwritten E.contents output.old output.new errors.old errors.new }
     ensures front { result ≡ 4
-        → SendsFront (W.contents (inner_of output.old)) (W.contents (inner_of output.new)) (lawful_line count) }
+        → SendsFront (W.contents (inner_of output.old))
+        (W.contents (inner_of output.new)) (lawful_line count) }
     ensures well { result ≡ 0 → GoesWell output.old output.new errors.old errors.new }
 {
     match format!(in alloc; "lawful {count}\n") {
@@ -41,10 +44,13 @@ pub fn tell_lawful<W: Write, E: Write>(
 pub fn send_text<W: Write, E: Write>(text: &str, output: &mut Wire<W>, errors: &mut Wire<E>) -> u8
     requires few { HaveFewFailures output.old errors.old }
     ensures status { (result ≡ 0) ⊎ (result ≡ 4) }
-    ensures done { result ≡ 0 → Appends (W.contents (inner_of output.old)) (W.contents (inner_of output.new)) text.now }
-    ensures failed { result ≡ 4 → TellsUnwritten E.contents output.old output.new errors.old errors.new }
+    ensures done { result ≡ 0
+        → Appends (W.contents (inner_of output.old)) (W.contents (inner_of output.new)) text.now }
+    ensures failed { result ≡ 4
+        → TellsUnwritten E.contents output.old output.new errors.old errors.new }
     ensures front { result ≡ 4
-        → SendsFront (W.contents (inner_of output.old)) (W.contents (inner_of output.new)) text.now }
+        → SendsFront (W.contents (inner_of output.old))
+        (W.contents (inner_of output.new)) text.now }
     ensures well { result ≡ 0 → GoesWell output.old output.new errors.old errors.new }
 {
     match send(output, text.as_bytes()) {

@@ -5,7 +5,8 @@ use Rattle.feeder_state.specs.Restored.{AreRowsOf}
 use Rattle.state_rows.specs.Kept.{KeptRows}
 
 -- The desk represents a history whose tables are these rows, and whose next entry has this number, at most 10,101.
-pub record AreOfOneList {D : Type 0} (StandsFor : D → History → Type 0) (desk : D) (rows : KeptRows) (number : ℕ) : Type 0 where
+pub record AreOfOneList {D : Type 0} (StandsFor : D → History → Type 0) (desk : D) (rows : KeptRows)
+    (number : ℕ) : Type 0 where
   pub list : History
   pub stands : StandsFor desk list
   pub tables : AreRowsOf list rows

@@ -30,7 +30,8 @@ pub record IsCountRow (row : CountRow) : Type 0 where
 abbrev pub IsCommand : Command → Type 0
 IsCommand (PartDefined part) = IsId part
 IsCommand (AlternateAllowed part alternate) = IsId part × IsId alternate
-IsCommand (SheetDefined product machine rows) = IsId product × IsId machine × IsListOf IsSheetRow rows
+IsCommand (SheetDefined product machine rows) = IsId product × IsId machine
+    × IsListOf IsSheetRow rows
 IsCommand (ProductSelected machine product) = IsId machine × IsId product
 IsCommand (ReelReceived reel part lot moisture quantity) =
     IsId reel × IsId part × IsId lot × IsLabel moisture.level moisture.label × IsQuantity quantity
@@ -42,7 +43,8 @@ IsCommand (MaterialsSpliced machine slot reel) = IsId machine × IsId slot × Is
 IsCommand (MaterialsUnloaded machine slot) = IsId machine × IsId slot
 IsCommand (WorkStarted machine board) = IsId machine × IsId board
 IsCommand (WorkCompleted machine board) = IsId machine × IsId board
-IsCommand (MaterialsInstalled machine board designators) = IsId machine × IsId board × IsListOf IsDesignator designators
+IsCommand (MaterialsInstalled machine board designators) = IsId machine × IsId board
+    × IsListOf IsDesignator designators
 IsCommand (MaterialsScrapped machine slot quantity) = IsId machine × IsId slot × IsQuantity quantity
 IsCommand (CountsTaken counts) = IsListOf IsCountRow counts
 IsCommand ClockSet = ⊤

@@ -9,19 +9,34 @@ use Rattle.desk_types.specs.Tables.{Tables}
 -- The tables after one edit: it removes a row, or puts a row and replaces one with the same key.
 abbrev pub with_edit : RowEdit → Tables → Tables
 with_edit (TakeSheetRow product machine place) t =
-    record t { sheets = λ p m k. if same product p && same machine m && (place == k) then None else t.sheets p m k }
+    record t {
+      sheets = λ p m k. if same product p && same machine m && (place == k)
+          then None else t.sheets p m k;
+    }
 with_edit (TakeMount reel) t = record t { mounts = λ r. if same reel r then None else t.mounts r }
 with_edit (PutPart part) t = record t { parts = λ p. same part p || t.parts p }
-with_edit (PutAlternate part alternate) t = record t { alternates = λ p q. same part p && same alternate q || t.alternates p q }
+with_edit (PutAlternate part alternate) t =
+    record t { alternates = λ p q. same part p && same alternate q || t.alternates p q }
 with_edit (PutSheetRow product machine place row) t =
-    record t { sheets = λ p m k. if same product p && same machine m && (place == k) then Some row else t.sheets p m k }
-with_edit (PutSelected machine product) t = record t { selected = λ m. if same machine m then Some product else t.selected m }
-with_edit (PutReel row) t = record t { reels = λ r. if same row.reel r then Some row else t.reels r }
-with_edit (PutMount row) t = record t { mounts = λ r. if same row.reel r then Some row else t.mounts r }
-with_edit (PutBoard row) t = record t { boards = λ b. if same row.board b then Some row else t.boards b }
+    record t {
+      sheets = λ p m k. if same product p && same machine m && (place == k)
+          then Some row else t.sheets p m k;
+    }
+with_edit (PutSelected machine product) t =
+    record t { selected = λ m. if same machine m then Some product else t.selected m }
+with_edit (PutReel row) t =
+    record t { reels = λ r. if same row.reel r then Some row else t.reels r }
+with_edit (PutMount row) t =
+    record t { mounts = λ r. if same row.reel r then Some row else t.mounts r }
+with_edit (PutBoard row) t =
+    record t { boards = λ b. if same row.board b then Some row else t.boards b }
 with_edit (PutPlacement row) t =
-    record t { placements = λ n k. if row.number == n && (row.place == k) then Some row else t.placements n k }
-with_edit (PutFound reel pieces) t = record t { found = λ r. if same reel r then Some pieces else t.found r }
+    record t {
+      placements = λ n k. if row.number == n && (row.place == k)
+          then Some row else t.placements n k;
+    }
+with_edit (PutFound reel pieces) t =
+    record t { found = λ r. if same reel r then Some pieces else t.found r }
 
 -- The tables after several edits in order.
 abbrev pub with_edits : List RowEdit → Tables → Tables

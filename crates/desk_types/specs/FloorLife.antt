@@ -31,7 +31,8 @@ IsUntouched (e ∷ H) name = (open_by name e.stamped.command ≡ None) × IsUnto
 
 -- Whether the reel is out of its bag at the minute, after the last command in effect by then.
 unfoldable pub is_out_at : History → Name → ℕ → Bool
-is_out_at H reel minute = unwrap_or (latest (λ e. if nat_le e.effective minute then open_by reel e.stamped.command else None) H) false
+is_out_at H reel minute = unwrap_or (latest
+    (λ e. if nat_le e.effective minute then open_by reel e.stamped.command else None) H) false
 
 -- The minute of the command, if it bakes the reel.
 abbrev pub bake_by : Name → ℕ → Command → Option ℕ
@@ -44,7 +45,8 @@ last_bake H reel = latest (λ e. bake_by reel e.effective e.stamped.command) H
 
 -- The minute at which exposure starts: the last bake, or else the receipt.
 abbrev pub exposure_starts : History → Name → ℕ
-exposure_starts H reel = unwrap_or (option_or (last_bake H reel) (option_map (λ (r : Receipt). r.effective) (receipt_of H reel))) 0
+exposure_starts H reel = unwrap_or
+    (option_or (last_bake H reel) (option_map (λ (r : Receipt). r.effective) (receipt_of H reel))) 0
 
 -- The minutes from the first up to but not including the second.
 abbrev pub minutes_between : ℕ → ℕ → List ℕ
@@ -53,7 +55,8 @@ minutes_between from to = range_with_len from (to - from)
 -- The reel's exposure at the minute: how many earlier minutes it was out of its bag since its last
 -- bake, or else its receipt.
 unfoldable pub exposure_of : History → Name → ℕ → ℕ
-exposure_of H reel minute = count_by (is_out_at H reel) (minutes_between (exposure_starts H reel) minute)
+exposure_of H reel minute =
+    count_by (is_out_at H reel) (minutes_between (exposure_starts H reel) minute)
 
 -- ---- the minute since which a reel is out
 
@@ -73,15 +76,18 @@ out_since (e ∷ H) reel = since_after (open_by reel e.stamped.command) e.effect
 
 -- The reel's floor life in minutes, if it has a limit.
 abbrev pub floor_life : History → Name → Option ℕ
-floor_life H reel = option_and_then (λ (r : Receipt). limit_of r.moisture.level r.moisture.label) (receipt_of H reel)
+floor_life H reel = option_and_then
+    (λ (r : Receipt). limit_of r.moisture.level r.moisture.label) (receipt_of H reel)
 
 -- Whether the reel's exposure has reached its floor life.
 abbrev pub is_expired : History → Name → ℕ → Bool
-is_expired H reel minute = option_map_or (λ limit. nat_le limit (exposure_of H reel minute)) (floor_life H reel) false
+is_expired H reel minute =
+    option_map_or (λ limit. nat_le limit (exposure_of H reel minute)) (floor_life H reel) false
 
 -- The remaining minutes of floor life, 0 if expired; none without a limit.
 abbrev pub minutes_left : History → Name → ℕ → Option ℕ
-minutes_left H reel minute = option_map (λ limit. limit - exposure_of H reel minute) (floor_life H reel)
+minutes_left H reel minute =
+    option_map (λ limit. limit - exposure_of H reel minute) (floor_life H reel)
 
 -- Whether the command leaves the reel baked (a bake) or not (a receipt).
 abbrev pub baked_by : Name → Command → Option Bool
@@ -99,4 +105,5 @@ is_six _ = false
 
 -- Whether the reel waits for its bake: it has level 6 and was not baked since its receipt.
 abbrev pub is_unbaked : History → Name → Bool
-is_unbaked H reel = option_map_or (λ (r : Receipt). is_six r.moisture.level) (receipt_of H reel) false && not (is_baked H reel)
+is_unbaked H reel = option_map_or
+    (λ (r : Receipt). is_six r.moisture.level) (receipt_of H reel) false && not (is_baked H reel)

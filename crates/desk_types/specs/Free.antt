@@ -62,4 +62,5 @@ in_order order (x ∷ xs) = insert_key order (in_order order xs) x
 
 -- The free reels for the part, in order.
 abbrev pub free_reels : History → Name → List ReelView
-free_reels H part = filter_map (reel_view H) (in_order (by_turn H) (filter (is_free H part) (reels_received H)))
+free_reels H part =
+    filter_map (reel_view H) (in_order (by_turn H) (filter (is_free H part) (reels_received H)))

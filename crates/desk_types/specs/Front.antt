@@ -26,7 +26,8 @@ is_expired_life _ minute = false
 -- The life of a reel that stays out of its bag from the minute on.
 abbrev pub life_of : History → ℕ → Name → Life
 life_of H minute reel =
-    if is_unbaked H reel then Unbaked else option_map_or (λ left. Until (minute + left)) (minutes_left H reel minute) Unlimited
+    if is_unbaked H reel then Unbaked else option_map_or
+    (λ left. Until (minute + left)) (minutes_left H reel minute) Unlimited
 
 -- A reel at the front of a slot, with its part and its life.
 abbrev pub front_reel : History → ℕ → Name → FrontReel
@@ -38,7 +39,10 @@ front_reel H minute reel = record {
 
 -- A row's slot with its front reel at the minute.
 abbrev pub front_at : History → ℕ → Name → SheetRow → Front
-front_at H minute machine row = record { slot = row.slot; reel = option_map (front_reel H minute) (front_of H machine row.slot) }
+front_at H minute machine row = record {
+  slot = row.slot;
+  reel = option_map (front_reel H minute) (front_of H machine row.slot);
+}
 
 -- The slots of the selected product's sheet in order, each with its front reel at the desk minute.
 abbrev pub fronts_of : History → Name → List Front

@@ -32,7 +32,11 @@ effective_minute H own = max own (now_of H)
 
 -- The command's entry when it is accepted after H.
 abbrev pub entry_of : History → Stamped → Entry
-entry_of H s = record { number = length H + 1; stamped = s; effective = effective_minute H s.minute }
+entry_of H s = record {
+  number = length H + 1;
+  stamped = s;
+  effective = effective_minute H s.minute;
+}
 
 -- The history after accepting the command.
 abbrev pub accept : History → Stamped → History

@@ -18,7 +18,8 @@ text_of Six = codes "6"
 
 -- The level with this text.
 abbrev pub level_of : List ℕ → Option Level
-level_of text = find (λ level. same (text_of level) text) (One ∷ Two ∷ TwoA ∷ Three ∷ Four ∷ Five ∷ FiveA ∷ Six ∷ [])
+level_of text = find (λ level. same (text_of level) text)
+    (One ∷ Two ∷ TwoA ∷ Three ∷ Four ∷ Five ∷ FiveA ∷ Six ∷ [])
 
 -- The floor life in minutes: none at level 1, the label's at level 6.
 abbrev pub limit_of : Level → ℕ → Option ℕ

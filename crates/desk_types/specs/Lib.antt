@@ -18,6 +18,7 @@ pub mod Pair
 pub mod Pieces
 pub mod Placements
 pub mod Refusals
+pub mod Row
 pub mod Setup
 pub mod Tables
 pub mod Tape

@@ -34,8 +34,10 @@ pieces_of picks = sum_by (λ (p : Pick). p.quantity) picks
 abbrev pub detail_of : History → ℕ → Command → Detail
 detail_of H minute (MaterialsLoaded machine slot reel) = MinutesLeft (minutes_left H reel minute)
 detail_of H minute (MaterialsSpliced machine slot reel) = MinutesLeft (minutes_left H reel minute)
-detail_of H minute (MaterialsInstalled machine board designators) = Reels (reels_of (picks_of H (MaterialsInstalled machine board designators)))
-detail_of H minute (MaterialsScrapped machine slot quantity) = Taken (pieces_of (picks_of H (MaterialsScrapped machine slot quantity)))
+detail_of H minute (MaterialsInstalled machine board designators) =
+    Reels (reels_of (picks_of H (MaterialsInstalled machine board designators)))
+detail_of H minute (MaterialsScrapped machine slot quantity) =
+    Taken (pieces_of (picks_of H (MaterialsScrapped machine slot quantity)))
 detail_of H minute (CountsTaken counts) = Taken (pieces_of (picks_of H (CountsTaken counts)))
 detail_of H minute _ = Plain
 

@@ -24,36 +24,45 @@ pieces_picked picks reel = sum_by (λ p. if same p.reel reel then p.quantity els
 
 -- A pick of n pieces, or no pick if n is 0.
 abbrev pub pieces_off : Name → ℕ → Purpose → List Pick
-pieces_off reel n purpose = if nat_lt 0 n then record { reel = reel; quantity = n; purpose = purpose } ∷ [] else []
+pieces_off reel n purpose =
+    if nat_lt 0 n then record { reel = reel; quantity = n; purpose = purpose } ∷ [] else []
 
 -- One piece for a designator, from the first reel on its slot's tape with a piece left after
 -- earlier picks.
-abbrev pub pick_for : (Name → Option Name) → (Name → List Name) → (Name → ℕ) → Name → Name → List Pick → Name → Option Pick
+abbrev pub pick_for : (Name → Option Name) → (Name → List Name) → (Name → ℕ) → Name → Name
+    → List Pick → Name → Option Pick
 pick_for slot_of tape pieces machine board before designator =
-    option_and_then (λ slot. option_map (λ reel. record { reel = reel; quantity = 1; purpose = Placed board designator machine slot })
-    (find (λ reel. nat_lt (pieces_picked before reel) (pieces reel)) (tape slot))) (slot_of designator)
+    option_and_then (λ slot. option_map (λ reel.
+    record { reel = reel; quantity = 1; purpose = Placed board designator machine slot })
+    (find (λ reel. nat_lt (pieces_picked before reel) (pieces reel)) (tape slot)))
+    (slot_of designator)
 
 -- Earlier picks, followed by one piece for each designator in order.
-unfoldable pub install_picks : (Name → Option Name) → (Name → List Name) → (Name → ℕ) → Name → Name → List Pick → List Name → List Pick
+unfoldable pub install_picks : (Name → Option Name) → (Name → List Name) → (Name → ℕ) → Name → Name
+    → List Pick → List Name → List Pick
 install_picks slot_of tape pieces machine board before [] = before
 install_picks slot_of tape pieces machine board before (d ∷ ds) =
-    install_picks slot_of tape pieces machine board (before ++ option_to_list (pick_for slot_of tape pieces machine board before d)) ds
+    install_picks slot_of tape pieces machine board
+    (before ++ option_to_list (pick_for slot_of tape pieces machine board before d)) ds
 
 -- The picks of n pieces from the tape, starting at its front reel.
 abbrev pub scrap_picks : (Name → ℕ) → Purpose → List Name → ℕ → List Pick
 scrap_picks pieces purpose [] n = []
-scrap_picks pieces purpose (r ∷ rs) n = pieces_off r (min n (pieces r)) purpose ++ scrap_picks pieces purpose rs (n - pieces r)
+scrap_picks pieces purpose (r ∷ rs) n =
+    pieces_off r (min n (pieces r)) purpose ++ scrap_picks pieces purpose rs (n - pieces r)
 
 -- For each counted reel, the pieces that are missing at the count.
 abbrev pub count_picks : (Name → ℕ) → List CountRow → List Pick
 count_picks pieces [] = []
-count_picks pieces (row ∷ rows) = pieces_off row.reel (pieces row.reel - row.quantity) Counted ++ count_picks pieces rows
+count_picks pieces (row ∷ rows) = pieces_off row.reel (pieces row.reel - row.quantity) Counted
+    ++ count_picks pieces rows
 
 -- The command's picks after H, if `pieces` gives the pieces left on each reel.
 abbrev pub picks_from : (Name → ℕ) → History → Command → List Pick
 picks_from pieces H (MaterialsInstalled machine board designators) =
     install_picks (slot_on H machine) (tape_of H machine) pieces machine board [] designators
-picks_from pieces H (MaterialsScrapped machine slot quantity) = scrap_picks pieces (Rejected machine slot) (tape_of H machine slot) quantity
+picks_from pieces H (MaterialsScrapped machine slot quantity) =
+    scrap_picks pieces (Rejected machine slot) (tape_of H machine slot) quantity
 picks_from pieces H (CountsTaken counts) = count_picks pieces counts
 picks_from pieces H _ = []
 
@@ -61,14 +70,17 @@ picks_from pieces H _ = []
 
 -- The reel's pieces according to a receipt or a count.
 abbrev pub pieces_by : Name → Command → Option ℕ
-pieces_by reel (ReelReceived r part lot moisture quantity) = if same r reel then Some quantity else None
-pieces_by reel (CountsTaken counts) = option_map (λ (row : CountRow). row.quantity) (find (λ row. same row.reel reel) counts)
+pieces_by reel (ReelReceived r part lot moisture quantity) = if same r reel
+    then Some quantity else None
+pieces_by reel (CountsTaken counts) =
+    option_map (λ (row : CountRow). row.quantity) (find (λ row. same row.reel reel) counts)
 pieces_by reel _ = None
 
 -- The reel's remaining pieces: its last receipt or count, less later takes.
 unfoldable pub left_of : History → Name → ℕ
 left_of [] reel = 0
-left_of (e ∷ H) reel = unwrap_or (pieces_by reel e.stamped.command) (left_of H reel - pieces_picked (picks_from (left_of H) H e.stamped.command) reel)
+left_of (e ∷ H) reel = unwrap_or (pieces_by reel e.stamped.command)
+    (left_of H reel - pieces_picked (picks_from (left_of H) H e.stamped.command) reel)
 
 -- The command's picks after H.
 abbrev pub picks_of : History → Command → List Pick
@@ -87,7 +99,8 @@ is_placed _ = false
 
 -- The pieces that a count finds in addition to those remaining.
 abbrev pub found_by : ℕ → Name → Command → ℕ
-found_by left reel (CountsTaken counts) = option_map_or (λ (row : CountRow). row.quantity - left) (find (λ row. same row.reel reel) counts) 0
+found_by left reel (CountsTaken counts) = option_map_or
+    (λ (row : CountRow). row.quantity - left) (find (λ row. same row.reel reel) counts) 0
 found_by left reel _ = 0
 
 -- The pieces that counts found on the reel.
@@ -97,7 +110,8 @@ found_of (e ∷ H) reel = found_of H reel + found_by (left_of H reel) reel e.sta
 
 -- The received pieces: those of the receipt, and those found later.
 abbrev pub received_of : History → Name → ℕ
-received_of H reel = option_map_or (λ (r : Receipt). r.quantity) (receipt_of H reel) 0 + found_of H reel
+received_of H reel = option_map_or
+    (λ (r : Receipt). r.quantity) (receipt_of H reel) 0 + found_of H reel
 
 -- The pieces placed on boards.
 abbrev pub placed_of : History → Name → ℕ

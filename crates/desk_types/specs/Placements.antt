@@ -24,7 +24,12 @@ pub record EntryTake : Type 0 where
 -- The takes of the entry after H, numbered from 1.
 abbrev pub entry_takes : History → Entry → List EntryTake
 entry_takes H e =
-    map (λ (place, take). record { number = e.number; place = place; effective = e.effective; take = take })
+    map (λ (place, take). record {
+      number = e.number;
+      place = place;
+      effective = e.effective;
+      take = take;
+    })
     (enumerate_from 1 (takes_by H e.effective e.stamped.command))
 
 -- The takes of all entries, oldest first.

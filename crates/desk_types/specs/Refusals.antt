@@ -43,7 +43,8 @@ alternate_refusal H part alternate = first_refusal (
 -- The first name that repeats an earlier one.
 abbrev pub name_twice : List Name → List Name → Option Name
 name_twice before [] = None
-name_twice before (x ∷ xs) = if list_any (same x) before then Some x else name_twice (before ++ x ∷ []) xs
+name_twice before (x ∷ xs) = if list_any (same x) before then Some x
+    else name_twice (before ++ x ∷ []) xs
 
 -- The slots of the rows, in sheet order.
 abbrev pub slots_of_rows : List SheetRow → List Name
@@ -55,7 +56,8 @@ designators_of_rows rows = flat_map (λ (row : SheetRow). row.designators) rows
 
 -- The part of the first row whose part is not known.
 abbrev pub unknown_part : (Name → Bool) → List SheetRow → Option Name
-unknown_part is_known rows = option_map (λ (row : SheetRow). row.part) (find (λ (row : SheetRow). not (is_known row.part)) rows)
+unknown_part is_known rows = option_map
+    (λ (row : SheetRow). row.part) (find (λ (row : SheetRow). not (is_known row.part)) rows)
 
 -- The fault in a sheet's rows: a repeated slot, then a repeated designator, then an unknown part.
 unfoldable pub sheet_refusal : (Name → Bool) → List SheetRow → Option Refusal
@@ -65,7 +67,8 @@ sheet_refusal is_known rows =
     (option_map UnknownPart (unknown_part is_known rows)))
 
 unfoldable pub definition_refusal : History → Name → List SheetRow → Option Refusal
-definition_refusal H machine rows = if is_some (in_work_on H machine) then Some (MachineBusy machine) else sheet_refusal (is_part H) rows
+definition_refusal H machine rows = if is_some (in_work_on H machine)
+    then Some (MachineBusy machine) else sheet_refusal (is_part H) rows
 
 unfoldable pub selection_refusal : History → Name → Name → Option Refusal
 selection_refusal H machine product = first_refusal (
@@ -98,11 +101,13 @@ closing_refusal H reel = first_refusal (
 
 -- Whether the reel's part is not allowed for the row's part.
 abbrev pub is_wrong_for : History → SheetRow → Name → Bool
-is_wrong_for H row reel = option_map_or (λ (r : Receipt). not (is_allowed H row.part r.part)) (receipt_of H reel) false
+is_wrong_for H row reel =
+    option_map_or (λ (r : Receipt). not (is_allowed H row.part r.part)) (receipt_of H reel) false
 
 -- Whether the reel's part is not allowed for the slot in the selected product's sheet.
 abbrev pub is_wrong_part : History → Name → Name → Name → Bool
-is_wrong_part H machine slot reel = option_map_or (λ row. is_wrong_for H row reel) (row_on H machine slot) false
+is_wrong_part H machine slot reel =
+    option_map_or (λ row. is_wrong_for H row reel) (row_on H machine slot) false
 
 -- Whether the slot has no live reel.
 abbrev pub is_vacant : History → Name → Name → Bool
@@ -142,18 +147,21 @@ scrap_refusal H machine slot n = first_refusal (
 
 -- The fault of a reel that would feed the slot.
 abbrev pub feeding_refusal : Name → (wrong unbaked expired : Bool) → Option Refusal
-feeding_refusal slot wrong unbaked expired = first_refusal ((wrong, WrongPart slot) ∷ (unbaked, NotBaked slot) ∷ (expired, Expired slot) ∷ [])
+feeding_refusal slot wrong unbaked expired = first_refusal
+    ((wrong, WrongPart slot) ∷ (unbaked, NotBaked slot) ∷ (expired, Expired slot) ∷ [])
 
 -- The fault of the front reel in a row's slot at a minute.
 abbrev pub front_refusal : History → ℕ → SheetRow → Option Name → Option Refusal
 front_refusal H minute row None = Some (SlotEmpty row.slot)
-front_refusal H minute row (Some reel) = feeding_refusal row.slot (is_wrong_for H row reel) (is_unbaked H reel) (is_expired H reel minute)
+front_refusal H minute row (Some reel) = feeding_refusal row.slot (is_wrong_for H row reel)
+    (is_unbaked H reel) (is_expired H reel minute)
 
 -- The fault of the first faulty slot.
 abbrev pub slots_refusal : History → ℕ → Name → List SheetRow → Option Refusal
 slots_refusal H minute machine [] = None
 slots_refusal H minute machine (row ∷ rows) =
-    option_or (front_refusal H minute row (front_of H machine row.slot)) (slots_refusal H minute machine rows)
+    option_or (front_refusal H minute row (front_of H machine row.slot))
+    (slots_refusal H minute machine rows)
 
 -- Whether both names exist and differ.
 abbrev pub differ : Option Name → Option Name → Bool
@@ -177,7 +185,8 @@ completion_refusal H machine board = first_refusal (
     ∷ [])
 
 -- The fault of a designator in a message.
-abbrev pub designator_refusal : Name → Option Name → (twice placed : Bool) → Option Pick → Option Refusal
+abbrev pub designator_refusal : Name → Option Name → (twice placed : Bool)
+    → Option Pick → Option Refusal
 designator_refusal d slot twice placed pick = first_refusal (
     (is_none slot, DesignatorNotOnSheet d)
     ∷ (twice, DesignatorTwice d)
@@ -186,16 +195,20 @@ designator_refusal d slot twice placed pick = first_refusal (
     ∷ [])
 
 -- The fault of the first faulty designator in a message.
-abbrev pub designators_refusal : (Name → Option Name) → (Name → List Name) → (Name → ℕ) → (Name → Bool) → Name → Name → List Pick → List Name → List Name → Option Refusal
+abbrev pub designators_refusal : (Name → Option Name) → (Name → List Name) → (Name → ℕ)
+    → (Name → Bool) → Name → Name → List Pick → List Name → List Name → Option Refusal
 designators_refusal slot_of tape pieces placed machine board before seen [] = None
 designators_refusal slot_of tape pieces placed machine board before seen (d ∷ ds) = option_or
-    (designator_refusal d (slot_of d) (list_any (same d) seen) (placed d) (pick_for slot_of tape pieces machine board before d))
-    (designators_refusal slot_of tape pieces placed machine board (before ++ option_to_list (pick_for slot_of tape pieces machine board before d)) (seen ++ d ∷ []) ds)
+    (designator_refusal d (slot_of d) (list_any (same d) seen) (placed d)
+    (pick_for slot_of tape pieces machine board before d))
+    (designators_refusal slot_of tape pieces placed machine board (before ++ option_to_list
+    (pick_for slot_of tape pieces machine board before d)) (seen ++ d ∷ []) ds)
 
 unfoldable pub install_refusal : History → Name → Name → List Name → Option Refusal
 install_refusal H machine board designators =
     if is_in_work_on H machine board
-    then designators_refusal (slot_on H machine) (tape_of H machine) (left_of H) (is_placed_on H board) machine board [] [] designators
+    then designators_refusal (slot_on H machine) (tape_of H machine) (left_of H)
+    (is_placed_on H board) machine board [] [] designators
     else Some (NotInWork board)
 
 -- ---- counts
@@ -218,27 +231,36 @@ count_refusal rules H seen row = first_refusal (
 -- The fault of the first faulty row of a count.
 abbrev pub counts_refusal : Rules → History → List Name → List CountRow → Option Refusal
 counts_refusal rules H seen [] = None
-counts_refusal rules H seen (row ∷ rows) = option_or (count_refusal rules H seen row) (counts_refusal rules H (seen ++ row.reel ∷ []) rows)
+counts_refusal rules H seen (row ∷ rows) =
+    option_or (count_refusal rules H seen row) (counts_refusal rules H (seen ++ row.reel ∷ []) rows)
 
 -- ---- any command
 
 -- The refusal of a command that takes effect at the minute; the rules differ only for counts.
 unfoldable pub command_refusal : Rules → History → ℕ → Command → Option Refusal
 command_refusal rules H minute (PartDefined part) = part_refusal H part
-command_refusal rules H minute (AlternateAllowed part alternate) = alternate_refusal H part alternate
-command_refusal rules H minute (SheetDefined product machine rows) = definition_refusal H machine rows
-command_refusal rules H minute (ProductSelected machine product) = selection_refusal H machine product
-command_refusal rules H minute (ReelReceived reel part lot moisture quantity) = receipt_refusal H reel part
+command_refusal rules H minute (AlternateAllowed part alternate) =
+    alternate_refusal H part alternate
+command_refusal rules H minute (SheetDefined product machine rows) =
+    definition_refusal H machine rows
+command_refusal rules H minute (ProductSelected machine product) =
+    selection_refusal H machine product
+command_refusal rules H minute (ReelReceived reel part lot moisture quantity) =
+    receipt_refusal H reel part
 command_refusal rules H minute (ReelOpened reel) = opening_refusal H reel
 command_refusal rules H minute (ReelSealed reel) = closing_refusal H reel
 command_refusal rules H minute (ReelBaked reel) = closing_refusal H reel
-command_refusal rules H minute (MaterialsLoaded machine slot reel) = mounting_refusal H minute machine slot reel (not (is_vacant H machine slot), SlotTaken slot)
-command_refusal rules H minute (MaterialsSpliced machine slot reel) = mounting_refusal H minute machine slot reel (is_vacant H machine slot, SlotEmpty slot)
+command_refusal rules H minute (MaterialsLoaded machine slot reel) =
+    mounting_refusal H minute machine slot reel (not (is_vacant H machine slot), SlotTaken slot)
+command_refusal rules H minute (MaterialsSpliced machine slot reel) =
+    mounting_refusal H minute machine slot reel (is_vacant H machine slot, SlotEmpty slot)
 command_refusal rules H minute (MaterialsUnloaded machine slot) = unload_refusal H machine slot
 command_refusal rules H minute (WorkStarted machine board) = start_refusal H minute machine board
 command_refusal rules H minute (WorkCompleted machine board) = completion_refusal H machine board
-command_refusal rules H minute (MaterialsInstalled machine board designators) = install_refusal H machine board designators
-command_refusal rules H minute (MaterialsScrapped machine slot quantity) = scrap_refusal H machine slot quantity
+command_refusal rules H minute (MaterialsInstalled machine board designators) =
+    install_refusal H machine board designators
+command_refusal rules H minute (MaterialsScrapped machine slot quantity) =
+    scrap_refusal H machine slot quantity
 command_refusal rules H minute (CountsTaken counts) = counts_refusal rules H [] counts
 command_refusal rules H minute ClockSet = None
 
@@ -249,8 +271,10 @@ is_clock _ = false
 -- Whether the command's minute is more than two weeks after the desk minute. This is false for the
 -- first command and for a clock setting.
 abbrev pub is_too_far_ahead : History → Stamped → Bool
-is_too_far_ahead H s = option_map_or (λ desk. nat_lt (desk + FURTHEST_AHEAD) s.minute) (desk_minute H) false && not (is_clock s.command)
+is_too_far_ahead H s = option_map_or (λ desk. nat_lt (desk + FURTHEST_AHEAD) s.minute)
+    (desk_minute H) false && not (is_clock s.command)
 
 -- The refusal of the command after H under the rules, if any.
 unfoldable pub refusal_of : Rules → History → Stamped → Option Refusal
-refusal_of rules H s = if is_too_far_ahead H s then Some TooFarAhead else command_refusal rules H (effective_minute H s.minute) s.command
+refusal_of rules H s = if is_too_far_ahead H s then Some TooFarAhead
+    else command_refusal rules H (effective_minute H s.minute) s.command

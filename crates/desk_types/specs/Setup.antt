@@ -38,7 +38,8 @@ is_allowed H p q = same q p || is_alternate H p q
 
 -- The sheet's rows, if the command defines them.
 abbrev pub sheet_by : Name → Name → Command → Option (List SheetRow)
-sheet_by product machine (SheetDefined p m rows) = if same p product && same m machine then Some rows else None
+sheet_by product machine (SheetDefined p m rows) = if same p product && same m machine
+    then Some rows else None
 sheet_by product machine _ = None
 
 -- The rows of the product's last sheet on the machine.
@@ -66,7 +67,8 @@ row_in rows slot = find (λ row. same row.slot slot) rows
 
 -- The slot of the first row with the designator.
 abbrev pub slot_in : List SheetRow → Name → Option Name
-slot_in rows designator = option_map (λ (row : SheetRow). row.slot) (find (λ row. list_any (same designator) row.designators) rows)
+slot_in rows designator = option_map
+    (λ (row : SheetRow). row.slot) (find (λ row. list_any (same designator) row.designators) rows)
 
 -- The slot's row in the selected product's sheet.
 abbrev pub row_on : History → Name → Name → Option SheetRow
@@ -74,14 +76,21 @@ row_on H machine slot = option_and_then (λ rows. row_in rows slot) (sheet_on H 
 
 -- The designator's slot in the selected product's sheet.
 abbrev pub slot_on : History → Name → Name → Option Name
-slot_on H machine designator = option_and_then (λ rows. slot_in rows designator) (sheet_on H machine)
+slot_on H machine designator =
+    option_and_then (λ rows. slot_in rows designator) (sheet_on H machine)
 
 -- ---- receipts
 
 -- The reel's receipt, if the command is its receipt at the minute.
 abbrev pub receipt_by : Name → ℕ → Command → Option Receipt
 receipt_by reel minute (ReelReceived r part lot moisture quantity) =
-    if same r reel then Some (record { part = part; lot = lot; moisture = moisture; quantity = quantity; effective = minute }) else None
+    if same r reel then Some (record {
+      part = part;
+      lot = lot;
+      moisture = moisture;
+      quantity = quantity;
+      effective = minute;
+    }) else None
 receipt_by reel minute _ = None
 
 -- The reel's last receipt.

@@ -28,7 +28,8 @@ at_place n (x ∷ xs) place = if n == place then Some x else at_place (n + 1) xs
 
 -- The row at a place, from 1, of the product's sheet on the machine.
 abbrev pub sheet_row : History → Name → Name → ℕ → Option SheetRow
-sheet_row H product machine place = option_and_then (λ rows. at_place 1 rows place) (sheet_of H product machine)
+sheet_row H product machine place =
+    option_and_then (λ rows. at_place 1 rows place) (sheet_of H product machine)
 
 -- ---- reel
 
@@ -57,8 +58,10 @@ reel_row H reel = option_map columns_of (reel_view H reel)
 
 -- The slot where the command loads or splices the reel, with its entry's number.
 abbrev pub put_by : Name → ℕ → Command → Option MountRow
-put_by reel number (MaterialsLoaded m s r) = if same r reel then Some (record { since = number; machine = m; slot = s; reel = reel }) else None
-put_by reel number (MaterialsSpliced m s r) = if same r reel then Some (record { since = number; machine = m; slot = s; reel = reel }) else None
+put_by reel number (MaterialsLoaded m s r) = if same r reel
+    then Some (record { since = number; machine = m; slot = s; reel = reel }) else None
+put_by reel number (MaterialsSpliced m s r) = if same r reel
+    then Some (record { since = number; machine = m; slot = s; reel = reel }) else None
 put_by reel number _ = None
 
 -- The last load or splice of the reel.
@@ -74,11 +77,16 @@ mount_row H reel = if is_mounted H reel then last_put H reel else None
 -- The machine that last started the board, if the board is in work there.
 abbrev pub work_machine : History → Name → Option Name
 work_machine H board =
-    option_and_then (λ machine. if is_in_work_on H machine board then Some machine else None) (latest (λ e. start_by board e.stamped.command) H)
+    option_and_then (λ machine. if is_in_work_on H machine board then Some machine else None)
+    (latest (λ e. start_by board e.stamped.command) H)
 
 -- A started board's row.
 abbrev pub board_row : History → Name → Option BoardRow
-board_row H board = option_map (λ product. record { board = board; product = product; machine = work_machine H board }) (product_of H board)
+board_row H board = option_map (λ product. record {
+  board = board;
+  product = product;
+  machine = work_machine H board;
+}) (product_of H board)
 
 -- ---- placement
 
@@ -97,7 +105,8 @@ placement_columns p = record {
 
 -- A placed piece's row.
 abbrev pub placement_row : History → ℕ → ℕ → Option PlacementRow
-placement_row H number place = option_map placement_columns (find (λ (p : Placement). p.number == number && p.place == place) (placements_of H))
+placement_row H number place = option_map placement_columns
+    (find (λ (p : Placement). p.number == number && p.place == place) (placements_of H))
 
 -- ---- found
 

@@ -12,9 +12,12 @@ tape_with (r ∷ rs) reel = (r ∷ rs) ++ reel ∷ []
 
 -- The slot's tape after the command.
 abbrev pub tape_after : Name → Name → Command → List Name → List Name
-tape_after machine slot (MaterialsLoaded m s reel) reels = if same m machine && same s slot then reel ∷ [] else reels
-tape_after machine slot (MaterialsSpliced m s reel) reels = if same m machine && same s slot then tape_with reels reel else reels
-tape_after machine slot (MaterialsUnloaded m s) reels = if same m machine && same s slot then [] else reels
+tape_after machine slot (MaterialsLoaded m s reel) reels = if same m machine && same s slot
+    then reel ∷ [] else reels
+tape_after machine slot (MaterialsSpliced m s reel) reels = if same m machine && same s slot
+    then tape_with reels reel else reels
+tape_after machine slot (MaterialsUnloaded m s) reels =
+    if same m machine && same s slot then [] else reels
 tape_after machine slot _ reels = reels
 
 -- The reel of the slot's last load and those spliced since, including spent ones; none after an

@@ -5,4 +5,5 @@ use Rattle.desk_types.specs.declared.trace_detail.TraceDetail.TheVariants.{One, 
 
 -- The detail for a number from 1 to 4.
 abbrev pub trace_detail_of : ℕ → Option TraceDetail
-trace_detail_of n = if n == 1 then Some One else if n == 2 then Some Two else if n == 3 then Some Three else if n == 4 then Some Four else None
+trace_detail_of n = if n == 1 then Some One else if n == 2 then Some Two else if n == 3
+    then Some Three else if n == 4 then Some Four else None

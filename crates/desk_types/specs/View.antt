@@ -29,7 +29,8 @@ lot_of H reel = option_map_or (λ (r : Receipt). r.lot) (receipt_of H reel) []
 
 -- The reel's remaining floor life at the desk minute.
 abbrev pub life_left : History → Name → Left
-life_left H reel = if is_unbaked H reel then Unbaked else option_map_or Minutes (minutes_left H reel (now_of H)) Unlimited
+life_left H reel = if is_unbaked H reel then Unbaked
+    else option_map_or Minutes (minutes_left H reel (now_of H)) Unlimited
 
 -- The reel's exposure when it last left its bag, or at the desk minute while it is in its bag.
 abbrev pub used_of : History → Name → ℕ
@@ -98,4 +99,5 @@ slot_mounts H machine slot = map (mount_of H slot) (enumerate_from 1 (live_on H 
 
 -- The live reels on the machine's slots, if some sheet is for the machine.
 abbrev pub mounts_on : History → Name → Option (List Mount)
-mounts_on H machine = if has_sheet H machine then Some (flat_map (slot_mounts H machine) (loaded_slots H machine)) else None
+mounts_on H machine = if has_sheet H machine
+    then Some (flat_map (slot_mounts H machine) (loaded_slots H machine)) else None

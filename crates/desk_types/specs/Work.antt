@@ -25,7 +25,8 @@ is_in_work_on H machine board = option_map_or (same board) (in_work_on H machine
 
 -- Whether the command started the board on a machine where it is still in work after H.
 abbrev pub is_in_work_where_started : History → Name → Command → Bool
-is_in_work_where_started H board (WorkStarted machine b) = same b board && is_in_work_on H machine board
+is_in_work_where_started H board (WorkStarted machine b) =
+    same b board && is_in_work_on H machine board
 is_in_work_where_started H board _ = false
 
 -- Whether the board is in work on some machine (an entry started it there).
@@ -40,13 +41,16 @@ start_by board _ = None
 -- The board's product: the one selected on the machine at the board's first start.
 abbrev pub product_of : History → Name → Option Name
 product_of [] board = None
-product_of (e ∷ H) board = option_or (product_of H board) (option_and_then (selected_on H) (start_by board e.stamped.command))
+product_of (e ∷ H) board = option_or (product_of H board)
+    (option_and_then (selected_on H) (start_by board e.stamped.command))
 
 -- Whether the command places the designator on the board.
 abbrev pub places : Name → Name → Command → Bool
-places board designator (MaterialsInstalled machine b designators) = same b board && list_any (same designator) designators
+places board designator (MaterialsInstalled machine b designators) =
+    same b board && list_any (same designator) designators
 places board designator _ = false
 
 -- Whether some install placed the designator on the board, on any machine.
 abbrev pub is_placed_on : History → Name → Name → Bool
-is_placed_on H board designator = list_any (λ (e : Entry). places board designator e.stamped.command) H
+is_placed_on H board designator =
+    list_any (λ (e : Entry). places board designator e.stamped.command) H

@@ -77,13 +77,16 @@ pub trait Desk {
     /// the greatest number.
     fn judge(&self, stamped: &Stamped) -> Result<Change, JudgeFault>
         requires room { HasRoom Stands self.now 1 }
-        ensures { (H : History) → Stands self.now H → IsJudgement (kept_rules self.now) H stamped.now result };
+        ensures { (H : History) → Stands self.now H
+            → IsJudgement (kept_rules self.now) H stamped.now result };
 
     /// Accepts a judged command. After an `Err` the desk's state is unknown: drop it.
     fn settle(&mut self, change: Change) -> Result<(), AllocError>
         requires room { HasRoom Stands self.old 1 }
-        requires judged { (H : History) → Stands self.old H → IsChange (kept_rules self.old) H change.stamped change }
-        ensures stands { (H : History) → Stands self.old H → OnOk result (Stands self.new (accept H change.stamped)) }
+        requires judged { (H : History) → Stands self.old H
+            → IsChange (kept_rules self.old) H change.stamped change }
+        ensures stands { (H : History) → Stands self.old H
+            → OnOk result (Stands self.new (accept H change.stamped)) }
         ensures rules { OnOk result (kept_rules self.new ≡ kept_rules self.old) };
 
     /// Returns the desk minute: the greatest effective minute of the accepted commands.
@@ -96,12 +99,14 @@ pub trait Desk {
 
     /// Returns the product's last sheet on the machine.
     fn sheet_of(&self, product: &Id, machine: &Id) -> Result<Option<SheetRows>, AllocError>
-        ensures { (H : History) → Stands self.now H → IfOk result (λ rows. rows ≡ sheet_of H product.now machine.now) };
+        ensures { (H : History) → Stands self.now H
+            → IfOk result (λ rows. rows ≡ sheet_of H product.now machine.now) };
 
     /// Returns the slots of the selected product's sheet in order, each with its front reel at the
     /// desk minute. The list is empty if no product is selected.
     fn fronts(&self, machine: &Id) -> Result<Fronts, AllocError>
-        ensures { (H : History) → Stands self.now H → IfOk result (λ fronts. fronts ≡ fronts_of H machine.now) };
+        ensures { (H : History) → Stands self.now H
+            → IfOk result (λ fronts. fronts ≡ fronts_of H machine.now) };
 
     /// Returns the reel at the desk minute, or none if it wasn't received. Takes no memory.
     fn reel(&self, reel: &Id) -> Option<ReelView>
@@ -110,12 +115,14 @@ pub trait Desk {
     /// Returns the live reels on the machine's slots, by slot and position, or none if no sheet is
     /// for the machine. It includes slots that a later sheet no longer has.
     fn slots_of(&self, machine: &Id) -> Result<Option<Mounts>, AllocError>
-        ensures { (H : History) → Stands self.now H → IfOk result (λ mounts. mounts ≡ mounts_on H machine.now) };
+        ensures { (H : History) → Stands self.now H
+            → IfOk result (λ mounts. mounts ≡ mounts_on H machine.now) };
 
     /// Returns the reels that can be loaded for the part at the desk minute. Reels with the fewest
     /// minutes left come first, those without a limit last; ties are ordered by name.
     fn free_reels(&self, part: &Id) -> Result<ReelViews, AllocError>
-        ensures { (H : History) → Stands self.now H → IfOk result (λ reels. reels ≡ free_reels H part.now) };
+        ensures { (H : History) → Stands self.now H
+            → IfOk result (λ reels. reels ≡ free_reels H part.now) };
 }
 
 /// Judges the commands in order and settles each accepted one. Stops when out of memory; the desk's

@@ -75,13 +75,11 @@ pub const PAGE_SIZE: usize = 1_024;
 pub fn limits_have_their_numbers()
     ensures names { (LONGEST_ID ≡ 64) × (LONGEST_DESIGNATOR ≡ 16) }
     ensures pieces { (GREATEST_QUANTITY ≡ 10000000) × (MOST_DIGITS ≡ 8) }
-    ensures minutes { (GREATEST_LABEL ≡ 525600) × (FURTHEST_AHEAD ≡ 20160) × (GREATEST_MINUTE ≡ 4223371679) }
-    ensures rows { LONGEST_LIST ≡ 5000 }
-    ensures commands { MOST_ENTRIES ≡ 1000000000 }
-    ensures boards { MOST_BOARDS ≡ 100000 }
-    ensures inputs { (LONGEST_INPUT ≡ 1048576) × (MOST_READS ≡ 4294967294) }
-    ensures heads { (HEAD_LIMIT ≡ 16384) × (MOST_HEADERS ≡ 64) }
-    ensures listeners { (MOST_PORT ≡ 65535) × (MOST_CONNECTIONS ≡ 1000000) }
+    ensures minutes { (GREATEST_LABEL ≡ 525600) × (FURTHEST_AHEAD ≡ 20160)
+        × (GREATEST_MINUTE ≡ 4223371679) }
+    ensures lists { (LONGEST_LIST ≡ 5000) × (MOST_ENTRIES ≡ 1000000000) × (MOST_BOARDS ≡ 100000) }
+    ensures inputs { (LONGEST_INPUT ≡ 1048576) × (MOST_READS ≡ 4294967294) × (HEAD_LIMIT ≡ 16384)
+        × (MOST_HEADERS ≡ 64) × (MOST_PORT ≡ 65535) × (MOST_CONNECTIONS ≡ 1000000) }
     ensures blocks { (BLOCK ≡ 65536) × (ONE_WRITE ≡ 4096) × (PAGE_SIZE ≡ 1024) }
 {}
 

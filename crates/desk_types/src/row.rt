@@ -1,9 +1,12 @@
 //! Rows of the state tables.
 
+ghost use Rattle.std.specs.Prelude.{◌≡◌, ℕ, ◌<◌, ◌^◌};
+ghost use Rattle.desk_types.specs.Row.{fresh_row, exposure_at, opened_row, sealed_row, baked_row};
+
 use crate::designator::Designator;
 use crate::id::Id;
-use crate::level::Level;
-use crate::number::Minute;
+use crate::level::{Level, Moisture};
+use crate::number::{Minute, Quantity};
 
 /// A row of the table `reel`.
 #[derive(Clone, Copy, Debug, PartialEq, Eq)]
@@ -21,6 +24,83 @@ pub struct ReelRow {
     pub used: u64,
     pub open_since: Option<Minute>,
     pub baked: bool,
+}
+
+impl ReelRow {
+    /// Returns the row of a reel that is received, sealed in its bag.
+    pub fn fresh(reel: Id, part: Id, lot: Id, moisture: Moisture, quantity: Quantity) -> ReelRow
+        ensures { (minute : ℕ)
+            → result ≡ fresh_row reel
+            (record {
+              part = part;
+              lot = lot;
+              moisture = moisture;
+              quantity = quantity;
+              effective = minute;
+            }) }
+    {
+        ReelRow {
+            reel,
+            part,
+            lot,
+            level: moisture.level(),
+            label: moisture.label(),
+            received: quantity.get(),
+            placed: 0,
+            scrapped: 0,
+            remaining: quantity.get(),
+            used: 0,
+            open_since: None,
+            baked: false,
+        }
+    }
+
+    /// Returns the exposure in minutes up to this one, if it fits.
+    pub fn exposure(&self, minute: Minute) -> u64
+        ensures { exposure_at self.now minute < 2 ^ 64 → result ≡ exposure_at self.now minute }
+    {
+        match self.open_since {
+            Some(since) => self
+                .used
+                .saturating_add(minute.get().saturating_sub(since.get())),
+            None => self.used,
+        }
+    }
+
+    /// Returns the row with the reel out of its bag: since this minute, if it was in its bag.
+    pub fn opened(self, minute: Minute) -> ReelRow
+        ensures { result ≡ opened_row minute self }
+    {
+        let open_since = match self.open_since {
+            Some(since) => Some(since),
+            None => Some(minute),
+        };
+        ReelRow { open_since, ..self }
+    }
+
+    /// Returns the row with the reel sealed in its bag, which stops its exposure.
+    pub fn sealed(self, minute: Minute) -> ReelRow
+        ensures { exposure_at self minute < 2 ^ 64 → result ≡ sealed_row minute self }
+    {
+        let used = self.exposure(minute);
+        ReelRow {
+            used,
+            open_since: None,
+            ..self
+        }
+    }
+
+    /// Returns the row with the reel baked and sealed, which resets its exposure to 0.
+    pub fn baked(self) -> ReelRow
+        ensures { result ≡ baked_row self }
+    {
+        ReelRow {
+            used: 0,
+            open_since: None,
+            baked: true,
+            ..self
+        }
+    }
 }
 
 /// A row of the table `mount`: a live reel, and the number of its load or splice.

@@ -1,5 +1,8 @@
 //! The pieces that accepted commands take off reels.
 
+ghost use Rattle.std.specs.Prelude.{◌≡◌};
+ghost use Rattle.desk_types.specs.Pieces.{is_placed};
+
 use crate::designator::Designator;
 use crate::id::Id;
 
@@ -20,6 +23,15 @@ pub enum Purpose {
     },
     /// It was missing at a count.
     Counted,
+}
+
+impl Purpose {
+    /// Returns whether the piece was placed on a board.
+    pub fn is_placed(&self) -> bool
+        ensures { result ≡ is_placed self.now }
+    {
+        matches!(self, Purpose::Placed { .. })
+    }
 }
 
 /// Pieces from one reel and their purpose, before the reel's part and lot are known.

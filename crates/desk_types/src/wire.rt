@@ -1,9 +1,9 @@
 //! Readers and writers that count their calls.
 
-ghost use Rattle.std.specs.Prelude.{◌≡◌, ◌<◌, length, IfOk, OnOk, OnErr, Ok};
+ghost use Rattle.std.specs.Prelude.{◌≡◌, length, OnOk, OnErr};
 ghost use Rattle.std.specs.Io.{ReadsAtMost, WritesAtMost};
 ghost use Rattle.std.specs.Io.KnownBytes.{ReadConsumes, WriteAppends, Keeps};
-ghost use Rattle.desk_types.specs.Wire.{inner_of, reads_of, failures_of, one_more};
+ghost use Rattle.desk_types.specs.Wire.{CountsFailure, inner_of, reads_of, failures_of, one_more};
 
 use std::io;
 use std::io::{Read, Write};
@@ -94,12 +94,10 @@ impl<T: Write> Write for Wire<T> {
 
     fn write(&mut self, buf: &[u8]) -> io::Result<usize>
         ensures bound { WritesAtMost result buf.now }
-        ensures bytes { WriteAppends (T.contents (inner_of self.old)) (T.contents (inner_of self.new)) result buf.now }
+        ensures bytes { WriteAppends (T.contents (inner_of self.old))
+            (T.contents (inner_of self.new)) result buf.now }
         ensures reads { reads_of self.new ≡ reads_of self.old }
-        ensures failed { OnErr result (failures_of self.new ≡ one_more (failures_of self.old)) }
-        ensures stuck { result ≡ Ok 0 → 0 < length buf.now → failures_of self.new ≡ one_more (failures_of self.old) }
-        ensures kept { IfOk result (λ taken. 0 < taken → failures_of self.new ≡ failures_of self.old) }
-        ensures empty { OnOk result (length buf.now ≡ 0 → failures_of self.new ≡ failures_of self.old) }
+        ensures failures { CountsFailure result (length buf.now) self.old self.new }
     {
         match self.inner.write(buf) {
             Ok(0) if !buf.is_empty() => {

@@ -23,7 +23,8 @@ file_rule = record (new_rule (codes "db")) { long = Some (codes "db"); value_nam
 
 -- The option `--greatest N`.
 abbrev pub greatest_rule : Rule
-greatest_rule = record (new_rule (codes "greatest")) { long = Some (codes "greatest"); value_names = 1 }
+greatest_rule =
+    record (new_rule (codes "greatest")) { long = Some (codes "greatest"); value_names = 1 }
 
 -- `feed` may have both options, and neither twice.
 abbrev pub feed_shape : Shape
@@ -35,51 +36,73 @@ required_option name = record (new_rule name) { long = Some name; value_names = 
 
 -- `serve` has a file, a port and a number of connections, and may have the greatest number of `feed`.
 abbrev pub serve_shape : Shape
-serve_shape = record (new_shape (codes "serve")) { rules = required_option (codes "db") ∷ required_option (codes "port") ∷ required_option (codes "connections") ∷ greatest_rule ∷ [] }
+serve_shape = record (new_shape (codes "serve")) {
+  rules = required_option (codes "db")
+      ∷ required_option (codes "port") ∷ required_option (codes "connections") ∷ greatest_rule ∷ [];
+}
 
 -- `report` has a file, and the target of a request.
 abbrev pub report_shape : Shape
-report_shape = record (new_shape (codes "report")) { rules = required_option (codes "db") ∷ required_option (codes "get") ∷ [] }
+report_shape = record (new_shape (codes "report")) {
+  rules =
+      required_option (codes "db") ∷ required_option (codes "get") ∷ [];
+}
 
 -- `audit` has a file.
 abbrev pub audit_shape : Shape
-audit_shape = record (new_shape (codes "audit")) { rules = record file_rule { required = true } ∷ [] }
+audit_shape = record (new_shape (codes "audit")) {
+  rules =
+      record file_rule { required = true } ∷ [];
+}
 
 -- `migrate` has a file.
 abbrev pub migrate_shape : Shape
-migrate_shape = record (new_shape (codes "migrate")) { rules = record file_rule { required = true } ∷ [] }
+migrate_shape =
+    record (new_shape (codes "migrate")) { rules = record file_rule { required = true } ∷ [] }
 
 -- A command with the options of both imports: a desk's file, and the UniqueID, source and time of the command.
 abbrev pub with_stamp : App → App
-with_stamp command = with_rule (with_rule (with_rule (with_rule command (required_option (codes "db"))) (required_option (codes "id"))) (required_option (codes "source"))) (required_option (codes "time"))
+with_stamp command = with_rule (with_rule
+    (with_rule (with_rule command (required_option (codes "db"))) (required_option (codes "id")))
+    (required_option (codes "source"))) (required_option (codes "time"))
 
 -- `import-setup` has a desk's file, the UniqueID, source and time of its command, a product, a machine, and the file to
 -- read.
 abbrev pub import_setup_shape : Shape
 import_setup_shape =
     record (new_shape (codes "import-setup")) {
-      rules = required_option (codes "db") ∷ required_option (codes "id") ∷ required_option (codes "source") ∷ required_option (codes "time")
-          ∷ required_option (codes "product") ∷ required_option (codes "machine") ∷ required_option (codes "file") ∷ [];
+      rules = required_option (codes "db") ∷ required_option (codes "id") ∷ required_option
+          (codes "source") ∷ required_option (codes "time")
+          ∷ required_option (codes "product") ∷ required_option (codes "machine")
+          ∷ required_option (codes "file") ∷ [];
     }
 
 -- `import-counts` has the same without a product and a machine.
 abbrev pub import_counts_shape : Shape
 import_counts_shape =
     record (new_shape (codes "import-counts")) {
-      rules = required_option (codes "db") ∷ required_option (codes "id") ∷ required_option (codes "source") ∷ required_option (codes "time") ∷ required_option (codes "file") ∷ [];
+      rules = required_option (codes "db") ∷ required_option (codes "id") ∷ required_option
+          (codes "source") ∷ required_option (codes "time") ∷ required_option (codes "file") ∷ [];
     }
 
 -- The program has a version, and requires a command.
 abbrev pub bare : App
-bare = on_top (λ s. record s { no_binary_name = true; disable_help_subcommand = true; subcommand_required = true; has_version = true }) (new_app (codes "tracedesk"))
+bare = on_top (λ s. record s {
+  no_binary_name = true;
+  disable_help_subcommand = true;
+  subcommand_required = true;
+  has_version = true;
+}) (new_app (codes "tracedesk"))
 
 -- The commands that answer messages and files.
 abbrev pub with_answering : App
-with_answering = with_subcommand (with_subcommand (with_subcommand (with_subcommand bare feed_shape) serve_shape) import_setup_shape) import_counts_shape
+with_answering = with_subcommand (with_subcommand (with_subcommand
+    (with_subcommand bare feed_shape) serve_shape) import_setup_shape) import_counts_shape
 
 -- The commands that only look, and `migrate`: seven in all.
 abbrev pub commands : App
-commands = with_subcommand (with_subcommand (with_subcommand with_answering report_shape) audit_shape) migrate_shape
+commands = with_subcommand
+    (with_subcommand (with_subcommand with_answering report_shape) audit_shape) migrate_shape
 
 -- The text printed if the arguments are no command: help, the version, or a mistake.
 unfoldable pub told_of : List (List ℕ) → Kinds
@@ -150,7 +173,8 @@ AsksForAudit words file =
 -- The arguments mean: migrate this file.
 abbrev pub AsksForMigration : List (List ℕ) → List ℕ → Type 0
 AsksForMigration words file =
-    (rows : List Row) × Names words (codes "migrate") rows × (first_of (codes "db") rows ≡ Some file)
+    (rows : List Row) × Names words (codes "migrate") rows
+    × (first_of (codes "db") rows ≡ Some file)
 
 -- The text of an option that the grammar requires.
 abbrev pub text_of : List Row → List ℕ → List ℕ
@@ -158,16 +182,19 @@ text_of rows name = unwrap_or (first_of name rows) []
 
 -- The import in the options of `import-setup`.
 abbrev pub setup_in : List Row → Result Import BadOption
-setup_in rows = setup_import (text_of rows (codes "id")) (text_of rows (codes "source")) (text_of rows (codes "time")) (text_of rows (codes "product")) (text_of rows (codes "machine"))
+setup_in rows = setup_import (text_of rows (codes "id")) (text_of rows (codes "source"))
+    (text_of rows (codes "time")) (text_of rows (codes "product")) (text_of rows (codes "machine"))
 
 -- The import in the options of `import-counts`.
 abbrev pub counts_in : List Row → Result Import BadOption
-counts_in rows = counts_import (text_of rows (codes "id")) (text_of rows (codes "source")) (text_of rows (codes "time"))
+counts_in rows = counts_import (text_of rows (codes "id")) (text_of rows (codes "source"))
+    (text_of rows (codes "time"))
 
 -- The arguments are those of an import with these options.
 abbrev pub NamesImport : List (List ℕ) → List Row → Result Import BadOption → Type 0
 NamesImport words rows said =
-    (Names words (codes "import-setup") rows × (said ≡ setup_in rows)) ⊎ (Names words (codes "import-counts") rows × (said ≡ counts_in rows))
+    (Names words (codes "import-setup") rows × (said ≡ setup_in rows))
+    ⊎ (Names words (codes "import-counts") rows × (said ≡ counts_in rows))
 
 -- The arguments mean: answer this import, with the records of that file, by the desk of this file.
 abbrev pub AsksForImport : List (List ℕ) → List ℕ → Import → List ℕ → Type 0
@@ -208,10 +235,12 @@ HasBadValue words =
     (rows : List Row)
     × ((Names words (codes "feed") rows × HasNoGreatest rows)
     ⊎ (Names words (codes "serve") rows × HasBadServing rows)
-    ⊎ (Names words (codes "report") rows × ((first_of (codes "db") rows ≡ None) ⊎ (first_of (codes "get") rows ≡ None)))
+    ⊎ (Names words (codes "report") rows
+    × ((first_of (codes "db") rows ≡ None) ⊎ (first_of (codes "get") rows ≡ None)))
     ⊎ (Names words (codes "audit") rows × (first_of (codes "db") rows ≡ None))
     ⊎ (Names words (codes "migrate") rows × (first_of (codes "db") rows ≡ None))
-    ⊎ ((import : Import) × NamesImport words rows (Ok import) × ((first_of (codes "db") rows ≡ None) ⊎ (first_of (codes "file") rows ≡ None))))
+    ⊎ ((import : Import) × NamesImport words rows (Ok import)
+    × ((first_of (codes "db") rows ≡ None) ⊎ (first_of (codes "file") rows ≡ None))))
 
 -- The arguments have no meaning.
 abbrev pub AsksForNothing : List (List ℕ) → Type 0
@@ -222,18 +251,21 @@ abbrev pub AsksForOther : List (List ℕ) → Type 0
 AsksForOther words =
     ((file : List ℕ) × AsksForAudit words file) ⊎ ((file : List ℕ) × AsksForMigration words file)
     ⊎ ((file : List ℕ) × (import : Import) × (from : List ℕ) × AsksForImport words file import from)
-    ⊎ ((file : List ℕ) × (port : ℕ) × (connections : ℕ) × (greatest : ℕ) × AsksForServing words file port connections greatest)
+    ⊎ ((file : List ℕ) × (port : ℕ) × (connections : ℕ) × (greatest : ℕ)
+    × AsksForServing words file port connections greatest)
     ⊎ ((file : List ℕ) × (target : List ℕ) × AsksForReport words file target)
     ⊎ ((option : BadOption) × HasBadOption words option) ⊎ AsksForText words ⊎ AsksForNothing words
 
 -- The meaning of the arguments.
 abbrev pub Asks : List (List ℕ) → Asked → Type 0
 Asks words (Feed file greatest) = AsksForFeed words (option_map string_bytes file) greatest
-Asks words (Serve file port connections greatest) = AsksForServing words (string_bytes file) port connections greatest
+Asks words (Serve file port connections greatest) =
+    AsksForServing words (string_bytes file) port connections greatest
 Asks words (Report file target) = AsksForReport words (string_bytes file) (string_bytes target)
 Asks words (Audit file) = AsksForAudit words (string_bytes file)
 Asks words (Migrate file) = AsksForMigration words (string_bytes file)
-Asks words (ToImport file import from) = AsksForImport words (string_bytes file) import (string_bytes from)
+Asks words (ToImport file import from) =
+    AsksForImport words (string_bytes file) import (string_bytes from)
 Asks words (OfBadOption option) = HasBadOption words option
 Asks words (Text text) = AsksForText words
 Asks words (Bad text) = AsksForNothing words
@@ -241,5 +273,6 @@ Asks words (Bad text) = AsksForNothing words
 -- The greatest number is valid for a desk, and at least one connection is served.
 abbrev pub IsInRange : Asked → Type 0
 IsInRange (Feed file greatest) = (1 ≤ greatest) × (greatest ≤ MOST_ENTRIES)
-IsInRange (Serve file port connections greatest) = (1 ≤ connections) × (1 ≤ greatest) × (greatest ≤ MOST_ENTRIES)
+IsInRange (Serve file port connections greatest) = (1 ≤ connections) × (1 ≤ greatest)
+    × (greatest ≤ MOST_ENTRIES)
 IsInRange _ = ⊤

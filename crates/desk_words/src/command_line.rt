@@ -83,7 +83,8 @@ pub fn read_words(alloc: Global, words: &[String]) -> Result<Asked, AllocError>
 }
 
 fn help_or_mistake(alloc: Global, error: &clap::Error) -> Result<Asked, AllocError>
-    ensures asks { (words : List (List ℕ)) → HasKind (told_of words) error.now → IfOk result (Asks words) }
+    ensures asks { (words : List (List ℕ)) → HasKind (told_of words) error.now
+        → IfOk result (Asks words) }
     ensures range { IfOk result IsInRange }
 {
     if error.kind() == ErrorKind::OutOfMemory {
@@ -100,7 +101,8 @@ fn help_or_mistake(alloc: Global, error: &clap::Error) -> Result<Asked, AllocErr
 fn command_of(alloc: Global, matches: &ArgMatches<'_>) -> Result<Asked, AllocError>
     requires named { (words : List (List ℕ)) × (told_of words ≡ [])
         × (subcommand_rows_of matches.now ≡ named_by words) }
-    ensures asks { (words : List (List ℕ)) → told_of words ≡ [] → subcommand_rows_of matches.now ≡ named_by words
+    ensures asks { (words : List (List ℕ)) → told_of words ≡ []
+        → subcommand_rows_of matches.now ≡ named_by words
         → IfOk result (Asks words) }
     ensures range { IfOk result IsInRange }
 {
@@ -123,7 +125,8 @@ fn command_of(alloc: Global, matches: &ArgMatches<'_>) -> Result<Asked, AllocErr
 }
 
 fn feed_of(alloc: Global, found: &ArgMatches<'_>) -> Result<Asked, AllocError>
-    ensures asks { (words : List (List ℕ)) → Names words (codes "feed") (rows_of (found_of found.now))
+    ensures asks { (words : List (List ℕ))
+        → Names words (codes "feed") (rows_of (found_of found.now))
         → IfOk result (Asks words) }
     ensures range { IfOk result IsInRange }
 {
@@ -138,7 +141,8 @@ fn feed_of(alloc: Global, found: &ArgMatches<'_>) -> Result<Asked, AllocError>
 }
 
 fn serve_of(alloc: Global, found: &ArgMatches<'_>) -> Result<Asked, AllocError>
-    ensures asks { (words : List (List ℕ)) → Names words (codes "serve") (rows_of (found_of found.now))
+    ensures asks { (words : List (List ℕ))
+        → Names words (codes "serve") (rows_of (found_of found.now))
         → IfOk result (Asks words) }
     ensures range { IfOk result IsInRange }
 {
@@ -163,7 +167,8 @@ fn serve_of(alloc: Global, found: &ArgMatches<'_>) -> Result<Asked, AllocError>
 }
 
 fn report_of(alloc: Global, found: &ArgMatches<'_>) -> Result<Asked, AllocError>
-    ensures asks { (words : List (List ℕ)) → Names words (codes "report") (rows_of (found_of found.now))
+    ensures asks { (words : List (List ℕ))
+        → Names words (codes "report") (rows_of (found_of found.now))
         → IfOk result (Asks words) }
     ensures range { IfOk result IsInRange }
 {
@@ -177,7 +182,8 @@ fn report_of(alloc: Global, found: &ArgMatches<'_>) -> Result<Asked, AllocError>
 }
 
 fn audit_of(alloc: Global, found: &ArgMatches<'_>) -> Result<Asked, AllocError>
-    ensures asks { (words : List (List ℕ)) → Names words (codes "audit") (rows_of (found_of found.now))
+    ensures asks { (words : List (List ℕ))
+        → Names words (codes "audit") (rows_of (found_of found.now))
         → IfOk result (Asks words) }
     ensures range { IfOk result IsInRange }
 {
@@ -190,7 +196,8 @@ fn audit_of(alloc: Global, found: &ArgMatches<'_>) -> Result<Asked, AllocError>
 }
 
 fn migrate_of(alloc: Global, found: &ArgMatches<'_>) -> Result<Asked, AllocError>
-    ensures asks { (words : List (List ℕ)) → Names words (codes "migrate") (rows_of (found_of found.now))
+    ensures asks { (words : List (List ℕ))
+        → Names words (codes "migrate") (rows_of (found_of found.now))
         → IfOk result (Asks words) }
     ensures range { IfOk result IsInRange }
 {
@@ -260,7 +267,8 @@ fn no_file(alloc: Global) -> Result<String, AllocError> {
 
 /// Returns the greatest number of a desk, from 1 to its default, 1,000,000,000.
 fn greatest_in(found: &ArgMatches<'_>) -> Option<u32>
-    ensures some { IfSome result (GoesUpTo (first_of (codes "greatest") (rows_of (found_of found.now)))) }
+    ensures some { IfSome result
+        (GoesUpTo (first_of (codes "greatest") (rows_of (found_of found.now)))) }
     ensures none { IsNone result → HasNoGreatest (rows_of (found_of found.now)) }
 {
     match found.get_str("greatest") {
@@ -272,7 +280,8 @@ fn greatest_in(found: &ArgMatches<'_>) -> Option<u32>
 /// Returns the number in the text of an option, from 1 to the greatest.
 fn number_in(found: &ArgMatches<'_>, name: &str, most: u32) -> Option<u32>
     ensures some { IfSome result (Shows most (first_of name.now (rows_of (found_of found.now)))) }
-    ensures none { IsNone result → ShowsNone most (first_of name.now (rows_of (found_of found.now))) }
+    ensures none { IsNone result
+        → ShowsNone most (first_of name.now (rows_of (found_of found.now))) }
 {
     match found.get_str(name) {
         Some(text) => numeral(text, most),
@@ -359,7 +368,8 @@ fn with_greatest<'a>(
     command: clap::Command<'a>,
 ) -> Result<clap::Command<'a>, AllocError>
     requires local { (out-Command command).has_globals ≡ false }
-    ensures shape { IfOk result (λ new. app_of new ≡ with_rule (app_of command.entry) greatest_rule) }
+    ensures shape { IfOk result
+        (λ new. app_of new ≡ with_rule (app_of command.entry) greatest_rule) }
     ensures local { IfOk result (λ new. (out-Command new).has_globals ≡ false) }
 {
     let option = Arg::new(alloc, "greatest")
@@ -484,7 +494,8 @@ fn with_wanted<'a>(
     help: &'a str,
 ) -> Result<clap::Command<'a>, AllocError>
     requires local { (out-Command command).has_globals ≡ false }
-    ensures shape { IfOk result (λ new. app_of new ≡ with_rule (app_of command.entry) (required_option name.now)) }
+    ensures shape { IfOk result
+        (λ new. app_of new ≡ with_rule (app_of command.entry) (required_option name.now)) }
     ensures local { IfOk result (λ new. (out-Command new).has_globals ≡ false) }
 {
     let option = Arg::new(alloc, name)
@@ -496,7 +507,8 @@ fn with_wanted<'a>(
 }
 
 fn audit<'a>(alloc: Global) -> Result<clap::Command<'a>, AllocError>
-    ensures { IfOk result (λ command. (shape_of command ≡ audit_shape) × ((out-Command command).has_globals ≡ false)) }
+    ensures { IfOk result (λ command. (shape_of command ≡ audit_shape)
+        × ((out-Command command).has_globals ≡ false)) }
 {
     let file = Arg::new(alloc, "db")
         .long("db")

@@ -16,10 +16,10 @@ pub no-reel : (H : History) (name : Name) → desk_minute H ≡ None → reel_vi
 no-reel [] name none = refl
 no-reel (e ∷ H) name none = cc
 
-used-is : (H : History) (name : Name) (found : Reel) → StandsFor H name found → found.last ≤ now_of H → found.used ≡ used_of H name
-used-is H name found stands by_now = by found.open_since refl ∙ ap (λ since. exposure_of H name (unwrap_or since (now_of H))) stands.open_since
+used-is : (H : History) (name : Name) (found : Reel) → StandsFor H name found → found.last ≤ now_of H → found.row.used ≡ used_of H name
+used-is H name found stands by_now = by found.row.open_since refl ∙ ap (λ since. exposure_of H name (unwrap_or since (now_of H))) stands.open_since
   where
-    by : (since : Option ℕ) → found.open_since ≡ since → found.used ≡ exposure_of H name (unwrap_or since (now_of H))
+    by : (since : Option ℕ) → found.row.open_since ≡ since → found.row.used ≡ exposure_of H name (unwrap_or since (now_of H))
     by (Some minute) is = stands.used ∙ ap (λ since. exposure_of H name (unwrap_or since found.last)) is
     by None is = let exposure = stands.exposure (now_of H) by_now in
         let none = ap (λ since. option_map_or (λ m. now_of H - m) since 0) is in
@@ -33,13 +33,13 @@ found-is H name told received is received_is =
 
 pub viewed : (H : History) (name : Name) (found : Reel) (received new placed scrapped remaining : ℕ) (left : Left) (mounted is_open : Bool)
     → StandsFor H name found → found.last ≤ now_of H → received ≡ received_of H name → new ≡ found_of H name → placed ≡ placed_of H name → scrapped ≡ scrapped_of H name → remaining ≡ left_of H name
-    → left ≡ life_left H name → mounted ≡ is_mounted H name → is_open ≡ is_some found.open_since
+    → left ≡ life_left H name → mounted ≡ is_mounted H name → is_open ≡ is_some found.row.open_since
     → Some (record {
       reel = name;
-      part = found.part;
-      lot = found.lot;
-      level = found.level;
-      label = found.label;
+      part = found.row.part;
+      lot = found.row.lot;
+      level = found.row.level;
+      label = found.row.label;
       received = received;
       found = new;
       placed = placed;
@@ -48,9 +48,9 @@ pub viewed : (H : History) (name : Name) (found : Reel) (received new placed scr
       left = left;
       mounted = mounted;
       is_open = is_open;
-      used = found.used;
-      open_since = found.open_since;
-      baked = found.baked;
+      used = found.row.used;
+      open_since = found.row.open_since;
+      baked = found.row.baked;
     }) ≡ reel_view H name
 viewed H name found received new placed scrapped remaining left mounted is_open stands by_now received_is new_is placed_is scrapped_is remaining_is left_is mounted_is open_is =
     let receipt = stands.receipt.receipt in

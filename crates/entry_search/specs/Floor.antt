@@ -50,7 +50,8 @@ is_on tape reel (Some p) = list_any (same reel) (tape p.0 p.1)
 
 -- The reel's pieces in the counted rows, or else the given number.
 abbrev pub count_or : List CountRow → Name → ℕ → ℕ
-count_or rows reel pieces = option_map_or (λ (row : CountRow). row.quantity) (find (λ row. same row.reel reel) rows) pieces
+count_or rows reel pieces =
+    option_map_or (λ (row : CountRow). row.quantity) (find (λ row. same row.reel reel) rows) pieces
 
 -- The last command on each reel was in effect by the minute.
 abbrev pub AreReelsBy : BTreeMap Name Reel → ℕ → Type 0

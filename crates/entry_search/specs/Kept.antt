@@ -9,7 +9,8 @@ use Rattle.desk_types.specs.Outcome.{takes_by}
 -- Each entry has its takes, computed from the history before it.
 abbrev pub AreTakes : History → List (List Take) → Type 0
 AreTakes [] [] = ⊤
-AreTakes (e ∷ H) (takes ∷ kept) = (takes ≡ takes_by H e.effective e.stamped.command) × AreTakes H kept
+AreTakes (e ∷ H) (takes ∷ kept) = (takes ≡ takes_by H e.effective e.stamped.command)
+    × AreTakes H kept
 AreTakes H kept = ⊥
 
 -- How many of the reel's pieces are taken.

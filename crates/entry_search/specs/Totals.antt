@@ -20,4 +20,5 @@ total_of usage H reel = pieces_picked (filter (λ p. is_usage_of usage p.purpose
 
 -- How many of the reel's pieces are taken for this usage.
 abbrev pub taken_for : Usage → List Take → Name → ℕ
-taken_for usage takes reel = sum_by (λ t. if same t.reel reel && is_usage_of usage t.purpose then t.quantity else 0) takes
+taken_for usage takes reel =
+    sum_by (λ t. if same t.reel reel && is_usage_of usage t.purpose then t.quantity else 0) takes

@@ -23,4 +23,5 @@ if_free H part reel = if is_free H part reel then Some reel else None
 
 -- The turn of the reel that the command receives, if it is free for the part.
 abbrev pub turn_by : History → Name → Command → Option (Left × Name)
-turn_by H part command = option_map (turn_of H) (option_and_then (if_free H part) (received_by command))
+turn_by H part command =
+    option_map (turn_of H) (option_and_then (if_free H part) (received_by command))

@@ -96,7 +96,8 @@ pub fn front(floor: &Floor, machine: &Id, slot: &Id) -> Option<Id>
 }
 
 fn with_pieces(alloc: Global, stock: &BTreeMap<Id, u64>, tape: &Tape) -> Result<Vec<Id>, AllocError>
-    ensures { IfOk result (λ reels. reels.items ≡ filter (λ reel. nat_lt 0 (pieces_at stock.now reel)) tape.now) }
+    ensures { IfOk result
+        (λ reels. reels.items ≡ filter (λ reel. nat_lt 0 (pieces_at stock.now reel)) tape.now) }
 {
     let mut live = Vec::new(alloc);
     for i in 0..tape.reels.len() {
@@ -127,7 +128,8 @@ pub fn reel_on(floor: &Floor, name: &Id) -> Option<Reel>
 }
 
 fn is_on_tape(floor: &Floor, reel: &Id) -> bool
-    ensures { result ≡ is_on (tape_at floor.now.tapes) reel.now (mount_at floor.now.mounts reel.now) }
+    ensures { result ≡ is_on (tape_at floor.now.tapes) reel.now
+        (mount_at floor.now.mounts reel.now) }
 {
     let Some(slot) = floor.mounts.get(reel) else {
         return false;
@@ -140,7 +142,8 @@ fn is_on_tape(floor: &Floor, reel: &Id) -> bool
 
 /// Returns whether the reel is live on some slot.
 pub fn is_mounted(floor: &Floor, reel: &Id) -> bool
-    ensures { (H : History) → IsJudged Two H → IsFloor H floor.now → result ≡ is_mounted H reel.now }
+    ensures { (H : History) → IsJudged Two H → IsFloor H floor.now
+        → result ≡ is_mounted H reel.now }
 {
     pieces(&floor.stock, reel) > 0 && is_on_tape(floor, reel)
 }

@@ -35,7 +35,7 @@ fn received_reel(name: &Id, entry: &Entry) -> Option<Reel>
 {
     let at = entry.effective;
     let said = receipt_by(name, at, &entry.stamped.command)?;
-    Some(Reel::receive(said.part, said.lot, said.moisture, said.quantity, at))
+    Some(Reel::receive(*name, said.part, said.lot, said.moisture, said.quantity, at))
 }
 
 fn handle(reel: &mut Reel, name: &Id, entry: &Entry)

@@ -22,7 +22,8 @@ use std::alloc::{AllocError, Global};
 /// Returns how long a reel that stays out of its bag may still feed a slot.
 pub fn life(reel: &Reel, minute: Minute) -> Life
     requires { reel.now.last ≤ minute }
-    ensures { (H : History) (name : Name) → StandsFor H name reel.now → result ≡ life_of H minute name }
+    ensures { (H : History) (name : Name) → StandsFor H name reel.now
+        → result ≡ life_of H minute name }
 {
     if reel.is_unbaked() {
         return Life::Unbaked;
@@ -35,14 +36,16 @@ pub fn life(reel: &Reel, minute: Minute) -> Life
 
 fn front_reel(floor: &Floor, minute: Minute, reel: Option<Id>) -> Option<FrontReel>
     requires { AreReelsBy floor.now.reels minute }
-    ensures { (H : History) → IsFloor H floor.now → ForSome reel (λ name. is_some (receipt_of H name) ≡ true)
+    ensures { (H : History) → IsFloor H floor.now
+        → ForSome reel (λ name. is_some (receipt_of H name) ≡ true)
         → result ≡ option_map (front_reel H minute) reel }
 {
     let name = reel?;
     let found = reel_on(floor, &name)?;
+    let row = found.row;
     Some(FrontReel {
         reel: name,
-        part: found.part,
+        part: row.part,
         life: life(&found, minute),
     })
 }

@@ -9,7 +9,8 @@ use std::collections::BTreeSet;
 
 /// Inserts the key into the set, if there is one.
 pub fn insert_if<K: Ord + Drop>(set: &mut BTreeSet<K>, key: Option<K>) -> Result<(), AllocError>
-    ensures { OnOk result (set.new.keys ≡ option_map_or (insert_key K.cmp set.old.keys) key set.old.keys) }
+    ensures { OnOk result
+        (set.new.keys ≡ option_map_or (insert_key K.cmp set.old.keys) key set.old.keys) }
 {
     if let Some(key) = key {
         set.insert(key)?;

@@ -68,12 +68,13 @@ fn mount(floor: &Floor, minute: Minute, slot: &Id, position: u64, reel: &Id) -> 
     let Some(found) = reel_on(floor, reel) else {
         unreachable!()
     };
+    let row = found.row;
     Mount {
         slot: *slot,
         position,
         reel: *reel,
-        part: found.part,
-        lot: found.lot,
+        part: row.part,
+        lot: row.lot,
         remaining: pieces(&floor.stock, reel),
         left: life_left(&found, minute),
     }
@@ -90,7 +91,8 @@ fn put_mounts(
     requires by_now { AreReelsBy floor.now.reels minute }
     requires received { All (λ reel. is_some (reel_at floor.now.reels reel) ≡ true) reels.now }
     ensures { (H : History) → IsFloor H floor.now → now_of H ≡ minute
-        → OnOk result (mounts.new.items ≡ mounts.old.items ++ map (mount_of H slot.now) (enumerate_from 1 reels.now)) }
+        → OnOk result (mounts.new.items
+        ≡ mounts.old.items ++ map (mount_of H slot.now) (enumerate_from 1 reels.now)) }
 {
     for (index, reel) in reels.iter().enumerate() {
         mounts.push(mount(floor, minute, slot, index as u64 + 1, reel))?;

@@ -5,7 +5,7 @@ ghost use Rattle.desk_types.specs.declared.limits.TheConstants.{MOST_ENTRIES};
 ghost use Rattle.desk_types.specs.declared.rules.Rules.TheVariants.{Two};
 ghost use Rattle.desk_types.specs.History.{History};
 ghost use Rattle.desk_types.specs.Judged.{IsJudged};
-ghost use Rattle.desk_types.specs.Pieces.{is_placed, received_of};
+ghost use Rattle.desk_types.specs.Pieces.{received_of};
 ghost use Rattle.entry_search.specs.Kept.{AreTakes};
 ghost use Rattle.entry_search.specs.Totals.{is_usage_of, total_of, taken_for};
 
@@ -13,16 +13,10 @@ use crate::pieces::left_of;
 use desk_types::{Entry, Id, Purpose, Take, Takes};
 use reels::Usage;
 
-pub fn is_placed(purpose: &Purpose) -> bool
-    ensures { result ≡ is_placed purpose.now }
-{
-    matches!(purpose, Purpose::Placed { .. })
-}
-
 fn is_usage_of(usage: Usage, purpose: &Purpose) -> bool
     ensures { result ≡ is_usage_of usage purpose.now }
 {
-    let placed = is_placed(purpose);
+    let placed = purpose.is_placed();
     match usage {
         Usage::Placed => placed,
         Usage::Scrapped => !placed,
@@ -44,7 +38,8 @@ fn taken_for(takes: &[Take], reel: &Id, usage: Usage) -> u64
 
 /// Returns the reel's pieces with this usage, for the takes of an accepted history.
 pub fn total(takes: &[Takes], reel: &Id, usage: Usage) -> u64
-    ensures { (H : History) → IsJudged Two H → length H ≤ MOST_ENTRIES → AreTakes H (reverse takes.now)
+    ensures { (H : History) → IsJudged Two H → length H ≤ MOST_ENTRIES
+        → AreTakes H (reverse takes.now)
         → result ≡ total_of usage H reel.now }
 {
     let mut pieces = 0u64;

@@ -21,7 +21,8 @@ use reels::{Reel, Usage};
 /// Returns the reel's remaining floor life at the desk minute.
 pub fn life_left(reel: &Reel, minute: Minute) -> Left
     requires { reel.now.last ≤ minute }
-    ensures { (H : History) (name : Name) → StandsFor H name reel.now → now_of H ≡ minute → result ≡ life_left H name }
+    ensures { (H : History) (name : Name) → StandsFor H name reel.now → now_of H ≡ minute
+        → result ≡ life_left H name }
 {
     if reel.is_unbaked() {
         return Left::Unbaked;
@@ -42,13 +43,14 @@ pub fn reel_view(entries: &[Entry], takes: &[Takes], name: &Id) -> Option<ReelVi
     let minute = desk_minute(entries)?;
     let told = receipt(entries, name)?;
     let reel = reel_of(entries, name)?;
+    let row = reel.row;
     let received = received_of(entries, takes, name);
     Some(ReelView {
         reel: *name,
-        part: reel.part,
-        lot: reel.lot,
-        level: reel.level,
-        label: reel.label,
+        part: row.part,
+        lot: row.lot,
+        level: row.level,
+        label: row.label,
         received,
         found: received - told.quantity.get(),
         placed: total(takes, name, Usage::Placed),
@@ -56,9 +58,9 @@ pub fn reel_view(entries: &[Entry], takes: &[Takes], name: &Id) -> Option<ReelVi
         remaining: left_of(entries, takes, name),
         left: life_left(&reel, minute),
         mounted: is_mounted(entries, takes, name),
-        is_open: reel.open_since.is_some(),
-        used: reel.used,
-        open_since: reel.open_since,
-        baked: reel.baked,
+        is_open: row.open_since.is_some(),
+        used: row.used,
+        open_since: row.open_since,
+        baked: row.baked,
     })
 }

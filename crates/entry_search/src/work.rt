@@ -89,7 +89,8 @@ pub fn product_of(entries: &[Entry], board: &Id) -> Option<Id>
 
 /// Returns the selected product if the command starts the board.
 fn product_by(before: &[Entry], board: &Id, command: &Command) -> Option<Id>
-    ensures { result ≡ option_and_then (selected_on (reverse before.now)) (start_by board.now command.now) }
+    ensures { result ≡ option_and_then (selected_on (reverse before.now))
+        (start_by board.now command.now) }
 {
     let machine = start_by(board, command)?;
     selected_on(before, &machine)

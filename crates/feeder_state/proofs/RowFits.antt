@@ -4,17 +4,11 @@ use Rattle.std.specs.Option.{ForSome, ForNone, option_map_or}
 use Rattle.std.proofs.lemmas.Bool.{and_from, and_parts}
 use Rattle.desk_types.specs.declared.limits.TheConstants.{GREATEST_LABEL}
 use Rattle.desk_types.specs.declared.row.ReelRow.{ReelRow}
+use Rattle.reels.specs.Fitting.{IsFitting}
 use Rattle.feeder_state.specs.Held.{balances, times_fit, is_reel}
 
--- The row's values fit a reel at the desk minute.
-pub record IsFitting (row : ReelRow) (minute : ℕ) : Type 0 where
-  pub label : row.label ≤ GREATEST_LABEL
-  pub balance : row.received ≡ row.placed + row.scrapped + row.remaining
-  pub opened : ForSome row.open_since (λ since. (row.used ≤ since) × (since ≤ minute))
-  pub sealed : ForNone row.open_since (row.used ≤ minute)
-
-fits-balances : (row : ReelRow) (minute : ℕ) → IsFitting row minute → balances row ≡ true
-fits-balances row minute fits =
+fits-balances : (row : ReelRow) (found minute : ℕ) → IsFitting row found minute → balances row ≡ true
+fits-balances row found minute fits =
     let sum = fits.balance in
     and_from _ _ (le-leb row.placed row.received (omega (arith, sum))) (and_from _ _ (le-leb row.scrapped (row.received - row.placed) (omega (arith, sum)))
     (eq-eqb row.remaining (row.received - row.placed - row.scrapped) (omega (arith, sum))))
@@ -28,8 +22,8 @@ balances-fit row is =
     let three = eqb-true row.remaining (row.received - row.placed - row.scrapped) rest.1 in
     omega (arith, one, two, three)
 
-fits-times : (row : ReelRow) (minute : ℕ) → IsFitting row minute → times_fit minute row ≡ true
-fits-times row minute fits = by row.open_since fits.opened fits.sealed
+fits-times : (row : ReelRow) (found minute : ℕ) → IsFitting row found minute → times_fit minute row ≡ true
+fits-times row found minute fits = by row.open_since fits.opened fits.sealed
   where
     by : (out : Option ℕ) → ForSome out (λ since. (row.used ≤ since) × (since ≤ minute)) → ForNone out (row.used ≤ minute) → times_fit minute (record row { open_since = out }) ≡ true
     by (Some since) opened sealed = let both = opened since refl in and_from _ _ (le-leb row.used since both.0) (le-leb since minute both.1)
@@ -45,14 +39,14 @@ times-fit row minute is = by row.open_since is
     )
     by None is = (λ other one. cc, λ none. leb-true row.used minute is)
 
-pub fits-reel : (row : ReelRow) (found minute : ℕ) → IsFitting row minute → found ≤ row.received → is_reel found minute row ≡ true
-fits-reel row found minute fits few =
-    and_from _ _ (and_from _ _ (and_from _ _ (le-leb row.label GREATEST_LABEL fits.label) (le-leb found row.received few)) (fits-balances row minute fits)) (fits-times row minute fits)
+pub fits-reel : (row : ReelRow) (found minute : ℕ) → IsFitting row found minute → is_reel found minute row ≡ true
+fits-reel row found minute fits =
+    and_from _ _ (and_from _ _ (and_from _ _ (le-leb row.label GREATEST_LABEL fits.label) (le-leb found row.received fits.finds)) (fits-balances row found minute fits)) (fits-times row found minute fits)
 
-pub reel-fits : (row : ReelRow) (found minute : ℕ) → is_reel found minute row ≡ true → IsFitting row minute × (found ≤ row.received)
+pub reel-fits : (row : ReelRow) (found minute : ℕ) → is_reel found minute row ≡ true → IsFitting row found minute
 reel-fits row found minute is =
     let all = and_parts _ _ is in
     let three = and_parts _ _ all.0 in
     let two = and_parts _ _ three.0 in
     let times = times-fit row minute all.1 in
-    (record { label = leb-true row.label GREATEST_LABEL two.0; balance = balances-fit row three.1; opened = times.0; sealed = times.1 }, leb-true found row.received two.1)
+    record { label = leb-true row.label GREATEST_LABEL two.0; balance = balances-fit row three.1; finds = leb-true found row.received two.1; opened = times.0; sealed = times.1 }

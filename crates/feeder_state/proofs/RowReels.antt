@@ -7,12 +7,9 @@ use Rattle.std.proofs.lemmas.Map.Views.{list_any-from_Contains}
 use Rattle.desk_types.specs.declared.command.Command.{Command}
 use Rattle.desk_types.specs.declared.command.Command.TheVariants.{ReelReceived}
 use Rattle.desk_types.specs.declared.command.Receipt.{Receipt}
-use Rattle.desk_types.specs.declared.level.Level.{Level}
-use Rattle.desk_types.specs.declared.level.Level.TheVariants.{Six}
 use Rattle.desk_types.specs.declared.limits.TheConstants.{GREATEST_LABEL}
 use Rattle.desk_types.specs.declared.rules.Rules.TheVariants.{Two}
 use Rattle.desk_types.specs.Command.{IsCommand}
-use Rattle.desk_types.specs.Level.{IsLabel}
 use Rattle.desk_types.specs.Id.{Name, same}
 use Rattle.desk_types.specs.History.{History, now_of}
 use Rattle.desk_types.specs.Setup.{receipt_of, receipt_by}
@@ -28,6 +25,9 @@ use Rattle.desk_laws.proofs.Openings.{starts-by}
 use Rattle.desk_types.specs.declared.row.ReelRow.{ReelRow}
 use Rattle.desk_types.specs.declared.row.MountRow.{MountRow}
 use Rattle.reels.specs.declared.reel.Reel.{Reel}
+use Rattle.reels.specs.Fitting.{IsFitting}
+use Rattle.reels.specs.Reel.{RowStandsFor}
+use Rattle.reels.proofs.StandingReels.{label-below}
 use Rattle.entry_search.specs.Life.{IsReelOf}
 use Rattle.desk_types.specs.Tables.{Tables, columns_of, reel_row, last_put, mount_row}
 use Rattle.state_rows.proofs.Exposed.{since-by}
@@ -37,7 +37,6 @@ use Rattle.state_rows.proofs.ReelRows.{used-then, found-kept}
 use Rattle.feeder_state.specs.declared.held.Held.{Held}
 use Rattle.feeder_state.specs.Held.{IsHeld, IsHeldOf, with_mount}
 use Rattle.feeder_state.specs.Rows.{AreRows, left_at}
-use Rattle.feeder_state.proofs.RowFits.{IsFitting}
 
 -- ---- the values of a row
 
@@ -56,10 +55,6 @@ row-of H name row is = by (receipt_of H name) refl is
 
 -- ---- ranges
 
-label-below : (level : Level) (label : ℕ) → IsLabel level label → label ≤ GREATEST_LABEL
-label-below Six label range = range.1
-label-below _ label range = omega (arith, range)
-
 label-range : (H : History) (name : Name) (receipt : Receipt) → IsJudged Two H → receipt_of H name ≡ Some receipt → receipt.moisture.label ≤ GREATEST_LABEL
 label-range [] name receipt judged is = cc
 label-range (e ∷ H) name receipt (next, judged) is = by (receipt_by name e.effective e.stamped.command) refl is (label-range H name receipt judged)
@@ -77,12 +72,13 @@ label-range (e ∷ H) name receipt (next, judged) is = by (receipt_by name e.eff
     by None says is before = before is
     by (Some x) says is before = named e.stamped.command next.in_range.stamped.command (says ∙ is)
 
-pub row-fits : (H : History) (name : Name) (row : ReelRow) (minute : ℕ) → IsJudged Two H → reel_row H name ≡ Some row → now_of H ≡ minute → IsFitting row minute
+pub row-fits : (H : History) (name : Name) (row : ReelRow) (minute : ℕ) → IsJudged Two H → reel_row H name ≡ Some row → now_of H ≡ minute → IsFitting row (found_of H name) minute
 row-fits H name row minute judged is now =
     let of = row-of H name row is in
-    subst (λ r. IsFitting r minute) of.row_is (record {
+    subst (λ r. IsFitting r (found_of H name) minute) of.row_is (record {
       label = label-range H name of.receipt judged of.received;
       balance = balance H name judged;
+      finds = omega arith;
       opened = λ since out.
           let few = exposure-within H name since in
           let early = since-by H name since (now_of H) (by-desk_minute H) out in
@@ -94,66 +90,37 @@ row-fits H name row minute judged is now =
           omega (arith, few, used, now);
     })
 
-pub found-fits : (H : History) (name : Name) (row : ReelRow) → reel_row H name ≡ Some row → found_of H name ≤ row.received
-found-fits H name row is =
-    let of = row-of H name row is in
-    let quantity = option_map_or (λ (r : Receipt). r.quantity) (receipt_of H name) 0 in
-    let sum : row.received ≡ quantity + found_of H name = ap (λ (r : ReelRow). r.received) (sym of.row_is) in
-    omega (arith, sum)
-
 -- ---- the reel
 
--- The reel has the values of the row, this number of found pieces, and the minute as its last.
-pub record IsMadeOf (row : ReelRow) (found : ℕ) (on_slot : Bool) (minute : ℕ) (held : Held) : Type 0 where
-  pub part : held.reel.part ≡ row.part
-  pub lot : held.reel.lot ≡ row.lot
-  pub level : held.reel.level ≡ row.level
-  pub label : held.reel.label ≡ row.label
-  pub received : held.reel.received ≡ row.received
-  pub finds : held.reel.found ≡ found
-  pub placed : held.reel.placed ≡ row.placed
-  pub scrapped : held.reel.scrapped ≡ row.scrapped
-  pub remaining : held.reel.remaining ≡ row.remaining
-  pub used : held.reel.used ≡ row.used
-  pub open_since : held.reel.open_since ≡ row.open_since
-  pub baked : held.reel.baked ≡ row.baked
-  pub last : held.reel.last ≡ minute
-  pub mounted : held.on_slot ≡ on_slot
-
--- A reel made from its row at the desk minute is that of the history.
-pub row-held : (H : History) (name : Name) (row : ReelRow) (minute : ℕ) (held : Held) → IsJudged Two H → reel_row H name ≡ Some row → now_of H ≡ minute
-    → IsMadeOf row (found_of H name) (is_mounted H name) minute held → IsHeld H name held
-row-held H name row minute held judged is now made_of =
-    let of = row-of H name row is in
-    let made = subst (λ r. IsMadeOf r (found_of H name) (is_mounted H name) minute held) (sym of.row_is) made_of in
+-- A reel with the row and the found pieces of the history, at the desk minute, is that of the history.
+pub row-held : (H : History) (name : Name) (held : Held) → IsJudged Two H → reel_row H name ≡ Some held.reel.row → now_of H ≡ held.reel.last → held.reel.found ≡ found_of H name
+    → held.on_slot ≡ is_mounted H name → IsHeld H name held
+row-held H name held judged is now finds mounted =
+    let of = row-of H name held.reel.row is in
+    let back = sym of.row_is in
     record {
-      stands = record {
+      stands = subst (λ row. RowStandsFor H name row held.reel.found held.reel.last) of.row_is (record {
         receipt = record {
           receipt = of.receipt;
           is = of.received;
-          part = made.part;
-          lot = made.lot;
-          level = made.level;
-          label = made.label;
-          received = made.received ∙ ap (λ o. option_map_or (λ (r : Receipt). r.quantity) o 0 + found_of H name) of.received ∙ ap (λ n. of.receipt.quantity + n) (sym made.finds);
+          part = refl;
+          lot = refl;
+          level = refl;
+          label = refl;
+          received = ap (λ o. option_map_or (λ (r : Receipt). r.quantity) o 0 + found_of H name) of.received ∙ ap (λ n. of.receipt.quantity + n) (sym finds);
         };
-        baked = made.baked;
-        open_since = made.open_since;
-        starts = let begun = starts-by H name (now_of H) (by-desk_minute H) in omega (arith, begun, now, made.last);
-        used = made.used
-            ∙ ap (λ m. exposure_of H name (unwrap_or (out_since H name) m)) (now ∙ sym made.last)
-            ∙ ap (λ o. exposure_of H name (unwrap_or o held.reel.last)) (sym made.open_since);
-        exposure = λ at later.
-            ap (λ used. used + option_map_or (λ since. at - since) held.reel.open_since 0) made.used
-            ∙ ap (λ o. used_of H name + option_map_or (λ since. at - since) o 0) made.open_since
-            ∙ sym (used-then H name at (out_since H name) judged refl (omega (arith, later, now, made.last)));
-      };
-      by_now = omega (arith, now, made.last);
-      remaining = made.remaining;
-      placed = made.placed;
-      scrapped = made.scrapped;
-      found = made.finds;
-      mounted = made.mounted;
+        baked = refl;
+        open_since = refl;
+        starts = let begun = starts-by H name (now_of H) (by-desk_minute H) in omega (arith, begun, now);
+        used = ap (λ m. exposure_of H name (unwrap_or (out_since H name) m)) now;
+        exposure = λ at later. sym (used-then H name at (out_since H name) judged refl (omega (arith, later, now)));
+      });
+      by_now = omega (arith, now);
+      remaining = ap (λ (r : ReelRow). r.remaining) back;
+      placed = ap (λ (r : ReelRow). r.placed) back;
+      scrapped = ap (λ (r : ReelRow). r.scrapped) back;
+      found = finds;
+      mounted = mounted;
     }
 
 -- ---- all reels
@@ -210,53 +177,14 @@ both-held G H rows name minute of_G of_H now_G now_H = by ((tables_in rows).reel
     found : ℕ
     found = unwrap_or ((tables_in rows).found name) 0
 
-    made : (row : ReelRow) → IsFitting row minute → found ≤ row.received → Held
-    made row fits few = record {
-      reel = record {
-        part = row.part;
-        lot = row.lot;
-        level = row.level;
-        label = row.label;
-        received = row.received;
-        found = found;
-        placed = row.placed;
-        scrapped = row.scrapped;
-        remaining = row.remaining;
-        used = row.used;
-        open_since = row.open_since;
-        baked = row.baked;
-        last = minute;
-        label_range = fits.label;
-        balance = fits.balance;
-        found_range = few;
-        open_minutes = fits.opened;
-        sealed_minutes = fits.sealed;
-      };
-      on_slot = is_some ((tables_in rows).mounts name);
-    }
-
-    of_row : (L : History) (row : ReelRow) (fits : IsFitting row minute) (few : found ≤ row.received) → AreRows L rows → reel_row L name ≡ Some row → now_of L ≡ minute
-        → IsHeld L name (made row fits few)
-    of_row L row fits few are is now = row-held L name row minute (made row fits few) are.judged is now (record {
-      part = refl;
-      lot = refl;
-      level = refl;
-      label = refl;
-      received = refl;
-      finds = found-row L rows are name;
-      placed = refl;
-      scrapped = refl;
-      remaining = refl;
-      used = refl;
-      open_since = refl;
-      baked = refl;
-      last = refl;
-      mounted = mounts-row L rows are name;
-    })
+    made : (row : ReelRow) → IsFitting row found minute → Held
+    made row fits = record { reel = record { row = row; found = found; last = minute; fits = fits }; on_slot = is_some ((tables_in rows).mounts name) }
 
     by : (said : Option ReelRow) → said ≡ reel_row G name → said ≡ reel_row H name → (held : Option Held) × IsHeldOf G name held × IsHeldOf H name held
     by None in_G in_H = (None, row-none G name (sym in_G), row-none H name (sym in_H))
     by (Some row) in_G in_H =
-        let fits = row-fits G name row minute of_G.judged (sym in_G) now_G in
-        let few = subst (λ n. n ≤ row.received) (sym (found-row G rows of_G name)) (found-fits G name row (sym in_G)) in
-        (Some (made row fits few), of_row G row fits few of_G (sym in_G) now_G, of_row H row fits few of_H (sym in_H) now_H)
+        let fits = subst (λ n. IsFitting row n minute) (sym (found-row G rows of_G name)) (row-fits G name row minute of_G.judged (sym in_G) now_G) in (
+          Some (made row fits),
+          row-held G name (made row fits) of_G.judged (sym in_G) now_G (found-row G rows of_G name) (mounts-row G rows of_G name),
+          row-held H name (made row fits) of_H.judged (sym in_H) now_H (found-row H rows of_H name) (mounts-row H rows of_H name),
+        )

@@ -37,7 +37,7 @@ record IsSameHeld (G H : History) (reel : Name) : Type 0 where
   mounted : is_mounted G reel ≡ is_mounted H reel
 
 marks-held : (H : History) (reel : Name) (held : Held) → StandsFor H reel held.reel
-    → marks_of H reel ≡ Some (held.reel.part, (held.reel.lot, record { level = held.reel.level; label = held.reel.label }))
+    → marks_of H reel ≡ Some (held.reel.row.part, (held.reel.row.lot, record { level = held.reel.row.level; label = held.reel.row.label }))
 marks-held H reel held stands =
     let receipt = stands.receipt in
     ap (option_map mark) receipt.is ∙ sym (λ j. Some (receipt.part j, (receipt.lot j, record { level = receipt.level j; label = receipt.label j })))

@@ -13,7 +13,8 @@ use Rattle.feeder_state.specs.declared.held.Held.{Held}
 
 -- Whether each received piece was placed or scrapped, or remains.
 abbrev pub balances : ReelRow → Bool
-balances row = nat_le row.placed row.received && (nat_le row.scrapped (row.received - row.placed) && (row.remaining == row.received - row.placed - row.scrapped))
+balances row = nat_le row.placed row.received && (nat_le row.scrapped (row.received - row.placed)
+    && (row.remaining == row.received - row.placed - row.scrapped))
 
 -- Whether the reel was out no longer than since the first minute.
 abbrev pub times_fit : ℕ → ReelRow → Bool
@@ -25,15 +26,16 @@ times_fit minute row = by row.open_since
 
 -- Whether a reel with these found pieces can be made of the row at the minute.
 abbrev pub is_reel : ℕ → ℕ → ReelRow → Bool
-is_reel found minute row = ((nat_le row.label GREATEST_LABEL && nat_le found row.received) && balances row) && times_fit minute row
+is_reel found minute row = ((nat_le row.label GREATEST_LABEL && nat_le found row.received)
+    && balances row) && times_fit minute row
 
 -- The reel is that of the history under this name: its receipt, its floor life, its pieces, and whether it is mounted.
 pub record IsHeld (H : History) (name : Name) (held : Held) : Type 0 where
   pub stands : StandsFor H name held.reel
   pub by_now : held.reel.last ≤ now_of H
-  pub remaining : held.reel.remaining ≡ left_of H name
-  pub placed : held.reel.placed ≡ placed_of H name
-  pub scrapped : held.reel.scrapped ≡ scrapped_of H name
+  pub remaining : held.reel.row.remaining ≡ left_of H name
+  pub placed : held.reel.row.placed ≡ placed_of H name
+  pub scrapped : held.reel.row.scrapped ≡ scrapped_of H name
   pub found : held.reel.found ≡ found_of H name
   pub mounted : held.on_slot ≡ is_mounted H name
 
@@ -44,4 +46,5 @@ IsHeldOf H name (Some held) = IsHeld H name held
 
 -- The reel, with whether it is mounted.
 abbrev pub with_mount : History → Name → Option Reel → Option Held
-with_mount H name reel = option_map (λ (r : Reel). record { reel = r; on_slot = is_mounted H name }) reel
+with_mount H name reel =
+    option_map (λ (r : Reel). record { reel = r; on_slot = is_mounted H name }) reel

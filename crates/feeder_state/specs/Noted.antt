@@ -10,7 +10,8 @@ use Rattle.desk_types.specs.Judged.{IsJudged}
 use Rattle.desk_types.specs.Outcome.{takes_by}
 
 -- The entry may come after H, and is of this command, which took effect at the minute and took these pieces.
-pub record IsNoted (H : History) (e : Entry) (command : Command) (at : ℕ) (takes : List Take) : Type 0 where
+pub record IsNoted (H : History) (e : Entry) (command : Command) (at : ℕ)
+    (takes : List Take) : Type 0 where
   pub judged : IsJudged Two (e ∷ H)
   pub command_is : e.stamped.command ≡ command
   pub effective : e.effective ≡ at

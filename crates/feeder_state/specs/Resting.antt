@@ -17,7 +17,7 @@ rests H reel = nat_lt 0 (left_of H reel) && not (is_mounted H reel)
 
 -- The same of a reel that is held.
 abbrev pub held_rests : Held → Bool
-held_rests held = nat_lt 0 held.reel.remaining && not held.on_slot
+held_rests held = nat_lt 0 held.reel.row.remaining && not held.on_slot
 
 -- The same of a reel's row.
 abbrev pub row_rests : KeptRows → Name → ReelRow → Bool

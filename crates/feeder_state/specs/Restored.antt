@@ -22,4 +22,5 @@ group_at cmp groups key = unwrap_or (tree.get cmp groups key) []
 
 -- The rows as a sheet, if they are within the limit of a sheet.
 abbrev pub sheet_in : List SheetRow → Option (List SheetRow)
-sheet_in rows = if nat_lt 0 (length rows) && nat_lt (length rows) (LONGEST_LIST + 1) then Some rows else None
+sheet_in rows = if nat_lt 0 (length rows) && nat_lt (length rows) (LONGEST_LIST + 1)
+    then Some rows else None

@@ -21,5 +21,6 @@ is_sheeted sheeted machine = contains by_name sheeted machine
 
 -- The sheets are those of the history.
 pub record IsSetup (H : History) (setup : Setup) : Type 0 where
-  pub sheets : (product machine : Name) → sheet_at setup.sheets product machine ≡ sheet_of H product machine
+  pub sheets : (product machine : Name)
+      → sheet_at setup.sheets product machine ≡ sheet_of H product machine
   pub sheeted : (machine : Name) → is_sheeted setup.sheeted machine ≡ has_sheet H machine

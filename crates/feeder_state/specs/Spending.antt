@@ -12,7 +12,8 @@ use Rattle.feeder_state.specs.Rows.{left_at}
 
 -- Whether the take took pieces of the reel from the slot, and left none.
 abbrev pub is_spent_by : (Name → ℕ) → Name → Name → Name → Take → Bool
-is_spent_by left machine slot reel take = (comes_off take.purpose machine slot && same take.reel reel) && (left reel == 0)
+is_spent_by left machine slot reel take =
+    (comes_off take.purpose machine slot && same take.reel reel) && (left reel == 0)
 
 -- Whether the edit leaves a reel without pieces.
 abbrev pub empties : RowEdit → Bool
@@ -21,4 +22,5 @@ empties _ = false
 
 -- Unless a reel is spent, each that has pieces after H has some left in the rows.
 abbrev pub NoneIsSpent : Bool → History → KeptRows → Type 0
-NoneIsSpent spends H rows = spends ≡ false → (r : Name) → nat_lt 0 (left_of H r) ≡ true → (left_at rows r == 0) ≡ false
+NoneIsSpent spends H rows = spends ≡ false → (r : Name) → nat_lt 0 (left_of H r) ≡ true
+    → (left_at rows r == 0) ≡ false

@@ -14,9 +14,11 @@ running_at running machine = tree.get by_name running machine
 
 -- Whether the map has the designator on the board.
 abbrev pub is_placed_at : BTreeMap Name (List Name) → Name → Name → Bool
-is_placed_at placed board designator = list_any (same designator) (unwrap_or (tree.get by_name placed board) [])
+is_placed_at placed board designator =
+    list_any (same designator) (unwrap_or (tree.get by_name placed board) [])
 
 -- The work is that of the history.
 pub record IsWork (H : History) (work : Work) : Type 0 where
   pub running : (machine : Name) → running_at work.running machine ≡ in_work_on H machine
-  pub placed : (board designator : Name) → is_placed_at work.placed board designator ≡ is_placed_on H board designator
+  pub placed : (board designator : Name)
+      → is_placed_at work.placed board designator ≡ is_placed_on H board designator

@@ -76,7 +76,8 @@ impl StateDesk {
         minute: Option<Minute>,
     ) -> Result<StateDesk, AllocError>
         requires { (H : History) × AreRowsOf H rows.now × (minute ≡ desk_minute H) }
-        ensures stands { (H : History) → AreRowsOf H rows.now → minute ≡ desk_minute H → IfOk result (IsState H) }
+        ensures stands { (H : History) → AreRowsOf H rows.now → minute ≡ desk_minute H
+            → IfOk result (IsState H) }
         ensures rules { IfOk result (λ desk. rules_of desk ≡ Two) }
     {
         let Some(_) = minute else {
@@ -99,7 +100,8 @@ impl StateDesk {
 
     #[tactic(auto, using(crate::proofs::AcceptedChanges::of_state))]
     fn sheet_on(&self, machine: &Id) -> Option<&Sheet>
-        ensures { (H : History) → IsState H self.now → option_copied result ≡ sheet_on H machine.now }
+        ensures { (H : History) → IsState H self.now
+            → option_copied result ≡ sheet_on H machine.now }
     {
         let product = self.rows.selected_on(machine)?;
         self.setup.sheet(&product, machine)
@@ -108,8 +110,10 @@ impl StateDesk {
     /// Accepts a judged change. After an `Err` drop the desk, whose state is unknown.
     fn accept(&mut self, change: Change) -> Result<(), AllocError>
         requires room { HasRoom (λ desk H. IsState H desk) self.old 1 }
-        requires judged { (H : History) → IsState H self.old → IsChange self.old.rules H change.stamped change }
-        ensures stands { (H : History) → IsState H self.old → OnOk result (IsState (accept H change.stamped) self.new) }
+        requires judged { (H : History) → IsState H self.old
+            → IsChange self.old.rules H change.stamped change }
+        ensures stands { (H : History) → IsState H self.old
+            → OnOk result (IsState (accept H change.stamped) self.new) }
         ensures rules { OnOk result (self.new.rules ≡ self.old.rules) }
     {
         let edits = edits_for(self.alloc, self, &change, 0)?;
@@ -119,13 +123,17 @@ impl StateDesk {
     /// Accepts a judged change by its edits. After an `Err` drop the desk, whose state is unknown.
     fn apply(&mut self, change: Change, edits: &[RowEdit]) -> Result<(), AllocError>
         requires room { HasRoom (λ desk H. IsState H desk) self.old 1 }
-        requires judged { (H : History) → IsState H self.old → IsChange self.old.rules H change.stamped change }
+        requires judged { (H : History) → IsState H self.old
+            → IsChange self.old.rules H change.stamped change }
         requires lead { (H : History) → IsState H self.old
-            → unnumbered (with_edits edits.now (tables_of H)) ≡ unnumbered (tables_of (accept H change.stamped)) }
-        ensures stands { (H : History) → IsState H self.old → OnOk result (IsState (accept H change.stamped) self.new) }
+            → unnumbered (with_edits edits.now (tables_of H))
+            ≡ unnumbered (tables_of (accept H change.stamped)) }
+        ensures stands { (H : History) → IsState H self.old
+            → OnOk result (IsState (accept H change.stamped) self.new) }
         ensures rules { OnOk result (self.new.rules ≡ self.old.rules) }
         ensures rows { OnOk result (tables_in self.new.rows
-            ≡ but_placements (with_edits edits.now (tables_in self.old.rows)) (tables_in self.old.rows)) }
+            ≡ but_placements (with_edits edits.now (tables_in self.old.rows))
+            (tables_in self.old.rows)) }
     {
         change.stamped.ranges_hold();
         let _ = change.minute.get();

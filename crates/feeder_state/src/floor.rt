@@ -49,9 +49,12 @@ impl Floor {
         takes: &[Take],
         spends: bool,
     ) -> Result<(), AllocError>
-        requires { (H : History) × (e : Entry) × (at : ℕ) × IsNoted H e command.now at takes.now × IsFloor H self.old }
-        ensures { (H : History) (e : Entry) (at : ℕ) → IsNoted H e command.now at takes.now → AreRows (e ∷ H) rows.now
-            → NoneIsSpent spends H rows.now → IsFloor H self.old → OnOk result (IsFloor (e ∷ H) self.new) }
+        requires { (H : History) × (e : Entry) × (at : ℕ) × IsNoted H e command.now at takes.now
+            × IsFloor H self.old }
+        ensures { (H : History) (e : Entry) (at : ℕ) → IsNoted H e command.now at takes.now
+            → AreRows (e ∷ H) rows.now
+            → NoneIsSpent spends H rows.now → IsFloor H self.old
+            → OnOk result (IsFloor (e ∷ H) self.new) }
     {
         if may_take(command) {
             self.note_takes(rows, command, takes, spends);
@@ -65,9 +68,11 @@ impl Floor {
     /// Takes the reels that a command spent off their slots and out of those at rest.
     fn note_takes(&mut self, rows: &RowSet, command: &Command, takes: &[Take], spends: bool)
         requires takes { may_take command.now ≡ true }
-        requires known { (H : History) × (e : Entry) × (at : ℕ) × IsNoted H e command.now at takes.now
+        requires known { (H : History) × (e : Entry) × (at : ℕ)
+            × IsNoted H e command.now at takes.now
             × IsFloor H self.old }
-        ensures { (H : History) (e : Entry) (at : ℕ) → IsNoted H e command.now at takes.now → AreRows (e ∷ H) rows.now
+        ensures { (H : History) (e : Entry) (at : ℕ) → IsNoted H e command.now at takes.now
+            → AreRows (e ∷ H) rows.now
             → NoneIsSpent spends H rows.now → IsFloor H self.old → IsFloor (e ∷ H) self.new }
     {
         if !spends {

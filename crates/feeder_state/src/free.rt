@@ -31,9 +31,9 @@ fn is_free(alternates: &Alternates, part: &Id, held: &Held, left: Left) -> bool
     ensures { (H : History) (name : Name) → AreAlternates H alternates.now → IsHeld H name held.now
         → left ≡ life_left H name → result ≡ is_free H part.now name }
 {
-    allowed(alternates, part, &held.reel.part)
+    allowed(alternates, part, &held.reel.row.part)
         && !held.on_slot
-        && held.reel.remaining > 0
+        && held.reel.row.remaining > 0
         && is_usable(left)
 }
 
@@ -44,7 +44,8 @@ fn turn_of(
     part: &Id,
     name: &Id,
 ) -> Option<(Left, Id)>
-    ensures { (H : History) → IsHeld H name.now held.now → now_of H ≡ minute → AreAlternates H alternates.now
+    ensures { (H : History) → IsHeld H name.now held.now → now_of H ≡ minute
+        → AreAlternates H alternates.now
         → result ≡ option_map (turn_of H) (if_free H part.now name.now) }
 {
     if !is_at_rest(held) {
@@ -83,7 +84,8 @@ fn turns(
     alternates: &Alternates,
     part: &Id,
 ) -> Result<BTreeSet<(Left, Id)>, AllocError>
-    ensures { (H : History) → AreRowsAt H (Some minute) rows.now → IsFloor H floor.now → AreAlternates H alternates.now
+    ensures { (H : History) → AreRowsAt H (Some minute) rows.now → IsFloor H floor.now
+        → AreAlternates H alternates.now
         → IfOk result
         (λ turns. turns.keys ≡ map (turn_of H)
         (in_order (by_turn H) (filter (is_free H part.now) (reels_received H)))) }
@@ -102,7 +104,8 @@ fn views_of(
     turns: &BTreeSet<(Left, Id)>,
 ) -> Result<Vec<ReelView>, AllocError>
     ensures { (H : History) → AreRowsAt H (Some minute) rows.now
-        → IfOk result (λ views. views.items ≡ filter_map (λ turn. reel_view H turn.1) turns.now.keys) }
+        → IfOk result (λ views. views.items ≡ filter_map
+        (λ turn. reel_view H turn.1) turns.now.keys) }
 {
     let mut views = Vec::new(alloc);
     for turn in turns {
@@ -120,7 +123,8 @@ pub fn free_reels(
     alternates: &Alternates,
     part: &Id,
 ) -> Result<ReelViews, AllocError>
-    ensures { (H : History) → AreRowsAt H minute rows.now → IsFloor H floor.now → AreAlternates H alternates.now
+    ensures { (H : History) → AreRowsAt H minute rows.now → IsFloor H floor.now
+        → AreAlternates H alternates.now
         → IfOk result (λ reels. reels ≡ free_reels H part.now) }
 {
     let Some(minute) = minute else {

@@ -32,7 +32,8 @@ pub fn gather<K: Ord + Drop, T: Drop>(
     ensures { (q : K)
         → OnOk result
         (group_at K.cmp groups.new q ≡ (if is_at
-        (K.cmp key) q then group_at K.cmp groups.old key ++ item ∷ [] else group_at K.cmp groups.old q)) }
+        (K.cmp key) q then group_at K.cmp groups.old key ++ item ∷ []
+        else group_at K.cmp groups.old q)) }
 {
     if let Some(group) = groups.get_mut(&key) {
         group.items.push(item)?;

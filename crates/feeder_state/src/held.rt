@@ -50,23 +50,14 @@ fn is_reel(row: &ReelRow, found: u64, minute: Minute) -> bool
 /// Returns the reel of a row at the desk minute, which replaces the minute of its last command. Returns `None` if the
 /// row belongs to no history.
 fn reel_of(row: &ReelRow, found: u64, minute: Minute) -> Option<Reel>
-    ensures { (H : History) (name : Name) → IsJudged Two H → reel_row H name ≡ Some row.now → now_of H ≡ minute
+    ensures { (H : History) (name : Name) → IsJudged Two H
+        → reel_row H name ≡ Some row.now → now_of H ≡ minute
         → found ≡ found_of H name → IsHeldOf H name (with_mount H name result) }
 {
     if is_reel(row, found, minute) {
         return Some(Reel {
-            part: row.part,
-            lot: row.lot,
-            level: row.level,
-            label: row.label,
-            received: row.received,
+            row: *row,
             found,
-            placed: row.placed,
-            scrapped: row.scrapped,
-            remaining: row.remaining,
-            used: row.used,
-            open_since: row.open_since,
-            baked: row.baked,
             last: minute,
         });
     }

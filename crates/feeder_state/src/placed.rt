@@ -58,7 +58,8 @@ impl Placed {
     pub fn add_all(&mut self, designators: &[Designator]) -> Result<(), AllocError>
         ensures ok { (d : Name)
             → OnOk result
-            (list_any (same d) self.new ≡ (list_any (same d) designators.now || list_any (same d) self.old)) }
+            (list_any (same d) self.new
+            ≡ (list_any (same d) designators.now || list_any (same d) self.old)) }
         ensures err { OnErr result (self.new ≡ self.old) }
     {
         let alloc = *self.names.allocator();

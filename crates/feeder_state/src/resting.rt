@@ -24,12 +24,13 @@ pub fn is_at_rest(held: &Held) -> bool
     ensures held { result ≡ held_rests held.now }
     ensures listed { (H : History) (name : Name) → IsHeld H name held.now → result ≡ rests H name }
 {
-    held.reel.remaining > 0 && !held.on_slot
+    held.reel.row.remaining > 0 && !held.on_slot
 }
 
 fn put_tape(resting: &mut BTreeSet<Id>, tape: &Tape) -> Result<(), AllocError>
     ensures { (r : Name)
-        → OnOk result (is_resting resting.new r ≡ (list_any (same r) tape.now || is_resting resting.old r)) }
+        → OnOk result (is_resting resting.new r
+        ≡ (list_any (same r) tape.now || is_resting resting.old r)) }
 {
     for i in 0..tape.reels.len() {
         resting.insert(tape.reels[i])?;
@@ -62,7 +63,8 @@ pub fn note_resting(
 ) -> Result<(), AllocError>
     ensures { (r : Name)
         → OnOk result
-        (is_resting resting.new r ≡ resting_after (tape_at tapes.now) r command.now (is_resting resting.old r)) }
+        (is_resting resting.new r
+        ≡ resting_after (tape_at tapes.now) r command.now (is_resting resting.old r)) }
 {
     match command {
         Command::ReelReceived { reel, .. } => {
@@ -81,7 +83,8 @@ pub fn note_resting(
 }
 
 fn end_rest(rows: &RowSet, resting: &mut BTreeSet<Id>, reel: &Id)
-    ensures { (r : Name) → (left_at rows.now r == 0) ≡ false → is_resting resting.new r ≡ is_resting resting.old r }
+    ensures { (r : Name) → (left_at rows.now r == 0) ≡ false
+        → is_resting resting.new r ≡ is_resting resting.old r }
 {
     if is_spent(rows, reel) {
         resting.remove(reel);
@@ -89,7 +92,8 @@ fn end_rest(rows: &RowSet, resting: &mut BTreeSet<Id>, reel: &Id)
 }
 
 fn end_each(rows: &RowSet, resting: &mut BTreeSet<Id>, takes: &[Take])
-    ensures { (r : Name) → (left_at rows.now r == 0) ≡ false → is_resting resting.new r ≡ is_resting resting.old r }
+    ensures { (r : Name) → (left_at rows.now r == 0) ≡ false
+        → is_resting resting.new r ≡ is_resting resting.old r }
 {
     for take in takes {
         end_rest(rows, resting, &take.reel);
@@ -98,7 +102,8 @@ fn end_each(rows: &RowSet, resting: &mut BTreeSet<Id>, takes: &[Take])
 
 /// Takes out the reels that a command left with no pieces: only a count takes pieces of reels at rest.
 pub fn end_rests(rows: &RowSet, resting: &mut BTreeSet<Id>, command: &Command, takes: &[Take])
-    ensures { (r : Name) → (left_at rows.now r == 0) ≡ false → is_resting resting.new r ≡ is_resting resting.old r }
+    ensures { (r : Name) → (left_at rows.now r == 0) ≡ false
+        → is_resting resting.new r ≡ is_resting resting.old r }
 {
     if let Command::CountsTaken { .. } = command {
         end_each(rows, resting, takes);

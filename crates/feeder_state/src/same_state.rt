@@ -13,7 +13,9 @@ use crate::desk::StateDesk;
 /// commands, whether or not memory suffices for them. The commands' values are in their ranges, as in every command
 /// that a program holds.
 pub fn same_state_same_replies(desk: &StateDesk)
-    ensures { (G H : History) (messages : List Stamped) → state.Stands desk.now G → state.Stands desk.now H
+    ensures { (G H : History) (messages : List Stamped) → state.Stands desk.now G
+        → state.Stands desk.now H
         → All IsStamped messages
-        → replies_to (state.kept_rules desk.now) G messages ≡ replies_to (state.kept_rules desk.now) H messages }
+        → replies_to (state.kept_rules desk.now) G messages
+        ≡ replies_to (state.kept_rules desk.now) H messages }
 {}

@@ -47,14 +47,16 @@ impl Setup {
 
     /// The sheet of the product on the machine, with its look-ups.
     pub fn sheet(&self, product: &Id, machine: &Id) -> Option<&Sheet>
-        ensures { (H : History) → IsSetup H self.now → option_copied result ≡ sheet_of H product.now machine.now }
+        ensures { (H : History) → IsSetup H self.now
+            → option_copied result ≡ sheet_of H product.now machine.now }
     {
         self.sheets.get(&(*product, *machine))
     }
 
     /// The rows of the last sheet of the product on the machine.
     pub fn sheet_of(&self, product: &Id, machine: &Id) -> Option<&SheetRows>
-        ensures { (H : History) → IsSetup H self.now → option_copied result ≡ sheet_of H product.now machine.now }
+        ensures { (H : History) → IsSetup H self.now
+            → option_copied result ≡ sheet_of H product.now machine.now }
     {
         let sheet = self.sheet(product, machine)?;
         Some(sheet.rows())
@@ -70,7 +72,8 @@ impl Setup {
 
 fn note_machine(sheeted: &mut BTreeSet<Id>, command: &Command) -> Result<(), AllocError>
     ensures { (m : Name)
-        → OnOk result (is_sheeted sheeted.new m ≡ (defines_on m command.now || is_sheeted sheeted.old m)) }
+        → OnOk result (is_sheeted sheeted.new m
+        ≡ (defines_on m command.now || is_sheeted sheeted.old m)) }
 {
     if let Command::SheetDefined { machine, .. } = command {
         sheeted.insert(*machine)?;
@@ -86,7 +89,8 @@ fn put_sheet(
 ) -> Result<(), AllocError>
     ensures { (p m : Name)
         → OnOk result
-        (sheet_at sheets.new p m ≡ (if same product p && same machine m then Some sheet else sheet_at sheets.old p m)) }
+        (sheet_at sheets.new p m
+        ≡ (if same product p && same machine m then Some sheet else sheet_at sheets.old p m)) }
 {
     sheets.insert((product, machine), sheet)?;
     Ok(())
@@ -99,7 +103,8 @@ fn note_sheet(
     command: Command,
 ) -> Result<(), AllocError>
     ensures { (p m : Name)
-        → OnOk result (sheet_at sheets.new p m ≡ option_or (sheet_by p m command) (sheet_at sheets.old p m)) }
+        → OnOk result (sheet_at sheets.new p m
+        ≡ option_or (sheet_by p m command) (sheet_at sheets.old p m)) }
 {
     if let Command::SheetDefined {
         product,

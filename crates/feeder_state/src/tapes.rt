@@ -28,7 +28,8 @@ fn remove(tape: &mut VecDeque<Id>, reel: &Id)
 fn drop_reel(tapes: &mut BTreeMap<(Id, Id), Tape>, machine: Id, slot: Id, reel: &Id)
     requires { IsDistinct same (tape_at tapes.old machine slot) }
     ensures { (m s : Name)
-        → tape_at tapes.new m s ≡ filter (λ r. not ((same machine m && same slot s) && same reel.now r))
+        → tape_at tapes.new m s ≡ filter
+        (λ r. not ((same machine m && same slot s) && same reel.now r))
         (tape_at tapes.old m s) }
 {
     if let Some(tape) = tapes.get_mut(&(machine, slot)) {
@@ -82,7 +83,8 @@ pub fn spends(edits: &[RowEdit]) -> bool
 pub fn drop_all_spent(rows: &RowSet, tapes: &mut BTreeMap<(Id, Id), Tape>, takes: &[Take])
     requires { (m s : Name) → IsDistinct same (tape_at tapes.old m s) }
     ensures { (m s : Name)
-        → tape_at tapes.new m s ≡ filter (λ r. not (list_any (is_spent_by (left_at rows.now) m s r) takes.now))
+        → tape_at tapes.new m s ≡ filter
+        (λ r. not (list_any (is_spent_by (left_at rows.now) m s r) takes.now))
         (tape_at tapes.old m s) }
 {
     for take in takes {

@@ -18,26 +18,28 @@ use state_rows::RowSet;
 use std::alloc::{AllocError, Global};
 
 fn view_of(held: &Held, minute: Minute, name: &Id) -> ReelView
-    ensures { (H : History) → IsHeld H name.now held.now → now_of H ≡ minute → reel_view H name.now ≡ Some result }
+    ensures { (H : History) → IsHeld H name.now held.now → now_of H ≡ minute
+        → reel_view H name.now ≡ Some result }
 {
     let reel = &held.reel;
+    let row = &reel.row;
     ReelView {
         reel: *name,
-        part: reel.part,
-        lot: reel.lot,
-        level: reel.level,
-        label: reel.label,
-        received: reel.received,
+        part: row.part,
+        lot: row.lot,
+        level: row.level,
+        label: row.label,
+        received: row.received,
         found: reel.found,
-        placed: reel.placed,
-        scrapped: reel.scrapped,
-        remaining: reel.remaining,
+        placed: row.placed,
+        scrapped: row.scrapped,
+        remaining: row.remaining,
         left: life_left(reel, reel.not_before(minute)),
         mounted: held.on_slot,
-        is_open: reel.open_since.is_some(),
-        used: reel.used,
-        open_since: reel.open_since,
-        baked: reel.baked,
+        is_open: row.open_since.is_some(),
+        used: row.used,
+        open_since: row.open_since,
+        baked: row.baked,
     }
 }
 
@@ -69,9 +71,9 @@ fn mount_of(held: &Held, minute: Minute, slot: &Id, position: u64, name: &Id) ->
         slot: *slot,
         position,
         reel: *name,
-        part: held.reel.part,
-        lot: held.reel.lot,
-        remaining: held.reel.remaining,
+        part: held.reel.row.part,
+        lot: held.reel.row.lot,
+        remaining: held.reel.row.remaining,
         left: life_left(&held.reel, held.reel.not_before(minute)),
     }
 }
@@ -86,7 +88,8 @@ fn put_tape(
 ) -> Result<(), AllocError>
     ensures { (H : History) → AreRowsAt H (Some minute) rows.now
         → All (λ name. is_some (receipt_of H name) ≡ true) tape.now
-        → OnOk result (mounts.new.items ≡ mounts.old.items ++ map (mount_of H slot.now) (enumerate_from 1 tape.now)) }
+        → OnOk result (mounts.new.items
+        ≡ mounts.old.items ++ map (mount_of H slot.now) (enumerate_from 1 tape.now)) }
 {
     for index in 0..tape.reels.len() {
         let name = &tape.reels[index];
@@ -107,7 +110,8 @@ fn put_slots(
 ) -> Result<(), AllocError>
     ensures { (H : History) → AreRowsAt H (Some minute) rows.now → IsFloor H floor.now
         → OnOk result
-        (mounts.new.items ≡ mounts.old.items ++ flat_map (slot_mounts H machine.now) (loaded_slots H machine.now)) }
+        (mounts.new.items ≡ mounts.old.items
+        ++ flat_map (slot_mounts H machine.now) (loaded_slots H machine.now)) }
 {
     for (key, tape) in &floor.tapes {
         if key.0 == *machine {
@@ -128,7 +132,8 @@ pub fn slots_of(
     machine: &Id,
 ) -> Result<Option<Mounts>, AllocError>
     ensures { (H : History) → AreRowsAt H minute rows.now → IsFloor H floor.now
-        → has_sheet ≡ is_on_sheet H machine.now → IfOk result (λ mounts. mounts ≡ mounts_on H machine.now) }
+        → has_sheet ≡ is_on_sheet H machine.now
+        → IfOk result (λ mounts. mounts ≡ mounts_on H machine.now) }
 {
     if !has_sheet {
         return Ok(None);

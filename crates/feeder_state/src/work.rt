@@ -68,7 +68,8 @@ impl Work {
 
     /// Whether the designator is placed on the board.
     pub fn is_placed_on(&self, board: &Id, designator: &Designator) -> bool
-        ensures { (H : History) → IsWork H self.now → result ≡ is_placed_on H board.now designator.now }
+        ensures { (H : History) → IsWork H self.now
+            → result ≡ is_placed_on H board.now designator.now }
     {
         match self.placed.get(board) {
             Some(placed) => placed.has(designator),
@@ -79,7 +80,8 @@ impl Work {
 
 fn note_running(running: &mut BTreeMap<Id, Id>, command: &Command) -> Result<(), AllocError>
     ensures { (m : Name)
-        → OnOk result (running_at running.new m ≡ unwrap_or (work_by m command.now) (running_at running.old m)) }
+        → OnOk result (running_at running.new m
+        ≡ unwrap_or (work_by m command.now) (running_at running.old m)) }
 {
     match command {
         Command::WorkStarted { machine, board } => {
@@ -121,7 +123,8 @@ fn note_placed(
     command: &Command,
 ) -> Result<(), AllocError>
     ensures { (b d : Name)
-        → OnOk result (is_placed_at placed.new b d ≡ (places b d command.now || is_placed_at placed.old b d)) }
+        → OnOk result (is_placed_at placed.new b d
+        ≡ (places b d command.now || is_placed_at placed.old b d)) }
 {
     if let Command::MaterialsInstalled {
         board,

@@ -45,9 +45,12 @@ impl<S: Alter, D: KeepsRows + Drop> Owner for ReportedStore<S, D> {
     ghost use Rattle.desk_types.specs.declared.rules.Rules.TheVariants.{Two};
     ghost use Rattle.line_schema.specs.Stands.{Kept, Stands as StandsFor, state_of};
 
-    ghost Stands = { λ reported L. (L.rules ≡ Two) × StandsFor S.Store D.Stands D.kept_rules reported.store (record { greatest = L.greatest; history = L.history; own = true }) };
+    ghost Stands = { λ reported L. (L.rules ≡ Two)
+        × StandsFor S.Store D.Stands D.kept_rules reported.store
+        (record { greatest = L.greatest; history = L.history; own = true }) };
 
-    ghost Ready = { λ reported. (L : Kept) × StandsFor S.Store D.Stands D.kept_rules reported.store L };
+    ghost Ready = { λ reported.
+        (L : Kept) × StandsFor S.Store D.Stands D.kept_rules reported.store L };
 
     ghost Trusts = { λ reported. HasCleanDisk (state_of S.Store reported.store) };
 
@@ -88,7 +91,8 @@ impl<S: Alter, D: KeepsRows + Drop> ReportedOwner for ReportedStore<S, D> {
 }
 
 fn if_found(told: Result<Text, ReportFault>) -> Result<Option<Text>, Unavailable>
-    ensures { (kind : Kind) (text : Option (List ℕ)) → Answers kind text told → IfOk result (λ found. found ≡ text) }
+    ensures { (kind : Kind) (text : Option (List ℕ)) → Answers kind text told
+        → IfOk result (λ found. found ≡ text) }
 {
     match told {
         Ok(text) => Ok(Some(text)),

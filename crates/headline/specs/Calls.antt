@@ -45,43 +45,63 @@ pub data Call : Type 0 where
   imported : Import → Option (List ℕ) → Option (List ℕ) → Option (List ℕ) → ImportEnded → Call
 
 -- The lines were answered from the ledger G, and H is the history after them.
-abbrev pub Feeds : Ledger → Option (List ℕ) → Option (List ℕ) → Option (List ℕ) → Ended → History → Type 0
-Feeds G input out out' (Ok served) H = lines.AnsweredAll G.rules G.greatest input G.history out H out' served
-Feeds G input out out' (Err fault) H = lines.AnsweredUpTo G.rules G.greatest input G.history out H out' fault
+abbrev pub Feeds : Ledger → Option (List ℕ) → Option (List ℕ) → Option (List ℕ)
+    → Ended → History → Type 0
+Feeds G input out out' (Ok served) H =
+    lines.AnsweredAll G.rules G.greatest input G.history out H out' served
+Feeds G input out out' (Err fault) H =
+    lines.AnsweredUpTo G.rules G.greatest input G.history out H out' fault
 
 -- The same for requests.
-abbrev pub Serves : Rule → History → Option (List ℕ) → Option (List ℕ) → Option (List ℕ) → Option (List ℕ) → Ended → History → Type 0
-Serves rule G input left out out' (Ok served) H = requests.AnsweredAll rule input G out H out' served
-Serves rule G input left out out' (Err (Read served)) H = requests.AnsweredFront rule input left G out H out' served
-Serves rule G input left out out' (Err (TooManyReads served)) H = requests.AnsweredFront rule input left G out H out' served
-Serves rule G input left out out' (Err (Write served)) H = requests.AnsweredInto rule input G out H out' served
+abbrev pub Serves : Rule → History → Option (List ℕ) → Option (List ℕ) → Option (List ℕ)
+    → Option (List ℕ) → Ended → History → Type 0
+Serves rule G input left out out' (Ok served) H =
+    requests.AnsweredAll rule input G out H out' served
+Serves rule G input left out out' (Err (Read served)) H =
+    requests.AnsweredFront rule input left G out H out' served
+Serves rule G input left out out' (Err (TooManyReads served)) H =
+    requests.AnsweredFront rule input left G out H out' served
+Serves rule G input left out out' (Err (Write served)) H =
+    requests.AnsweredInto rule input G out H out' served
 
 -- An import's command, or its file's first fault, was answered from the ledger G, and H is the
 -- history after it.
-abbrev pub Imports : Ledger → Import → Option (List ℕ) → Option (List ℕ) → Option (List ℕ) → ImportEnded → History → Type 0
-Imports G import bytes out out' (Ok refused) H = (said : Result Stamped ImportFault) × file.IsSaidBy import bytes said × file.IsAnswered said out out' refused G H
-Imports G import bytes out out' (Err fault) H = (said : Result Stamped ImportFault) × file.IsSaidBy import bytes said × file.IsCutOff said out out' G H
+abbrev pub Imports : Ledger → Import → Option (List ℕ) → Option (List ℕ) → Option (List ℕ)
+    → ImportEnded → History → Type 0
+Imports G import bytes out out' (Ok refused) H = (said : Result Stamped ImportFault)
+    × file.IsSaidBy import bytes said × file.IsAnswered said out out' refused G H
+Imports G import bytes out out' (Err fault) H = (said : Result Stamped ImportFault)
+    × file.IsSaidBy import bytes said × file.IsCutOff said out out' G H
 
 -- The call was answered from the ledger G with these reports, and H is the history after it.
 abbrev pub IsAnswered : Reports → Ledger → Call → History → Type 0
 IsAnswered reports G (fed input out out' ended) H = Feeds G input out out' ended H
-IsAnswered reports G (connected input left out out' ended) H = Serves (request_rule reports G.rules G.greatest) G.history input left out out' ended H
-IsAnswered reports G (commanded s answer) H = IsAnswer G s answer × (H ≡ (ledger_after G s answer).history)
+IsAnswered reports G (connected input left out out' ended) H =
+    Serves (request_rule reports G.rules G.greatest) G.history input left out out' ended H
+IsAnswered reports G (commanded s answer) H = IsAnswer G s answer
+    × (H ≡ (ledger_after G s answer).history)
 IsAnswered reports G (asked target told) H = AnswersGet reports G target told × (H ≡ G.history)
-IsAnswered reports G (reported report result) H = IfOk result (λ text. text ≡ reports report G.history) × (H ≡ G.history)
-IsAnswered reports G (imported import bytes out out' ended) H = Imports G import bytes out out' ended H
+IsAnswered reports G (reported report result) H =
+    IfOk result (λ text. text ≡ reports report G.history) × (H ≡ G.history)
+IsAnswered reports G (imported import bytes out out' ended) H =
+    Imports G import bytes out out' ended H
 
 -- Each call was answered from the history that the one before it left.
 abbrev pub AnswersByTheList : Reports → Ledger → List Call → History → Type 0
 AnswersByTheList reports G [] H = H ≡ G.history
-AnswersByTheList reports G (call ∷ calls) H = (H₁ : History) × IsAnswered reports G call H₁ × AnswersByTheList reports (record G { history = H₁ }) calls H
+AnswersByTheList reports G (call ∷ calls) H = (H₁ : History) × IsAnswered reports G call H₁
+    × AnswersByTheList reports (record G { history = H₁ }) calls H
 
 -- If its storage has not lied, the owner answers a call from its history and then represents the
 -- history after it.
-abbrev pub CallsOnce : {S : Type 0} → Reports → (S → Ledger → Type 0) → (S → Type 0) → S → Call → S → Type 0
-CallsOnce reports Stands Trusts old call new = (Trusts new → Trusts old) × ForLists Stands Trusts old new (λ G H. IsAnswered reports G call H)
+abbrev pub CallsOnce : {S : Type 0} → Reports → (S → Ledger → Type 0)
+    → (S → Type 0) → S → Call → S → Type 0
+CallsOnce reports Stands Trusts old call new = (Trusts new → Trusts old)
+    × ForLists Stands Trusts old new (λ G H. IsAnswered reports G call H)
 
 -- Several calls on one owner, in sequence.
-abbrev pub Calls : {S : Type 0} → Reports → (S → Ledger → Type 0) → (S → Type 0) → S → List Call → S → Type 0
+abbrev pub Calls : {S : Type 0} → Reports → (S → Ledger → Type 0) → (S → Type 0)
+    → S → List Call → S → Type 0
 Calls reports Stands Trusts old [] new = new ≡ old
-Calls reports Stands Trusts old (call ∷ calls) new = (mid : _) × CallsOnce reports Stands Trusts old call mid × Calls reports Stands Trusts mid calls new
+Calls reports Stands Trusts old (call ∷ calls) new = (mid : _)
+    × CallsOnce reports Stands Trusts old call mid × Calls reports Stands Trusts mid calls new

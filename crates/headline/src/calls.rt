@@ -50,7 +50,8 @@ pub fn serve<R: Read, W: Write, L: ReportedOwner>(
     requires ready { L.Ready (owner_of gateway.old) }
     ensures { CallsOnce L.reports L.Stands L.Trusts (owner_of gateway.old)
         (connected (R.remaining (inner_of input.old)) (R.remaining (inner_of input.new))
-        (W.contents (inner_of output.old)) (W.contents (inner_of output.new)) result) (owner_of gateway.new) }
+        (W.contents (inner_of output.old)) (W.contents (inner_of output.new)) result)
+        (owner_of gateway.new) }
 {
     http_stream::serve(alloc, input, output, gateway)
 }
@@ -58,7 +59,8 @@ pub fn serve<R: Read, W: Write, L: ReportedOwner>(
 /// Calls `command`.
 pub fn command<L: ReportedOwner>(owner: &mut L, stamped: &Stamped) -> Answer
     requires ready { L.Ready owner.old }
-    ensures { CallsOnce L.reports L.Stands L.Trusts owner.old (commanded stamped.now result) owner.new }
+    ensures { CallsOnce L.reports L.Stands L.Trusts owner.old
+        (commanded stamped.now result) owner.new }
 {
     owner.command(stamped)
 }
@@ -66,7 +68,8 @@ pub fn command<L: ReportedOwner>(owner: &mut L, stamped: &Stamped) -> Answer
 /// Calls `ask`: a GET without a connection.
 pub fn ask<L: ReportedOwner>(alloc: Global, gateway: &mut Gateway<L>, target: &[u8]) -> Response
     requires ready { L.Ready (owner_of gateway.old) }
-    ensures { CallsOnce L.reports L.Stands L.Trusts (owner_of gateway.old) (asked target.now (response_told result))
+    ensures { CallsOnce L.reports L.Stands L.Trusts (owner_of gateway.old)
+        (asked target.now (response_told result))
         (owner_of gateway.new) }
 {
     gateway.ask(alloc, target)

@@ -1,11 +1,11 @@
 -- A repeat leaves the history unchanged.
-use Rattle.std.proofs.Common.{◌≡◌, ℕ, List, Bool, true, false, not, Option, Some, None, is_some, Result, Ok, Err, refl}
+use Rattle.std.proofs.Common.{◌≡◌, ℕ, List, true, false, not, Option, Some, None, is_some, Result, Ok, Err, refl}
 use Rattle.std.specs.Option.{option_map_or}
 use Rattle.cfx_profile.specs.Message.{said_in}
 use Rattle.cfx_profile.specs.declared.fault.MessageFault.{MessageFault}
 use Rattle.cfx_profile.specs.declared.message.Said.{Said}
 use Rattle.cfx_profile.specs.declared.message.Said.TheVariants as says
-use Rattle.desk_answers.specs.Commands.{earlier_answer, command_after, is_refused}
+use Rattle.desk_answers.specs.Commands.{earlier_answer, is_refused}
 use Rattle.desk_answers.specs.Ledger.{Ledger}
 use Rattle.desk_answers.specs.declared.answer.Answer.{Answer}
 use Rattle.desk_types.specs.declared.command.Command.{Command}

@@ -10,9 +10,11 @@ use Rattle.http_answers.specs.declared.gateway.Gateway.{Gateway}
 
 -- If the storage has not lied, then for each ledger represented before: the response is that of the
 -- outcome, with its history; or there is no response, and the history is unchanged.
-abbrev pub Meets : {S E : Type 0} → (S → Ledger → Type 0) → (S → Type 0) → S → S → Result Response E → (Ledger → Outcome) → Type 0
+abbrev pub Meets : {S E : Type 0} → (S → Ledger → Type 0) → (S → Type 0) → S → S → Result Response E
+    → (Ledger → Outcome) → Type 0
 Meets Stands Trusts old new result outcome = (G : Ledger) → Stands old G → Trusts new →
-    IfOk result (λ response. (response_told response ≡ (outcome G).told) × Stands new (record G { history = (outcome G).after })) × OnErr result (Stands new G)
+    IfOk result (λ response. (response_told response ≡ (outcome G).told)
+    × Stands new (record G { history = (outcome G).after })) × OnErr result (Stands new G)
 
 -- The owner behind a gateway.
 abbrev pub owner_of : {L : Type 0} → Gateway L → L
@@ -20,4 +22,5 @@ owner_of gateway = gateway.owner
 
 -- The answer to a GET with this target: the rule's, or Unavailable.
 abbrev pub AnswersGet : Reports → Ledger → List ℕ → Told → Type 0
-AnswersGet reports G target told = (told ≡ (outcome_of reports G (get_of target)).told) ⊎ (told ≡ unavailable)
+AnswersGet reports G target told = (told ≡ (outcome_of reports G (get_of target)).told)
+    ⊎ (told ≡ unavailable)

@@ -36,7 +36,8 @@ file_command stamp (Err fault) = None
 -- The command in a request with this body, if it has one.
 abbrev pub command_asked : List ℕ → Result Asked AskFault → Option Stamped
 command_asked body (Ok asks.Message) = message_command (said_in body)
-command_asked body (Ok (asks.ImportSetup stamp product machine)) = file_command stamp (setup_said product machine body)
+command_asked body (Ok (asks.ImportSetup stamp product machine)) =
+    file_command stamp (setup_said product machine body)
 command_asked body (Ok (asks.ImportCounts stamp)) = file_command stamp (counts_said body)
 command_asked body (Ok (asks.Report report)) = None
 command_asked body (Err fault) = None

@@ -72,32 +72,41 @@ outcome_leaving L told = record { told = told; after = L.history }
 -- The outcome of a command.
 abbrev pub command_outcome : Ledger → Stamped → Outcome
 command_outcome L s = record {
-  told = json (command_status (command_answer L.rules L.greatest L.history s)) (answer_text s.uid (command_answer L.rules L.greatest L.history s));
+  told = json (command_status (command_answer L.rules L.greatest L.history s))
+      (answer_text s.uid (command_answer L.rules L.greatest L.history s));
   after = command_after L.rules L.greatest L.history s;
 }
 
 -- The outcome of a message.
 abbrev pub message_outcome : Ledger → Result Said MessageFault → Outcome
-message_outcome L (Ok (says.Ignored name)) = outcome_leaving L (json status.Accepted (ignored_text name))
+message_outcome L (Ok (says.Ignored name)) =
+    outcome_leaving L (json status.Accepted (ignored_text name))
 message_outcome L (Ok (says.Asked s)) = command_outcome L s
-message_outcome L (Err fault) = outcome_leaving L (json (message_fault_status fault) (message.fault_text fault))
+message_outcome L (Err fault) =
+    outcome_leaving L (json (message_fault_status fault) (message.fault_text fault))
 
 -- The file's command with its request's parameters.
 abbrev pub stamped_by : Stamp → Command → Stamped
-stamped_by stamp command = record { uid = stamp.uid; source = stamp.source; minute = stamp.minute; command = command }
+stamped_by stamp command =
+    record { uid = stamp.uid; source = stamp.source; minute = stamp.minute; command = command }
 
 -- The outcome of a file.
 abbrev pub file_outcome : Ledger → Stamp → Result Command ImportFault → Outcome
 file_outcome L stamp (Ok command) = command_outcome L (stamped_by stamp command)
-file_outcome L stamp (Err fault) = outcome_leaving L (json (import_fault_status fault) (file.fault_text fault))
+file_outcome L stamp (Err fault) =
+    outcome_leaving L (json (import_fault_status fault) (file.fault_text fault))
 
 -- The outcome of a request with this body.
 abbrev pub asked_outcome : Reports → Ledger → List ℕ → Result Asked AskFault → Outcome
 asked_outcome reports L body (Ok asks.Message) = message_outcome L (said_in body)
-asked_outcome reports L body (Ok (asks.ImportSetup stamp product machine)) = file_outcome L stamp (setup_said product machine body)
-asked_outcome reports L body (Ok (asks.ImportCounts stamp)) = file_outcome L stamp (counts_said body)
-asked_outcome reports L body (Ok (asks.Report asked_of)) = outcome_leaving L (report_told asked_of (reports asked_of L.history))
-asked_outcome reports L body (Err fault) = outcome_leaving L (json (request_fault_status fault) (request.fault_text fault))
+asked_outcome reports L body (Ok (asks.ImportSetup stamp product machine)) =
+    file_outcome L stamp (setup_said product machine body)
+asked_outcome reports L body (Ok (asks.ImportCounts stamp)) =
+    file_outcome L stamp (counts_said body)
+asked_outcome reports L body (Ok (asks.Report asked_of)) =
+    outcome_leaving L (report_told asked_of (reports asked_of L.history))
+asked_outcome reports L body (Err fault) =
+    outcome_leaving L (json (request_fault_status fault) (request.fault_text fault))
 
 -- The outcome of a request.
 abbrev pub outcome_of : Reports → Ledger → Request → Outcome
@@ -106,4 +115,5 @@ outcome_of reports L r = asked_outcome reports L r.body (asked_of r.method r.tar
 -- The gateway's rule: the outcome of a request after each history, for these reports, rules and
 -- greatest number.
 abbrev pub request_rule : Reports → Rules → ℕ → Rule
-request_rule reports rules greatest H r = outcome_of reports (record { rules = rules; greatest = greatest; history = H }) r
+request_rule reports rules greatest H r =
+    outcome_of reports (record { rules = rules; greatest = greatest; history = H }) r

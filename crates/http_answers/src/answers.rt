@@ -63,7 +63,8 @@ pub fn answer_request<L: ReportedOwner>(
 }
 
 fn answer_fault(alloc: Global, fault: AskFault) -> Result<Response, Unavailable>
-    ensures { IfOk result (λ response. response_told response ≡ json (request_fault_status fault) (fault_text fault)) }
+    ensures { IfOk result (λ response. response_told response
+        ≡ json (request_fault_status fault) (fault_text fault)) }
 {
     Ok(json(request_fault_status(fault), fault.write_text(alloc)?))
 }
@@ -76,7 +77,8 @@ fn answer_message<L: Owner>(
     requires ready { L.Ready owner.old }
     ensures ready { L.Ready owner.new }
     ensures trusts { L.Trusts owner.new → L.Trusts owner.old }
-    ensures told { Meets L.Stands L.Trusts owner.old owner.new result (λ G. message_outcome G (said_in body.now)) }
+    ensures told { Meets L.Stands L.Trusts owner.old owner.new result
+        (λ G. message_outcome G (said_in body.now)) }
 {
     match read_message(alloc, body) {
         Ok(Said::Ignored(name)) => Ok(json(Status::Accepted, ignored_text(alloc, &name)?)),
@@ -147,7 +149,8 @@ fn answer_command<L: Owner>(
     requires ready { L.Ready owner.old }
     ensures ready { L.Ready owner.new }
     ensures trusts { L.Trusts owner.new → L.Trusts owner.old }
-    ensures told { Meets L.Stands L.Trusts owner.old owner.new result (λ G. command_outcome G stamped.now) }
+    ensures told { Meets L.Stands L.Trusts owner.old owner.new result
+        (λ G. command_outcome G stamped.now) }
 {
     match owner.command(stamped) {
         Answer::Accepted(_, text) => Ok(json(Status::Ok, text)),

@@ -43,8 +43,8 @@ impl<L: ReportedOwner> Gateway<L> {
         ensures trusts { L.Trusts (owner_of self.new) → L.Trusts (owner_of self.old) }
         ensures told { (G : Ledger) → L.Stands (owner_of self.old) G → L.Trusts (owner_of self.new)
             → AnswersGet L.reports G target.now (response_told result) }
-        ensures stands { (G : Ledger) → L.Stands (owner_of self.old) G → L.Trusts (owner_of self.new)
-            → L.Stands (owner_of self.new) G }
+        ensures stands { (G : Ledger) → L.Stands (owner_of self.old) G
+            → L.Trusts (owner_of self.new) → L.Stands (owner_of self.new) G }
     {
         self.handle(alloc, b"GET", target, &[])
     }

@@ -36,5 +36,6 @@ pub trait ReportedOwner: Owner {
         ensures trusts { Self.Trusts self.new → Self.Trusts self.old }
         ensures told { (G : Ledger) → Self.Stands self.old G → Self.Trusts self.new
             → IfOk result (λ text. text ≡ reports asked G.history) }
-        ensures stands { (G : Ledger) → Self.Stands self.old G → Self.Trusts self.new → Self.Stands self.new G };
+        ensures stands { (G : Ledger) → Self.Stands self.old G → Self.Trusts self.new
+            → Self.Stands self.new G };
 }

@@ -110,7 +110,8 @@ asked_at route.Overdue query = Ok (asks.Report report.OverdueList)
 
 -- The route, if this is its method.
 abbrev pub by_method : List ℕ → Route → Result Route AskFault
-by_method method route = if same method (method_text (route_method route)) then Ok route else Err (BadMethod (route_method route))
+by_method method route = if same method (method_text (route_method route)) then Ok route
+    else Err (BadMethod (route_method route))
 
 -- The content of a request, or its first fault: of path, method, then parameters.
 unfoldable pub asked_of : List ℕ → List ℕ → Result Asked AskFault

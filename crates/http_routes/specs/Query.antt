@@ -11,7 +11,8 @@ text_of bytes = utf8_lossy (decode bytes)
 -- The values of the pairs with this name.
 abbrev pub values_of : List ℕ → List (List ℕ × List ℕ) → List (List ℕ)
 values_of name [] = []
-values_of name ((key, value) ∷ pairs) = if same (text_of key) name then text_of value ∷ values_of name pairs else values_of name pairs
+values_of name ((key, value) ∷ pairs) = if same (text_of key) name
+    then text_of value ∷ values_of name pairs else values_of name pairs
 
 -- The element of a list with exactly one.
 abbrev pub only : List (List ℕ) → Option (List ℕ)

@@ -39,7 +39,8 @@ route_method Overdue = Get
 
 -- All routes, by path in byte order.
 abbrev pub routes : List Route
-routes = ImportCounts ∷ ImportSetup ∷ Kit ∷ Messages ∷ Overdue ∷ Reel ∷ Slots ∷ TraceBoard ∷ TraceLot ∷ []
+routes = ImportCounts ∷ ImportSetup ∷ Kit ∷ Messages ∷ Overdue ∷ Reel ∷ Slots
+    ∷ TraceBoard ∷ TraceLot ∷ []
 
 -- The route with this path, byte by byte.
 unfoldable pub route_of : List ℕ → Option Route
@@ -49,7 +50,10 @@ route_of path = find (λ route. same (route_path route) path) routes
 
 -- A route: a path without parameters.
 abbrev pub row : Route → List ℕ × RouteOf Route
-row route = (route_path route, record { pattern = route_path route; text = route_path route; names = []; value = route })
+row route = (
+  route_path route,
+  record { pattern = route_path route; text = route_path route; names = []; value = route },
+)
 
 abbrev pub table : RowsOf (RouteOf Route)
 table = map row routes

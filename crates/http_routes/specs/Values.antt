@@ -10,11 +10,13 @@ use Rattle.desk_types.specs.TraceDetail.{trace_detail_of}
 
 -- 1 to this many digits.
 abbrev pub is_numeral : ℕ → List ℕ → Bool
-is_numeral most_digits text = nat_le 1 (length text) && nat_le (length text) most_digits && list_all is_ascii_digit text
+is_numeral most_digits text = nat_le 1 (length text) && nat_le (length text) most_digits
+    && list_all is_ascii_digit text
 
 -- The number in a text of 1 to this many digits.
 unfoldable pub number_of : ℕ → List ℕ → Option ℕ
-number_of most_digits text = if is_numeral most_digits text then Some (digits_value 10 text) else None
+number_of most_digits text = if is_numeral most_digits text
+    then Some (digits_value 10 text) else None
 
 -- One digit, 1 to 4.
 abbrev pub detail_of : List ℕ → Option TraceDetail

@@ -233,8 +233,10 @@ fn parameter_value<'a>(
     query: &'a [u8],
     parameter: Parameter,
 ) -> Result<CowStr<'a>, AskFault>
-    ensures ok { IfOk result (λ text. parameter_value parameter query.now ≡ Ok (cow_str_bytes text)) }
-    ensures err { IfErr result (λ fault. fault ≢ AskFault.NoMemory → parameter_value parameter query.now ≡ Err fault) }
+    ensures ok { IfOk result
+        (λ text. parameter_value parameter query.now ≡ Ok (cow_str_bytes text)) }
+    ensures err { IfErr result
+        (λ fault. fault ≢ AskFault.NoMemory → parameter_value parameter query.now ≡ Err fault) }
 {
     value_of(alloc, query, parameter.as_str())?.ok_or(AskFault::BadQuery(parameter))
 }

@@ -1,12 +1,10 @@
 -- Portions answered one after another.
-use Rattle.std.proofs.Common.{◌≡◌, ◌∙◌, ◌+◌, ℕ, Bool, true, false, cond, List, [], ◌∷◌, ◌++◌, sym, ap, refl, subst, Option, append-nil, length, length-append, arith, count_by, Result, Err}
+use Rattle.std.proofs.Common.{◌≡◌, ◌∙◌, ◌+◌, ℕ, Bool, true, false, cond, List, [], ◌∷◌, ◌++◌, sym, ap, refl, subst, Option, append-nil, length, length-append, arith, count_by}
 use Rattle.std.specs.List.{flat_map}
 use Rattle.std.proofs.lemmas.Grind.{flat_map-append, common_steps}
 use Rattle.std.specs.Io.KnownBytes.{Appends}
 use Rattle.std.proofs.KnownBytes.{Appends-trans}
 use Rattle.desk_types.specs.History.{History}
-use Rattle.served.specs.declared.serving.ServeFault.{ServeFault}
-use Rattle.served.specs.declared.serving.ServeFault.TheVariants.{Write}
 use Rattle.served.specs.declared.serving.Served.{Served}
 use Rattle.http_stream.specs.Cut.{Portion}
 use Rattle.http_stream.specs.Stream.{Rule, Answer, Answered, answer, answers, list_after}
@@ -71,6 +69,3 @@ answered_more rule ps qs ms ns H₀ H₁ H₂ out₀ out₁ out₂ s₀ s₁ s�
       answered = omega (arith, a.answered, b.answered, length-append ps qs);
       refused = omega (arith, a.refused, b.refused, ap (count_by is_refused) all, count_by-append is_refused (answers rule ms H₀ ps) (answers rule ns H₁ qs));
     }
-
-pub same_write : (a b : Served) → ◌≡◌ {A = Result Served ServeFault} (Err (Write a)) (Err (Write b)) → a ≡ b
-same_write a b e = cc

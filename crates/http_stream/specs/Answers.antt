@@ -24,11 +24,19 @@ pub record Told : Type 0 where
 
 -- A fault by name.
 abbrev pub faulty : Status → List ℕ → Told
-faulty s name = record { status = s; kind = Json; body = codes "{\"Answer\":\"Faulty\",\"Fault\":\"" ++ name ++ codes "\"}" }
+faulty s name = record {
+  status = s;
+  kind = Json;
+  body = codes "{\"Answer\":\"Faulty\",\"Fault\":\"" ++ name ++ codes "\"}";
+}
 
 -- Out of memory, or the storage failed.
 abbrev pub unavailable : Told
-unavailable = record { status = status.ServiceUnavailable; kind = Json; body = codes "{\"Answer\":\"Unavailable\"}" }
+unavailable = record {
+  status = status.ServiceUnavailable;
+  kind = Json;
+  body = codes "{\"Answer\":\"Unavailable\"}";
+}
 
 -- Bytes that can't start a head.
 abbrev pub told_bad_head : Told
@@ -50,7 +58,8 @@ body_of Fixed = unavailable.body
 
 -- The answer in a response.
 abbrev pub response_told : Response → Told
-response_told response = record { status = response.status; kind = response.kind; body = body_of response.body }
+response_told response =
+    record { status = response.status; kind = response.kind; body = body_of response.body }
 
 -- The answer to a portion.
 abbrev pub reply_told : Reply → Told
@@ -88,7 +97,8 @@ line bytes = bytes ++ line_end
 
 -- The version, the status code and its phrase.
 unfoldable pub status_line : Status → List ℕ
-status_line s = line (codes "HTTP/1.1 " ++ decimal (code_of s) ++ codes " " ++ unwrap_or (reason_phrase (code_of s)) [])
+status_line s = line (codes "HTTP/1.1 " ++ decimal (code_of s) ++ codes " "
+    ++ unwrap_or (reason_phrase (code_of s)) [])
 
 unfoldable pub type_line : Kind → List ℕ
 type_line Json = line (codes "Content-Type: application/json")
@@ -110,7 +120,8 @@ close_line false = []
 
 -- Everything before the body.
 unfoldable pub head_bytes : Bool → Told → List ℕ
-head_bytes closes told = status_line told.status ++ type_line told.kind ++ length_line told.body ++ allow_line told.status ++ close_line closes ++ line_end
+head_bytes closes told = status_line told.status ++ type_line told.kind ++ length_line told.body
+    ++ allow_line told.status ++ close_line closes ++ line_end
 
 -- The answer, with its body if one is sent.
 unfoldable pub answer_bytes : Bool → Bool → Told → List ℕ

@@ -30,17 +30,21 @@ TakesLength input h rest n = TakesHead input h rest × (body_length h.method (he
 
 -- The stream starts with this portion; after a whole request, this is left of it.
 abbrev pub IsPortion : List ℕ → Portion → List ℕ → Type 0
-IsPortion input (whole r ends) left = (h : RequestHead) × TakesLength input h (r.body ++ left) (length r.body)
+IsPortion input (whole r ends) left = (h : RequestHead)
+    × TakesLength input h (r.body ++ left) (length r.body)
     × (r.method ≡ h.method) × (r.target ≡ h.target) × (ends ≡ closes h.minor (headers_of h))
 IsPortion input bad_head left = IsBadHead (window input)
 IsPortion input head_too_large left = (HEAD_LIMIT ≤ length input) × IsUnfinished (window input)
-IsPortion input (unread method fault) left = (h : RequestHead) × (rest : List ℕ) × TakesHead input h rest × (body_length h.method (headers_of h) ≡ Err fault) × (method ≡ h.method)
-IsPortion input starved left = (h : RequestHead) × (rest : List ℕ) × (n : ℕ) × TakesLength input h rest n × (0 < n)
+IsPortion input (unread method fault) left = (h : RequestHead) × (rest : List ℕ) × TakesHead input h
+    rest × (body_length h.method (headers_of h) ≡ Err fault) × (method ≡ h.method)
+IsPortion input starved left = (h : RequestHead) × (rest : List ℕ) × (n : ℕ)
+    × TakesLength input h rest n × (0 < n)
 
 -- The stream ends inside a head or body, or has no bytes.
 abbrev pub EndsInside : List ℕ → Type 0
 EndsInside input = ((length input < HEAD_LIMIT) × IsUnfinished input)
-    ⊎ ((h : RequestHead) × (rest : List ℕ) × (n : ℕ) × TakesLength input h rest n × (length rest < n))
+    ⊎ ((h : RequestHead) × (rest : List ℕ) × (n : ℕ)
+    × TakesLength input h rest n × (length rest < n))
 
 -- Whether the connection ends after the answer.
 abbrev pub is_last : Portion → Bool
@@ -59,12 +63,14 @@ is_head method = bytes_eq method (codes "HEAD")
 -- The stream starts with these portions, none of them the last, and continues with the rest.
 abbrev pub Leads : List ℕ → List Portion → List ℕ → Type 0
 Leads input [] left = left ≡ input
-Leads input (p ∷ ps) left = (rest : List ℕ) × IsPortion input p rest × (is_last p ≡ false) × Leads rest ps left
+Leads input (p ∷ ps) left = (rest : List ℕ) × IsPortion input p rest
+    × (is_last p ≡ false) × Leads rest ps left
 
 -- The stream is cut into these portions, up to the last one or its end.
 abbrev pub IsCut : List ℕ → List Portion → Type 0
 IsCut input [] = EndsInside input
-IsCut input (p ∷ ps) = (rest : List ℕ) × IsPortion input p rest × (((is_last p ≡ true) × (ps ≡ [])) ⊎ ((is_last p ≡ false) × IsCut rest ps))
+IsCut input (p ∷ ps) = (rest : List ℕ) × IsPortion input p rest
+    × (((is_last p ≡ true) × (ps ≡ [])) ⊎ ((is_last p ≡ false) × IsCut rest ps))
 
 -- ---- a reader's bytes, if known
 

@@ -18,8 +18,12 @@ seen_bytes bytes seen = slice_range bytes seen.from seen.to
 
 -- The result of searching the pending bytes, without taking any.
 abbrev pub IsFront : Block → Option (List ℕ) → Front → Type 0
-IsFront block known (front.Head seen) = (h : RequestHead) × IsHeadOf (seen_bytes block.bytes seen) seen.head h
-    × (seen_bytes block.bytes seen ≡ window (pending_bytes block)) × (seen.from ≤ seen.to) × (seen.to ≤ BLOCK)
+IsFront block known (front.Head seen) = (h : RequestHead)
+    × IsHeadOf (seen_bytes block.bytes seen) seen.head h
+    × (seen_bytes block.bytes seen ≡ window (pending_bytes block))
+    × (seen.from ≤ seen.to) × (seen.to ≤ BLOCK)
 IsFront block known front.Bad = IsBadHead (window (pending_bytes block))
-IsFront block known front.TooLarge = (HEAD_LIMIT ≤ length (pending_bytes block)) × IsUnfinished (window (pending_bytes block))
-IsFront block known front.End = (length (pending_bytes block) < HEAD_LIMIT) × IsUnfinished (pending_bytes block) × IsAtEnd known
+IsFront block known front.TooLarge = (HEAD_LIMIT ≤ length (pending_bytes block))
+    × IsUnfinished (window (pending_bytes block))
+IsFront block known front.End = (length (pending_bytes block) < HEAD_LIMIT)
+    × IsUnfinished (pending_bytes block) × IsAtEnd known

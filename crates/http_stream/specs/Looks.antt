@@ -26,7 +26,8 @@ pub record IsHeadOf (bytes : List ℕ) (head : Head) (h : RequestHead) : Type 0 
 -- The stored values.
 abbrev pub HasValues : List ℕ → Values → List (List ℕ) → Type 0
 HasValues bytes values.None vs = vs ≡ []
-HasValues bytes (values.One span) vs = (vs ≡ span_bytes bytes span ∷ []) × IsWithin (length bytes) span
+HasValues bytes (values.One span) vs = (vs ≡ span_bytes bytes span ∷ [])
+    × IsWithin (length bytes) span
 HasValues bytes values.More vs = 1 < length vs
 
 -- The values with those of one more line.

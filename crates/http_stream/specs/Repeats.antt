@@ -43,7 +43,8 @@ after_all rule H ps = list_after rule (no_marks ps) H ps
 -- No repeat ends its connection.
 abbrev pub NoRepeatEnds : Rule → Repeats → History → List Portion → Type 0
 NoRepeatEnds rule again H [] = Unit {0}
-NoRepeatEnds rule again H (p ∷ ps) = (is_repeat again H p ≡ true → is_last p ≡ false) × NoRepeatEnds rule again (after_portion rule H p) ps
+NoRepeatEnds rule again H (p ∷ ps) = (is_repeat again H p ≡ true → is_last p ≡ false)
+    × NoRepeatEnds rule again (after_portion rule H p) ps
 
 -- The stream is cut into these portions, no repeat ends its connection, and `fewer` is the stream
 -- without the bytes of repeats.
@@ -53,4 +54,5 @@ IsCutWithout rule again H input (p ∷ ps) fewer = (rest : List ℕ) × IsPortio
     ((is_last p ≡ true) × (is_repeat again H p ≡ false) × (ps ≡ []) × (fewer ≡ input))
     ⊎ ((is_last p ≡ false) × (bytes : List ℕ) × (input ≡ bytes ++ rest) × (
     ((is_repeat again H p ≡ true) × IsCutWithout rule again (after_portion rule H p) rest ps fewer)
-    ⊎ ((is_repeat again H p ≡ false) × (left : List ℕ) × (fewer ≡ bytes ++ left) × IsCutWithout rule again (after_portion rule H p) rest ps left))))
+    ⊎ ((is_repeat again H p ≡ false) × (left : List ℕ) × (fewer ≡ bytes ++ left)
+    × IsCutWithout rule again (after_portion rule H p) rest ps left))))

@@ -55,7 +55,8 @@ impl Letter {
 
     fn put(&mut self, text: &[u8])
         requires room { self.old.end + length text.now ≤ ONE_WRITE }
-        ensures bytes { take self.new.end self.new.block ≡ take self.old.end self.old.block ++ text.now }
+        ensures bytes { take self.new.end self.new.block
+            ≡ take self.old.end self.old.block ++ text.now }
         ensures end { self.new.end ≡ self.old.end + length text.now }
     {
         self.block[self.end..self.end + text.len()].copy_from_slice(text);
@@ -64,7 +65,8 @@ impl Letter {
 
     fn put_head(&mut self, reply: &Reply, closes: bool)
         requires empty { self.old.end ≡ 0 }
-        ensures bytes { take self.new.end self.new.block ≡ head_bytes closes (reply_told reply.now) }
+        ensures bytes { take self.new.end self.new.block
+            ≡ head_bytes closes (reply_told reply.now) }
         ensures short { self.new.end ≤ ONE_WRITE }
     {
         let mut digits = Buffer::new();

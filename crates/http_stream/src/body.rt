@@ -1,11 +1,10 @@
 //! Reading the body of a request.
 
-ghost use Rattle.std.specs.Prelude.{◌≡◌, ◌<◌, ◌≤◌, ℕ, List, length, true, false, IfOk, OnOk, OnErr, Ok};
-ghost use Rattle.std.specs.Io.KnownBytes.{Consumes, IsAtEnd};
+ghost use Rattle.std.specs.Prelude.{◌≡◌, ◌≤◌, length, IfOk, OnOk, OnErr};
 ghost use Rattle.desk_types.specs.Wire.{inner_of, reads_of};
-ghost use Rattle.served.specs.Block.{IsBlock, source, fuel};
-ghost use Rattle.served.specs.Reads.{MayRead, ReadsUpTo};
-ghost use Rattle.http_stream.specs.Bodies.{ReadsFewer, TakesBody};
+ghost use Rattle.served.specs.Block.{source, fuel};
+ghost use Rattle.served.specs.Reads.{MayRead, MayReadInto, ReadsInto, ReadsUpTo};
+ghost use Rattle.http_stream.specs.Bodies.{Fills, ReadsFewer, TakesBody};
 
 use desk_types::Wire;
 use served::{Block, ReadFault};
@@ -28,18 +27,17 @@ pub fn take_body<R: Read>(
     length: usize,
     most_reads: u64,
 ) -> Result<BodyTaken, ReadFault>
-    requires valid { IsBlock block.old }
-    requires reads { MayRead most_reads wire.old }
-    ensures valid { IsBlock block.new }
+    requires reads { MayReadInto most_reads wire.old block.old }
+    ensures reads { ReadsInto most_reads result wire.old wire.new block.new }
     ensures bytes { block.new.bytes ≡ block.old.bytes }
     ensures unread { OnErr result
-        (ReadsFewer (source block.old (R.remaining (inner_of wire.old))) (R.remaining (inner_of wire.new)) length) }
+        (ReadsFewer (source block.old (R.remaining (inner_of wire.old)))
+        (R.remaining (inner_of wire.new)) length) }
     ensures body { IfOk result
         (λ body. TakesBody (source block.old (R.remaining (inner_of wire.old))) length body
         (source block.new (R.remaining (inner_of wire.new)))) }
     ensures falls { OnOk result
-        (fuel most_reads (reads_of wire.new) block.new ≤ fuel most_reads (reads_of wire.old) block.old) }
-    ensures reads { ReadsUpTo most_reads result wire.old wire.new }
+        (fuel most_reads wire.new block.new ≤ fuel most_reads wire.old block.old) }
 {
     if length == 0 {
         return Ok(BodyTaken::Whole(Vec::new(alloc)));
@@ -61,23 +59,17 @@ fn fill<R: Read>(
     room: &mut [u8],
     most_reads: u64,
 ) -> Result<bool, ReadFault>
-    requires valid { IsBlock block.old }
-    requires reads { MayRead most_reads wire.old }
-    ensures valid { IsBlock block.new }
+    requires reads { MayReadInto most_reads wire.old block.old }
+    ensures reads { ReadsInto most_reads result wire.old wire.new block.new }
     ensures bytes { block.new.bytes ≡ block.old.bytes }
-    ensures whole { result ≡ Ok true
-        → Consumes (source block.old (R.remaining (inner_of wire.old)))
-        (source block.new (R.remaining (inner_of wire.new))) room.new }
+    ensures room { Fills result room.old room.new
+        (source block.old (R.remaining (inner_of wire.old)))
+        (source block.new (R.remaining (inner_of wire.new))) }
     ensures unread { OnErr result
-        (ReadsFewer (source block.old (R.remaining (inner_of wire.old))) (R.remaining (inner_of wire.new))
-        (length room.old)) }
-    ensures end { result ≡ Ok false → (gone : List ℕ) × (length gone < length room.old)
-        × Consumes (source block.old (R.remaining (inner_of wire.old)))
-        (source block.new (R.remaining (inner_of wire.new))) gone
-        × IsAtEnd (source block.new (R.remaining (inner_of wire.new))) }
+        (ReadsFewer (source block.old (R.remaining (inner_of wire.old)))
+        (R.remaining (inner_of wire.new)) (length room.old)) }
     ensures falls { OnOk result
-        (fuel most_reads (reads_of wire.new) block.new ≤ fuel most_reads (reads_of wire.old) block.old) }
-    ensures reads { ReadsUpTo most_reads result wire.old wire.new }
+        (fuel most_reads wire.new block.new ≤ fuel most_reads wire.old block.old) }
 {
     let bytes = block.pending();
     let have = room.len().min(bytes.len());
@@ -94,13 +86,11 @@ fn read_whole<R: Read>(
     most_reads: u64,
 ) -> Result<bool, ReadFault>
     requires reads { MayRead most_reads wire.old }
-    ensures whole { result ≡ Ok true
-        → Consumes (R.remaining (inner_of wire.old)) (R.remaining (inner_of wire.new)) room.new }
+    ensures room { Fills result room.old room.new
+        (R.remaining (inner_of wire.old)) (R.remaining (inner_of wire.new)) }
     ensures unread { OnErr result
-        (ReadsFewer (R.remaining (inner_of wire.old)) (R.remaining (inner_of wire.new)) (length room.old)) }
-    ensures end { result ≡ Ok false → (gone : List ℕ) × (length gone < length room.old)
-        × Consumes (R.remaining (inner_of wire.old)) (R.remaining (inner_of wire.new)) gone
-        × IsAtEnd (R.remaining (inner_of wire.new)) }
+        (ReadsFewer (R.remaining (inner_of wire.old)) (R.remaining (inner_of wire.new))
+        (length room.old)) }
     ensures more_reads { reads_of wire.old ≤ reads_of wire.new }
     ensures reads { ReadsUpTo most_reads result wire.old wire.new }
 {

@@ -2,9 +2,9 @@
 
 ghost use Rattle.std.specs.Prelude.{◌≤◌, IfOk, OnOk, OnErr};
 ghost use Rattle.std.specs.Io.KnownBytes.{Keeps};
-ghost use Rattle.desk_types.specs.Wire.{inner_of, reads_of};
-ghost use Rattle.served.specs.Block.{IsBlock, source, fuel};
-ghost use Rattle.served.specs.Reads.{MayRead, ReadsUpTo};
+ghost use Rattle.desk_types.specs.Wire.{inner_of};
+ghost use Rattle.served.specs.Block.{source, fuel};
+ghost use Rattle.served.specs.Reads.{MayReadInto, ReadsInto};
 ghost use Rattle.http_stream.specs.Cut.{ReadsInside};
 ghost use Rattle.http_stream.specs.Fronts.{IsFront};
 
@@ -37,18 +37,18 @@ pub fn find_front<R: Read>(
     wire: &mut Wire<R>,
     most_reads: u64,
 ) -> Result<Front, ReadFault>
-    requires valid { IsBlock block.old }
-    requires reads { MayRead most_reads wire.old }
-    ensures valid { IsBlock block.new }
+    requires reads { MayReadInto most_reads wire.old block.old }
+    ensures reads { ReadsInto most_reads result wire.old wire.new block.new }
     ensures source { OnOk result
         (Keeps (source block.old (R.remaining (inner_of wire.old)))
         (source block.new (R.remaining (inner_of wire.new)))) }
     ensures unread { OnErr result
-        (ReadsInside (source block.old (R.remaining (inner_of wire.old))) (R.remaining (inner_of wire.new))) }
-    ensures front { IfOk result (λ front. IsFront block.new (R.remaining (inner_of wire.new)) front) }
+        (ReadsInside (source block.old (R.remaining (inner_of wire.old)))
+        (R.remaining (inner_of wire.new))) }
+    ensures front { IfOk result
+        (λ front. IsFront block.new (R.remaining (inner_of wire.new)) front) }
     ensures falls { OnOk result
-        (fuel most_reads (reads_of wire.new) block.new ≤ fuel most_reads (reads_of wire.old) block.old) }
-    ensures reads { ReadsUpTo most_reads result wire.old wire.new }
+        (fuel most_reads wire.new block.new ≤ fuel most_reads wire.old block.old) }
 {
     'looks: loop {
         let bytes = block.pending();

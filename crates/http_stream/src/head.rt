@@ -57,7 +57,8 @@ pub enum Values {
 
 /// Searches for a head at the start of the bytes. Copies no bytes and takes no memory.
 pub fn look(bytes: &[u8]) -> Glance
-    ensures head { (head : _) → result ≡ Glance.Head head → (h : RequestHead) × IsHeadOf bytes.now head h }
+    ensures head { (head : _) → result ≡ Glance.Head head
+        → (h : RequestHead) × IsHeadOf bytes.now head h }
     ensures unfinished { result ≡ Glance.Unfinished → IsUnfinished bytes.now }
     ensures bad { result ≡ Glance.Bad → IsBadHead bytes.now }
 {
@@ -97,7 +98,8 @@ fn body_length(bytes: &[u8], method: &[u8], headers: &[HeaderSpan]) -> Result<us
 
 fn values_of(bytes: &[u8], headers: &[HeaderSpan], name: &[u8]) -> Values
     requires within { All (IsHeaderWithin (length bytes.now)) headers.now }
-    ensures { HasValues bytes.now result (values_of name.now (map (header_bytes bytes.now) headers.now)) }
+    ensures { HasValues bytes.now result
+        (values_of name.now (map (header_bytes bytes.now) headers.now)) }
 {
     let mut found = Values::None;
     for header in headers {
@@ -109,7 +111,8 @@ fn values_of(bytes: &[u8], headers: &[HeaderSpan], name: &[u8]) -> Values
 fn next_values(bytes: &[u8], found: Values, header: &HeaderSpan, name: &[u8]) -> Values
     requires within { IsHeaderWithin (length bytes.now) header.now }
     ensures { (vs : List (List ℕ)) → HasValues bytes.now found vs
-        → HasValues bytes.now result (after_header name.now vs (header_bytes bytes.now header.now)) }
+        → HasValues bytes.now result
+        (after_header name.now vs (header_bytes bytes.now header.now)) }
 {
     if is_name(header.name.of(bytes), name) {
         match found {
@@ -171,7 +174,8 @@ fn capped_value(digits: &[u8]) -> usize
 
 fn any_close(bytes: &[u8], headers: &[HeaderSpan]) -> bool
     requires within { All (IsHeaderWithin (length bytes.now)) headers.now }
-    ensures { result ≡ list_any has_close (values_of (codes "Connection") (map (header_bytes bytes.now) headers.now)) }
+    ensures { result ≡ list_any has_close
+        (values_of (codes "Connection") (map (header_bytes bytes.now) headers.now)) }
 {
     let mut any = false;
     for header in headers {

@@ -1,12 +1,12 @@
 //! Taking a stream's portions one by one.
 
-ghost use Rattle.std.specs.Prelude.{◌≡◌, ◌<◌, false, IfOk, IfSome, OnErr, MatchOption};
-ghost use Rattle.desk_types.specs.Wire.{inner_of, reads_of};
-ghost use Rattle.served.specs.Block.{IsBlock, fuel, source};
-ghost use Rattle.served.specs.Reads.{MayRead, ReadsUpTo};
-ghost use Rattle.http_stream.specs.Cut.{EndsInside, ReadsInside, TakesPortion, is_last};
+ghost use Rattle.std.specs.Prelude.{◌≡◌, ◌<◌, false, IfOk, IfSome, OnErr};
+ghost use Rattle.desk_types.specs.Wire.{inner_of};
+ghost use Rattle.served.specs.Block.{fuel, source};
+ghost use Rattle.served.specs.Reads.{MayReadInto, ReadsInto};
+ghost use Rattle.http_stream.specs.Cut.{ReadsInside, is_last};
 ghost use Rattle.http_stream.specs.Fronts.{IsFront};
-ghost use Rattle.http_stream.specs.Portions.{IsSeen, IsTaken, method_of, portion_of, target_of};
+ghost use Rattle.http_stream.specs.Portions.{IsSeen, TakesNext, method_of, portion_of, target_of};
 
 use crate::body::{BodyTaken, take_body};
 use crate::front::{Front, Seen, find_front};
@@ -36,19 +36,18 @@ pub fn take_portion<R: Read>(
     input: &mut Wire<R>,
     most_reads: u64,
 ) -> Result<Option<Taken>, ReadFault>
-    requires valid { IsBlock block.old }
-    requires reads { MayRead most_reads input.old }
-    ensures valid { IsBlock block.new }
-    ensures taken { IfOk result (λ next. IfSome next (λ taken. IsTaken block.new.bytes taken)) }
-    ensures portion { IfOk result
-        (λ next. MatchOption next (IfSome (source block.old (R.remaining (inner_of input.old))) EndsInside)
-        (λ taken. TakesPortion (source block.old (R.remaining (inner_of input.old))) (portion_of block.new.bytes taken)
-        (source block.new (R.remaining (inner_of input.new))))) }
+    requires reads { MayReadInto most_reads input.old block.old }
+    ensures reads { ReadsInto most_reads result input.old input.new block.new }
+    ensures next { IfOk result
+        (λ next. TakesNext next block.new.bytes
+        (source block.old (R.remaining (inner_of input.old)))
+        (source block.new (R.remaining (inner_of input.new)))) }
     ensures unread { OnErr result
-        (ReadsInside (source block.old (R.remaining (inner_of input.old))) (R.remaining (inner_of input.new))) }
-    ensures falls { IfOk result (λ next. IfSome next (λ taken. is_last (portion_of block.new.bytes taken) ≡ false
-        → fuel most_reads (reads_of input.new) block.new < fuel most_reads (reads_of input.old) block.old)) }
-    ensures reads { ReadsUpTo most_reads result input.old input.new }
+        (ReadsInside (source block.old (R.remaining (inner_of input.old)))
+        (R.remaining (inner_of input.new))) }
+    ensures falls { IfOk result (λ next. IfSome next
+        (λ taken. is_last (portion_of block.new.bytes taken) ≡ false
+        → fuel most_reads input.new block.new < fuel most_reads input.old block.old)) }
 {
     match find_front(block, input, most_reads)? {
         Front::End => Ok(None),
@@ -65,20 +64,19 @@ fn take_request<R: Read>(
     seen: Seen,
     most_reads: u64,
 ) -> Result<Option<Taken>, ReadFault>
-    requires valid { IsBlock block.old }
+    requires reads { MayReadInto most_reads input.old block.old }
     requires seen { IsFront block.old (R.remaining (inner_of input.old)) (Front.Head seen) }
-    requires reads { MayRead most_reads input.old }
-    ensures valid { IsBlock block.new }
-    ensures taken { IfOk result (λ next. IfSome next (λ taken. IsTaken block.new.bytes taken)) }
-    ensures portion { IfOk result
-        (λ next. MatchOption next (IfSome (source block.old (R.remaining (inner_of input.old))) EndsInside)
-        (λ taken. TakesPortion (source block.old (R.remaining (inner_of input.old))) (portion_of block.new.bytes taken)
-        (source block.new (R.remaining (inner_of input.new))))) }
+    ensures reads { ReadsInto most_reads result input.old input.new block.new }
+    ensures next { IfOk result
+        (λ next. TakesNext next block.new.bytes
+        (source block.old (R.remaining (inner_of input.old)))
+        (source block.new (R.remaining (inner_of input.new)))) }
     ensures unread { OnErr result
-        (ReadsInside (source block.old (R.remaining (inner_of input.old))) (R.remaining (inner_of input.new))) }
-    ensures falls { IfOk result (λ next. IfSome next (λ taken. is_last (portion_of block.new.bytes taken) ≡ false
-        → fuel most_reads (reads_of input.new) block.new < fuel most_reads (reads_of input.old) block.old)) }
-    ensures reads { ReadsUpTo most_reads result input.old input.new }
+        (ReadsInside (source block.old (R.remaining (inner_of input.old)))
+        (R.remaining (inner_of input.new))) }
+    ensures falls { IfOk result (λ next. IfSome next
+        (λ taken. is_last (portion_of block.new.bytes taken) ≡ false
+        → fuel most_reads input.new block.new < fuel most_reads input.old block.old)) }
 {
     match seen.head.body {
         Err(fault) => Ok(Some(Taken::Unread(seen, fault))),

@@ -1,14 +1,15 @@
 //! Serving a connection.
 
-ghost use Rattle.std.specs.Prelude.{◌≡◌, ◌+◌, ◌^◌, ◌<◌, ◌≤◌, ◌∷◌, [], true, IfOk, OnOk, OnErr, Err};
-ghost use Rattle.desk_types.specs.Wire.{inner_of, reads_of, failures_of};
-ghost use Rattle.served.specs.Counts.{CanCountOne, CountsUpToOne};
-ghost use Rattle.served.specs.Shown.{CanCountRun, FailsNever, IsShown};
+ghost use Rattle.std.specs.Prelude.{◌≡◌, true};
+ghost use Rattle.desk_types.specs.Wire.{inner_of};
+ghost use Rattle.desk_answers.specs.Ledger.{ForLists};
+ghost use Rattle.served.specs.Counts.{CanCountAnswer};
+ghost use Rattle.served.specs.Owners.{StaysReady};
+ghost use Rattle.served.specs.Shown.{CanCountRun, CountsRun};
 ghost use Rattle.http_stream.specs.Answers.{reply_told};
 ghost use Rattle.http_stream.specs.Cut.{is_head, is_last};
 ghost use Rattle.http_stream.specs.Portions.{IsTaken, portion_of};
-ghost use Rattle.desk_answers.specs.Ledger.{ForLists};
-ghost use Rattle.http_stream.specs.Stream.{AnsweredAll, AnsweredFront, AnsweredInto, Breaks, Serves, AnswersPortion, has_body};
+ghost use Rattle.http_stream.specs.Stream.{AnswersConnection, AnswersPortion, SendsPortion, ShowsSent, has_body};
 
 use crate::answer::send_answer;
 use crate::portion::{Taken, method_of, take_portion, target_of};
@@ -71,31 +72,12 @@ pub fn serve<R: Read, W: Write, A: Handler>(
 ) -> Result<Served, ServeFault>
     requires counts { CanCountRun input.old output.old }
     requires ready { A.Ready handler.old }
-    ensures ready { A.Ready handler.new }
-    ensures trusts { A.Trusts handler.new → A.Trusts handler.old }
-    ensures ok { IfOk result
-        (λ served. ForLists A.Stands A.Trusts handler.old handler.new
-        (λ G H. AnsweredAll (A.rule G.rules G.greatest) (R.remaining (inner_of input.old))
-        G.history (W.contents (inner_of output.old)) H (W.contents (inner_of output.new)) served)) }
-    ensures kept { OnOk result (FailsNever input.old input.new output.old output.new) }
-    ensures few_reads { reads_of input.new ≤ reads_of input.old + MOST_READS }
-    ensures read { (served : Served) → result ≡ Err (ServeFault.Read served)
-        → IsShown (ServeFault.Read served) input.old input.new output.old output.new
-        × ForLists A.Stands A.Trusts handler.old handler.new
-        (λ G H. AnsweredFront (A.rule G.rules G.greatest) (R.remaining (inner_of input.old))
-        (R.remaining (inner_of input.new))
-        G.history (W.contents (inner_of output.old)) H (W.contents (inner_of output.new)) served) }
-    ensures too_many { (served : Served) → result ≡ Err (ServeFault.TooManyReads served)
-        → IsShown (ServeFault.TooManyReads served) input.old input.new output.old output.new
-        × ForLists A.Stands A.Trusts handler.old handler.new
-        (λ G H. AnsweredFront (A.rule G.rules G.greatest) (R.remaining (inner_of input.old))
-        (R.remaining (inner_of input.new))
-        G.history (W.contents (inner_of output.old)) H (W.contents (inner_of output.new)) served) }
-    ensures write { (served : Served) → result ≡ Err (ServeFault.Write served)
-        → IsShown (ServeFault.Write served) input.old input.new output.old output.new
-        × ForLists A.Stands A.Trusts handler.old handler.new
-        (λ G H. AnsweredInto (A.rule G.rules G.greatest) (R.remaining (inner_of input.old))
-        G.history (W.contents (inner_of output.old)) H (W.contents (inner_of output.new)) served) }
+    ensures stays { StaysReady A.Ready A.Trusts handler.old handler.new }
+    ensures answers { ForLists A.Stands A.Trusts handler.old handler.new
+        (AnswersConnection A.rule (R.remaining (inner_of input.old))
+        (R.remaining (inner_of input.new)) (W.contents (inner_of output.old))
+        (W.contents (inner_of output.new)) result) }
+    ensures counts { CountsRun result input.old input.new output.old output.new }
 {
     let most_reads = input.reads() + MOST_READS;
     let mut block = Block::new();
@@ -129,23 +111,14 @@ fn serve_portion<W: Write, A: Handler>(
     served: &mut Served,
 ) -> Result<bool, WriteFailed>
     requires taken { IsTaken block.now taken }
-    requires few_failures { failures_of output.old < 2 ^ 63 }
-    requires counts { CanCountOne served.old }
+    requires counts { CanCountAnswer output.old served.old }
     requires ready { A.Ready handler.old }
-    ensures ready { A.Ready handler.new }
-    ensures trusts { A.Trusts handler.new → A.Trusts handler.old }
-    ensures ok { OnOk result
-        (ForLists A.Stands A.Trusts handler.old handler.new
-        (λ G H. Serves (A.rule G.rules G.greatest) (portion_of block.now taken ∷ [])
-        G.history (W.contents (inner_of output.old)) served.old H (W.contents (inner_of output.new)) served.new)) }
-    ensures last { IfOk result (λ last. last ≡ is_last (portion_of block.now taken)) }
-    ensures err { OnErr result
-        (ForLists A.Stands A.Trusts handler.old handler.new
-        (λ G H. Breaks (A.rule G.rules G.greatest) (portion_of block.now taken)
-        G.history (W.contents (inner_of output.old)) served.old H (W.contents (inner_of output.new)) served.new)) }
-    ensures counts { CountsUpToOne served.old served.new }
-    ensures kept { OnOk result (failures_of output.new ≡ failures_of output.old) }
-    ensures failed { OnErr result (failures_of output.new ≡ failures_of output.old + 1) }
+    ensures stays { StaysReady A.Ready A.Trusts handler.old handler.new }
+    ensures answers { ForLists A.Stands A.Trusts handler.old handler.new
+        (SendsPortion A.rule (portion_of block.now taken) (W.contents (inner_of output.old))
+        served.old (W.contents (inner_of output.new)) served.new result) }
+    ensures sent { ShowsSent (is_last (portion_of block.now taken)) result output.old output.new
+        served.old served.new }
 {
     let told = answer_portion(alloc, handler, block, taken);
     send_answer(output, &told.reply, told.closes, told.has_body)?;
@@ -156,11 +129,10 @@ fn serve_portion<W: Write, A: Handler>(
 fn answer_portion<A: Handler>(alloc: Global, handler: &mut A, block: &[u8], taken: Taken) -> Told
     requires taken { IsTaken block.now taken }
     requires ready { A.Ready handler.old }
-    ensures ready { A.Ready handler.new }
-    ensures trusts { A.Trusts handler.new → A.Trusts handler.old }
+    ensures stays { StaysReady A.Ready A.Trusts handler.old handler.new }
     ensures told { ForLists A.Stands A.Trusts handler.old handler.new
-        (λ G H. AnswersPortion (A.rule G.rules G.greatest) (portion_of block.now taken) G.history
-        (reply_told result.reply) H) }
+        (λ G. AnswersPortion (A.rule G.rules G.greatest) (portion_of block.now taken) G.history
+        (reply_told result.reply)) }
     ensures closes { result.closes ≡ is_last (portion_of block.now taken) }
     ensures has_body { result.has_body ≡ has_body (portion_of block.now taken) }
 {

@@ -42,12 +42,14 @@ text_of bytes = if is_utf8 bytes then Some bytes else None
 
 -- The fields of a record with two, if both are UTF-8.
 unfoldable pub two_texts : Record → Option (List ℕ × List ℕ)
-two_texts fields = if length fields == 2 && is_utf8 (field fields 0) && is_utf8 (field fields 1) then Some (field fields 0, field fields 1) else None
+two_texts fields = if length fields == 2 && is_utf8 (field fields 0) && is_utf8 (field fields 1)
+    then Some (field fields 0, field fields 1) else None
 
 -- The fields of a record with three, if all are UTF-8.
 unfoldable pub three_texts : Record → Option (List ℕ × List ℕ × List ℕ)
 three_texts fields =
-    if length fields == 3 && is_utf8 (field fields 0) && is_utf8 (field fields 1) && is_utf8 (field fields 2)
+    if length fields == 3 && is_utf8 (field fields 0) && is_utf8 (field fields 1)
+    && is_utf8 (field fields 2)
     then Some (field fields 0, field fields 1, field fields 2) else None
 
 -- ---- fields
@@ -57,18 +59,22 @@ abbrev pub words_of : List ℕ → List (List ℕ)
 words_of text = slice_split (λ byte. byte == 0x20) text
 
 unfoldable pub designators_of : List ℕ → Option (List Name)
-designators_of text = if list_all is_designator (words_of text) && nat_le (length (words_of text)) LONGEST_LIST then Some (words_of text) else None
+designators_of text = if list_all is_designator (words_of text)
+    && nat_le (length (words_of text)) LONGEST_LIST then Some (words_of text) else None
 
 abbrev pub is_number : List ℕ → Bool
-is_number text = nat_le 1 (length text) && nat_le (length text) MOST_DIGITS && list_all is_ascii_digit text
+is_number text = nat_le 1 (length text) && nat_le (length text) MOST_DIGITS
+    && list_all is_ascii_digit text
 
 unfoldable pub quantity_of : List ℕ → Option ℕ
-quantity_of text = if is_number text && nat_le (digits_value 10 text) GREATEST_QUANTITY then Some (digits_value 10 text) else None
+quantity_of text = if is_number text && nat_le (digits_value 10 text) GREATEST_QUANTITY
+    then Some (digits_value 10 text) else None
 
 -- ---- setup files
 
 abbrev pub is_setup_header : Record → Bool
-is_setup_header fields = length fields == 3 && same (field fields 0) (codes "slot") && same (field fields 1) (codes "part") && same (field fields 2) (codes "designators")
+is_setup_header fields = length fields == 3 && same (field fields 0) (codes "slot")
+    && same (field fields 1) (codes "part") && same (field fields 2) (codes "designators")
 
 -- A sheet's row.
 unfoldable pub sheet_row : ℕ → Record → Result SheetRow ImportFault
@@ -82,7 +88,8 @@ sheet_row line fields = do
 -- ---- count files
 
 abbrev pub is_counts_header : Record → Bool
-is_counts_header fields = length fields == 2 && same (field fields 0) (codes "reel") && same (field fields 1) (codes "quantity")
+is_counts_header fields = length fields == 2 && same (field fields 0) (codes "reel")
+    && same (field fields 1) (codes "quantity")
 
 -- A count's row.
 unfoldable pub count_row : ℕ → Record → Result CountRow ImportFault
@@ -95,11 +102,13 @@ count_row line fields = do
 -- ---- files
 
 -- The row of a record, up to the last possible line.
-abbrev pub row_at : {X : Type 0} → (ℕ → Record → Result X ImportFault) → ℕ → Record → Result X ImportFault
+abbrev pub row_at : {X : Type 0} → (ℕ → Record → Result X ImportFault) → ℕ
+    → Record → Result X ImportFault
 row_at reading line fields = if nat_le line LAST_ROW then reading line fields else Err OverLimit
 
 -- The rows of the records from this line on, or the first fault.
-abbrev pub each : {X : Type 0} → (ℕ → Record → Result X ImportFault) → ℕ → List Record → Result (List X) ImportFault
+abbrev pub each : {X : Type 0} → (ℕ → Record → Result X ImportFault) → ℕ → List Record
+    → Result (List X) ImportFault
 each reading line [] = Ok []
 each reading line (fields ∷ rest) = do
   x ← row_at reading line fields
@@ -111,13 +120,17 @@ some_rows [] = Err (BadRow FIRST_ROW)
 some_rows (x ∷ xs) = Ok (x ∷ xs)
 
 -- The rows of records, after their header.
-abbrev pub rows_of : {X : Type 0} → (Record → Bool) → (ℕ → Record → Result X ImportFault) → List Record → Result (List X) ImportFault
+abbrev pub rows_of : {X : Type 0} → (Record → Bool) → (ℕ → Record → Result X ImportFault)
+    → List Record → Result (List X) ImportFault
 rows_of is_header reading [] = Err BadHeader
-rows_of is_header reading (first ∷ rest) = if is_header first then each reading FIRST_ROW rest >>= some_rows else Err BadHeader
+rows_of is_header reading (first ∷ rest) = if is_header first then each reading FIRST_ROW rest
+    >>= some_rows else Err BadHeader
 
 -- The rows of a file of at most 1,048,576 bytes.
-unfoldable pub file_rows : {X : Type 0} → (Record → Bool) → (ℕ → Record → Result X ImportFault) → List ℕ → Result (List X) ImportFault
-file_rows is_header reading bytes = if nat_le (length bytes) LONGEST_INPUT then rows_of is_header reading (records_of bytes) else Err OverLimit
+unfoldable pub file_rows : {X : Type 0} → (Record → Bool) → (ℕ → Record → Result X ImportFault)
+    → List ℕ → Result (List X) ImportFault
+file_rows is_header reading bytes = if nat_le (length bytes) LONGEST_INPUT
+    then rows_of is_header reading (records_of bytes) else Err OverLimit
 
 -- The content of a setup file: this product's sheet on this machine.
 unfoldable pub setup_said : Name → Name → List ℕ → Result Command ImportFault

@@ -11,8 +11,10 @@ first_records n bytes = records_from default_config n st.StartRecord (strip_bom 
 
 -- A setup file's first 5,002 records give the same rows or fault as any larger number.
 abbrev pub SetupsByTheirFront : Type 0
-SetupsByTheirFront = (bytes : List ℕ) (n : ℕ) → MOST_RECORDS ≤ n → rows_of is_setup_header sheet_row (first_records n bytes) ≡ rows_of is_setup_header sheet_row (records_of bytes)
+SetupsByTheirFront = (bytes : List ℕ) (n : ℕ) → MOST_RECORDS ≤ n → rows_of is_setup_header sheet_row
+    (first_records n bytes) ≡ rows_of is_setup_header sheet_row (records_of bytes)
 
 -- The same for a count file.
 abbrev pub CountsByTheirFront : Type 0
-CountsByTheirFront = (bytes : List ℕ) (n : ℕ) → MOST_RECORDS ≤ n → rows_of is_counts_header count_row (first_records n bytes) ≡ rows_of is_counts_header count_row (records_of bytes)
+CountsByTheirFront = (bytes : List ℕ) (n : ℕ) → MOST_RECORDS ≤ n → rows_of is_counts_header
+    count_row (first_records n bytes) ≡ rows_of is_counts_header count_row (records_of bytes)

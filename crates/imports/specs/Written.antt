@@ -39,10 +39,12 @@ counts_text counts = records_text (counts_header ∷ map count_fields counts)
 abbrev pub SheetsAreSaid : Type 0
 SheetsAreSaid =
     (product machine : Name) (rows : List SheetRow) → IsCommand (SheetDefined product machine rows)
-    → length (setup_text rows) ≤ LONGEST_INPUT → setup_said product machine (setup_text rows) ≡ Ok (SheetDefined product machine rows)
+    → length (setup_text rows) ≤ LONGEST_INPUT
+    → setup_said product machine (setup_text rows) ≡ Ok (SheetDefined product machine rows)
 
 -- Reading a count's file gives the counts.
 abbrev pub CountsAreSaid : Type 0
 CountsAreSaid =
     (counts : List CountRow) → IsCommand (CountsTaken counts)
-    → length (counts_text counts) ≤ LONGEST_INPUT → counts_said (counts_text counts) ≡ Ok (CountsTaken counts)
+    → length (counts_text counts) ≤ LONGEST_INPUT
+    → counts_said (counts_text counts) ≡ Ok (CountsTaken counts)

@@ -85,7 +85,8 @@ fn two_texts(row: &ByteRecord) -> Option<(&str, &str)>
 
 #[tactic(auto, unfolding(crate::specs::File::three_texts))]
 fn three_texts(row: &ByteRecord) -> Option<(&str, &str, &str)>
-    ensures { option_map (λ t. (t.0.now, t.1.now, t.2.now)) result ≡ three_texts (fields_of row.now) }
+    ensures { option_map (λ t. (t.0.now, t.1.now, t.2.now)) result
+        ≡ three_texts (fields_of row.now) }
 {
     if row.len() != 3 {
         return None;

@@ -11,7 +11,9 @@ use Rattle.desk_types.specs.Refusals.{count_refusal}
 use Rattle.setup_sheets.specs.Names.{HasSeen}
 
 -- The row is refused, or its missing pieces are counted and its reel is added to those seen.
-abbrev pub IsCounted : Rules → History → List Name → CountRow → Result ℕ Refusal → BTreeSet Name → Type 0
+abbrev pub IsCounted : Rules → History → List Name → CountRow → Result ℕ Refusal
+    → BTreeSet Name → Type 0
 IsCounted rules H before row (Ok missing) seen =
-    (count_refusal rules H before row ≡ None) × (missing ≡ left_of H row.reel - row.quantity) × HasSeen seen (before ++ row.reel ∷ [])
+    (count_refusal rules H before row ≡ None) × (missing ≡ left_of H row.reel - row.quantity)
+    × HasSeen seen (before ++ row.reel ∷ [])
 IsCounted rules H before row (Err refusal) seen = count_refusal rules H before row ≡ Some refusal

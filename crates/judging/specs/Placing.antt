@@ -54,16 +54,20 @@ reel_in_hand feed = option_to_list (option_map (λ (f : Feed). f.reel) feed)
 
 -- A slot's state after picks: its live reels are those that the picks spent, then the current one,
 -- then untouched ones.
-pub record IsFed (pieces : Name → ℕ) (live reels : List Name) (picks : List Pick) (feed : Option Feed) : Type 0 where
+pub record IsFed (pieces : Name → ℕ) (live reels : List Name) (picks : List Pick)
+    (feed : Option Feed) : Type 0 where
   pub spent : List Name
   pub reels_are : live ≡ spent ++ (reel_in_hand feed ++ live_next pieces reels feed)
   pub none_left : AllByRecursion (λ reel. pieces reel ≤ pieces_picked picks reel) spent
   pub in_hand : IfSome feed (λ f. f.pieces ≡ pieces f.reel - pieces_picked picks f.reel)
-  pub untouched : AllByRecursion (λ reel. pieces_picked picks reel ≡ 0) (live_next pieces reels feed)
+  pub untouched : AllByRecursion
+      (λ reel. pieces_picked picks reel ≡ 0) (live_next pieces reels feed)
 
 -- The state of each slot of a machine.
-abbrev pub IsFeeding : (Name → List Name) → (Name → ℕ) → (Name → List Name) → List Pick → BTreeMap Name Feed → Type 0
-IsFeeding live pieces reels picks feeds = (slot : Name) → IsFed pieces (live slot) (reels slot) picks (feed_at feeds slot)
+abbrev pub IsFeeding : (Name → List Name) → (Name → ℕ) → (Name → List Name) → List Pick
+    → BTreeMap Name Feed → Type 0
+IsFeeding live pieces reels picks feeds = (slot : Name)
+    → IsFed pieces (live slot) (reels slot) picks (feed_at feeds slot)
 
 -- The pick is of one piece from the reel, if there is one.
 abbrev pub IsOnePiece : Option Name → Pick → Type 0
@@ -101,22 +105,30 @@ pub record Before : Type 0 where
 
 -- The pick for a designator.
 abbrev pub next_pick : Bench → Before → Name → Option Pick
-next_pick bench before d = pick_for bench.slot_of bench.tape bench.pieces bench.machine bench.board before.picks d
+next_pick bench before d =
+    pick_for bench.slot_of bench.tape bench.pieces bench.machine bench.board before.picks d
 
 -- The fault of a designator.
 abbrev pub next_refusal : Bench → Before → Name → Option Refusal
 next_refusal bench before d =
-    designator_refusal d (bench.slot_of d) (list_any (same d) before.designators) (bench.placed d) (next_pick bench before d)
+    designator_refusal d (bench.slot_of d) (list_any (same d) before.designators) (bench.placed d)
+    (next_pick bench before d)
 
 -- The piece as a pick for a designator.
 abbrev pub pick_of : Bench → Name → Feeder → Pick
-pick_of bench d piece = record { reel = piece.reel; quantity = 1; purpose = Placed bench.board d bench.machine piece.slot }
+pick_of bench d piece = record {
+  reel = piece.reel;
+  quantity = 1;
+  purpose = Placed bench.board d bench.machine piece.slot;
+}
 
 -- The result of one designator.
-abbrev pub IsPlacing : Bench → Before → Name → Result Feeder Refusal → BTreeMap Name Feed → BTreeSet Name → Type 0
+abbrev pub IsPlacing : Bench → Before → Name → Result Feeder Refusal → BTreeMap Name Feed
+    → BTreeSet Name → Type 0
 IsPlacing bench before d (Ok piece) feeds seen =
     (next_refusal bench before d ≡ None)
     × (next_pick bench before d ≡ Some (pick_of bench d piece))
-    × IsFeeding bench.live bench.pieces bench.reels (before.picks ++ pick_of bench d piece ∷ []) feeds
+    × IsFeeding bench.live bench.pieces bench.reels
+    (before.picks ++ pick_of bench d piece ∷ []) feeds
     × HasSeen seen (before.designators ++ d ∷ [])
 IsPlacing bench before d (Err r) feeds seen = next_refusal bench before d ≡ Some r

@@ -60,7 +60,8 @@ pub fn picks_of_counts<F: Facts>(
     rows: &[CountRow],
 ) -> Result<Result<Listing<Pick>, Refusal>, AllocError>
     ensures { (H : History) → F.Stands facts.now H
-        → IfOk result (IsPicked (counts_refusal rules H [] rows.now) (count_picks (left_of H) rows.now)) }
+        → IfOk result (IsPicked (counts_refusal rules H [] rows.now)
+        (count_picks (left_of H) rows.now)) }
 {
     let mut seen = BTreeSet::new(alloc);
     let mut picks = Vec::new(alloc);

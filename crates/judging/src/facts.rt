@@ -38,7 +38,8 @@ pub trait Facts {
     /// A law, without code: a slot's live reels are those of `reels_on` with pieces left.
     fn tells_live(&self)
         ensures { (H : History) (machine slot : Name) → Stands self.now H
-            → filter (λ reel. nat_lt 0 (left_of H reel)) (reels_on self.now machine slot) ≡ live_on H machine slot };
+            → filter (λ reel. nat_lt 0 (left_of H reel)) (reels_on self.now machine slot)
+            ≡ live_on H machine slot };
 
     /// Returns the desk minute, or none for an empty history.
     fn minute(&self) -> Option<Minute>
@@ -46,7 +47,8 @@ pub trait Facts {
 
     /// Returns the defined parts.
     fn parts(&self) -> &Parts
-        ensures { (H : History) (part : Name) → Stands self.now H → is_among result.now part ≡ is_part H part };
+        ensures { (H : History) (part : Name) → Stands self.now H
+            → is_among result.now part ≡ is_part H part };
 
     /// Returns the named alternates.
     fn alternates(&self) -> &Alternates
@@ -58,12 +60,14 @@ pub trait Facts {
 
     /// Returns the product's last sheet on the machine.
     fn sheet_of(&self, product: &Id, machine: &Id) -> Option<&SheetRows>
-        ensures { (H : History) → Stands self.now H → option_copied result ≡ sheet_of H product.now machine.now };
+        ensures { (H : History) → Stands self.now H
+            → option_copied result ≡ sheet_of H product.now machine.now };
 
     /// Returns the selected product's sheet with indexes, for callers with many lookups, if the
     /// facts store it. None doesn't mean that there is no sheet.
     fn look_ups_on(&self, machine: &Id) -> Option<&Sheet>
-        ensures { (H : History) → Stands self.now H → IsSome result → option_copied result ≡ sheet_on H machine.now }
+        ensures { (H : History) → Stands self.now H → IsSome result
+            → option_copied result ≡ sheet_on H machine.now }
     {
         let _ = machine;
         None
@@ -71,11 +75,13 @@ pub trait Facts {
 
     /// Returns the slot's row in the selected product's sheet.
     fn row_on(&self, machine: &Id, slot: &Id) -> Option<&SheetRow>
-        ensures { (H : History) → Stands self.now H → option_copied result ≡ row_on H machine.now slot.now };
+        ensures { (H : History) → Stands self.now H
+            → option_copied result ≡ row_on H machine.now slot.now };
 
     /// Returns the designator's slot in the selected product's sheet.
     fn slot_on(&self, machine: &Id, designator: &Designator) -> Option<Id>
-        ensures { (H : History) → Stands self.now H → result ≡ slot_on H machine.now designator.now };
+        ensures { (H : History) → Stands self.now H
+            → result ≡ slot_on H machine.now designator.now };
 
     /// Returns the reel, or none if it wasn't received. Its piece counts may be out of date: use
     /// `left_of`.
@@ -113,7 +119,8 @@ pub trait Facts {
     /// Returns the designators placed on the board in order, for callers with many lookups, if the
     /// facts store them. None doesn't mean that none is placed.
     fn placed_on(&self, board: &Id) -> Option<&[Designator]>
-        ensures { (H : History) → Stands self.now H → IfSome result (λ names. ArePlacedOn H board.now names.now) }
+        ensures { (H : History) → Stands self.now H
+            → IfSome result (λ names. ArePlacedOn H board.now names.now) }
     {
         let _ = board;
         None
@@ -121,5 +128,6 @@ pub trait Facts {
 
     /// Returns whether the designator is placed on the board.
     fn is_placed_on(&self, board: &Id, designator: &Designator) -> bool
-        ensures { (H : History) → Stands self.now H → result ≡ is_placed_on H board.now designator.now };
+        ensures { (H : History) → Stands self.now H
+            → result ≡ is_placed_on H board.now designator.now };
 }

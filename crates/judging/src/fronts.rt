@@ -29,9 +29,10 @@ fn front_at<F: Facts>(facts: &F, minute: Minute, machine: &Id, slot: &Id) -> Opt
     facts.is_judged();
     let name = front(facts, machine, slot)?;
     let found = facts.reel(&name)?;
+    let row = found.row;
     Some(FrontReel {
         reel: name,
-        part: found.part,
+        part: row.part,
         life: life(&found, found.not_before(minute)),
     })
 }
@@ -39,7 +40,8 @@ fn front_at<F: Facts>(facts: &F, minute: Minute, machine: &Id, slot: &Id) -> Opt
 /// Returns the slots of the selected product's sheet in order, each with its front reel at the desk
 /// minute.
 pub fn fronts<F: Facts>(alloc: Global, facts: &F, machine: &Id) -> Result<Fronts, AllocError>
-    ensures { (H : History) → F.Stands facts.now H → IfOk result (λ fronts. fronts ≡ fronts_of H machine.now) }
+    ensures { (H : History) → F.Stands facts.now H
+        → IfOk result (λ fronts. fronts ≡ fronts_of H machine.now) }
 {
     let mut fronts = Vec::new(alloc);
     let Some(minute) = facts.minute() else {

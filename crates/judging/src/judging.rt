@@ -84,7 +84,8 @@ fn command_picks<F: Facts>(
 ) -> Result<Result<Listing<Pick>, Refusal>, AllocError>
     requires { IsBy F.Stands facts.now minute }
     ensures { (H : History) → F.Stands facts.now H
-        → IfOk result (IsPicked (command_refusal rules H minute command.now) (picks_of H command.now)) }
+        → IfOk result (IsPicked (command_refusal rules H minute command.now)
+        (picks_of H command.now)) }
 {
     match command {
         Command::MaterialsInstalled {

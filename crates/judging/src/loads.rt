@@ -16,7 +16,8 @@ use setup_sheets::allowed;
 #[tactic(auto, unfolding(crate::specs::Feeding::reel_refusal))]
 fn reel_refusal<F: Facts>(facts: &F, minute: Minute, row: &SheetRow, reel: &Id) -> Option<Refusal>
     requires { IsBy F.Stands facts.now minute }
-    ensures { (H : History) → F.Stands facts.now H → result ≡ reel_refusal H minute row.now reel.now }
+    ensures { (H : History) → F.Stands facts.now H
+        → result ≡ reel_refusal H minute row.now reel.now }
 {
     let Some(found) = facts.reel(reel) else {
         return Some(Refusal::UnknownReel(*reel));
@@ -27,7 +28,7 @@ fn reel_refusal<F: Facts>(facts: &F, minute: Minute, row: &SheetRow, reel: &Id) 
     if facts.left_of(reel) == 0 {
         return Some(Refusal::ReelEmpty(*reel));
     }
-    if !allowed(facts.alternates(), &row.part, &found.part) {
+    if !allowed(facts.alternates(), &row.part, &found.row.part) {
         return Some(Refusal::WrongPart(*reel));
     }
     if found.is_unbaked() {
@@ -50,7 +51,8 @@ fn mounting_refusal<F: Facts>(
     slot_refusal: Option<Refusal>,
 ) -> Option<Refusal>
     requires { IsBy F.Stands facts.now minute }
-    ensures { (H : History) (test : Bool × Refusing) → F.Stands facts.now H → slot_refusal ≡ first_refusal (test ∷ [])
+    ensures { (H : History) (test : Bool × Refusing) → F.Stands facts.now H
+        → slot_refusal ≡ first_refusal (test ∷ [])
         → result ≡ mounting_refusal H minute machine.now slot.now reel.now test }
 {
     if facts.selected_on(machine).is_none() {

@@ -61,7 +61,8 @@ fn later_reel<F: Facts>(facts: &F, machine: &Id, slot: &Id, past: usize) -> Opti
         ≡ option_map_or
         (λ (feed : Feeding). feed.reel ∷ live_past (left_of H)
         (F.reels_on facts.now machine.now slot.now) feed.passed) result [] }
-    ensures pieces { (H : History) → F.Stands facts.now H → IfSome result (λ feed. feed.pieces ≡ left_of H feed.reel) }
+    ensures pieces { (H : History) → F.Stands facts.now H
+        → IfSome result (λ feed. feed.pieces ≡ left_of H feed.reel) }
     ensures some { IfSome result (λ feed. 0 < feed.pieces) }
 {
     for place in past..facts.reel_count(machine, slot) {
@@ -88,7 +89,8 @@ pub fn next_reel<F: Facts>(facts: &F, machine: &Id, slot: &Id, past: usize) -> O
         ≡ option_map_or
         (λ (feed : Feeding). feed.reel ∷ live_past (left_of H)
         (F.reels_on facts.now machine.now slot.now) feed.passed) result [] }
-    ensures pieces { (H : History) → F.Stands facts.now H → IfSome result (λ feed. feed.pieces ≡ left_of H feed.reel) }
+    ensures pieces { (H : History) → F.Stands facts.now H
+        → IfSome result (λ feed. feed.pieces ≡ left_of H feed.reel) }
     ensures some { IfSome result (λ feed. 0 < feed.pieces) }
 {
     if past == usize::MAX {
@@ -114,11 +116,14 @@ fn take_piece<F: Facts>(
     slot: &Id,
 ) -> Result<Option<Id>, AllocError>
     ensures front { (H : History) (picks : List Picking) → F.Stands facts.now H
-        → IsFeeding (live_on H machine.now) (left_of H) (F.reels_on facts.now machine.now) picks feeds.old
+        → IsFeeding (live_on H machine.now) (left_of H)
+        (F.reels_on facts.now machine.now) picks feeds.old
         → IfOk result
-        (λ reel. reel ≡ find (λ r. nat_lt (pieces_picked picks r) (left_of H r)) (tape_of H machine.now slot.now)) }
+        (λ reel. reel ≡ find (λ r. nat_lt (pieces_picked picks r) (left_of H r))
+        (tape_of H machine.now slot.now)) }
     ensures feeds { (H : History) (picks : List Picking) (p : Picking) → F.Stands facts.now H
-        → IsFeeding (live_on H machine.now) (left_of H) (F.reels_on facts.now machine.now) picks feeds.old
+        → IsFeeding (live_on H machine.now) (left_of H)
+        (F.reels_on facts.now machine.now) picks feeds.old
         → IfOk result (λ reel. IsOnePiece reel p
         → IsFeeding (live_on H machine.now) (left_of H) (F.reels_on facts.now machine.now)
         (picks ++ p ∷ []) feeds.new) }
@@ -150,7 +155,8 @@ fn slot_for<F: Facts>(
     machine: &Id,
     designator: &Designator,
 ) -> Option<Id>
-    requires { (H : History) → F.Stands facts.now H → IsSome sheet → option_copied sheet ≡ sheet_on H machine.now }
+    requires { (H : History) → F.Stands facts.now H → IsSome sheet
+        → option_copied sheet ≡ sheet_on H machine.now }
     ensures { (H : History) → F.Stands facts.now H → result ≡ slot_on H machine.now designator.now }
 {
     match sheet {
@@ -165,8 +171,10 @@ fn has_placed<F: Facts>(
     board: &Id,
     designator: &Designator,
 ) -> bool
-    requires { (H : History) → F.Stands facts.now H → IfSome placed (λ names. ArePlacedOn H board.now names.now) }
-    ensures { (H : History) → F.Stands facts.now H → result ≡ is_placed_on H board.now designator.now }
+    requires { (H : History) → F.Stands facts.now H
+        → IfSome placed (λ names. ArePlacedOn H board.now names.now) }
+    ensures { (H : History) → F.Stands facts.now H
+        → result ≡ is_placed_on H board.now designator.now }
 {
     match placed {
         Some(names) => names.binary_search(designator).is_ok(),
@@ -193,13 +201,16 @@ fn place<F: Facts>(
 ) -> Result<Result<Feeder, Refusal>, AllocError>
     requires look_ups { (H : History) → F.Stands facts.now H → IsSome sheet
         → option_copied sheet ≡ sheet_on H machine.now }
-    requires names { (H : History) → F.Stands facts.now H → IfSome placed (λ names. ArePlacedOn H board.now names.now) }
+    requires names { (H : History) → F.Stands facts.now H
+        → IfSome placed (λ names. ArePlacedOn H board.now names.now) }
     ensures { (H : History) (before : Before) → F.Stands facts.now H
-        → IsFeeding (live_on H machine.now) (left_of H) (F.reels_on facts.now machine.now) before.picks feeds.old
+        → IsFeeding (live_on H machine.now) (left_of H)
+        (F.reels_on facts.now machine.now) before.picks feeds.old
         → HasSeen seen.old before.designators
         → IfOk result
         (λ placing. IsPlacing
-        (bench_of (F.reels_on facts.now) H machine.now board.now) before designator.now placing feeds.new seen.new) }
+        (bench_of (F.reels_on facts.now) H machine.now board.now) before designator.now
+        placing feeds.new seen.new) }
 {
     let Some(slot) = slot_for(facts, sheet, machine, designator) else {
         return Ok(Err(Refusal::DesignatorNotOnSheet(Id::from(*designator))));

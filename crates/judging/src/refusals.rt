@@ -21,7 +21,8 @@ pub fn part_refusal<F: Facts>(facts: &F, part: &Id) -> Option<Refusal>
 
 #[tactic(auto, unfolding(desk_types::specs::Refusals::alternate_refusal))]
 pub fn alternate_refusal<F: Facts>(facts: &F, part: &Id, alternate: &Id) -> Option<Refusal>
-    ensures { (H : History) → F.Stands facts.now H → result ≡ alternate_refusal H part.now alternate.now }
+    ensures { (H : History) → F.Stands facts.now H
+        → result ≡ alternate_refusal H part.now alternate.now }
 {
     if !facts.parts().has(part) {
         return Some(Refusal::UnknownPart(*part));
@@ -34,7 +35,8 @@ pub fn alternate_refusal<F: Facts>(facts: &F, part: &Id, alternate: &Id) -> Opti
 
 #[tactic(auto, unfolding(desk_types::specs::Refusals::selection_refusal))]
 pub fn selection_refusal<F: Facts>(facts: &F, machine: &Id, product: &Id) -> Option<Refusal>
-    ensures { (H : History) → F.Stands facts.now H → result ≡ selection_refusal H machine.now product.now }
+    ensures { (H : History) → F.Stands facts.now H
+        → result ≡ selection_refusal H machine.now product.now }
 {
     if facts.sheet_of(product, machine).is_none() {
         return Some(Refusal::UnknownSheet(*product));
@@ -90,7 +92,8 @@ pub fn is_vacant<F: Facts>(facts: &F, machine: &Id, slot: &Id) -> bool
 
 #[tactic(auto, unfolding(desk_types::specs::Refusals::unload_refusal))]
 pub fn unload_refusal<F: Facts>(facts: &F, machine: &Id, slot: &Id) -> Option<Refusal>
-    ensures { (H : History) → F.Stands facts.now H → result ≡ unload_refusal H machine.now slot.now }
+    ensures { (H : History) → F.Stands facts.now H
+        → result ≡ unload_refusal H machine.now slot.now }
 {
     if is_vacant(facts, machine, slot) {
         return Some(Refusal::SlotEmpty(*slot));
@@ -100,7 +103,8 @@ pub fn unload_refusal<F: Facts>(facts: &F, machine: &Id, slot: &Id) -> Option<Re
 
 #[tactic(auto, unfolding(desk_types::specs::Refusals::completion_refusal))]
 pub fn completion_refusal<F: Facts>(facts: &F, machine: &Id, board: &Id) -> Option<Refusal>
-    ensures { (H : History) → F.Stands facts.now H → result ≡ completion_refusal H machine.now board.now }
+    ensures { (H : History) → F.Stands facts.now H
+        → result ≡ completion_refusal H machine.now board.now }
 {
     if !is_in_work_on(facts, machine, board) {
         return Some(Refusal::NotInWork(*board));

@@ -49,7 +49,8 @@ fn scrap<F: Facts>(
 ) -> Result<Scrapping, AllocError>
     ensures { (H : History) → F.Stands facts.now H
         → IfOk result
-        (IsScrapped (left_of H) (Rejected machine.now slot.now) (F.reels_on facts.now machine.now slot.now) quantity) }
+        (IsScrapped (left_of H) (Rejected machine.now slot.now)
+        (F.reels_on facts.now machine.now slot.now) quantity) }
 {
     let mut picks = Vec::new(alloc);
     let mut wanting = quantity;

@@ -18,7 +18,8 @@ pub fn sheet_on<'a, F: Facts>(facts: &'a F, machine: &Id) -> Option<&'a SheetRow
 }
 
 pub fn is_in_work_on<F: Facts>(facts: &F, machine: &Id, board: &Id) -> bool
-    ensures { (H : History) → F.Stands facts.now H → result ≡ is_in_work_on H machine.now board.now }
+    ensures { (H : History) → F.Stands facts.now H
+        → result ≡ is_in_work_on H machine.now board.now }
 {
     match facts.in_work_on(machine) {
         Some(other) => *board == other,

@@ -23,7 +23,8 @@ fn slots_refusal<F: Facts>(
     requires { IsBy F.Stands facts.now minute }
     ensures { (H : History) → F.Stands facts.now H
         → IfOk result
-        (λ refusal. refusal ≡ slots_refusal H minute machine.now (unwrap_or (sheet_on H machine.now) [])) }
+        (λ refusal. refusal ≡ slots_refusal H minute machine.now
+        (unwrap_or (sheet_on H machine.now) [])) }
 {
     facts.is_judged();
     let Some(rows) = sheet_on(facts, machine) else {

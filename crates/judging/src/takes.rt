@@ -11,7 +11,6 @@ ghost use Rattle.judging.specs.Facts.{IsBy};
 
 use crate::facts::Facts;
 use desk_types::{Id, IdList, Listing, Minute, Pick, Take, Takes};
-use entry_search::totals::is_placed;
 use reels::Reel;
 use std::alloc::{AllocError, Global};
 
@@ -25,11 +24,11 @@ fn put_take(
     ensures { (H : History) → StandsFor H pick.now.reel reel.now
         → OnOk result (takes.new.items ≡ takes.old.items ++ take_of H minute pick.now ∷ []) }
 {
-    let overdue = is_placed(&pick.purpose) && reel.is_expired(minute);
+    let overdue = pick.purpose.is_placed() && reel.is_expired(minute);
     takes.push(Take {
         reel: pick.reel,
-        part: reel.part,
-        lot: reel.lot,
+        part: reel.row.part,
+        lot: reel.row.lot,
         quantity: pick.quantity,
         purpose: pick.purpose,
         overdue,
@@ -45,7 +44,8 @@ pub fn takes_for<F: Facts>(
     picks: &[Pick],
 ) -> Result<Takes, AllocError>
     requires { IsBy F.Stands facts.now minute }
-    ensures { (H : History) → F.Stands facts.now H → AllByRecursion (λ (p : Picking). IsKnownReel H p.reel) picks.now
+    ensures { (H : History) → F.Stands facts.now H
+        → AllByRecursion (λ (p : Picking). IsKnownReel H p.reel) picks.now
         → IfOk result (λ takes. takes ≡ map (take_of H minute) picks.now) }
 {
     let mut takes = Vec::with_capacity(alloc, picks.len())?;

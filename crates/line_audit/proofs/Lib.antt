@@ -2,8 +2,10 @@ pub mod EntriesOfSets
 pub mod LookUpsByKey
 pub mod MatchedEntries
 pub mod Members
+pub mod PlacementEnds
 pub mod PlacementsAsExpected
 pub mod PlacementsFound
+pub mod RowidRanges
 pub mod SameRows
 pub mod Texts
 pub mod Verdicts

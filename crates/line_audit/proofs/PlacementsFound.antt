@@ -1,11 +1,13 @@
 -- Placements that are looked up, and those that a query shows.
-use Rattle.std.proofs.Common.{◌≡◌, ◌∙◌, ◌⊎◌, ◌&&◌, inl, inr, ℕ, ◌+◌, ◌<◌, IsTrue, Bool, true, false, List, [], ◌∷◌, codes, length, map, filter, take, get_or, if◌then◌else◌, refl, sym, ap, ap₂, subst, arith, true≢false}
+use Rattle.std.proofs.Common.{◌≡◌, ◌∙◌, ◌⊎◌, ◌&&◌, inl, inr, ℕ, pos, ◌+◌, ◌<◌, ◌≤◌, IsTrue, Bool, true, false, Some, List, [], ◌∷◌, codes, length, map, filter, take, get_or, if◌then◌else◌, refl, sym, ap, ap₂, subst, arith, true≢false}
 use Rattle.std.specs.List.{AllByRecursion}
 use Rattle.std.specs.List.Sorted.{IsPermutation}
 use Rattle.std.proofs.lemmas.List.Elements.{All-from_recursion, recursion_from_All}
-use Rattle.std.proofs.lemmas.List.Sorted.{All-permutation}
+use Rattle.std.proofs.lemmas.List.{length-map}
+use Rattle.std.proofs.lemmas.List.Sorted.{All-permutation, length_permutation}
 use Rattle.sqlite_rules.specs.Lists.{Has}
-use Rattle.sqlite_value.specs.Order.{Row}
+use Rattle.sqlite.specs.declared.types.Value.TheVariants.{Int}
+use Rattle.sqlite_value.specs.Order.{Row, column}
 use Rattle.sqlite.specs.Collation.TheVariants.{Binary}
 use Rattle.sqlite_sql.specs.declared.ops.BinaryOp.TheVariants.{Compare}
 use Rattle.sqlite_sql.specs.declared.ops.CompareOp.TheVariants.{Ge, Lt}
@@ -21,12 +23,13 @@ use Rattle.line_tables.specs.Line as line
 use Rattle.line_tables.specs.Calls.{Selects, Reads}
 use Rattle.line_tables.specs.StateRows.{rows_in, columns, has_text, has_piece, placement_columns}
 use Rattle.line_tables.proofs.FindTexts.{IsSelect, rows_from}
-use Rattle.line_tables.proofs.Finds.{answer_of, rows_answer, shown_of}
+use Rattle.line_tables.proofs.Finds.{answer_of, rows_answer, shown_of, shown_is, whole}
 use Rattle.line_tables.proofs.Keyed.{own_text}
 use Rattle.line_tables.proofs.Between.{placement_places, shown-in}
 use Rattle.line_audit.specs.Alone.{AreAlone}
 use Rattle.line_audit.specs.Audit.{ArePlaced, piece_of}
-use Rattle.line_audit.specs.Placed.{has_placement, AreHere}
+use Rattle.line_audit.specs.Placed.{has_placement, AreHere, is_from, HasMoreBefore, IsRange}
+use Rattle.line_audit.proofs.RowidRanges.{range_is, in_range, range_more}
 
 -- ---- rows that a query shows are in its table
 
@@ -44,16 +47,25 @@ here_of : (db : Database) (ps : List PlacementRow) → AllByRecursion (Has (rows
 here_of db [] h = tt
 here_of db (p ∷ ps) h = (h.0, here_of db ps h.1)
 
-pub run_here : {S : Type 0} (g : Ghosts S) (old : Held S) (params : Row) (shown : List Row) (ps : List PlacementRow) (b : Bool) → Selects g select_run params old shown → (IsTrue b → shown ≡ map placement_columns ps) → Reads (state g old) (λ db. IsTrue b → AreHere db ps)
-run_here g old params shown ps b h same = record {
+-- If the query shows just these rows, they are all that the range has.
+pub run_range : {S : Type 0} (g : Ghosts S) (old : Held S) (first end : ℕ) (shown : List Row) (ps : List PlacementRow) → first ≤ end → Selects g select_run (Int (pos first) ∷ Int (pos end) ∷ []) old shown → shown ≡ map placement_columns ps
+    → Reads (state g old) (λ db. IsRange db first end ps)
+run_range g old first end shown ps low h same = record {
   was_open = h.was_open;
-  are = λ schema is.
+  are = λ schema.
       let q = rows_from 17 run_test placement_places in
+      let params = Int (pos first) ∷ Int (pos end) ∷ [] in
       let db = (state g old).committed in
-      let rows : IsPermutation (shown_of q params (db.trees 17)) shown = rows_answer 17 run_test placement_places (overlay db.trees []) params shown (answer_of g select_run q _ run_is params old shown h schema) in
-      let inside = shown-in q params (columns line.placement) (λ r. refl) (db.trees 17) in
+      let kept = db.trees 17 in
+      let rows : IsPermutation (shown_of q params kept) shown = rows_answer 17 run_test placement_places (overlay db.trees []) params shown (answer_of g select_run q _ run_is params old shown h schema) in
+      let inside = shown-in q params (columns line.placement) (λ r. refl) kept in
       let all = recursion_from_All (Has (rows_in line.placement db)) shown (All-permutation (Has (rows_in line.placement db)) _ shown rows (All-from_recursion _ _ inside)) in
-      here_of db ps (subst (AllByRecursion (Has (rows_in line.placement db))) (same is) all);
+      let passed = shown_is q params (λ r. r) (columns line.placement) (in_range first end) (λ r. range_is (column r 0) first end) (λ r. refl) kept in
+      let many : length ps ≡ length (filter (in_range first end) kept) = sym (length-map ps placement_columns) ∙ ap length (sym same) ∙ length_permutation _ _ rows ∙ ap length passed ∙ length-map _ (columns line.placement) ∙ ap (λ (l : List Row). length (filter (in_range first end) l)) (whole kept) in
+      record {
+        here = here_of db ps (subst (AllByRecursion (Has (rows_in line.placement db))) same all);
+        counted = range_more first end low kept ∙ ap (λ n. n + length (filter (is_from end) kept)) (sym many);
+      };
 }
 
 -- ---- rows that are looked up
@@ -115,3 +127,7 @@ one_missing db ps i d n other = record {
   here = λ e. absurd (true≢false (sym e));
   missing = λ _ alone. other (looked_alone (get_or ps i d) (rows_in line.placement db) (alone_at (rows_in line.placement db) ps i d n alone));
 }
+
+-- If so many rows come before the range, all of these come before its end.
+pub more_before : (db : Database) (first end : ℕ) (ps : List PlacementRow) → IsRange db first end ps → HasMoreBefore (Some first) (Some end) (length ps) db
+more_before db first end ps range count before = omega (arith, before, range.counted)

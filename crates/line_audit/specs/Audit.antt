@@ -13,7 +13,9 @@ use Rattle.line_tables.specs.Line.{IsOurs}
 use Rattle.line_tables.specs.StateRows.{AreRows, rows_in, has_piece, placement_columns, HoldsParts, HoldsAlternates, HoldsSheets, HoldsSelected, HoldsReels, HoldsMounts, HoldsBoards, HoldsPlacements, HoldsFound}
 use Rattle.line_audit.specs.declared.table.StateTable.{StateTable}
 use Rattle.line_audit.specs.declared.table.StateTable.TheVariants.{Part, Alternate, SheetRow, Selected, Reel, Mount, Board, Placement, Found}
+use Rattle.line_audit.specs.declared.auditing.Placed.{Placed}
 use Rattle.line_audit.specs.Alone.{Listed, AreAlone}
+use Rattle.line_audit.specs.Placed.{HasBefore}
 
 -- Only rules Two have the table of found pieces.
 abbrev pub found_table : Rules → List StateTable
@@ -22,7 +24,8 @@ found_table Two = Found ∷ []
 
 -- The tables of the rules, in the order of an audit.
 abbrev pub state_tables : Rules → List StateTable
-state_tables rules = Part ∷ Alternate ∷ SheetRow ∷ Selected ∷ Reel ∷ Mount ∷ Board ∷ Placement ∷ found_table rules
+state_tables rules = Part ∷ Alternate ∷ SheetRow ∷ Selected ∷ Reel ∷ Mount ∷ Board
+    ∷ Placement ∷ found_table rules
 
 -- The rows of one table are those of its map.
 abbrev pub HoldsTable : Database → StateTables → StateTable → Type 0
@@ -37,7 +40,8 @@ HoldsTable db t Placement = HoldsPlacements db t
 HoldsTable db t Found = HoldsFound db t
 
 -- Among the audited tables, this is the first whose rows differ from those of its map.
-pub record IsFirstWrong (tables : List StateTable) (db : Database) (t : StateTables) (table : StateTable) : Type 0 where
+pub record IsFirstWrong (tables : List StateTable) (db : Database) (t : StateTables)
+    (table : StateTable) : Type 0 where
   pub before : List StateTable
   pub after : List StateTable
   pub place : tables ≡ before ++ table ∷ after
@@ -59,8 +63,10 @@ AreByPiece es = AllByRecursion (λ e. e.0 ≡ (e.1.number, e.1.place)) es
 
 -- If all were found, each row is in the table. Otherwise some row is not the one of its number and place.
 pub record ArePlaced (db : Database) (all : Bool) (es : Pieces) : Type 0 where
-  pub here : IsTrue all → AllByRecursion (λ e. Has (rows_in line.placement db) (placement_columns e.1)) es
-  pub missing : all ≡ false → AreAlone has_piece (λ _ row. placement_columns row) (rows_in line.placement db) es → ⊥
+  pub here : IsTrue all → AllByRecursion
+      (λ e. Has (rows_in line.placement db) (placement_columns e.1)) es
+  pub missing : all ≡ false
+      → AreAlone has_piece (λ _ row. placement_columns row) (rows_in line.placement db) es → ⊥
 
 -- The tables with these placements.
 abbrev pub with_placements : (ℕ × ℕ → Option PlacementRow) → StateTables → StateTables
@@ -68,15 +74,20 @@ with_placements f t = record t { placements = λ number place. f (number, place)
 
 -- The rows of `placement` are those of the map.
 abbrev pub HasPlacements : Database → (ℕ × ℕ → Option PlacementRow) → Type 0
-HasPlacements db f = AreRows has_piece (λ _ row. placement_columns row) (rows_in line.placement db) f
+HasPlacements db f = AreRows has_piece
+    (λ _ row. placement_columns row) (rows_in line.placement db) f
 
 -- These are the expected placements, with their number and their map. If all were found, the committed contents have
--- them.
-pub record IsExpected (old : State) (all : Bool) (count : ℕ) (es : Pieces) (f : ℕ × ℕ → Option PlacementRow) : Type 0 where
+-- them, before the end if that is known.
+pub record IsExpected (old : State) (looked : Placed) (es : Pieces)
+    (f : ℕ × ℕ → Option PlacementRow) : Type 0 where
   pub listed : Listed es f
   pub pieces : AreByPiece es
-  pub counted : length es ≡ count
-  pub placed : IsTrue old.is_open → IsOurs old.committed.schema → ArePlaced old.committed all es
+  pub counted : length es ≡ looked.count
+  pub placed : IsTrue old.is_open → IsOurs old.committed.schema
+      → ArePlaced old.committed looked.all es
+  pub before : IsTrue old.is_open → IsOurs old.committed.schema
+      → HasBefore looked.end looked.count old.committed
 
 -- An entry for a row, by its number and its place.
 abbrev pub piece_of : PlacementRow → (ℕ × ℕ) × PlacementRow

@@ -11,7 +11,7 @@ ghost use Rattle.line_audit.specs.Alone.{Decides};
 ghost use Rattle.line_audit.specs.Audit.{Pieces, IsExpected, HasPlacements, HoldsTable, IsVerdict, state_tables, with_placements};
 
 use crate::compared::are_rows;
-use crate::shown::count;
+use crate::ends::count_placements;
 use crate::table::StateTable;
 use desk_types::Rules;
 use sqlite::{Alter, Connection, Error};
@@ -24,6 +24,8 @@ pub struct Placed {
     /// Whether each was found.
     pub all: bool,
     pub count: u64,
+    /// The rowid before which they are, and no other rows from rowid 0 on, if it is known.
+    pub end: Option<u64>,
 }
 
 /// The order of an audit. Rules One lack the last table, that of found pieces.
@@ -50,9 +52,10 @@ pub fn audit<S: Alter>(
 ) -> Result<Option<StateTable>, Error>
     ensures verdict { HasCleanDisk (state S.Store conn.new)
         → IfOk result (λ verdict. (f : ℕ × ℕ → Option PlacementRow) → (es : Pieces)
-        → IsExpected (state S.Store conn.old) placed.all placed.count es f
+        → IsExpected (state S.Store conn.old) placed es f
         → Reads (state S.Store conn.old)
-        (λ db. IsVerdict (state_tables rules) db (with_placements f (tables_in rows.now)) verdict)) }
+        (λ db. IsVerdict (state_tables rules) db
+        (with_placements f (tables_in rows.now)) verdict)) }
     ensures reads { ReadsOnly S.Store conn.old conn.new }
 {
     match rules {
@@ -71,7 +74,7 @@ fn audit_tables<S: Alter>(
     requires some { 0 < length tables.now }
     ensures verdict { HasCleanDisk (state S.Store conn.new)
         → IfOk result (λ verdict. (f : ℕ × ℕ → Option PlacementRow) → (es : Pieces)
-        → IsExpected (state S.Store conn.old) placed.all placed.count es f
+        → IsExpected (state S.Store conn.old) placed es f
         → Reads (state S.Store conn.old)
         (λ db. IsVerdict tables.now db (with_placements f (tables_in rows.now)) verdict)) }
     ensures reads { ReadsOnly S.Store conn.old conn.new }
@@ -93,8 +96,9 @@ fn is_same<S: Alter>(
 ) -> Result<bool, Error>
     ensures same { HasCleanDisk (state S.Store conn.new)
         → IfOk result (λ b. (f : ℕ × ℕ → Option PlacementRow) → (es : Pieces)
-        → IsExpected (state S.Store conn.old) placed.all placed.count es f
-        → Decides (λ db. HoldsTable db (with_placements f (tables_in rows.now)) table) (state S.Store conn.old) b) }
+        → IsExpected (state S.Store conn.old) placed es f
+        → Decides (λ db. HoldsTable db (with_placements f (tables_in rows.now)) table)
+        (state S.Store conn.old) b) }
     ensures reads { ReadsOnly S.Store conn.old conn.new }
 {
     match table {
@@ -114,10 +118,10 @@ fn is_same<S: Alter>(
 fn are_placements<S: Alter>(conn: &mut Connection<S>, placed: Placed) -> Result<bool, Error>
     ensures same { HasCleanDisk (state S.Store conn.new)
         → IfOk result (λ b. (f : ℕ × ℕ → Option PlacementRow) → (es : Pieces)
-        → IsExpected (state S.Store conn.old) placed.all placed.count es f
+        → IsExpected (state S.Store conn.old) placed es f
         → Decides (λ db. HasPlacements db f) (state S.Store conn.old) b) }
     ensures reads { ReadsOnly S.Store conn.old conn.new }
 {
-    let count = count(conn, StateTable::Placement)?;
+    let count = count_placements(conn, placed)?;
     Ok(placed.all && count == placed.count)
 }

@@ -26,7 +26,8 @@ pub fn are_rows<E: ExpectedRow, I: Iterator<Item = E>, S: Alter>(
     requires ends { IsFinite (I.remaining rows) }
     ensures same { HasCleanDisk (state S.Store conn.new)
         → IfOk result
-        (DecidesRows I.next_gives E.entry rows (table_of table) E.has E.columns (state S.Store conn.old)) }
+        (DecidesRows I.next_gives E.entry rows (table_of table) E.has E.columns
+        (state S.Store conn.old)) }
     ensures reads { ReadsOnly S.Store conn.old conn.new }
 {
     let mut left = count(conn, table)?;

@@ -37,6 +37,7 @@ pub trait ExpectedRow: Drop + Sized {
     /// Whether the table has exactly one row with its key, with its columns.
     fn is_alone<S: Alter>(self, alloc: Global, conn: &mut Connection<S>) -> Result<bool, Error>
         ensures found { HasCleanDisk (state S.Store conn.new)
-            → IfOk result (FindsEntry (table_of table) has columns (entry self) (state S.Store conn.old)) }
+            → IfOk result (FindsEntry (table_of table) has columns (entry self)
+            (state S.Store conn.old)) }
         ensures reads { ReadsOnly S.Store conn.old conn.new };
 }

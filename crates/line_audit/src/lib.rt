@@ -3,6 +3,7 @@
 
 mod auditing;
 mod compared;
+mod ends;
 mod expected;
 mod floor;
 mod pieces;

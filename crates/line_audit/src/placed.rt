@@ -20,7 +20,8 @@ use sqlite::{Alter, Connection, Error};
 pub fn has_placement<S: Alter>(conn: &mut Connection<S>, row: &PlacementRow) -> Result<bool, Error>
     ensures found { HasCleanDisk (state S.Store conn.new)
         → IfOk result
-        (FindsAlone line.placement (has_placement row.now) (placement_columns row.now) (state S.Store conn.old)) }
+        (FindsAlone line.placement (has_placement row.now) (placement_columns row.now)
+        (state S.Store conn.old)) }
     ensures reads { ReadsOnly S.Store conn.old conn.new }
 {
     shows_only(

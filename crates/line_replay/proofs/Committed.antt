@@ -13,6 +13,7 @@ use Rattle.line_tables.specs.Rows.{Holds, accepted_in}
 use Rattle.line_tables.specs.Calls.{Reads, has_number}
 use Rattle.line_tables.proofs.Keeps.{keeps_then}
 use Rattle.line_audit.specs.Audit.{ArePlaced}
+use Rattle.line_audit.specs.Placed.{HasBefore}
 use Rattle.line_rows.specs.Rows.{rows_of, ledger_tables}
 use Rattle.line_replay.specs.declared.fault.ReplayFault.{ReplayFault}
 use Rattle.line_replay.specs.declared.fault.ReplayFault.TheVariants.{NotLawful, Unavailable}
@@ -71,6 +72,7 @@ module _ {D : Type 0} (F : D → History → Type 0) (rules : Rules) (greatest :
       counted = taken.others.counted;
       told = λ clean schema.
           subst (λ (db : Database). ArePlaced db expected.placed.all taken.others.pieces) (same clean) (taken.others.told (early clean) (subst (λ (db : Database). IsOurs db.schema) (sym (same clean)) schema));
+      before = λ clean schema. subst (HasBefore expected.placed.end expected.placed.count) (same clean) (taken.others.before (early clean) (subst (λ (db : Database). IsOurs db.schema) (sym (same clean)) schema));
     };
   }
 

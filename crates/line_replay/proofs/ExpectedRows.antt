@@ -25,6 +25,7 @@ use Rattle.line_tables.specs.Line as line
 use Rattle.line_tables.specs.StateRows.{has_piece, rows_in, placement_columns}
 use Rattle.line_audit.specs.Alone.{Listed, IsNamed, AreAlone, IsNew as IsNewPiece}
 use Rattle.line_audit.specs.Audit.{Pieces, AreByPiece, ArePlaced, piece_of}
+use Rattle.line_audit.specs.Placed.{HasBefore, HasMoreBefore}
 use Rattle.line_rows.specs.Judging.{Lead}
 use Rattle.line_replay.specs.Expected.{Expected, placement_by, placements_by, AreKept, AreExpected, HoldsAsRead, ArePlacedToo, LooksUp, Adds}
 use Rattle.line_replay.proofs.ReadOfCommitted.{reads_back}
@@ -137,30 +138,31 @@ named_pieces : (rows : List PlacementRow) → AreByPiece (map piece_of rows)
 named_pieces [] = tt
 named_pieces (row ∷ rows) = (refl, named_pieces rows)
 
-placed_onto_all : (db : Database) (before after : Bool) (xs : List RowEdit) (es : Pieces) → ArePlacedToo db before after (placements_by xs) → ArePlaced db before es → ArePlaced db after (placed_onto xs es)
-placed_onto_all db before after xs es too was = record {
+placed_onto_all : (db : Database) (before : Placed) (after : Bool) (end : Option ℕ) (xs : List RowEdit) (es : Pieces) → ArePlacedToo db before after end (placements_by xs) → ArePlaced db before.all es → ArePlaced db after (placed_onto xs es)
+placed_onto_all db before after end xs es too was = record {
   here = λ is. let h = too.here is in (onto_all _ xs es).1 (was.here h.0, h.1.here refl);
   missing = λ not alone. let both = (onto_all _ xs es).0 alone in by not both (too.missing not);
 }
   where
     by : after ≡ false → AreAlone has_piece (λ _ row. placement_columns row) (rows_in line.placement db) es × AreAlone has_piece (λ _ row. placement_columns row) (rows_in line.placement db) (map piece_of (placements_by xs))
-        → (before ≡ false) ⊎ ArePlaced db false (map piece_of (placements_by xs)) → ⊥
+        → (before.all ≡ false) ⊎ ArePlaced db false (map piece_of (placements_by xs)) → ⊥
     by not both (inl b) = was.missing b both.0
     by not both (inr p) = p.missing refl both.1
 
 -- ---- the result
 
-pub too_false : (db : Database) (found : Bool) (rows : List PlacementRow) → found ≡ false → ArePlacedToo db found false rows
-too_false db found rows not = record { here = λ is. absurd cc; missing = λ _. inl not }
+pub too_false : (db : Database) (before : Placed) (rows : List PlacementRow) → before.all ≡ false → ArePlacedToo db before false None rows
+too_false db before rows not = record { here = λ is. absurd cc; missing = λ _. inl not; more = λ count was. tt }
 
-pub too_none : (db : Database) (found : Bool) (rows : List PlacementRow) → found ≡ true → length rows ≡ 0 → ArePlacedToo db found true rows
-too_none db found [] was none = record { here = λ is. (was, record { here = λ _. tt; missing = λ h. absurd cc }); missing = λ h. absurd cc }
-too_none db found (row ∷ rows) was none = absurd (omega (arith, none))
+pub too_none : (db : Database) (before : Placed) (rows : List PlacementRow) → before.all ≡ true → length rows ≡ 0 → ArePlacedToo db before true before.end rows
+too_none db before [] was none = record { here = λ is. (was, record { here = λ _. tt; missing = λ h. absurd cc }); missing = λ h. absurd cc; more = λ count has. subst (λ n. HasBefore before.end n db) (omega arith) has }
+too_none db before (row ∷ rows) was none = absurd (omega (arith, none))
 
-pub too_found : (db : Database) (found b : Bool) (rows : List PlacementRow) → found ≡ true → ArePlaced db b (map piece_of rows) → ArePlacedToo db found b rows
-too_found db found b rows was placed = record {
-  here = λ is. (was, subst (λ c. ArePlaced db c (map piece_of rows)) is placed);
-  missing = λ not. inr (subst (λ c. ArePlaced db c (map piece_of rows)) not placed);
+pub too_found : (db : Database) (before : Placed) (b : Bool) (end : Option ℕ) (rows : List PlacementRow) → before.all ≡ true → ArePlaced db b (map piece_of rows) × HasMoreBefore before.end end (length rows) db → ArePlacedToo db before b end rows
+too_found db before b end rows was placed = record {
+  here = λ is. (was, subst (λ c. ArePlaced db c (map piece_of rows)) is placed.0);
+  missing = λ not. inr (subst (λ c. ArePlaced db c (map piece_of rows)) not placed.0);
+  more = placed.1;
 }
 
 tells_first : (old mid : State) (P : Database → Type 0) → KeepsCommit old mid → HoldsAsRead mid P → IsOurs old.committed.schema → P old.committed
@@ -188,7 +190,7 @@ no_rows t is =
     by None p = refl
     by (Some m) p = cc
 
-pub none_expected : (Clean : Type 0) (db : Database) (rows : KeptRows) → unnumbered (tables_in rows) ≡ unnumbered (state_of []) → AreExpected Clean db (record { rows = rows; placed = record { all = true; count = 0 } }) []
+pub none_expected : (Clean : Type 0) (db : Database) (rows : KeptRows) → unnumbered (tables_in rows) ≡ unnumbered (state_of []) → AreExpected Clean db (record { rows = rows; placed = record { all = true; count = 0; end = Some 0 } }) []
 none_expected Clean db rows is = record {
   rows = no_rows (tables_in rows) is;
   pieces = [];
@@ -196,6 +198,7 @@ none_expected Clean db rows is = record {
   named = tt;
   counted = refl;
   told = λ clean schema. record { here = λ is. tt; missing = λ is. absurd cc };
+  before = λ clean schema. omega arith;
 }
 
 pub placements-next : (xs : List RowEdit) (i : ℕ) (x : RowEdit) (rows : List PlacementRow) (o : Option PlacementRow) → i < length xs → x ≡ get_or xs i x → rows ≡ placements_by (take i xs) → placement_by x ≡ o
@@ -223,5 +226,6 @@ expected_more Before After old mid edits b0 b1 H e early kept was lead adds =
       listed = subst (λ (t : Tables). Listed (placed_onto edits was.pieces) (pieces_in t)) lead.lead (listed_onto edits (state_of H) was.pieces lead.new was.listed);
       named = (onto_all _ edits was.pieces).1 (was.named, named_pieces (placements_by edits));
       counted = omega (arith, adds.placed.count, was.counted, onto_length edits was.pieces);
-      told = λ clean schema. placed_onto_all old.committed b0.placed.all b1.placed.all edits was.pieces (tells_first old mid _ (kept clean) (adds.placed.told clean) schema) (was.told (early clean) schema);
+      told = λ clean schema. placed_onto_all old.committed b0.placed b1.placed.all b1.placed.end edits was.pieces (tells_first old mid _ (kept clean) (adds.placed.told clean) schema) (was.told (early clean) schema);
+      before = λ clean schema. subst (λ n. HasBefore b1.placed.end n old.committed) (sym adds.placed.count) ((tells_first old mid _ (kept clean) (adds.placed.told clean) schema).more b0.placed.count (was.before (early clean) schema));
     }

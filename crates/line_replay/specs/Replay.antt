@@ -17,14 +17,17 @@ use Rattle.line_replay.specs.Listed.{IsAt, AreAt, StopsAt, AreRowsOf}
 use Rattle.line_replay.specs.Expected.{Expected, AreExpected, Adds}
 use Rattle.line_rows.specs.Judging.{GoesOn, Lead}
 use Rattle.desk_types.specs.Edits.{with_edits}
-use Rattle.state_rows.specs.Kept.{KeptRows, tables_in, but_placements}
+use Rattle.desk_types.specs.Tables.{tables_of}
+use Rattle.state_rows.specs.Kept.{KeptRows, tables_in, but_placements, unnumbered}
 use Rattle.desk_types.specs.declared.edit.RowEdit.{RowEdit}
 use Rattle.trace_lists.specs.declared.lists.TraceLists.{TraceLists}
 use Rattle.trace_lists.specs.Lists.{IsListed}
 
 -- The desk represents a judged history of this length, within the greatest number, and the expected rows are the
 -- history's. On a clean disk the history is lawful, and the committed rows of `accepted` are its rows.
-pub record IsReplayed {D : Type 0} (StandsFor : D → History → Type 0) (rules : Rules) (greatest : ℕ) (Clean : Type 0) (old : State) (desk : D) (expected : Expected) (count : ℕ) (H : History) : Type 0 where
+pub record IsReplayed {D : Type 0} (StandsFor : D → History → Type 0) (rules : Rules)
+    (greatest : ℕ) (Clean : Type 0) (old : State) (desk : D) (expected : Expected) (count : ℕ)
+    (H : History) : Type 0 where
   pub stands : StandsFor desk H
   pub judged : IsJudged rules H
   pub counted : length H ≡ count
@@ -34,7 +37,8 @@ pub record IsReplayed {D : Type 0} (StandsFor : D → History → Type 0) (rules
 
 -- The meaning of a fault for the committed rows.
 abbrev pub IsFaultOf : Rules → ℕ → State → ReplayFault → Type 0
-IsFaultOf rules greatest old (NotLawful n) = Reads old (λ db. StopsAt rules greatest (accepted_in db) n)
+IsFaultOf rules greatest old (NotLawful n) =
+    Reads old (λ db. StopsAt rules greatest (accepted_in db) n)
 IsFaultOf rules greatest old Unavailable = ⊤
 
 -- ---- during the replay
@@ -42,6 +46,13 @@ IsFaultOf rules greatest old Unavailable = ⊤
 -- A desk with its trace indexes represents a history if the desk does, and the indexes list it.
 abbrev pub StandsListed : {D : Type 0} → (D → History → Type 0) → D × TraceLists → History → Type 0
 StandsListed StandsFor it H = StandsFor it.0 H × IsListed it.1 H
+
+-- The desk and its trace indexes are those of an empty history, and so are the rows that it keeps.
+pub record IsFresh {D : Type 0} (StandsFor : D → History → Type 0) (desk : D) (lists : TraceLists)
+    (rows : KeptRows) : Type 0 where
+  pub stands : StandsFor desk []
+  pub listed : IsListed lists []
+  pub empty : unnumbered (tables_in rows) ≡ unnumbered (tables_of [])
 
 -- There is no row, or the least number is 1.
 abbrev pub IsNumbered : List Row → Type 0
@@ -55,16 +66,21 @@ pub record IsStuck (rules : Rules) (H : History) (rows : List Row) : Type 0 wher
 
 -- A row was taken with these edits of the state tables: the desk represents the history with its entry, and no row of a
 -- lower number has its UniqueID.
-pub record Accepts {D : Type 0} (StandsFor : D → History → Type 0) (rules : Rules) (Clean : Type 0) (old : State) (number : ℕ) (row : Row) (H : History) (desk : D) (edits : List RowEdit) (before after : KeptRows) : Type 0 where
+pub record Accepts {D : Type 0} (StandsFor : D → History → Type 0) (rules : Rules) (Clean : Type 0)
+    (old : State) (number : ℕ) (row : Row) (H : History) (desk : D) (edits : List RowEdit)
+    (before after : KeptRows) : Type 0 where
   pub entry : Entry
   pub stands : StandsFor desk (entry ∷ H)
   pub goes : GoesOn rules H row entry
   pub lead : Lead edits H entry
-  pub rows : tables_in after ≡ but_placements (with_edits edits (tables_in before)) (tables_in before)
-  pub first : Clean → Reads old (λ db. list_any (is_before entry.stamped.uid number) (accepted_in db) ≡ false)
+  pub rows : tables_in after
+      ≡ but_placements (with_edits edits (tables_in before)) (tables_in before)
+  pub first : Clean → Reads old
+      (λ db. list_any (is_before entry.stamped.uid number) (accepted_in db) ≡ false)
 
 -- One more entry is taken.
-pub record Takes {D : Type 0} (StandsFor : D → History → Type 0) (rules : Rules) (Clean : Type 0) (old : State) (H : History) (desk : D) (before after : Expected) : Type 0 where
+pub record Takes {D : Type 0} (StandsFor : D → History → Type 0) (rules : Rules) (Clean : Type 0)
+    (old : State) (H : History) (desk : D) (before after : Expected) : Type 0 where
   pub entry : Entry
   pub stands : StandsFor desk (entry ∷ H)
   pub next : IsNext rules H entry
@@ -74,13 +90,17 @@ pub record Takes {D : Type 0} (StandsFor : D → History → Type 0) (rules : Ru
   pub adds : Adds Clean old edits before after
 
 -- A row was taken, or there is no row of the next number, and the desk represents the history.
-abbrev pub Goes : {D : Type 0} → (D → History → Type 0) → Rules → Type 0 → State → History → Expected → D → Expected → Bool → Type 0
-Goes StandsFor rules Clean old H before desk after true = Takes StandsFor rules Clean old H desk before after
-Goes StandsFor rules Clean old H before desk after false = StandsFor desk H × (Clean → Reads old (λ db. filter (has_number (length H + 1)) (accepted_in db) ≡ [])) × (after ≡ before)
+abbrev pub Goes : {D : Type 0} → (D → History → Type 0) → Rules → Type 0 → State → History
+    → Expected → D → Expected → Bool → Type 0
+Goes StandsFor rules Clean old H before desk after true =
+    Takes StandsFor rules Clean old H desk before after
+Goes StandsFor rules Clean old H before desk after false = StandsFor desk H × (Clean
+    → Reads old (λ db. filter (has_number (length H + 1)) (accepted_in db) ≡ [])) × (after ≡ before)
 
 -- The desk represents a judged history of this length, and the expected rows are the history's. On a clean disk each
 -- entry has its row in our schema's table.
-pub record IsTaken {D : Type 0} (StandsFor : D → History → Type 0) (rules : Rules) (Clean : Type 0) (db : Database) (desk : D) (expected : Expected) (count : ℕ) (H : History) : Type 0 where
+pub record IsTaken {D : Type 0} (StandsFor : D → History → Type 0) (rules : Rules) (Clean : Type 0)
+    (db : Database) (desk : D) (expected : Expected) (count : ℕ) (H : History) : Type 0 where
   pub stands : StandsFor desk H
   pub judged : IsJudged rules H
   pub counted : length H ≡ count
@@ -89,8 +109,19 @@ pub record IsTaken {D : Type 0} (StandsFor : D → History → Type 0) (rules : 
 
 -- All numbers are taken, or there is no row of the next one.
 abbrev pub IsEnd : ℕ → State → ℕ → Type 0
-IsEnd greatest old count = (count ≡ greatest) ⊎ Reads old (λ db. filter (has_number (count + 1)) (accepted_in db) ≡ [])
+IsEnd greatest old count = (count ≡ greatest)
+    ⊎ Reads old (λ db. filter (has_number (count + 1)) (accepted_in db) ≡ [])
 
 -- The place where no entry continues a judged history whose entries have their rows.
 abbrev pub IsStop : Rules → ℕ → State → ℕ → Type 0
-IsStop rules greatest old n = (H : History) × IsJudged rules H × (length H + 1 ≡ n) × (n ≤ greatest) × Reads old (λ db. AreAt (accepted_in db) H × IsStuck rules H (accepted_in db))
+IsStop rules greatest old n = (H : History) × IsJudged rules H × (length H + 1 ≡ n) × (n ≤ greatest)
+    × Reads old (λ db. AreAt (accepted_in db) H × IsStuck rules H (accepted_in db))
+
+-- The rows up to this number were taken, within the greatest number: the desk represents their
+-- history. On a clean disk no row follows.
+pub record TakesAll {D : Type 0} (StandsFor : D → History → Type 0) (rules : Rules) (greatest : ℕ)
+    (Clean : Type 0) (old : State) (desk : D) (expected : Expected) (count : ℕ) : Type 0 where
+  pub history : History
+  pub within : count ≤ greatest
+  pub taken : IsTaken StandsFor rules Clean old.committed desk expected count history
+  pub ends : Clean → IsEnd greatest old count

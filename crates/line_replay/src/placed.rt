@@ -22,15 +22,16 @@ pub fn look_up<S: Alter>(
     edits: &[RowEdit],
 ) -> Result<(), ReplayFault>
     ensures ok { OnOk result
-        (LooksUp (HasCleanDisk (state S.Store conn.new)) (state S.Store conn.old) edits.now placed.old placed.new) }
+        (LooksUp (HasCleanDisk (state S.Store conn.new))
+        (state S.Store conn.old) edits.now placed.old placed.new) }
     ensures err { IfErr result (λ f. f ≡ Unavailable) }
     ensures reads { ReadsOnly S.Store conn.old conn.new }
 {
     let placements = placements_by(alloc, edits)?;
     let rows = placements.as_slice();
     let count = sum(placed.count, rows.len())?;
-    let all = are_found(conn, placed.all, number, rows)?;
-    *placed = Placed { all, count };
+    let (all, end) = are_found(conn, *placed, number, rows)?;
+    *placed = Placed { all, count, end };
     Ok(())
 }
 
@@ -69,20 +70,21 @@ fn sum(placed: u64, more: usize) -> Result<u64, ReplayFault>
 
 fn are_found<S: Alter>(
     conn: &mut Connection<S>,
-    found: bool,
+    before: Placed,
     number: u64,
     rows: &[PlacementRow],
-) -> Result<bool, ReplayFault>
+) -> Result<(bool, Option<u64>), ReplayFault>
     ensures told { HasCleanDisk (state S.Store conn.new)
-        → IfOk result (λ now. HoldsAsRead (state S.Store conn.old) (λ db. ArePlacedToo db found now rows.now)) }
+        → IfOk result (λ now. HoldsAsRead (state S.Store conn.old)
+        (λ db. ArePlacedToo db before now.0 now.1 rows.now)) }
     ensures err { IfErr result (λ f. f ≡ Unavailable) }
     ensures reads { ReadsOnly S.Store conn.old conn.new }
 {
-    if !found {
-        return Ok(false);
+    if !before.all {
+        return Ok((false, None));
     }
     if rows.is_empty() {
-        return Ok(true);
+        return Ok((true, before.end));
     }
-    Ok(has_placements(conn, number, rows)?)
+    Ok(has_placements(conn, before.end, number, rows)?)
 }

@@ -42,7 +42,8 @@ pub fn replay<S: Alter, D: KeepsRows + Drop>(
     requires bound { greatest ≤ MOST_ENTRIES }
     ensures list { IfOk result (λ r. (H : History)
         × IsReplayed D.Stands rules greatest (HasCleanDisk (state S.Store conn.new))
-        (state S.Store conn.old) r.desk (kept_with (D.kept_rows r.desk) r.placed) r.count H × IsListed r.lists H) }
+        (state S.Store conn.old) r.desk (kept_with (D.kept_rows r.desk) r.placed) r.count H
+        × IsListed r.lists H) }
     ensures rules { IfOk result (λ r. D.kept_rules r.desk ≡ rules) }
     ensures fault { HasCleanDisk (state S.Store conn.new)
         → IfErr result (IsFaultOf rules greatest (state S.Store conn.old)) }
@@ -76,10 +77,12 @@ pub fn rebuild<S: Alter, D: KeepsRows + Drop>(
     requires bound { greatest ≤ MOST_ENTRIES }
     ensures list { IfSome result (λ r. (H : History)
         × IsReplayed D.Stands rules greatest (HasCleanDisk (state S.Store conn.new))
-        (state S.Store conn.old) r.desk (kept_with (D.kept_rows r.desk) r.placed) r.count H × IsListed r.lists H) }
+        (state S.Store conn.old) r.desk (kept_with (D.kept_rows r.desk) r.placed) r.count H
+        × IsListed r.lists H) }
     ensures same { (G : History) → IsJudged rules G
         → (IsTrue (state S.Store conn.old).is_open
-        → Holds (state S.Store conn.old).committed (ledger_tables greatest G)) → HasCleanDisk (state S.Store conn.new)
+        → Holds (state S.Store conn.old).committed (ledger_tables greatest G))
+        → HasCleanDisk (state S.Store conn.new)
         → IfSome result (λ r. D.Stands r.desk G × (r.count ≡ length G) × IsListed r.lists G
         × AreKept (D.kept_rows r.desk) G) }
     ensures rules { IfSome result (λ r. D.kept_rules r.desk ≡ rules) }

@@ -1,6 +1,6 @@
 //! Rows taken one after another, by number.
 
-ghost use Rattle.std.specs.Prelude.{◌≡◌, ◌==◌, ◌+◌, ◌≤◌, ◌⊎◌, ⊤, ℕ, true, IfOk, IfErr, OnOk, [], ◌∷◌, length};
+ghost use Rattle.std.specs.Prelude.{◌≡◌, ◌==◌, ◌+◌, ◌≤◌, ◌⊎◌, ⊤, ℕ, true, IfOk, IfErr, OnOk, length};
 ghost use Rattle.std.specs.List.{list_any};
 ghost use Rattle.sqlite.specs.State.{HasCleanDisk};
 ghost use Rattle.sqlite.specs.Held.{state};
@@ -9,15 +9,13 @@ ghost use Rattle.desk_types.specs.declared.limits.TheConstants.{MOST_ENTRIES};
 ghost use Rattle.desk_types.specs.declared.rules.Rules.{Rules};
 ghost use Rattle.desk_types.specs.Desk.{HasRoom};
 ghost use Rattle.desk_types.specs.History.{History};
-ghost use Rattle.desk_types.specs.Tables.{tables_of};
-ghost use Rattle.state_rows.specs.Kept.{tables_in, unnumbered};
 ghost use Rattle.line_tables.specs.Rows.{accepted_in};
 ghost use Rattle.line_tables.specs.Calls.{Reads, is_before};
 ghost use Rattle.line_tables.specs.Frames.{ReadsOnly};
 ghost use Rattle.line_rows.specs.Judging.{GoesOn};
 ghost use Rattle.line_replay.specs.declared.fault.ReplayFault.TheVariants.{NotLawful, Unavailable};
 ghost use Rattle.line_replay.specs.Expected.{kept_with};
-ghost use Rattle.line_replay.specs.Replay.{IsFaultOf, IsNumbered, IsStuck, StandsListed, Accepts, Goes, IsTaken, IsEnd, IsStop};
+ghost use Rattle.line_replay.specs.Replay.{IsFaultOf, IsNumbered, IsStuck, StandsListed, IsFresh, Accepts, Goes, TakesAll, IsStop};
 ghost use Rattle.trace_lists.specs.Lists.{IsListed};
 
 use crate::fault::ReplayFault;
@@ -36,7 +34,8 @@ pub fn least_is_one<S: Alter>(conn: &mut Connection<S>) -> Result<(), ReplayFaul
     ensures ok { HasCleanDisk (state S.Store conn.new)
         → OnOk result (Reads (state S.Store conn.old) (λ db. IsNumbered (accepted_in db))) }
     ensures err { HasCleanDisk (state S.Store conn.new)
-        → IfErr result (λ f. (rules : Rules) (greatest : ℕ) → IsFaultOf rules greatest (state S.Store conn.old) f) }
+        → IfErr result (λ f. (rules : Rules) (greatest : ℕ)
+        → IsFaultOf rules greatest (state S.Store conn.old) f) }
     ensures reads { ReadsOnly S.Store conn.old conn.new }
 {
     let least = least_number(conn)?;
@@ -50,7 +49,8 @@ pub fn least_is_one<S: Alter>(conn: &mut Connection<S>) -> Result<(), ReplayFaul
 /// Requires this number of rows.
 pub fn are_all<S: Alter>(conn: &mut Connection<S>, taken: u32) -> Result<bool, ReplayFault>
     ensures counted { HasCleanDisk (state S.Store conn.new)
-        → IfOk result (λ are. Reads (state S.Store conn.old) (λ db. are ≡ (taken == length (accepted_in db)))) }
+        → IfOk result (λ are. Reads (state S.Store conn.old)
+        (λ db. are ≡ (taken == length (accepted_in db)))) }
     ensures err { IfErr result (λ f. f ≡ Unavailable) }
     ensures reads { ReadsOnly S.Store conn.old conn.new }
 {
@@ -66,24 +66,23 @@ pub fn take_rows<S: Alter, D: KeepsRows>(
     lists: &mut TraceLists,
     greatest: u32,
 ) -> Result<(u32, Placed), ReplayFault>
-    requires fresh { D.Stands desk.old [] }
-    requires empty { IsListed lists.old [] }
-    requires none { unnumbered (tables_in (D.kept_rows desk.old)) ≡ unnumbered (tables_of []) }
+    requires start { IsFresh D.Stands desk.old lists.old (D.kept_rows desk.old) }
     requires bound { greatest ≤ MOST_ENTRIES }
-    ensures taken { IfOk result (λ r. (H : History) × (r.0 ≤ greatest)
-        × IsTaken (StandsListed D.Stands) (D.kept_rules desk.old) (HasCleanDisk (state S.Store conn.new))
-        (state S.Store conn.old).committed (desk.new, lists.new) (kept_with (D.kept_rows desk.new) r.1) r.0 H) }
-    ensures ends { HasCleanDisk (state S.Store conn.new)
-        → IfOk result (λ r. IsEnd greatest (state S.Store conn.old) r.0) }
+    ensures taken { IfOk result
+        (λ r. TakesAll (StandsListed D.Stands) (D.kept_rules desk.old) greatest
+        (HasCleanDisk (state S.Store conn.new)) (state S.Store conn.old) (desk.new, lists.new)
+        (kept_with (D.kept_rows desk.new) r.1) r.0) }
     ensures err { HasCleanDisk (state S.Store conn.new)
         → IfErr result (λ f. (f ≡ Unavailable)
-        ⊎ ((n : ℕ) × (f ≡ NotLawful n) × IsStop (D.kept_rules desk.old) greatest (state S.Store conn.old) n)) }
+        ⊎ ((n : ℕ) × (f ≡ NotLawful n)
+        × IsStop (D.kept_rules desk.old) greatest (state S.Store conn.old) n)) }
     ensures rules { OnOk result (D.kept_rules desk.new ≡ D.kept_rules desk.old) }
     ensures reads { ReadsOnly S.Store conn.old conn.new }
 {
     let mut placed = Placed {
         all: true,
         count: 0,
+        end: Some(0),
     };
     for number in 0..greatest {
         let taken = take_row(alloc, conn, desk, lists, &mut placed, number + 1)?;
@@ -103,15 +102,20 @@ fn take_row<S: Alter, D: KeepsRows>(
     number: u32,
 ) -> Result<bool, ReplayFault>
     requires room { HasRoom D.Stands desk.old 1 }
-    ensures ok { (H : History) → StandsListed D.Stands (desk.old, lists.old) H → length H + 1 ≡ number
+    ensures ok { (H : History) → StandsListed D.Stands (desk.old, lists.old) H
+        → length H + 1 ≡ number
         → IfOk result
-        (Goes (StandsListed D.Stands) (D.kept_rules desk.old) (HasCleanDisk (state S.Store conn.new))
-        (state S.Store conn.old) H (kept_with (D.kept_rows desk.old) placed.old) (desk.new, lists.new)
+        (Goes (StandsListed D.Stands) (D.kept_rules desk.old)
+        (HasCleanDisk (state S.Store conn.new))
+        (state S.Store conn.old) H (kept_with (D.kept_rows desk.old) placed.old)
+        (desk.new, lists.new)
         (kept_with (D.kept_rows desk.new) placed.new)) }
-    ensures err { (H : History) → D.Stands desk.old H → length H + 1 ≡ number → HasCleanDisk (state S.Store conn.new)
+    ensures err { (H : History) → D.Stands desk.old H → length H + 1 ≡ number
+        → HasCleanDisk (state S.Store conn.new)
         → IfErr result (λ f. (f ≡ Unavailable)
         ⊎ ((f ≡ NotLawful number)
-        × Reads (state S.Store conn.old) (λ db. IsStuck (D.kept_rules desk.old) H (accepted_in db)))) }
+        × Reads (state S.Store conn.old)
+        (λ db. IsStuck (D.kept_rules desk.old) H (accepted_in db)))) }
     ensures rules { OnOk result (D.kept_rules desk.new ≡ D.kept_rules desk.old) }
     ensures reads { ReadsOnly S.Store conn.old conn.new }
 {
@@ -136,16 +140,20 @@ fn accept_first<S: Alter, D: KeepsRows>(
     row: &Row,
 ) -> Result<RowEdits, ReplayFault>
     requires room { HasRoom D.Stands desk.old 1 }
-    ensures ok { (H : History) → StandsListed D.Stands (desk.old, lists.old) H → length H + 1 ≡ number
+    ensures ok { (H : History) → StandsListed D.Stands (desk.old, lists.old) H
+        → length H + 1 ≡ number
         → IfOk result
-        (λ edits. Accepts (StandsListed D.Stands) (D.kept_rules desk.old) (HasCleanDisk (state S.Store conn.new))
+        (λ edits. Accepts (StandsListed D.Stands) (D.kept_rules desk.old)
+        (HasCleanDisk (state S.Store conn.new))
         (state S.Store conn.old) number row.now H (desk.new, lists.new) edits (D.kept_rows desk.old)
         (D.kept_rows desk.new)) }
-    ensures err { (H : History) → D.Stands desk.old H → length H + 1 ≡ number → HasCleanDisk (state S.Store conn.new)
+    ensures err { (H : History) → D.Stands desk.old H → length H + 1 ≡ number
+        → HasCleanDisk (state S.Store conn.new)
         → IfErr result (λ f. (f ≡ Unavailable)
         ⊎ ((f ≡ NotLawful number)
         × ((e : Entry) → GoesOn (D.kept_rules desk.old) H row.now e
-        → Reads (state S.Store conn.old) (λ db. list_any (is_before e.stamped.uid number) (accepted_in db) ≡ true)))) }
+        → Reads (state S.Store conn.old)
+        (λ db. list_any (is_before e.stamped.uid number) (accepted_in db) ≡ true)))) }
     ensures rules { OnOk result (D.kept_rules desk.new ≡ D.kept_rules desk.old) }
     ensures reads { ReadsOnly S.Store conn.old conn.new }
 {

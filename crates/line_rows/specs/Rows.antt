@@ -13,7 +13,8 @@ use Rattle.desk_types.specs.Tables.{tables_of as state_of}
 -- The columns of a message: its number, its fields with the command's stored text, its effective minute, and the text
 -- of its answer.
 abbrev pub columns : ℕ → Stamped → ℕ → List ℕ → Row
-columns number s effective answer = Int (pos number) ∷ Text s.uid ∷ Text s.source ∷ Int (pos s.minute) ∷ Int (pos effective) ∷ Text (stored_text s.command) ∷ Text answer ∷ []
+columns number s effective answer = Int (pos number) ∷ Text s.uid ∷ Text s.source
+    ∷ Int (pos s.minute) ∷ Int (pos effective) ∷ Text (stored_text s.command) ∷ Text answer ∷ []
 
 -- The row of an entry that follows the history G.
 abbrev pub entry_row : History → Entry → Row

@@ -37,11 +37,14 @@ pub fn prepare<D: Desk>(
     requires room { HasRoom D.Stands desk.now 1 }
     requires judged { (H : History) → D.Stands desk.now H
         → IsChange (D.kept_rules desk.now) H change.now.stamped change.now }
-    ensures text { IfOk result (λ it. it.text ≡ accepted_text number change.now.stamped.uid change.now.detail) }
-    ensures edits { (greatest : ℕ) (H : History) → D.Stands desk.now H → IsChange Two H change.now.stamped change.now
+    ensures text { IfOk result
+        (λ it. it.text ≡ accepted_text number change.now.stamped.uid change.now.detail) }
+    ensures edits { (greatest : ℕ) (H : History) → D.Stands desk.now H
+        → IsChange Two H change.now.stamped change.now
         → number ≡ length H + 1
         → IfOk result
-        (λ it. after_edits (command_edits it.row it.edits) (ledger_tables greatest H) ≡ ledger_tables greatest
+        (λ it. after_edits (command_edits it.row it.edits) (ledger_tables greatest H)
+        ≡ ledger_tables greatest
         (accept H change.now.stamped)) }
     ensures new { (greatest : ℕ) (H : History) → D.Stands desk.now H → number ≡ length H + 1
         → IfOk result (λ it. AreNew (command_edits it.row it.edits) (ledger_tables greatest H)) }

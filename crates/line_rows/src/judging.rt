@@ -46,7 +46,8 @@ pub fn accept_row<D: KeepsRows>(
         ⊎ ((f ≡ NotLawful) × ((e : Entry) → GoesOn (D.kept_rules desk.old) H row.now e → ⊥))) }
     ensures rules { OnOk result (D.kept_rules desk.new ≡ D.kept_rules desk.old) }
     ensures rows { IfOk result (λ it. tables_in (D.kept_rows desk.new)
-        ≡ but_placements (with_edits it.edits (tables_in (D.kept_rows desk.old))) (tables_in (D.kept_rows desk.old))) }
+        ≡ but_placements (with_edits it.edits (tables_in (D.kept_rows desk.old)))
+        (tables_in (D.kept_rows desk.old))) }
 {
     texts_tell_commands_apart();
     let Some(stamped) = stamped_of(alloc, row)? else {

@@ -16,7 +16,8 @@ use stored_texts::{Kept, texts_tell_commands_apart};
 
 /// Returns the row of the change, with this number and this answer.
 pub fn row_of(alloc: Global, number: u32, change: &Change, answer: &Text) -> Result<Accepted, NoRow>
-    ensures { IfOk result (λ row. columns_of row ≡ columns number change.now.stamped change.now.minute answer.now) }
+    ensures { IfOk result
+        (λ row. columns_of row ≡ columns number change.now.stamped change.now.minute answer.now) }
 {
     let command = change.stamped.command.write_text(alloc)?;
     Ok(Accepted {

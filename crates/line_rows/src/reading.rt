@@ -19,7 +19,8 @@ use stored_texts::Kept;
 /// minute and the answer.
 pub fn stamped_of(alloc: Global, row: &Row) -> Result<Option<Stamped>, AllocError>
     ensures some { IfOk result (λ found. IfSome found (IsMessageOf row.now)) }
-    ensures none { IfOk result (λ found. IfNone found ((s : Stamped) → IsStamped s → IsMessageOf row.now s → ⊥)) }
+    ensures none { IfOk result
+        (λ found. IfNone found ((s : Stamped) → IsStamped s → IsMessageOf row.now s → ⊥)) }
 {
     if row.column_count() != 7 {
         return Ok(None);
@@ -30,7 +31,8 @@ pub fn stamped_of(alloc: Global, row: &Row) -> Result<Option<Stamped>, AllocErro
 fn stamped_in(alloc: Global, row: &Row) -> Result<Option<Stamped>, AllocError>
     requires { length row.now ≡ 7 }
     ensures some { IfOk result (λ found. IfSome found (IsMessageOf row.now)) }
-    ensures none { IfOk result (λ found. IfNone found ((s : Stamped) → IsStamped s → IsMessageOf row.now s → ⊥)) }
+    ensures none { IfOk result
+        (λ found. IfNone found ((s : Stamped) → IsStamped s → IsMessageOf row.now s → ⊥)) }
 {
     let Some(uid) = id_at(row, 1) else {
         return Ok(None);
@@ -58,7 +60,8 @@ fn stamped_in(alloc: Global, row: &Row) -> Result<Option<Stamped>, AllocError>
 /// Returns whether the row has this number, this effective minute and this answer.
 pub fn says(row: &Row, number: u64, effective: u64, answer: &Text) -> bool
     requires { length row.now ≡ 7 }
-    ensures { IsTrue result ↔ ((column row.now 0 ≡ IntOf (pos number)) × (column row.now 4 ≡ IntOf (pos effective))
+    ensures { IsTrue result
+        ↔ ((column row.now 0 ≡ IntOf (pos number)) × (column row.now 4 ≡ IntOf (pos effective))
         × (column row.now 6 ≡ TextOf answer.now)) }
 {
     is_number(row, 0, number) && is_number(row, 4, effective) && is_text(row, 6, answer.as_slice())

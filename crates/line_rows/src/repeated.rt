@@ -17,7 +17,8 @@ use stored_texts::{Kept, texts_tell_commands_apart};
 /// Returns the first answer again if the row has the same message, and otherwise that the UniqueID was used. The
 /// contract assumes that the row belongs to an entry with the message's UniqueID.
 pub fn answer_under(alloc: Global, row: Accepted, stamped: &Stamped) -> Result<Answer, AllocError>
-    ensures { (G : History) (e : Entry) → IsEntry e → e.stamped.uid ≡ stamped.now.uid → columns_of row ≡ entry_row G e
+    ensures { (G : History) (e : Entry) → IsEntry e → e.stamped.uid ≡ stamped.now.uid
+        → columns_of row ≡ entry_row G e
         → IfOk result (λ answer. answer ≡ answer_under G e stamped.now) }
 {
     stamped.ranges_hold();
@@ -31,7 +32,8 @@ pub fn answer_under(alloc: Global, row: Accepted, stamped: &Stamped) -> Result<A
 }
 
 fn is_row_of(row: &Accepted, stamped: &Stamped, text: &Text) -> bool
-    ensures { IsTrue result ↔ ((string_bytes row.now.source ≡ stamped.now.source) × (row.now.own ≡ stamped.now.minute)
+    ensures { IsTrue result
+        ↔ ((string_bytes row.now.source ≡ stamped.now.source) × (row.now.own ≡ stamped.now.minute)
         × (string_bytes row.now.command ≡ text.now)) }
 {
     row.source.as_bytes() == stamped.source.as_bytes()

@@ -1,16 +1,17 @@
--- Other people's tables in the file, over each step of a command.
-use Rattle.std.proofs.Common.{◌≡◌, ◌⊎◌, List, inl, inr, IsTrue, Result, Ok, Err, OnOk, OnErr, refl, sym, subst}
+-- The file and other people's tables in it, over each step of a command.
+use Rattle.std.proofs.Common.{◌≡◌, List, inl, inr, IsTrue, Result, Ok, Err, OnOk, OnErr, refl, sym, subst, arith}
 use Rattle.std.specs.Prelude.{⊤}
 use Rattle.sqlite_trees.specs.Tree.{Trees}
 use Rattle.sqlite.specs.Effect.{Database}
 use Rattle.sqlite.specs.State.{State, HasCleanDisk, KeepsCommit, Survives}
+use Rattle.sqlite.proofs.StateLemmas.{survives_then, survives_weaker}
 use Rattle.sqlite_trees.specs.declared.store.Store.{Ghosts}
 use Rattle.sqlite.specs.Held.{Held, state}
 use Rattle.line_tables.specs.Edit.{Edit}
 use Rattle.line_tables.specs.Frames.{ReadsOnly}
-use Rattle.line_tables.specs.Calls.{HasOthers, KeepsOthers, LeavesEdited}
+use Rattle.line_tables.specs.Calls.{KeepsOthers, LeavesEdited}
 use Rattle.line_tables.proofs.Beside.{others_stay, others_stay_then}
-use Rattle.line_schema.specs.Frames.{LeavesOthers, LetsOthersBe}
+use Rattle.line_schema.specs.Frames.{LeavesFile, LeavesOthers, LetsOthersBe}
 
 pub let_be : (s : State) → LetsOthersBe s s
 let_be s = record { was_open = λ clean is. is; rows = λ clean is. others_stay s.committed; crash = λ clean trees may. inl may }
@@ -60,3 +61,32 @@ let_be_edited {E} old new edits r survives done is_open neither = record {
     kept : (r : Result ⊤ E) → OnOk r (KeepsOthers old.committed new.committed) → OnErr r (KeepsCommit old new) → IsTrue new.is_open → KeepsOthers old.committed new.committed
     kept (Ok done) rows none is = rows
     kept (Err e) none same is = kept_rows old.committed new.committed (same.committed is)
+
+-- ---- the file
+
+pub survives_still : {P : Trees → Type 0} (s : State) → Survives s s P
+survives_still s = record { clean = omega arith; shield = λ h. h; counts = omega arith; limit = refl; closes = λ clean was. inl was; crash = λ clean trees left. inl left }
+
+pub file_stays : (s : State) → LeavesFile s s (λ _. ⊤)
+file_stays s = record { clean = λ clean. clean; survives = survives_still s; others = let_be s }
+
+pub file_read : {S : Type 0} (g : Ghosts S) (old new : Held S) → ReadsOnly g old new → LeavesFile (state g old) (state g new) (λ _. ⊥)
+file_read g old new reads = record { clean = λ clean. omega (arith, reads.survives.clean, clean); survives = reads.survives; others = let_be_reads g old new reads }
+
+pub file_then : (old mid new : State) → Survives old mid (λ _. ⊥) → LetsOthersBe old mid → LeavesFile mid new (λ _. ⊤) → LeavesFile old new (λ _. ⊤)
+file_then old mid new survives others after = record {
+  clean = λ clean. omega (arith, survives.clean, after.clean clean);
+  survives = survives_then old mid new (λ _. ⊥) (λ _. ⊤) (λ _. ⊤) (λ clean trees none. tt) (λ clean trees left. tt) survives after.survives;
+  others = let_be_then old mid new after.clean others after.others;
+}
+
+pub file_of : (old new : State) → Survives old new (λ _. ⊥) → LetsOthersBe old new → LeavesFile old new (λ _. ⊤)
+file_of old new survives others = file_then old new new survives others (file_stays new)
+
+pub file_edited : {E : Type 0} (old new : State) (edits : List Edit) (r : Result ⊤ E) → Survives old new (LeavesEdited edits old) → (HasCleanDisk new → OnOk r (KeepsOthers old.committed new.committed)) → (HasCleanDisk new → OnOk r (IsTrue old.is_open × IsTrue new.is_open))
+    → (HasCleanDisk new → OnErr r (KeepsCommit old new)) → LeavesFile old new (λ _. ⊤)
+file_edited old new edits r survives done is_open neither = record {
+  clean = λ clean. omega (arith, survives.clean, clean);
+  survives = survives_weaker old new (LeavesEdited edits old) (λ _. ⊤) (λ clean trees left. tt) survives;
+  others = let_be_edited old new edits r survives done is_open neither;
+}

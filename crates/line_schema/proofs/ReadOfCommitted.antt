@@ -74,12 +74,12 @@ module _ (rules : Rules) (old mid : State) (greatest : ℕ) (kept : KeepsCommit 
   list_fault replay.Unavailable h = tt
 
 pub audited : (rules : Rules) (Before After : Type 0) (old mid last : State) (expected : Expected) (H : History) (verdict : Option StateTable) → (After → Before) → (After → KeepsCommit old mid) → (After → KeepsCommit mid last) → AreExpected Before mid.committed expected H
-    → (After → (f : ℕ × ℕ → Option PlacementRow) (es : Pieces) → IsExpected last expected.placed.all expected.placed.count es f → Reads last (λ db. IsVerdict (state_tables rules) db (with_placements f (tables_in expected.rows)) verdict))
+    → (After → (f : ℕ × ℕ → Option PlacementRow) (es : Pieces) → IsExpected last expected.placed es f → Reads last (λ db. IsVerdict (state_tables rules) db (with_placements f (tables_in expected.rows)) verdict))
     → After → Reads old (λ db. IsVerdict (state_tables rules) db (state_of H) verdict)
 audited rules Before After old mid last expected H verdict early kept kept_on is told clean =
     let f : ℕ × ℕ → Option PlacementRow = λ key. placement_row H key.0 key.1 in
-    let are : IsExpected mid expected.placed.all expected.placed.count is.pieces f = record { listed = is.listed; pieces = is.named; counted = is.counted; placed = λ was_open schema. is.told (early clean) schema } in
-    let here = told clean f is.pieces (expected_after mid last (kept_on clean) expected.placed.all expected.placed.count is.pieces f are) in
+    let are : IsExpected mid expected.placed is.pieces f = record { listed = is.listed; pieces = is.named; counted = is.counted; placed = λ was_open schema. is.told (early clean) schema; before = λ was_open schema. is.before (early clean) schema } in
+    let here = told clean f is.pieces (expected_after mid last (kept_on clean) expected.placed is.pieces f are) in
     let same : with_placements f (tables_in expected.rows) ≡ state_of H = ap (with_placements f) is.rows in
     reads_back old mid _ (kept clean) (reads_back mid last _ (kept_on clean) (subst (λ (t : StateTables). Reads last (λ db. IsVerdict (state_tables rules) db t verdict)) same here))
 

@@ -1,6 +1,5 @@
 -- The history that a store represents after a call.
-use Rattle.std.proofs.Common.{◌≡◌, ◌∙◌, ◌+◌, ◌<◌, ◌≤◌, inl, inr, refl, IsTrue, IfSome, IsSomeAnd, Option, Some, None, is_some, Result, Ok, Err, IfOk, OnOk, OnErr, List, [], map, length, false, true, true≢false, ◌||◌, if◌then◌else◌, sym, ap, subst, arith}
-use Rattle.std.specs.Prelude.{⊤}
+use Rattle.std.proofs.Common.{◌≡◌, ◌∙◌, ◌+◌, ◌<◌, ◌≤◌, inl, inr, IsTrue, IfSome, IsSomeAnd, Option, Some, None, is_some, Result, Ok, Err, IfOk, OnOk, OnErr, List, [], map, length, false, true, true≢false, ◌||◌, if◌then◌else◌, sym, ap, subst, arith}
 use Rattle.std.specs.List.{IsDistinct}
 use Rattle.std.proofs.lemmas.Map.Keys.{IsDistinct-cons}
 use Rattle.sqlite_trees.specs.declared.store.Store.{Ghosts}
@@ -35,7 +34,9 @@ use Rattle.line_rows.specs.Rows.{ledger_tables}
 use Rattle.line_rows.proofs.Judgements.{next_is, stamped_is}
 use Rattle.line_schema.specs.declared.store.LineStore.{LineStore}
 use Rattle.line_schema.specs.declared.unavailable.Unavailable.{Unavailable as Fault}
-use Rattle.line_schema.specs.Stands.{Kept, Stands, StaysOpen, ShowsTables, with_command}
+use Rattle.line_schema.specs.Answered.{AnswersOrFails, Commits}
+use Rattle.line_schema.specs.Stands.{HasRows, Kept, Stands, StaysOpen, ShowsTables, with_command}
+use Rattle.state_rows.specs.Kept.{KeptRows}
 use Rattle.line_schema.specs.Frames.{ReadsStore}
 use Rattle.trace_lists.specs.declared.lists.TraceLists.{TraceLists}
 use Rattle.trace_lists.specs.Lists.{IsListed}
@@ -88,6 +89,17 @@ module _ {old new : State} (P : Trees → Type 0) (survives : Survives old new P
 pub err_still : {A E : Type 0} {P : Type 0} (r : Result A E) → P → OnErr r P
 err_still (Ok a) p = tt
 err_still (Err e) p = p
+
+-- The call failed, and the store still represents the history.
+pub fails : {S D : Type 0} (g : Ghosts S) (F : D → History → Type 0) (K : D → Rules) (R : D → KeptRows) (old new : LineStore S D) (L : Kept) (r : Result Answer Fault) (told : Answer) (next : History) (e : Fault)
+    → r ≡ Err e → Stands g F K new L → (HasRows R old L.history → HasRows R new L.history) → AnswersOrFails g F K R old new L r told next
+fails g F K R old new L r told next e is stands rows =
+    subst (λ (r : Result Answer Fault). AnswersOrFails g F K R old new L r told next) (sym is) (record { answer = tt; err = stands; rows = λ was. tt; rows_stay = rows })
+
+pub not_committed : {S D : Type 0} (g : Ghosts S) (F : D → History → Type 0) (K : D → Rules) (old new : LineStore S D) (L : Kept) (r : Result Answer Fault) (s : Stamped) (e : Fault)
+    → r ≡ Err e → (IsTrue L.own → Survives (state g old.conn) (state g new.conn) (HoldsAt (ledger_tables L.greatest (accept L.history s)))) → Commits g F K old new L r s
+not_committed g F K old new L r s e is survives =
+    subst (λ (r : Result Answer Fault). Commits g F K old new L r s) (sym is) (record { ok = λ first. tt; survives = survives; alone = λ clean own. tt })
 
 module _ {S D : Type 0} (g : Ghosts S) (F : D → History → Type 0) (K : D → Rules) where
   -- If the tables are not its own, the store promises less.
@@ -230,10 +242,6 @@ module _ {S D : Type 0} (g : Ghosts S) (F : D → History → Type 0) (K : D →
   pub accepted_as : (r : Result Answer Fault) (new : LineStore S D) (L : Kept) (s : Stamped) (change : Change) → IsChange Two L.history s change → OnOk r (Stands g F K new (with_command L change.stamped))
       → OnOk r (Stands g F K new (record L { history = after_command Two L.history s }))
   accepted_as r new L s change is ok = accepted_to (λ H. Stands g F K new (record L { history = H })) r L.history s change is ok
-
--- For any crash: no fault is forgotten, and only a fault shuts the connection.
-pub survives_still : (s : State) → Survives s s (λ _. ⊤)
-survives_still s = record { clean = omega arith; shield = λ h. h; counts = omega arith; limit = refl; closes = λ clean was. inl was; crash = λ clean trees left. inl left }
 
 -- The tables that a crash may leave of edits, if the tables were those of the history.
 module _ (old : State) (tables after : Tables) (edits : List Edit) (is : after_edits edits tables ≡ after) (new : AreNew edits tables) (holds : HasCleanDisk old → IsTrue old.is_open → Holds old.committed tables) where

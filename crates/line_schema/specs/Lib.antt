@@ -1,5 +1,8 @@
 pub mod Opening
 pub mod Stands
+pub mod Settling
+pub mod Opened
+pub mod Answered
 pub mod Traces
 pub mod Frames
 pub mod Versions

@@ -4,7 +4,7 @@ use Rattle.std.specs.Fmt.{signed_decimal}
 use Rattle.std.specs.List.{list_any}
 use Rattle.sqlite.specs.declared.types.Value.TheVariants.{Int}
 use Rattle.sqlite.specs.Effect.{Database}
-use Rattle.sqlite.specs.State.{State}
+use Rattle.sqlite.specs.State.{State, HasCleanDisk}
 use Rattle.desk_types.specs.declared.limits.TheConstants.{MOST_ENTRIES}
 use Rattle.desk_types.specs.declared.rules.Rules.{Rules}
 use Rattle.desk_types.specs.declared.rules.Rules.TheVariants.{Two}
@@ -44,9 +44,12 @@ pub record IsVersion (db : Database) (number : ℤ) (greatest : ℕ) : Type 0 wh
   pub least : 1 ≤ greatest
   pub most : greatest ≤ MOST_ENTRIES
 
--- The tables of the version exist with their columns, by name. Rules One go with version 1, rules Two with version 2.
+-- The tables of the version exist with their columns, by name. Rules One go with version 1, rules
+-- Two with version 2.
 abbrev pub IsNamedBy : Rules → State → Type 0
-IsNamedBy rules old = (list_any is_version old.now.schema.tables ≡ true) × (list_any is_accepted old.now.schema.tables ≡ true) × (has_state rules old.now.schema.tables ≡ true)
+IsNamedBy rules old = (list_any is_version old.now.schema.tables ≡ true)
+    × (list_any is_accepted old.now.schema.tables ≡ true)
+    × (has_state rules old.now.schema.tables ≡ true)
 
 abbrev pub IsNamed : State → Type 0
 IsNamed = IsNamedBy Two
@@ -55,13 +58,15 @@ IsNamed = IsNamedBy Two
 abbrev pub IsOfBy : Rules → State → Type 0
 IsOfBy rules old = Reads old (λ db. (greatest : ℕ) × IsVersion db (pos (version_of rules)) greatest)
 
--- The table `version` or one of its columns is missing, or it has no such row; or it names this version, and another
--- table or a column is missing. In version 1 a table named `found` counts as such a fault.
+-- The table `version` or one of its columns is missing, or it has no such row; or it names this
+-- version, and another table or a column is missing. In version 1 a table named `found` counts as
+-- such a fault.
 abbrev pub IsNoDeskBy : Rules → State → Type 0
 IsNoDeskBy rules old =
     (list_any is_version old.now.schema.tables ≡ false)
     ⊎ Reads old (λ db. (number : ℤ) (greatest : ℕ) → IsVersion db number greatest → ⊥)
-    ⊎ (((list_any is_accepted old.now.schema.tables ≡ false) ⊎ (has_state rules old.now.schema.tables ≡ false)) × IsOfBy rules old)
+    ⊎ (((list_any is_accepted old.now.schema.tables ≡ false)
+    ⊎ (has_state rules old.now.schema.tables ≡ false)) × IsOfBy rules old)
 
 -- The fault concerns neither the history nor another table.
 abbrev pub IsOfVersion : OpenFault → Type 0
@@ -69,8 +74,8 @@ IsOfVersion (NotLawful n) = ⊥
 IsOfVersion (TableDiffers table) = ⊥
 IsOfVersion _ = ⊤
 
--- OtherVersion is reported only for a file with the table `version`, and a fault of the rows only for one with all
--- tables of the version.
+-- OtherVersion is reported only for a file with the table `version`, and a fault of the rows only
+-- for one with all tables of the version.
 abbrev pub IsToldBy : Rules → State → OpenFault → Type 0
 IsToldBy rules old (OtherVersion n) = list_any is_version old.now.schema.tables ≡ true
 IsToldBy rules old (NotLawful n) = IsNamedBy rules old
@@ -80,8 +85,8 @@ IsToldBy rules old _ = ⊤
 abbrev pub IsToldOf : State → OpenFault → Type 0
 IsToldOf = IsToldBy Two
 
--- The history is lawful and its rows are present. This is the first of the other tables, in their order, whose rows are
--- not the history's.
+-- The history is lawful and its rows are present. This is the first of the other tables, in their
+-- order, whose rows are not the history's.
 pub record IsTableFault (rules : Rules) (old : State) (table : StateTable) : Type 0 where
   pub greatest : ℕ
   pub list : History
@@ -92,14 +97,23 @@ pub record IsTableFault (rules : Rules) (old : State) (table : StateTable) : Typ
 -- The meaning of a fault for the committed contents, which should be tables of this version.
 abbrev pub IsFaultBy : Rules → State → OpenFault → Type 0
 IsFaultBy rules old NotADesk = IsNoDeskBy rules old
-IsFaultBy rules old (OtherVersion n) = (n ≢ pos (version_of rules)) × Reads old (λ db. (greatest : ℕ) × IsVersion db n greatest)
-IsFaultBy rules old (NotLawful n) = (greatest : ℕ) × Reads old (λ db. IsVersion db (pos (version_of rules)) greatest) × Reads old (λ db. StopsAt rules greatest (accepted_in db) n)
+IsFaultBy rules old (OtherVersion n) =
+    (n ≢ pos (version_of rules)) × Reads old (λ db. (greatest : ℕ) × IsVersion db n greatest)
+IsFaultBy rules old (NotLawful n) = (greatest : ℕ)
+    × Reads old (λ db. IsVersion db (pos (version_of rules)) greatest)
+    × Reads old (λ db. StopsAt rules greatest (accepted_in db) n)
 IsFaultBy rules old (TableDiffers table) = IsTableFault rules old table
 IsFaultBy rules old NotBlank = ⊥
 IsFaultBy rules old Unavailable = ⊤
 
 abbrev pub IsFaultOf : State → OpenFault → Type 0
 IsFaultOf = IsFaultBy Two
+
+-- The reported fault is in the committed contents, if the disk is honest, and it is never NotBlank.
+pub record IsReported (rules : Rules) (old new : State) (fault : OpenFault) : Type 0 where
+  pub holds : HasCleanDisk new → IsFaultBy rules old fault
+  pub told : IsToldBy rules old fault
+  pub never : fault ≢ NotBlank
 
 -- The name of a fault and, after a space, its number or its table.
 abbrev pub fault_text : OpenFault → List ℕ
@@ -110,10 +124,12 @@ fault_text (TableDiffers table) = codes "TableDiffers " ++ name_of table
 fault_text NotBlank = codes "NotBlank"
 fault_text Unavailable = codes "Unavailable"
 
--- The desk represents a judged history of this length by these rules, within the greatest number, and the trace indexes
--- list it. On a clean disk with our schema: `version` has that greatest number, the history is lawful, its rows are
--- committed, the other tables are the history's, and their rowids are distinct.
-pub record IsOpened {D : Type 0} (StandsFor : D → History → Type 0) (kept_rules : D → Rules) (Clean : Type 0) (old : State) (by : Rules) (opened : Opened D) (H : History) : Type 0 where
+-- The desk represents a judged history of this length by these rules, within the greatest number,
+-- and the trace indexes list it. On a clean disk with our schema: `version` has that greatest
+-- number, the history is lawful, its rows are committed, the other tables are the history's, and
+-- their rowids are distinct.
+pub record IsOpened {D : Type 0} (StandsFor : D → History → Type 0) (kept_rules : D → Rules)
+    (Clean : Type 0) (old : State) (by : Rules) (opened : Opened D) (H : History) : Type 0 where
   pub stands : StandsFor opened.desk H
   pub lists : IsListed opened.lists H
   pub rules : kept_rules opened.desk ≡ by

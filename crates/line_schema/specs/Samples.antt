@@ -15,7 +15,17 @@ note_on_reel = record note { references = to_reel 1 ∷ [] }
 
 -- CREATE INDEX by_source ON accepted (source).
 abbrev pub by_source : Index
-by_source = record { name = codes "by_source"; tree = 22; table = 1; columns = 3 ∷ []; order = plain; is_unique = false }
+by_source = record {
+  name = codes "by_source";
+  tree = 22;
+  table = 1;
+  columns = 3 ∷ [];
+  order = plain;
+  is_unique = false;
+}
 
 abbrev pub with_others : Table → Schema
-with_others table = record line_schema { tables = line_schema.tables ++ table ∷ []; indexes = line_schema.indexes ++ by_source ∷ [] }
+with_others table = record line_schema {
+  tables = line_schema.tables ++ table ∷ [];
+  indexes = line_schema.indexes ++ by_source ∷ [];
+}

@@ -1,4 +1,5 @@
--- The history that a store represents, its answer to a command, and the tables that a crash may leave.
+-- The history that a store represents, its answer to a command, and the tables that a crash may
+-- leave.
 use Rattle.std.specs.Prelude.{◌≡◌, ◌⊎◌, ◌≤◌, ◌<◌, ℕ, Bool, false, None, is_some, IfSome, IsTrue, MatchBool, length, Result, Ok, Err}
 use Rattle.sqlite_trees.specs.declared.store.Store.{Ghosts}
 use Rattle.sqlite_trees.specs.Tree.{Trees}
@@ -24,8 +25,8 @@ use Rattle.line_schema.specs.declared.store.LineStore.{LineStore}
 use Rattle.line_schema.specs.declared.unavailable.Unavailable.{Unavailable as Fault}
 use Rattle.trace_lists.specs.Lists.{IsListed}
 
--- A store as contracts see it: the greatest number, the accepted entries, and whether the tables are its own, first in
--- the file.
+-- A store as contracts see it: the greatest number, the accepted entries, and whether the tables
+-- are its own, first in the file.
 pub record Kept : Type 0 where
   pub greatest : ℕ
   pub history : History
@@ -39,10 +40,12 @@ HasFailed s = 0 < s.faults
 abbrev pub StaysOpen : State → Type 0
 StaysOpen s = HasCleanDisk s → IsTrue s.is_open ⊎ HasFailed s
 
--- The store represents the history by rules Two, which is judged and consistent. So does its desk, if it is loaded, and
--- then its trace indexes list the history. Its connection is open, or the disk has failed. If the tables are its own
--- and the disk is honest, the history is lawful and the committed tables are its tables.
-pub record Stands {S D : Type 0} (g : Ghosts S) (StandsFor : D → History → Type 0) (kept_rules : D → Rules) (store : LineStore S D) (L : Kept) : Type 0 where
+-- The store represents the history by rules Two, which is judged and consistent. So does its desk,
+-- if it is loaded, and then its trace indexes list the history. Its connection is open, or the disk
+-- has failed. If the tables are its own and the disk is honest, the history is lawful and the
+-- committed tables are its tables.
+pub record Stands {S D : Type 0} (g : Ghosts S) (StandsFor : D → History → Type 0)
+    (kept_rules : D → Rules) (store : LineStore S D) (L : Kept) : Type 0 where
   pub greatest : store.greatest ≡ L.greatest
   pub bound : L.greatest ≤ MOST_ENTRIES
   pub count : store.count ≡ length L.history
@@ -55,12 +58,16 @@ pub record Stands {S D : Type 0} (g : Ghosts S) (StandsFor : D → History → T
   pub mode : store.conn.in_transaction ≡ false
   pub stays_open : StaysOpen (state g store.conn)
   pub lawful : HasCleanDisk (state g store.conn) → IsTrue L.own → IsLawful Two L.greatest L.history
-  pub tables : HasCleanDisk (state g store.conn) → IsTrue L.own → IsTrue (state g store.conn).is_open → Holds (state g store.conn).committed (ledger_tables L.greatest L.history)
+  pub tables : HasCleanDisk (state g store.conn) → IsTrue L.own
+      → IsTrue (state g store.conn).is_open
+      → Holds (state g store.conn).committed (ledger_tables L.greatest L.history)
 
--- If the disk is honest and the tables are the store's own, every table is that of the history, or the disk has failed
--- or refused.
+-- If the disk is honest and the tables are the store's own, every table is that of the history, or
+-- the disk has failed or refused.
 abbrev pub ShowsTables : {S D : Type 0} → Ghosts S → LineStore S D → Kept → Type 0
-ShowsTables g store L = HasCleanDisk (state g store.conn) → IsTrue L.own → Holds (state g store.conn).committed (ledger_tables L.greatest L.history) ⊎ HasFailed (state g store.conn)
+ShowsTables g store L = HasCleanDisk (state g store.conn) → IsTrue L.own
+    → Holds (state g store.conn).committed (ledger_tables L.greatest L.history)
+    ⊎ HasFailed (state g store.conn)
 
 -- The store's connection, and its contents.
 abbrev pub conn_of : {S D : Type 0} → LineStore S D → Held S
@@ -69,16 +76,19 @@ conn_of store = store.conn
 abbrev pub state_of : {S D : Type 0} → Ghosts S → LineStore S D → State
 state_of g store = state g store.conn
 
--- A fact about each history that a store represented, if its disk is still honest and its tables are its own.
-abbrev pub ForKept : {S D : Type 0} → Ghosts S → (D → History → Type 0) → (D → Rules) → LineStore S D → LineStore S D → (Kept → Type 0) → Type 0
-ForKept g StandsFor kept_rules old new Fact = (L : Kept) → Stands g StandsFor kept_rules old L → HasCleanDisk (state_of g new) → IsTrue L.own → Fact L
+-- A fact about each history that a store represented, if its disk is still honest and its tables
+-- are its own.
+abbrev pub ForKept : {S D : Type 0} → Ghosts S → (D → History → Type 0) → (D → Rules)
+    → LineStore S D → LineStore S D → (Kept → Type 0) → Type 0
+ForKept g StandsFor kept_rules old new Fact = (L : Kept) → Stands g StandsFor kept_rules old L
+    → HasCleanDisk (state_of g new) → IsTrue L.own → Fact L
 
 -- Whether the store has a loaded desk, or must rebuild it from its tables.
 abbrev pub has_desk : {S D : Type 0} → LineStore S D → Bool
 has_desk store = is_some store.desk
 
--- The rows of a loaded desk are those of the history's state tables, with the numbers of its commands. So they are the
--- rows of a file that holds the history, apart from placements.
+-- The rows of a loaded desk are those of the history's state tables, with the numbers of its
+-- commands. So they are the rows of a file that holds the history, apart from placements.
 abbrev pub HasRows : {S D : Type 0} → (D → KeptRows) → LineStore S D → History → Type 0
 HasRows kept_rows store H = IfSome store.desk (λ d. AreKept (kept_rows d) H)
 
@@ -104,13 +114,17 @@ pub record IsAcceptable (L : Kept) (s : Stamped) : Type 0 where
   pub accepted : refusal_of Two L.history s ≡ None
   pub room : length L.history < L.greatest
 
--- The tables that a crash may leave after a new command. If it was accepted: only the tables with it. If it was not
--- answered: the earlier ones or, if the command is acceptable, those. Otherwise: the earlier ones.
+-- The tables that a crash may leave after a new command. If it was accepted: only the tables with
+-- it. If it was not answered: the earlier ones or, if the command is acceptable, those. Otherwise:
+-- the earlier ones.
 abbrev pub NewlyLeaves : Kept → Stamped → Answer → Type 0 → Trees → Type 0
-NewlyLeaves L s (Accepted n text) before trees = HoldsAt (ledger_tables L.greatest (accept L.history s)) trees
-NewlyLeaves L s Unavailable before trees = before ⊎ (IsAcceptable L s × HoldsAt (ledger_tables L.greatest (accept L.history s)) trees)
+NewlyLeaves L s (Accepted n text) before trees =
+    HoldsAt (ledger_tables L.greatest (accept L.history s)) trees
+NewlyLeaves L s Unavailable before trees =
+    before ⊎ (IsAcceptable L s × HoldsAt (ledger_tables L.greatest (accept L.history s)) trees)
 NewlyLeaves L s _ before trees = before
 
 -- A repeated command does not change which tables a crash may leave.
 abbrev pub Leaves : Kept → Stamped → Answer → Type 0 → Trees → Type 0
-Leaves L s answer before trees = MatchBool (is_some (earlier_answer L.history s)) before (NewlyLeaves L s answer before trees)
+Leaves L s answer before trees =
+    MatchBool (is_some (earlier_answer L.history s)) before (NewlyLeaves L s answer before trees)

@@ -1,4 +1,5 @@
--- Commands in a row that were answered Unavailable, and the tables that a crash may leave after them.
+-- Commands in a row that were answered Unavailable, and the tables that a crash may leave after
+-- them.
 use Rattle.std.specs.Prelude.{◌≡◌, ◌⊎◌, List, [], ◌∷◌}
 use Rattle.std.specs.List.{Contains}
 use Rattle.sqlite_trees.specs.declared.store.Store.{Ghosts}
@@ -15,20 +16,30 @@ use Rattle.line_schema.specs.declared.store.LineStore.{LineStore}
 use Rattle.line_schema.specs.Stands.{ForKept, IsAcceptable, Kept, Leaves, Stands, kept_after, state_of}
 
 -- One call of `command`: the history after its answer, and the tables that a crash may leave.
-pub record Tries {S D : Type 0} (g : Ghosts S) (StandsFor : D → History → Type 0) (kept_rules : D → Rules) (old : LineStore S D) (s : Stamped) (answer : Answer) (new : LineStore S D) : Type 0 where
-  pub stands : ForKept g StandsFor kept_rules old new (λ L. Stands g StandsFor kept_rules new (kept_after L s answer))
-  pub crash : ForKept g StandsFor kept_rules old new (λ L. (trees : Trees) → (state_of g new).may_leave trees → Leaves L s answer ((state_of g old).may_leave trees) trees)
+pub record Tries {S D : Type 0} (g : Ghosts S) (StandsFor : D → History → Type 0)
+    (kept_rules : D → Rules) (old : LineStore S D) (s : Stamped) (answer : Answer)
+    (new : LineStore S D) : Type 0 where
+  pub stands : ForKept g StandsFor kept_rules old new
+      (λ L. Stands g StandsFor kept_rules new (kept_after L s answer))
+  pub crash : ForKept g StandsFor kept_rules old new (λ L. (trees : Trees)
+      → (state_of g new).may_leave trees
+      → Leaves L s answer ((state_of g old).may_leave trees) trees)
   pub clean : HasCleanDisk (state_of g new) → HasCleanDisk (state_of g old)
 
 -- These commands were sent one after another, and each was answered Unavailable.
-abbrev pub GoUnanswered : {S D : Type 0} → Ghosts S → (D → History → Type 0) → (D → Rules) → LineStore S D → List Stamped → LineStore S D → Type 0
+abbrev pub GoUnanswered : {S D : Type 0} → Ghosts S → (D → History → Type 0) → (D → Rules)
+    → LineStore S D → List Stamped → LineStore S D → Type 0
 GoUnanswered g StandsFor kept_rules old [] new = new ≡ old
-GoUnanswered g StandsFor kept_rules old (s ∷ sent) new = (mid : _) × Tries g StandsFor kept_rules old s Unavailable mid × GoUnanswered g StandsFor kept_rules mid sent new
+GoUnanswered g StandsFor kept_rules old (s ∷ sent) new = (mid : _)
+    × Tries g StandsFor kept_rules old s Unavailable mid
+    × GoUnanswered g StandsFor kept_rules mid sent new
 
 -- The trees hold the tables of the history with one of these commands, which would be accepted.
 abbrev pub HoldsOneMore : Kept → List Stamped → Trees → Type 0
-HoldsOneMore L sent trees = (s : Stamped) × Contains sent s × IsAcceptable L s × HoldsAt (ledger_tables L.greatest (accept L.history s)) trees
+HoldsOneMore L sent trees = (s : Stamped) × Contains sent s × IsAcceptable L s
+    × HoldsAt (ledger_tables L.greatest (accept L.history s)) trees
 
 -- They hold the tables of the history, or of the history with one of these commands.
 abbrev pub HoldsWithAtMostOne : Kept → List Stamped → Trees → Type 0
-HoldsWithAtMostOne L sent trees = HoldsAt (ledger_tables L.greatest L.history) trees ⊎ HoldsOneMore L sent trees
+HoldsWithAtMostOne L sent trees =
+    HoldsAt (ledger_tables L.greatest L.history) trees ⊎ HoldsOneMore L sent trees

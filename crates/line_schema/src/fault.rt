@@ -4,17 +4,19 @@ use line_audit::StateTable;
 use line_replay::ReplayFault;
 use std::fmt;
 
-/// Why no store is made or opened: the first of these that applies. Unavailable may replace any other.
+/// Why no store is made or opened: the first of these that applies. Unavailable may replace any
+/// other.
 #[derive(Clone, Copy, Debug, PartialEq, Eq)]
 pub enum OpenFault {
-    /// `version` or one of its columns is missing, or it does not have a single row of three whole numbers, the first 1
-    /// and the last from 1 to 1,000,000,000; or, if the version is ours, another table or a column is missing. A file
-    /// of version 1 to be migrated has no table `found`.
+    /// `version` or one of its columns is missing, or it does not have a single row of three whole
+    /// numbers, the first 1 and the last from 1 to 1,000,000,000; or, if the version is ours,
+    /// another table or a column is missing. A file of version 1 to be migrated has no table
+    /// `found`.
     NotADesk,
     /// The tables are of another version than 2, or than 1 for a migration.
     OtherVersion(i64),
-    /// The first place of the history, from 1, whose row is missing, can't be read, or isn't what judging it again
-    /// gives.
+    /// The first place of the history, from 1, whose row is missing, can't be read, or isn't what
+    /// judging it again gives.
     NotLawful(u32),
     /// The first table, in their order, whose rows aren't those of the history.
     TableDiffers(StateTable),

@@ -30,20 +30,22 @@ pub struct Opened<D: KeepsRows + Drop> {
     pub greatest: u32,
 }
 
-/// Reads the version, which must be that of the rules, replays the history by them, and compares the other tables with
-/// the history's.
+/// Reads the version, which must be that of the rules, replays the history by them, and compares
+/// the other tables with the history's.
 pub fn read_tables<S: Alter, D: KeepsRows + Drop>(
     alloc: Global,
     conn: &mut Connection<S>,
     rules: Rules,
 ) -> Result<Opened<D>, OpenFault>
     ensures ok { IfOk result (λ r. (H : History)
-        × IsOpened D.Stands D.kept_rules (HasCleanDisk (state S.Store conn.new)) (state S.Store conn.old) rules r H
+        × IsOpened D.Stands D.kept_rules (HasCleanDisk (state S.Store conn.new))
+        (state S.Store conn.old) rules r H
         × AreKept (D.kept_rows r.desk) H) }
     ensures named { IfOk result (λ _. IsNamedBy rules (state S.Store conn.old)) }
     ensures told { IfErr result (IsToldBy rules (state S.Store conn.old)) }
     ensures never { IfErr result (λ f. f ≢ Fault.NotBlank) }
-    ensures err { HasCleanDisk (state S.Store conn.new) → IfErr result (IsFaultBy rules (state S.Store conn.old)) }
+    ensures err { HasCleanDisk (state S.Store conn.new)
+        → IfErr result (IsFaultBy rules (state S.Store conn.old)) }
     ensures reads { ReadsOnly S.Store conn.old conn.new }
 {
     let whole = has_accepted(conn) && has_state(conn, rules);
@@ -80,11 +82,13 @@ pub fn read_tables<S: Alter, D: KeepsRows + Drop>(
 fn read_greatest<S: Alter>(conn: &mut Connection<S>, rules: Rules) -> Result<u32, OpenFault>
     ensures ok { HasCleanDisk (state S.Store conn.new)
         → IfOk result
-        (λ greatest. Reads (state S.Store conn.old) (λ db. IsVersion db (pos (version_of rules)) greatest)) }
+        (λ greatest. Reads (state S.Store conn.old)
+        (λ db. IsVersion db (pos (version_of rules)) greatest)) }
     ensures bound { IfOk result (λ greatest. greatest ≤ MOST_ENTRIES) }
     ensures of_version { IfErr result IsOfVersion }
     ensures never { IfErr result (λ f. f ≢ Fault.NotBlank) }
-    ensures err { HasCleanDisk (state S.Store conn.new) → IfErr result (IsFaultBy rules (state S.Store conn.old)) }
+    ensures err { HasCleanDisk (state S.Store conn.new)
+        → IfErr result (IsFaultBy rules (state S.Store conn.old)) }
     ensures reads { ReadsOnly S.Store conn.old conn.new }
 {
     let found = find_version(conn)?;
@@ -98,8 +102,10 @@ fn greatest_of(version: &Version, rules: Rules) -> Result<u32, OpenFault>
     ensures ok { IfOk result (λ greatest. (version.now.number ≡ pos (version_of rules))
         × IsGreatest version.now.greatest greatest) }
     ensures err { IfErr result
-        (λ f. ((f ≡ Fault.NotADesk) × ((greatest : ℕ) → IsGreatest version.now.greatest greatest → ⊥))
-        ⊎ ((f ≡ Fault.OtherVersion version.now.number) × (version.now.number ≢ pos (version_of rules)) × (greatest : ℕ)
+        (λ f. ((f ≡ Fault.NotADesk) × ((greatest : ℕ) → IsGreatest version.now.greatest greatest
+        → ⊥))
+        ⊎ ((f ≡ Fault.OtherVersion version.now.number)
+        × (version.now.number ≢ pos (version_of rules)) × (greatest : ℕ)
         × IsGreatest version.now.greatest greatest)) }
 {
     let Ok(greatest) = u64::try_from(version.greatest) else {

@@ -6,14 +6,17 @@ use desk_types::Stamped;
 use sqlite::Alter;
 use state_rows::KeepsRows;
 
-/// The store represents a history by rules Two, with its own tables. It is trusted as long as the disk has not lied.
+/// The store represents a history by rules Two, with its own tables. It is trusted as long as the
+/// disk has not lied.
 impl<S: Alter, D: KeepsRows + Drop> Owner for LineStore<S, D> {
     ghost use Rattle.std.specs.Prelude.{◌≡◌, true};
     ghost use Rattle.sqlite.specs.State.{HasCleanDisk};
     ghost use Rattle.desk_types.specs.declared.rules.Rules.TheVariants.{Two};
     ghost use Rattle.line_schema.specs.Stands.{Kept, Stands as StandsFor, state_of};
 
-    ghost Stands = { λ store L. (L.rules ≡ Two) × StandsFor S.Store D.Stands D.kept_rules store (record { greatest = L.greatest; history = L.history; own = true }) };
+    ghost Stands = { λ store L. (L.rules ≡ Two)
+        × StandsFor S.Store D.Stands D.kept_rules store
+        (record { greatest = L.greatest; history = L.history; own = true }) };
 
     ghost Ready = { λ store. (L : Kept) × StandsFor S.Store D.Stands D.kept_rules store L };
 

@@ -3,8 +3,8 @@
 use line_rows::NoRow;
 use std::alloc::AllocError;
 
-/// Memory was refused, or the database failed. The history is unchanged, and the call may be repeated. After a failed
-/// commit, a crash may still leave the command.
+/// Memory was refused, or the database failed. The history is unchanged, and the call may be
+/// repeated. After a failed commit, a crash may still leave the command.
 #[derive(Clone, Copy, Debug, PartialEq, Eq)]
 pub struct Unavailable;
 

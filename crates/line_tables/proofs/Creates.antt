@@ -136,4 +136,4 @@ puts_version greatest old new ran bare =
 pub makes_all : (greatest : ℕ) (a b c : State) → Extends no_schema line_schema a b → Runs insert_version (Int (pos greatest) ∷ []) b c → Makes greatest a c
 makes_all greatest a b c made put =
     let all : a.now.schema ≡ no_schema → (c.now.schema ≡ line_schema) × Holds c.now (blank greatest) × IsDatabase c.now = λ has. puts_version greatest b c put (made.bare (record { schema = has; empty = tt })) in
-    record { was_open = made.was_open; done = λ has. let h = all has in (h.0, h.1); sound = λ has. (all has).2 }
+    record { was_open = made.was_open; done = λ has. let h = all has in record { layout = h.0; tables = h.1 }; sound = λ has. (all has).2 }

@@ -82,8 +82,12 @@ select_version_is rules indexed = inl (refl, refl, (refl, refl))
 abbrev pub select_least : List ℕ
 select_least = codes "SELECT number FROM accepted ORDER BY number LIMIT 1"
 
+-- The least value of a table's first column.
+abbrev pub least_from : ℕ → Query
+least_from tree = record { from = inner tree end; filter = []; group = None; project = col 1 0 ∷ []; distinct = false; collations = []; order = (col 1 0, ascending Binary) ∷ []; limit = lit (Int (pos 1)); offset = lit (Int (pos 0)) }
+
 abbrev pub least_query : Query
-least_query = record { from = inner 1 end; filter = []; group = None; project = col 1 0 ∷ []; distinct = false; collations = []; order = (col 1 0, ascending Binary) ∷ []; limit = lit (Int (pos 1)); offset = lit (Int (pos 0)) }
+least_query = least_from 1
 
 pub select_least_is : IsSelect select_least least_query (codes "number" ∷ [])
 unfolding understood everything

@@ -1,5 +1,5 @@
 -- The least number, and the number of rows.
-use Rattle.std.proofs.Common.{◌≡◌, ◌∙◌, IsTrue, Some, None, Option, Result, Ok, Err, IfOk, ℕ, ℤ, pos, zero, suc, min, List, [], ◌∷◌, ◌++◌, length, map, Bool, true, false, ◌<◌, ◌+◌, Ordering, Less, Equal, Greater, is_lt, is_gt, refl, sym, ap, subst, subst₂, arith}
+use Rattle.std.proofs.Common.{◌≡◌, ◌∙◌, IsTrue, Some, None, Option, Result, Ok, Err, IfOk, ℕ, ℤ, pos, zero, suc, min, List, [], ◌∷◌, ◌++◌, length, map, Bool, true, false, ◌<◌, ◌+◌, Ordering, Less, Equal, Greater, is_lt, is_gt, refl, sym, ap, ap₂, subst, subst₂, arith}
 use Rattle.std.specs.List.{flat_map, AllByRecursion, AllZip}
 use Rattle.std.specs.List.{All}
 use Rattle.std.specs.List.Sorted.{IsPermutation, IsSorted}
@@ -28,7 +28,7 @@ use Rattle.sqlite.specs.Held.{Held, state}
 use Rattle.sqlite.proofs.Callers.{one_permutation}
 use Rattle.line_tables.specs.Rows.{accepted_columns, accepted_in}
 use Rattle.line_tables.specs.Calls.{Selects, Reads, number_row, IsLeast}
-use Rattle.line_tables.proofs.FindTexts.{select_least, least_query, select_least_is, IsSelectBy, select_count, count_from, count_all, select_count_is}
+use Rattle.line_tables.proofs.FindTexts.{least_from, least_query, IsSelect, IsSelectBy, select_count, count_from, count_all, select_count_is}
 use Rattle.line_tables.proofs.Finds.{answer_of, answer_by, overlay_none}
 
 module _ {X : Type 0} (cmp : X → X → Ordering) (total : IsTotalOrder cmp) where
@@ -61,9 +61,9 @@ all_keyed (r ∷ rows) = (refl, all_keyed rows)
 abbrev number_of : Output → Value
 number_of o = column o.1 0
 
-numbers_shown : (rows : List Row) → map number_of (map (output least_query) (envs rows)) ≡ map (λ (r : Row). column r 0) (map accepted_columns rows)
-numbers_shown [] = refl
-numbers_shown (r ∷ rows) = ap (λ rest. column r 0 ∷ rest) (numbers_shown rows)
+numbers_shown : (columns : Row → Row) → ((r : Row) → column (columns r) 0 ≡ column r 0) → (rows : List Row) → map number_of (map (output least_query) (envs rows)) ≡ map (λ (r : Row). column r 0) (map columns rows)
+numbers_shown columns first [] = refl
+numbers_shown columns first (r ∷ rows) = ap₂ (λ (v : Value) (rest : List Value). v ∷ rest) (sym (first r)) (numbers_shown columns first rows)
 
 gt_then : (o : Ordering) → is_gt (ordering_then o Equal) ≡ is_gt o
 gt_then Less = refl
@@ -82,31 +82,34 @@ envs_length : (rows : List Row) → length (envs rows) ≡ length rows
 envs_length [] = refl
 envs_length (r ∷ rows) = omega (arith, envs_length rows)
 
-no_rows : (rows : List Row) → 0 ≡ length rows → map accepted_columns rows ≡ []
-no_rows [] h = refl
-no_rows (r ∷ rows) h = absurd (omega arith)
+no_rows : (columns : Row → Row) (rows : List Row) → 0 ≡ length rows → map columns rows ≡ []
+no_rows columns [] h = refl
+no_rows columns (r ∷ rows) h = absurd (omega arith)
 
-least_is : (rows : List Row) (ordered : List Output) (o : Option ℤ) → IsPermutation (map (output least_query) (envs rows)) ordered → IsSorted (output_cmp least_query) ordered
-    → Rattle.std.proofs.Common.take 1 (map (λ (o : Output). o.1) ordered) ≡ number_row o → IsLeast (map accepted_columns rows) o
-least_is rows [] None same sorted is = no_rows rows (length_permutation _ _ same ∙ length-map (envs rows) (output least_query) ∙ envs_length rows)
-least_is rows [] (Some n) same sorted is = absurd (let e = ap length is in omega (arith, e))
-least_is rows (x ∷ xs) None same sorted is = absurd (let e = ap length is in omega (arith, e))
-least_is rows (x ∷ xs) (Some n) same sorted is =
+least_is : (columns : Row → Row) → ((r : Row) → column (columns r) 0 ≡ column r 0) → (rows : List Row) (ordered : List Output) (o : Option ℤ) → IsPermutation (map (output least_query) (envs rows)) ordered → IsSorted (output_cmp least_query) ordered
+    → Rattle.std.proofs.Common.take 1 (map (λ (o : Output). o.1) ordered) ≡ number_row o → IsLeast (map columns rows) o
+least_is columns first rows [] None same sorted is = no_rows columns rows (length_permutation _ _ same ∙ length-map (envs rows) (output least_query) ∙ envs_length rows)
+least_is columns first rows [] (Some n) same sorted is = absurd (let e = ap length is in omega (arith, e))
+least_is columns first rows (x ∷ xs) None same sorted is = absurd (let e = ap length is in omega (arith, e))
+least_is columns first rows (x ∷ xs) (Some n) same sorted is =
     let keys = recursion_from_All keyed (x ∷ xs) (All-permutation keyed _ (x ∷ xs) same (All-from_recursion keyed _ (all_keyed rows))) in
     let shown : number_of x ≡ Int n = ap (λ (l : List Row). column (Rattle.std.proofs.Common.get_or l 0 []) 0) is in
     let numbers : IsPermutation (map number_of (map (output least_query) (envs rows))) (number_of x ∷ map number_of xs) = IsPermutation-map number_of _ _ same in (
       map number_of xs,
-      subst₂ (λ l v. IsPermutation l (v ∷ map number_of xs)) (numbers_shown rows) shown numbers,
+      subst₂ (λ l v. IsPermutation l (v ∷ map number_of xs)) (numbers_shown columns first rows) shown numbers,
       others_of x n xs keys.0 shown keys.1 (first_least (output_cmp least_query) (output_cmp_total least_query) x xs sorted),
     )
 
-pub finds_least : {S : Type 0} (g : Ghosts S) (old : Held S) (rows : List Row) (o : Option ℤ) → Selects g select_least [] old rows → rows ≡ number_row o → Reads (state g old) (λ db. IsLeast (accepted_in db) o)
-finds_least g old rows o h is = record {
+-- The least value of the first column, in one of our tables.
+pub finds_least : {S : Type 0} (g : Ghosts S) (sql : List ℕ) (tree : ℕ) (names : List (List ℕ)) → IsSelect sql (least_from tree) names → (columns : Row → Row) → ((r : Row) → column (columns r) 0 ≡ column r 0) → (old : Held S) (rows : List Row) (o : Option ℤ) → Selects g sql [] old rows
+    → rows ≡ number_row o → Reads (state g old) (λ db. IsLeast (map columns (db.trees tree)) o)
+finds_least g sql tree names means columns first old rows o h is = record {
   was_open = h.was_open;
   are = λ schema.
-      let a : IsAnswer least_query (overlay (state g old).committed.trees []) [] rows = answer_of g select_least least_query _ select_least_is [] old rows h schema in
-      let kept = a.distinct ∙ ap (map (output least_query)) a.grouped in
-      least_is ((state g old).committed.trees 1) a.ordered o (subst (λ l. IsPermutation l a.ordered) kept a.same) a.sorted (sym a.shown ∙ is);
+      let a : IsAnswer (least_from tree) (overlay (state g old).committed.trees []) [] rows = answer_of g sql (least_from tree) names means [] old rows h schema in
+      let kept = a.distinct ∙ ap (map (output (least_from tree))) a.grouped in
+      let all = kept ∙ ap (λ (l : List Row). map (output (least_from tree)) (envs l)) (overlay_none (state g old).committed.trees tree) in
+      least_is columns first ((state g old).committed.trees tree) a.ordered o (subst (λ l. IsPermutation l a.ordered) all a.same) a.sorted (sym a.shown ∙ is);
 }
 
 abbrev counted : ℕ → Value
@@ -155,9 +158,10 @@ finds_count g sql tree names is columns old rows n h shown below = record {
       count_is at (overlay (state g old).committed.trees []) rows (answer_by g sql (λ schema. count_from (tree schema)) names is [] old rows h schema) n shown below ∙ ap length (overlay_none (state g old).committed.trees at) ∙ sym (length-map ((state g old).committed.trees at) columns);
 }
 
-pub finds_least_in : {S : Type 0} (g : Ghosts S) (old : Held S) (rows : List Row) (r : Result (Option ℤ) Error) → IfOk r (λ o. rows ≡ number_row o) → Selects g select_least [] old rows → IfOk r (λ o. Reads (state g old) (λ db. IsLeast (accepted_in db) o))
-finds_least_in g old rows (Err e) is h = tt
-finds_least_in g old rows (Ok o) is h = finds_least g old rows o h is
+pub finds_least_in : {S : Type 0} (g : Ghosts S) (sql : List ℕ) (tree : ℕ) (names : List (List ℕ)) → IsSelect sql (least_from tree) names → (columns : Row → Row) → ((r : Row) → column (columns r) 0 ≡ column r 0) → (old : Held S) (rows : List Row) (r : Result (Option ℤ) Error)
+    → IfOk r (λ o. rows ≡ number_row o) → Selects g sql [] old rows → IfOk r (λ o. Reads (state g old) (λ db. IsLeast (map columns (db.trees tree)) o))
+finds_least_in g sql tree names means columns first old rows (Err e) is h = tt
+finds_least_in g sql tree names means columns first old rows (Ok o) is h = finds_least g sql tree names means columns first old rows o h is
 
 pub finds_count_in : {S : Type 0} (g : Ghosts S) (old : Held S) (rows : List Row) (r : Result ℕ Error) → IfOk r (λ n. rows ≡ (Int (pos n) ∷ []) ∷ []) → IfOk r (λ n. n < 9223372036854775807) → Selects g select_count [] old rows
     → IfOk r (λ n. Reads (state g old) (λ db. n ≡ length (accepted_in db)))

@@ -30,16 +30,24 @@ use Rattle.line_tables.specs.Rows.{Tables, Holds, HoldsBy, HoldsAt, columns_of, 
 
 -- If the database is of version 2, each of other people's tables, behind ours, has these rows.
 abbrev pub HasOthers : Database → Trees → Type 0
-HasOthers before trees = (layout : Layout) → before.schema ≡ schema_of Two layout → KeepsRows (others_in layout).tables before.trees trees
+HasOthers before trees = (layout : Layout) → before.schema ≡ schema_of Two layout
+    → KeepsRows (others_in layout).tables before.trees trees
 
 -- The other database, with the same schema, has these rows too.
 pub record KeepsOthers (before after : Database) : Type 0 where
-  pub schema : (layout : Layout) → before.schema ≡ schema_of Two layout → after.schema ≡ before.schema
+  pub schema : (layout : Layout) → before.schema ≡ schema_of Two layout
+      → after.schema ≡ before.schema
   pub rows : HasOthers before after.trees
 
 -- Whatever tables the first database holds, the second holds them with the edits made, in the same layout.
 abbrev pub Edits : List Edit → Database → Database → Type 0
-Edits edits before after = (tables : Tables) → Holds before tables → AreNew edits tables → (after.schema ≡ before.schema) × Holds after (after_edits edits tables)
+Edits edits before after = (tables : Tables) → Holds before tables → AreNew edits tables
+    → (after.schema ≡ before.schema) × Holds after (after_edits edits tables)
+
+-- The second database is the first with the edits made. Other people's tables are unchanged.
+pub record Edited (edits : List Edit) (before after : Database) : Type 0 where
+  pub tables : Edits edits before after
+  pub others : KeepsOthers before after
 
 -- The connection was open, and the edits were made inside its transaction, whose trees list its schema. Other people's
 -- rows are unchanged.
@@ -57,27 +65,36 @@ WritesRow edit old new = Writes (EditRow edit ∷ []) old new
 -- unchanged.
 pub record LeavesEdited (edits : List Edit) (old : State) (trees : Trees) : Type 0 where
   pub was_open : IsTrue old.is_open
-  pub holds : (tables : Tables) → Holds old.committed tables → AreNew edits tables → (left : HoldsAt (after_edits edits tables) trees) × (left.0.schema ≡ old.committed.schema)
+  pub holds : (tables : Tables) → Holds old.committed tables → AreNew edits tables
+      → (left : HoldsAt (after_edits edits tables) trees) × (left.0.schema ≡ old.committed.schema)
   pub others : HasOthers old.committed trees
 
 -- A crash may leave the tables of an empty history, in the layout of new files. Before, there was no table.
 pub record LeavesBlank (greatest : ℕ) (old : State) (trees : Trees) : Type 0 where
   pub was_open : IsTrue old.is_open
-  pub holds : old.now.schema ≡ no_schema → (left : HoldsAt (blank greatest) trees) × (left.0.schema ≡ line_schema)
+  pub holds : old.now.schema ≡ no_schema → (left : HoldsAt (blank greatest) trees)
+      × (left.0.schema ≡ line_schema)
+
+-- The database has the tables of an empty history, in the layout of new files.
+pub record HoldsBlank (greatest : ℕ) (db : Database) : Type 0 where
+  pub layout : db.schema ≡ line_schema
+  pub tables : Holds db (blank greatest)
 
 -- The connection was open, and inside its transaction the tables of an empty history were created in the layout of new
 -- files. Before, there was no table. The trees list the schema.
 pub record Makes (greatest : ℕ) (old new : State) : Type 0 where
   pub was_open : IsTrue old.is_open
-  pub done : old.now.schema ≡ no_schema → (new.now.schema ≡ line_schema) × Holds new.now (blank greatest)
+  pub done : old.now.schema ≡ no_schema → HoldsBlank greatest new.now
   pub sound : old.now.schema ≡ no_schema → IsDatabase new.now
 
 -- Whatever tables the first database holds by version 1, the second holds by version 2, in the same layout. Only
 -- `version` has other rows.
 pub record Migrated (before after : Database) : Type 0 where
   pub holds : (tables : Tables) → HoldsBy One before tables → Holds after tables
-  pub layout : (indexed : Layout) → before.schema ≡ schema_of One indexed → after.schema ≡ schema_of Two (alone indexed)
-  pub same : (indexed : Layout) → before.schema ≡ schema_of One indexed → KeepsRows (drop 1 (schema_tables One indexed)) before.trees after.trees
+  pub layout : (indexed : Layout) → before.schema ≡ schema_of One indexed
+      → after.schema ≡ schema_of Two (alone indexed)
+  pub same : (indexed : Layout) → before.schema ≡ schema_of One indexed
+      → KeepsRows (drop 1 (schema_tables One indexed)) before.trees after.trees
 
 -- The connection was open, and a database of version 1 became one of version 2 inside its transaction, whose trees list its schema.
 pub record Migrates (old new : State) : Type 0 where
@@ -88,7 +105,9 @@ pub record Migrates (old new : State) : Type 0 where
 -- A crash may leave the tables of the last commit, which was of version 1, as version 2 holds them, in the same layout.
 pub record LeavesMigrated (old : State) (trees : Trees) : Type 0 where
   pub was_open : IsTrue old.is_open
-  pub holds : (tables : Tables) → HoldsBy One old.committed tables → (left : HoldsAt tables trees) × ((indexed : Layout) → old.committed.schema ≡ schema_of One indexed → left.0.schema ≡ schema_of Two (alone indexed))
+  pub holds : (tables : Tables) → HoldsBy One old.committed tables → (left : HoldsAt tables trees)
+      × ((indexed : Layout) → old.committed.schema ≡ schema_of One indexed
+      → left.0.schema ≡ schema_of Two (alone indexed))
 
 -- The database has this schema, and its tables are empty.
 pub record IsBare (with : Schema) (db : Database) : Type 0 where
@@ -109,7 +128,8 @@ pub record Grows (before after : Schema) (tree : ℕ) (old new : Database) : Typ
 -- The connection was open, and a database of version 1 now has the table `found`, in the same layout.
 pub record AddsFound (old new : State) : Type 0 where
   pub was_open : IsTrue old.is_open
-  pub added : (indexed : Layout) → old.now.schema ≡ schema_of One indexed → Grows (schema_of One indexed) (schema_of Two (alone indexed)) (found_tree (alone indexed)) old.now new.now
+  pub added : (indexed : Layout) → old.now.schema ≡ schema_of One indexed → Grows (schema_of One
+      indexed) (schema_of Two (alone indexed)) (found_tree (alone indexed)) old.now new.now
 
 -- The statement ran inside a transaction, which stays open.
 pub record Runs (sql : List ℕ) (params : Row) (old new : State) : Type 0 where
@@ -124,10 +144,12 @@ pub record Changes (count : ℕ) (sql : List ℕ) (params : Row) (old new : Stat
 
 -- The first statement changed one row, or it changed no row and the second ran.
 abbrev pub ChangesOrPuts : {S : Type 0} → Ghosts S → List ℕ → List ℕ → Row → State → State → Type 0
-ChangesOrPuts g update insert params old new = Changes 1 update params old new ⊎ ((between : Held _) × Changes 0 update params old (state g between) × Runs insert params (state g between) new)
+ChangesOrPuts g update insert params old new = Changes 1 update params old new ⊎ ((between : Held _)
+    × Changes 0 update params old (state g between) × Runs insert params (state g between) new)
 
 -- The query shows these rows, in its own transaction, which sees the committed contents.
-pub record Selects {S : Type 0} (g : Ghosts S) (sql : List ℕ) (params : Row) (old : Held S) (rows : List Row) : Type 0 where
+pub record Selects {S : Type 0} (g : Ghosts S) (sql : List ℕ) (params : Row) (old : Held S)
+    (rows : List Row) : Type 0 where
   pub was_open : IsTrue (state g old).is_open
   pub settled : (state g old).now ≡ (state g old).committed
   pub after : Held S
@@ -149,7 +171,8 @@ has_number number row = equal Binary (column row 0) (Int (pos number))
 
 -- The row has this UniqueID, and a number below this one.
 abbrev pub is_before : List ℕ → ℕ → Row → Bool
-is_before uid number row = has_uid uid row && is_true (binary (Compare Lt Binary) (column row 0) (Int (pos number)))
+is_before uid number row =
+    has_uid uid row && is_true (binary (Compare Lt Binary) (column row 0) (Int (pos number)))
 
 -- The columns of a row, if one was found.
 abbrev pub row_of : Option Accepted → List Row
@@ -169,9 +192,12 @@ number_row (Some n) = (Int n ∷ []) ∷ []
 -- The least number of the rows in SQL's order of values, if there is a row.
 abbrev pub IsLeast : List Row → Option ℤ → Type 0
 IsLeast rows None = rows ≡ []
-IsLeast rows (Some n) = (others : List Value) × IsPermutation (map (λ row. column row 0) rows) (Int n ∷ others) × AllByRecursion (λ other. is_gt (collated Binary (Int n) other) ≡ false) others
+IsLeast rows (Some n) = (others : List Value)
+    × IsPermutation (map (λ row. column row 0) rows) (Int n ∷ others)
+    × AllByRecursion (λ other. is_gt (collated Binary (Int n) other) ≡ false) others
 
 -- `version` has a single row, with a 1 and these numbers, or its rows are not of this form.
 abbrev pub IsVersionOf : List Row → Option Version → Type 0
 IsVersionOf rows (Some v) = rows ≡ (Int (pos 1) ∷ Int v.number ∷ Int v.greatest ∷ []) ∷ []
-IsVersionOf rows None = (number greatest : ℤ) → rows ≡ (Int (pos 1) ∷ Int number ∷ Int greatest ∷ []) ∷ [] → ⊥
+IsVersionOf rows None = (number greatest : ℤ)
+    → rows ≡ (Int (pos 1) ∷ Int number ∷ Int greatest ∷ []) ∷ [] → ⊥

@@ -20,4 +20,5 @@ placement_kept row = Int (pos (placement_id row.number row.place)) ∷ placement
 
 -- The edits put placements, and these are the values of their rows, one row after another.
 abbrev pub ArePlacing : List Edit → Row → Type 0
-ArePlacing edits values = (rows : List PlacementRow) × (edits ≡ map placement_edit rows) × (values ≡ flat_map placement_kept rows)
+ArePlacing edits values = (rows : List PlacementRow) × (edits ≡ map placement_edit rows)
+    × (values ≡ flat_map placement_kept rows)

@@ -31,7 +31,8 @@ IsBefore v row = value_cmp (column row 0) v ≡ Less
 
 -- Each row is an integer, above those before.
 abbrev pub AreRising : List Row → Type 0
-AreRising rows = IsAscending (λ a b. value_cmp (column a 0) (column b 0) ≡ Less) rows × AllByRecursion (λ row. IsTrue (is_int (column row 0))) rows
+AreRising rows = IsAscending (λ a b. value_cmp (column a 0) (column b 0) ≡ Less) rows
+    × AllByRecursion (λ row. IsTrue (is_int (column row 0))) rows
 
 -- The row is one integer.
 abbrev pub IsNumber : Row → Type 0
@@ -39,11 +40,13 @@ IsNumber row = (n : ℤ) × (row ≡ Int n ∷ [])
 
 -- The result says whether the shown numbers increase.
 abbrev pub Shows : {S : Type 0} → Ghosts S → List ℕ → Held S → Bool → Type 0
-Shows g sql old rising = (rows : List Row) × Selects g sql [] old rows × (IsTrue rising ↔ AreRising rows)
+Shows g sql old rising = (rows : List Row) × Selects g sql [] old rows
+    × (IsTrue rising ↔ AreRising rows)
 
 -- If the result is yes, the rows of each of these tables have distinct rowids.
 abbrev pub AreApartWhere : Bool → List Table → Database → Type 0
-AreApartWhere apart tables db = IsTrue apart → AllByRecursion (λ table. AreApart (kept_in table db)) tables
+AreApartWhere apart tables db = IsTrue apart
+    → AllByRecursion (λ table. AreApart (kept_in table db)) tables
 
 -- The same for `found` if the rules have that table. Otherwise the result is yes.
 abbrev pub IsFoundApartWhere : Rules → Bool → State → Type 0

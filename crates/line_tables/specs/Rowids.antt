@@ -21,7 +21,8 @@ pub record AreApart (rows : List Row) : Type 0 where
 
 -- The state tables whose rows are deleted or changed by rowid: all except `placement`.
 abbrev pub changed_of : Rules → List Table
-changed_of rules = part ∷ alternate ∷ sheet_row ∷ selected ∷ reel ∷ mount ∷ board ∷ found_tables rules (Indexed nothing)
+changed_of rules = part ∷ alternate ∷ sheet_row ∷ selected ∷ reel ∷ mount ∷ board
+    ∷ found_tables rules (Indexed nothing)
 
 abbrev pub changed_tables : List Table
 changed_tables = changed_of Two

@@ -18,7 +18,9 @@ use Rattle.line_tables.specs.Line.{schema_of, Layout}
 
 -- The columns of a row of `accepted`, in their order.
 abbrev pub columns_of : Accepted → Row
-columns_of a = Int (pos a.number) ∷ Text (string_bytes a.uid) ∷ Text (string_bytes a.source) ∷ Int (pos a.own) ∷ Int (pos a.effective) ∷ Text (string_bytes a.command) ∷ Text (string_bytes a.detail) ∷ []
+columns_of a = Int (pos a.number) ∷ Text (string_bytes a.uid) ∷ Text (string_bytes a.source)
+    ∷ Int (pos a.own) ∷ Int (pos a.effective) ∷ Text (string_bytes a.command)
+    ∷ Text (string_bytes a.detail) ∷ []
 
 -- The numbers are within the program's ranges.
 abbrev pub HasNumbers : Accepted → Type 0
@@ -36,7 +38,8 @@ version_row rules greatest = Int (pos 1) ∷ Int (pos (version_of rules)) ∷ In
 -- The columns of a stored row. It begins with its rowid, which is its first column, and has no value in that column's
 -- place.
 abbrev pub accepted_columns : Row → Row
-accepted_columns r = column r 0 ∷ column r 2 ∷ column r 3 ∷ column r 4 ∷ column r 5 ∷ column r 6 ∷ column r 7 ∷ []
+accepted_columns r = column r 0 ∷ column r 2 ∷ column r 3 ∷ column r 4 ∷ column r 5
+    ∷ column r 6 ∷ column r 7 ∷ []
 
 abbrev pub version_columns : Row → Row
 version_columns r = column r 0 ∷ column r 2 ∷ column r 3 ∷ []

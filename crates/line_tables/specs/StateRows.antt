@@ -44,14 +44,16 @@ abbrev pub alternate_columns : Name × Name → Row
 alternate_columns pair = Text pair.0 ∷ Text pair.1 ∷ []
 
 abbrev pub sheet_columns : Name × Name × ℕ → SheetRow → Row
-sheet_columns at row = Text at.0 ∷ Text at.1 ∷ Int (pos at.2) ∷ Text row.slot ∷ Text row.part ∷ Text (join_with_byte 0x20 row.designators) ∷ []
+sheet_columns at row = Text at.0 ∷ Text at.1 ∷ Int (pos at.2) ∷ Text row.slot ∷ Text row.part
+    ∷ Text (join_with_byte 0x20 row.designators) ∷ []
 
 abbrev pub selected_columns : Name → Name → Row
 selected_columns machine product = Text machine ∷ Text product ∷ []
 
 abbrev pub reel_columns : ReelRow → Row
 reel_columns r =
-    Text r.reel ∷ Text r.part ∷ Text r.lot ∷ Text (text_of r.level) ∷ Int (pos r.label) ∷ Int (pos r.received) ∷ Int (pos r.placed) ∷ Int (pos r.scrapped) ∷ Int (pos r.remaining)
+    Text r.reel ∷ Text r.part ∷ Text r.lot ∷ Text (text_of r.level) ∷ Int (pos r.label)
+    ∷ Int (pos r.received) ∷ Int (pos r.placed) ∷ Int (pos r.scrapped) ∷ Int (pos r.remaining)
     ∷ Int (pos r.used) ∷ Int (since_or_none r.open_since) ∷ Int (flag r.baked) ∷ []
 
 abbrev pub mount_columns : MountRow → Row
@@ -63,7 +65,8 @@ board_columns b = Text b.board ∷ Text b.product ∷ Text (unwrap_or b.machine 
 
 abbrev pub placement_columns : PlacementRow → Row
 placement_columns p =
-    Int (pos p.number) ∷ Int (pos p.place) ∷ Text p.board ∷ Text p.designator ∷ Text p.machine ∷ Text p.slot ∷ Text p.reel ∷ Int (flag p.overdue) ∷ []
+    Int (pos p.number) ∷ Int (pos p.place) ∷ Text p.board ∷ Text p.designator ∷ Text p.machine
+    ∷ Text p.slot ∷ Text p.reel ∷ Int (flag p.overdue) ∷ []
 
 abbrev pub found_columns : Name → ℕ → Row
 found_columns reel pieces = Text reel ∷ Int (pos pieces) ∷ []
@@ -106,20 +109,24 @@ abbrev pub unit_if : Bool → Option (Unit {0})
 unit_if b = if b then Some tt else None
 
 -- The rows are those of the map: for each key the map's row, if any, and each row has a key.
-pub record AreRows {K R : Type 0} (has : K → Row → Bool) (columns : K → R → Row) (rows : List Row) (f : K → Option R) : Type 0 where
+pub record AreRows {K R : Type 0} (has : K → Row → Bool) (columns : K → R → Row) (rows : List Row)
+    (f : K → Option R) : Type 0 where
   pub found : (key : K) → filter (has key) rows ≡ option_to_list (option_map (columns key) (f key))
   pub keyed : AllByRecursion (λ row. (key : K) × IsTrue (has key row)) rows
 
 -- Each table of a database has the rows of its map.
 
 abbrev pub HoldsParts : Database → StateTables → Type 0
-HoldsParts db t = AreRows (has_text 0) (λ part _. part_columns part) (rows_in line.part db) (λ part. unit_if (t.parts part))
+HoldsParts db t = AreRows (has_text 0) (λ part _. part_columns part) (rows_in line.part db)
+    (λ part. unit_if (t.parts part))
 
 abbrev pub HoldsAlternates : Database → StateTables → Type 0
-HoldsAlternates db t = AreRows has_pair (λ pair _. alternate_columns pair) (rows_in line.alternate db) (λ pair. unit_if (t.alternates pair.0 pair.1))
+HoldsAlternates db t = AreRows has_pair (λ pair _. alternate_columns pair)
+    (rows_in line.alternate db) (λ pair. unit_if (t.alternates pair.0 pair.1))
 
 abbrev pub HoldsSheets : Database → StateTables → Type 0
-HoldsSheets db t = AreRows has_sheet_place sheet_columns (rows_in line.sheet_row db) (λ at. t.sheets at.0 at.1 at.2)
+HoldsSheets db t = AreRows has_sheet_place sheet_columns (rows_in line.sheet_row db)
+    (λ at. t.sheets at.0 at.1 at.2)
 
 abbrev pub HoldsSelected : Database → StateTables → Type 0
 HoldsSelected db t = AreRows (has_text 0) selected_columns (rows_in line.selected db) t.selected
@@ -129,13 +136,16 @@ HoldsReels db t = AreRows (has_text 0) (λ _ row. reel_columns row) (rows_in lin
 
 -- A row of `mount` is found by its reel.
 abbrev pub HoldsMounts : Database → StateTables → Type 0
-HoldsMounts db t = AreRows (has_text 3) (λ _ row. mount_columns row) (rows_in line.mount db) t.mounts
+HoldsMounts db t = AreRows (has_text 3)
+    (λ _ row. mount_columns row) (rows_in line.mount db) t.mounts
 
 abbrev pub HoldsBoards : Database → StateTables → Type 0
-HoldsBoards db t = AreRows (has_text 0) (λ _ row. board_columns row) (rows_in line.board db) t.boards
+HoldsBoards db t = AreRows (has_text 0)
+    (λ _ row. board_columns row) (rows_in line.board db) t.boards
 
 abbrev pub HoldsPlacements : Database → StateTables → Type 0
-HoldsPlacements db t = AreRows has_piece (λ _ row. placement_columns row) (rows_in line.placement db) (λ piece. t.placements piece.0 piece.1)
+HoldsPlacements db t = AreRows has_piece (λ _ row. placement_columns row)
+    (rows_in line.placement db) (λ piece. t.placements piece.0 piece.1)
 
 abbrev pub HoldsFound : Database → StateTables → Type 0
 HoldsFound db t = AreRows (has_text 0) found_columns (rows_in line.found db) t.found

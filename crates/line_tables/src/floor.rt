@@ -17,7 +17,8 @@ use sqlite::{Alter, Error, Transaction};
 pub fn put_reel<S: Alter>(tx: &mut Transaction<'_, S>, row: &ReelRow) -> Result<(), Error>
     ensures done { HasCleanDisk (state S.Store tx.new.conn.now)
         → OnOk result
-        (WritesRow (RowEdit.PutReel row.now) (state S.Store tx.old.conn.now) (state S.Store tx.new.conn.now)) }
+        (WritesRow (RowEdit.PutReel row.now) (state S.Store tx.old.conn.now)
+        (state S.Store tx.new.conn.now)) }
     ensures within { InTransaction S.Store tx.old tx.new }
 {
     change_or_put(
@@ -32,7 +33,8 @@ pub fn put_reel<S: Alter>(tx: &mut Transaction<'_, S>, row: &ReelRow) -> Result<
 pub fn take_mount<S: Alter>(tx: &mut Transaction<'_, S>, reel: &Id) -> Result<(), Error>
     ensures done { HasCleanDisk (state S.Store tx.new.conn.now)
         → OnOk result
-        (WritesRow (RowEdit.TakeMount reel.now) (state S.Store tx.old.conn.now) (state S.Store tx.new.conn.now)) }
+        (WritesRow (RowEdit.TakeMount reel.now) (state S.Store tx.old.conn.now)
+        (state S.Store tx.new.conn.now)) }
     ensures within { InTransaction S.Store tx.old tx.new }
 {
     run(tx, "DELETE FROM mount WHERE reel = ?1", &[text(reel)])
@@ -42,7 +44,8 @@ pub fn take_mount<S: Alter>(tx: &mut Transaction<'_, S>, reel: &Id) -> Result<()
 pub fn put_mount<S: Alter>(tx: &mut Transaction<'_, S>, row: &MountRow) -> Result<(), Error>
     ensures done { HasCleanDisk (state S.Store tx.new.conn.now)
         → OnOk result
-        (WritesRow (RowEdit.PutMount row.now) (state S.Store tx.old.conn.now) (state S.Store tx.new.conn.now)) }
+        (WritesRow (RowEdit.PutMount row.now) (state S.Store tx.old.conn.now)
+        (state S.Store tx.new.conn.now)) }
     ensures within { InTransaction S.Store tx.old tx.new }
 {
     run(
@@ -56,7 +59,8 @@ pub fn put_mount<S: Alter>(tx: &mut Transaction<'_, S>, row: &MountRow) -> Resul
 pub fn put_board<S: Alter>(tx: &mut Transaction<'_, S>, row: &BoardRow) -> Result<(), Error>
     ensures done { HasCleanDisk (state S.Store tx.new.conn.now)
         → OnOk result
-        (WritesRow (RowEdit.PutBoard row.now) (state S.Store tx.old.conn.now) (state S.Store tx.new.conn.now)) }
+        (WritesRow (RowEdit.PutBoard row.now) (state S.Store tx.old.conn.now)
+        (state S.Store tx.new.conn.now)) }
     ensures within { InTransaction S.Store tx.old tx.new }
 {
     change_or_put(

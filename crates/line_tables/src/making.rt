@@ -1,13 +1,12 @@
 //! The tables of an empty history.
 
-ghost use Rattle.std.specs.Prelude.{◌≡◌, false, IsTrue, OnOk, OnErr};
+ghost use Rattle.std.specs.Prelude.{◌≡◌, IsTrue, OnOk, OnErr};
 ghost use Rattle.sqlite_trees.specs.Tree.{Trees};
 ghost use Rattle.sqlite.specs.State.{HasCleanDisk, Survives, KeepsCommit};
 ghost use Rattle.sqlite.specs.Held.{state};
 ghost use Rattle.line_tables.specs.Line.{no_schema, line_schema, first_of_line};
-ghost use Rattle.line_tables.specs.Rows.{Holds, blank};
-ghost use Rattle.line_tables.specs.Calls.{Makes, LeavesBlank, Extends, AddsFound};
-ghost use Rattle.line_tables.specs.Frames.{InTransaction, IsRefusedInside};
+ghost use Rattle.line_tables.specs.Calls.{HoldsBlank, Makes, LeavesBlank, Extends, AddsFound};
+ghost use Rattle.line_tables.specs.Frames.{InTransaction, InOwnTransaction};
 
 use crate::statement::run;
 use sqlite::{Alter, Connection, Error, ErrorCode, Transaction, params};
@@ -18,12 +17,10 @@ use sqlite::{Alter, Connection, Error, ErrorCode, Transaction, params};
 pub fn make<S: Alter>(conn: &mut Connection<S>, greatest: u32) -> Result<(), Error>
     ensures made { HasCleanDisk (state S.Store conn.new)
         → OnOk result ((state S.Store conn.old).now.schema ≡ no_schema
-        → Holds (state S.Store conn.new).committed (blank greatest)) }
-    ensures layout { HasCleanDisk (state S.Store conn.new)
-        → OnOk result ((state S.Store conn.old).now.schema ≡ no_schema
-        → (state S.Store conn.new).committed.schema ≡ line_schema) }
+        → HoldsBlank greatest (state S.Store conn.new).committed) }
     ensures stays_open { HasCleanDisk (state S.Store conn.new)
-        → OnOk result (IsTrue (state S.Store conn.old).is_open × IsTrue (state S.Store conn.new).is_open) }
+        → OnOk result (IsTrue (state S.Store conn.old).is_open
+        × IsTrue (state S.Store conn.new).is_open) }
     ensures neither { HasCleanDisk (state S.Store conn.new)
         → OnErr result (KeepsCommit (state S.Store conn.old) (state S.Store conn.new)) }
     ensures alone { HasCleanDisk (state S.Store conn.new)
@@ -31,8 +28,7 @@ pub fn make<S: Alter>(conn: &mut Connection<S>, greatest: u32) -> Result<(), Err
         → LeavesBlank greatest (state S.Store conn.old) trees) }
     ensures crash { Survives (state S.Store conn.old) (state S.Store conn.new)
         (LeavesBlank greatest (state S.Store conn.old)) }
-    ensures inside { IsRefusedInside result conn.old conn.new }
-    ensures mode { conn.old.in_transaction ≡ false → conn.new.in_transaction ≡ false }
+    ensures inside { InOwnTransaction result conn.old conn.new }
 {
     if !conn.is_autocommit() {
         return Err(Error::SqliteFailure(ErrorCode::TransactionState));
@@ -44,7 +40,8 @@ pub fn make<S: Alter>(conn: &mut Connection<S>, greatest: u32) -> Result<(), Err
 
 fn make_all<S: Alter>(tx: &mut Transaction<'_, S>, greatest: u32) -> Result<(), Error>
     ensures made { HasCleanDisk (state S.Store tx.new.conn.now)
-        → OnOk result (Makes greatest (state S.Store tx.old.conn.now) (state S.Store tx.new.conn.now)) }
+        → OnOk result (Makes greatest (state S.Store tx.old.conn.now)
+        (state S.Store tx.new.conn.now)) }
     ensures within { InTransaction S.Store tx.old tx.new }
 {
     make_tables(tx)?;
@@ -57,7 +54,8 @@ fn make_all<S: Alter>(tx: &mut Transaction<'_, S>, greatest: u32) -> Result<(), 
 
 fn make_tables<S: Alter>(tx: &mut Transaction<'_, S>) -> Result<(), Error>
     ensures made { HasCleanDisk (state S.Store tx.new.conn.now)
-        → OnOk result (Extends no_schema line_schema (state S.Store tx.old.conn.now) (state S.Store tx.new.conn.now)) }
+        → OnOk result (Extends no_schema line_schema (state S.Store tx.old.conn.now)
+        (state S.Store tx.new.conn.now)) }
     ensures within { InTransaction S.Store tx.old tx.new }
 {
     make_list(tx)?;
@@ -70,7 +68,8 @@ fn make_tables<S: Alter>(tx: &mut Transaction<'_, S>) -> Result<(), Error>
 fn make_list<S: Alter>(tx: &mut Transaction<'_, S>) -> Result<(), Error>
     ensures made { HasCleanDisk (state S.Store tx.new.conn.now)
         → OnOk result
-        (Extends no_schema (first_of_line 2 1) (state S.Store tx.old.conn.now) (state S.Store tx.new.conn.now)) }
+        (Extends no_schema (first_of_line 2 1) (state S.Store tx.old.conn.now)
+        (state S.Store tx.new.conn.now)) }
     ensures within { InTransaction S.Store tx.old tx.new }
 {
     run(
@@ -143,7 +142,8 @@ fn make_floor<S: Alter>(tx: &mut Transaction<'_, S>) -> Result<(), Error>
 fn make_pieces<S: Alter>(tx: &mut Transaction<'_, S>) -> Result<(), Error>
     ensures made { HasCleanDisk (state S.Store tx.new.conn.now)
         → OnOk result
-        (Extends (first_of_line 9 8) line_schema (state S.Store tx.old.conn.now) (state S.Store tx.new.conn.now)) }
+        (Extends (first_of_line 9 8) line_schema (state S.Store tx.old.conn.now)
+        (state S.Store tx.new.conn.now)) }
     ensures within { InTransaction S.Store tx.old tx.new }
 {
     run(

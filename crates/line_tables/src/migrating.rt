@@ -1,11 +1,11 @@
 //! Migration of the tables from version 1 to version 2.
 
-ghost use Rattle.std.specs.Prelude.{◌≡◌, false, IsTrue, OnOk, OnErr};
+ghost use Rattle.std.specs.Prelude.{IsTrue, OnOk, OnErr};
 ghost use Rattle.sqlite_trees.specs.Tree.{Trees};
 ghost use Rattle.sqlite.specs.State.{HasCleanDisk, Survives, KeepsCommit};
 ghost use Rattle.sqlite.specs.Held.{state};
 ghost use Rattle.line_tables.specs.Calls.{Migrated, Migrates, LeavesMigrated};
-ghost use Rattle.line_tables.specs.Frames.{InTransaction, IsRefusedInside};
+ghost use Rattle.line_tables.specs.Frames.{InTransaction, InOwnTransaction};
 
 use crate::making::make_found;
 use crate::statement::run;
@@ -15,9 +15,11 @@ use sqlite::{Alter, Connection, Error, ErrorCode, Transaction};
 /// version number changes; all other rows stay. Inside an open transaction of the caller nothing is done.
 pub fn migrate_tables<S: Alter>(conn: &mut Connection<S>) -> Result<(), Error>
     ensures done { HasCleanDisk (state S.Store conn.new)
-        → OnOk result (Migrated (state S.Store conn.old).committed (state S.Store conn.new).committed) }
+        → OnOk result (Migrated (state S.Store conn.old).committed
+        (state S.Store conn.new).committed) }
     ensures stays_open { HasCleanDisk (state S.Store conn.new)
-        → OnOk result (IsTrue (state S.Store conn.old).is_open × IsTrue (state S.Store conn.new).is_open) }
+        → OnOk result (IsTrue (state S.Store conn.old).is_open
+        × IsTrue (state S.Store conn.new).is_open) }
     ensures neither { HasCleanDisk (state S.Store conn.new)
         → OnErr result (KeepsCommit (state S.Store conn.old) (state S.Store conn.new)) }
     ensures alone { HasCleanDisk (state S.Store conn.new)
@@ -25,8 +27,7 @@ pub fn migrate_tables<S: Alter>(conn: &mut Connection<S>) -> Result<(), Error>
         → LeavesMigrated (state S.Store conn.old) trees) }
     ensures crash { Survives (state S.Store conn.old) (state S.Store conn.new)
         (LeavesMigrated (state S.Store conn.old)) }
-    ensures inside { IsRefusedInside result conn.old conn.new }
-    ensures mode { conn.old.in_transaction ≡ false → conn.new.in_transaction ≡ false }
+    ensures inside { InOwnTransaction result conn.old conn.new }
 {
     if !conn.is_autocommit() {
         return Err(Error::SqliteFailure(ErrorCode::TransactionState));

@@ -31,7 +31,8 @@ pub fn put_placement<S: Alter>(
 ) -> Result<(), Error>
     ensures done { HasCleanDisk (state S.Store tx.new.conn.now)
         → OnOk result
-        (WritesRow (RowEdit.PutPlacement row.now) (state S.Store tx.old.conn.now) (state S.Store tx.new.conn.now)) }
+        (WritesRow (RowEdit.PutPlacement row.now) (state S.Store tx.old.conn.now)
+        (state S.Store tx.new.conn.now)) }
     ensures within { InTransaction S.Store tx.old tx.new }
 {
     let mut values = Vec::new(alloc);
@@ -50,8 +51,10 @@ pub fn put_eight<S: Alter>(
     values: &[ValueRef<'_>],
 ) -> Result<(), Error>
     ensures done { HasCleanDisk (state S.Store tx.new.conn.now)
-        → OnOk result ((rows : List PlacementRow) → length rows ≡ 8 → bound values.now ≡ flat_map placement_kept rows
-        → Writes (map placement_edit rows) (state S.Store tx.old.conn.now) (state S.Store tx.new.conn.now)) }
+        → OnOk result ((rows : List PlacementRow) → length rows ≡ 8
+        → bound values.now ≡ flat_map placement_kept rows
+        → Writes (map placement_edit rows) (state S.Store tx.old.conn.now)
+        (state S.Store tx.new.conn.now)) }
     ensures within { InTransaction S.Store tx.old tx.new }
 {
     run(
@@ -66,7 +69,8 @@ pub fn values_of_all<'a>(
     alloc: Global,
     edits: &'a [RowEdit],
 ) -> Result<Option<Vec<ValueRef<'a>>>, Error>
-    ensures { IfOk result (λ found. IfSome found (λ values. ArePlacing (row_edits edits.now) (bound values.items))) }
+    ensures { IfOk result
+        (λ found. IfSome found (λ values. ArePlacing (row_edits edits.now) (bound values.items))) }
 {
     let mut values = Vec::new(alloc);
     for edit in edits {
@@ -80,7 +84,8 @@ pub fn values_of_all<'a>(
 
 /// Adds the values of a row, its rowid first.
 fn add_values<'a>(values: &mut Vec<ValueRef<'a>>, row: &'a PlacementRow) -> Result<(), Error>
-    ensures ok { OnOk result (bound values.new.items ≡ bound values.old.items ++ placement_kept row.now) }
+    ensures ok { OnOk result
+        (bound values.new.items ≡ bound values.old.items ++ placement_kept row.now) }
     ensures err { IfErr result (OnlyWhere ((2 ^ 63 ≤ placement_id row.now.number row.now.place)
         ⊎ (2 ^ 63 ≤ row.now.number) ⊎ (2 ^ 63 ≤ row.now.place))) }
 {
@@ -94,7 +99,8 @@ fn add_values<'a>(values: &mut Vec<ValueRef<'a>>, row: &'a PlacementRow) -> Resu
 pub fn put_found<S: Alter>(tx: &mut Transaction<'_, S>, reel: &Id, pieces: u64) -> Result<(), Error>
     ensures done { HasCleanDisk (state S.Store tx.new.conn.now)
         → OnOk result
-        (WritesRow (RowEdit.PutFound reel.now pieces) (state S.Store tx.old.conn.now) (state S.Store tx.new.conn.now)) }
+        (WritesRow (RowEdit.PutFound reel.now pieces) (state S.Store tx.old.conn.now)
+        (state S.Store tx.new.conn.now)) }
     ensures within { InTransaction S.Store tx.old tx.new }
 {
     change_or_put(

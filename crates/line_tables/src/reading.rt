@@ -25,7 +25,8 @@ pub const MOST_COUNTED: u64 = 9_223_372_036_854_775_807;
 pub fn find<S: Alter>(conn: &mut Connection<S>, uid: &str) -> Result<Option<Accepted>, Error>
     ensures found { HasCleanDisk (state S.Store conn.new)
         → IfOk result
-        (λ found. Reads (state S.Store conn.old) (λ db. filter (has_uid uid.now) (accepted_in db) ≡ row_of found)) }
+        (λ found. Reads (state S.Store conn.old)
+        (λ db. filter (has_uid uid.now) (accepted_in db) ≡ row_of found)) }
     ensures reads { ReadsOnly S.Store conn.old conn.new }
     ensures inside { IsRefusedInside result conn.old conn.new }
 {
@@ -44,7 +45,8 @@ pub fn find<S: Alter>(conn: &mut Connection<S>, uid: &str) -> Result<Option<Acce
 pub fn row_at<S: Alter>(conn: &mut Connection<S>, number: u32) -> Result<Option<Row>, Error>
     ensures found { HasCleanDisk (state S.Store conn.new)
         → IfOk result
-        (λ found. Reads (state S.Store conn.old) (λ db. filter (has_number number) (accepted_in db) ≡ only found)) }
+        (λ found. Reads (state S.Store conn.old)
+        (λ db. filter (has_number number) (accepted_in db) ≡ only found)) }
     ensures reads { ReadsOnly S.Store conn.old conn.new }
     ensures inside { IsRefusedInside result conn.old conn.new }
 {
@@ -60,7 +62,8 @@ pub fn row_at<S: Alter>(conn: &mut Connection<S>, number: u32) -> Result<Option<
 pub fn is_repeat<S: Alter>(conn: &mut Connection<S>, uid: &str, number: u32) -> Result<bool, Error>
     ensures found { HasCleanDisk (state S.Store conn.new)
         → IfOk result
-        (λ found. Reads (state S.Store conn.old) (λ db. found ≡ list_any (is_before uid.now number) (accepted_in db))) }
+        (λ found. Reads (state S.Store conn.old)
+        (λ db. found ≡ list_any (is_before uid.now number) (accepted_in db))) }
     ensures reads { ReadsOnly S.Store conn.old conn.new }
     ensures inside { IsRefusedInside result conn.old conn.new }
 {
@@ -75,7 +78,8 @@ pub fn is_repeat<S: Alter>(conn: &mut Connection<S>, uid: &str, number: u32) -> 
 /// Returns the least number of a row, if there is a row. A number that is no integer is an error.
 pub fn least_number<S: Alter>(conn: &mut Connection<S>) -> Result<Option<i64>, Error>
     ensures least { HasCleanDisk (state S.Store conn.new)
-        → IfOk result (λ least. Reads (state S.Store conn.old) (λ db. IsLeast (accepted_in db) least)) }
+        → IfOk result (λ least. Reads (state S.Store conn.old)
+        (λ db. IsLeast (accepted_in db) least)) }
     ensures reads { ReadsOnly S.Store conn.old conn.new }
     ensures inside { IsRefusedInside result conn.old conn.new }
 {
@@ -131,7 +135,8 @@ fn accepted_of(row: &Row) -> Result<Accepted, Error>
     })
 }
 
-fn least_of(rows: &[Row]) -> Result<Option<i64>, Error>
+/// The number of the only row, if there is a row.
+pub fn least_of(rows: &[Row]) -> Result<Option<i64>, Error>
     ensures ok { IfOk result (λ least. rows.now ≡ number_row least) }
     ensures err { IfErr result (OnlyWhere ((least : Option ℤ) → rows.now ≢ number_row least)) }
 {
@@ -156,7 +161,8 @@ pub fn number_of(row: &Row) -> Result<i64, Error>
 pub fn count_of(rows: &[Row]) -> Result<u64, Error>
     ensures row { IfOk result (λ n. rows.now ≡ (Int (pos n) ∷ []) ∷ []) }
     ensures below { IfOk result (λ n. n < MOST_COUNTED) }
-    ensures err { IfErr result (OnlyWhere ((n : ℕ) → n < MOST_COUNTED → rows.now ≢ (Int (pos n) ∷ []) ∷ [])) }
+    ensures err { IfErr result
+        (OnlyWhere ((n : ℕ) → n < MOST_COUNTED → rows.now ≢ (Int (pos n) ∷ []) ∷ [])) }
 {
     let [row] = rows else {
         return Err(Error::InvalidColumnIndex(1));

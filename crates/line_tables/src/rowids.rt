@@ -20,7 +20,8 @@ use sqlite::{Alter, Connection, Error, Row};
 /// in every file that it writes. Rules One have no table of found pieces.
 pub fn are_apart<S: Alter>(conn: &mut Connection<S>, rules: Rules) -> Result<bool, Error>
     ensures apart { HasCleanDisk (state S.Store conn.new)
-        → IfOk result (λ are. Reads (state S.Store conn.old) (λ db. IsTrue are → AreAllApartBy rules db)) }
+        → IfOk result (λ are. Reads (state S.Store conn.old)
+        (λ db. IsTrue are → AreAllApartBy rules db)) }
     ensures reads { ReadsOnly S.Store conn.old conn.new }
     ensures inside { IsRefusedInside result conn.old conn.new }
 {
@@ -32,7 +33,8 @@ pub fn are_apart<S: Alter>(conn: &mut Connection<S>, rules: Rules) -> Result<boo
 
 fn is_setup_apart<S: Alter>(conn: &mut Connection<S>) -> Result<bool, Error>
     ensures found { HasCleanDisk (state S.Store conn.new)
-        → IfOk result (λ apart. Reads (state S.Store conn.old) (AreApartWhere apart (take 4 changed_tables))) }
+        → IfOk result
+        (λ apart. Reads (state S.Store conn.old) (AreApartWhere apart (take 4 changed_tables))) }
     ensures reads { ReadsOnly S.Store conn.old conn.new }
     ensures inside { IsRefusedInside result conn.old conn.new }
 {
@@ -45,7 +47,8 @@ fn is_setup_apart<S: Alter>(conn: &mut Connection<S>) -> Result<bool, Error>
 
 fn is_floor_apart<S: Alter>(conn: &mut Connection<S>, rules: Rules) -> Result<bool, Error>
     ensures found { HasCleanDisk (state S.Store conn.new)
-        → IfOk result (λ apart. Reads (state S.Store conn.old) (AreApartWhere apart (drop 4 (changed_of rules)))) }
+        → IfOk result (λ apart. Reads (state S.Store conn.old)
+        (AreApartWhere apart (drop 4 (changed_of rules)))) }
     ensures reads { ReadsOnly S.Store conn.old conn.new }
     ensures inside { IsRefusedInside result conn.old conn.new }
 {
@@ -68,7 +71,8 @@ fn is_found_apart<S: Alter>(conn: &mut Connection<S>, rules: Rules) -> Result<bo
 }
 
 fn shows_rising<S: Alter>(conn: &mut Connection<S>, sql: &str) -> Result<bool, Error>
-    ensures shown { HasCleanDisk (state S.Store conn.new) → IfOk result (Shows S.Store sql.now conn.old) }
+    ensures shown { HasCleanDisk (state S.Store conn.new)
+        → IfOk result (Shows S.Store sql.now conn.old) }
     ensures reads { ReadsOnly S.Store conn.old conn.new }
     ensures inside { IsRefusedInside result conn.old conn.new }
 {

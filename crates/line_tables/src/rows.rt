@@ -20,7 +20,8 @@ pub fn put_row<S: Alter>(
     edit: &RowEdit,
 ) -> Result<(), Error>
     ensures done { HasCleanDisk (state S.Store tx.new.conn.now)
-        → OnOk result (WritesRow edit.now (state S.Store tx.old.conn.now) (state S.Store tx.new.conn.now)) }
+        → OnOk result (WritesRow edit.now (state S.Store tx.old.conn.now)
+        (state S.Store tx.new.conn.now)) }
     ensures within { InTransaction S.Store tx.old tx.new }
 {
     match edit {

@@ -39,9 +39,11 @@ fn select_in<S: Alter>(
         → IfOk result
         (λ rows. Shown sql.now (bound values.now) (state S.Store tx.old.conn.now)
         (state S.Store tx.new.conn.now) rows.items) }
-    ensures kept { HasCleanDisk (state S.Store tx.new.conn.now) → IsTrue tx.old.conn.now.in_transaction
+    ensures kept { HasCleanDisk (state S.Store tx.new.conn.now)
+        → IsTrue tx.old.conn.now.in_transaction
         → KeepsCommit (state S.Store tx.old.conn.now) (state S.Store tx.new.conn.now) }
-    ensures survives { Survives (state S.Store tx.old.conn.now) (state S.Store tx.new.conn.now) (λ _. ⊥) }
+    ensures survives { Survives (state S.Store tx.old.conn.now)
+        (state S.Store tx.new.conn.now) (λ _. ⊥) }
 {
     tx.query_all(sql, values)
 }

@@ -18,7 +18,8 @@ use std::alloc::Global;
 pub fn put_part<S: Alter>(tx: &mut Transaction<'_, S>, part: &Id) -> Result<(), Error>
     ensures done { HasCleanDisk (state S.Store tx.new.conn.now)
         → OnOk result
-        (WritesRow (RowEdit.PutPart part.now) (state S.Store tx.old.conn.now) (state S.Store tx.new.conn.now)) }
+        (WritesRow (RowEdit.PutPart part.now) (state S.Store tx.old.conn.now)
+        (state S.Store tx.new.conn.now)) }
     ensures within { InTransaction S.Store tx.old tx.new }
 {
     run(tx, "DELETE FROM part WHERE part = ?1", &[text(part)])?;
@@ -58,7 +59,8 @@ pub fn take_sheet_row<S: Alter>(
 ) -> Result<(), Error>
     ensures done { HasCleanDisk (state S.Store tx.new.conn.now)
         → OnOk result
-        (WritesRow (RowEdit.TakeSheetRow product.now machine.now place) (state S.Store tx.old.conn.now)
+        (WritesRow (RowEdit.TakeSheetRow product.now machine.now place)
+        (state S.Store tx.old.conn.now)
         (state S.Store tx.new.conn.now)) }
     ensures within { InTransaction S.Store tx.old tx.new }
 {
@@ -80,7 +82,8 @@ pub fn put_sheet_row<'x, S: Alter>(
 ) -> Result<(), Error>
     ensures done { HasCleanDisk (state S.Store tx.new.conn.now)
         → OnOk result
-        (WritesRow (RowEdit.PutSheetRow product.now machine.now place row.now) (state S.Store tx.old.conn.now)
+        (WritesRow (RowEdit.PutSheetRow product.now machine.now place row.now)
+        (state S.Store tx.old.conn.now)
         (state S.Store tx.new.conn.now)) }
     ensures within { InTransaction S.Store tx.old tx.new }
 {

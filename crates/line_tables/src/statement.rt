@@ -18,7 +18,8 @@ pub fn run<S: Alter>(
 ) -> Result<(), Error>
     ensures ran { HasCleanDisk (state S.Store tx.new.conn.now)
         → OnOk result
-        (Runs sql.now (bound values.now) (state S.Store tx.old.conn.now) (state S.Store tx.new.conn.now)) }
+        (Runs sql.now (bound values.now) (state S.Store tx.old.conn.now)
+        (state S.Store tx.new.conn.now)) }
     ensures within { InTransaction S.Store tx.old tx.new }
 {
     match run_counted(tx, sql, values) {
@@ -51,7 +52,8 @@ pub fn change_or_put<S: Alter>(
 ) -> Result<(), Error>
     ensures done { HasCleanDisk (state S.Store tx.new.conn.now)
         → OnOk result
-        (ChangesOrPuts S.Store update.now insert.now (bound values.now) (state S.Store tx.old.conn.now)
+        (ChangesOrPuts S.Store update.now insert.now (bound values.now)
+        (state S.Store tx.old.conn.now)
         (state S.Store tx.new.conn.now)) }
     ensures within { InTransaction S.Store tx.old tx.new }
 {

@@ -100,7 +100,8 @@ pub fn designators_text(alloc: Global, designators: &[Designator]) -> Result<Vec
 
 /// Adds each designator with a space before it.
 fn add_spaced(text: &mut Vec<u8>, designators: &[Designator]) -> Result<(), AllocError>
-    ensures { OnOk result (text.new.items ≡ text.old.items ++ flat_map (λ d. 0x20 ∷ d) designators.now) }
+    ensures { OnOk result (text.new.items ≡ text.old.items ++ flat_map
+        (λ d. 0x20 ∷ d) designators.now) }
 {
     for designator in designators {
         text.push(b' ')?;

@@ -26,7 +26,8 @@ pub struct Version {
 /// transaction of the caller nothing is read.
 pub fn find_version<S: Alter>(conn: &mut Connection<S>) -> Result<Option<Version>, Error>
     ensures read { HasCleanDisk (state S.Store conn.new)
-        → IfOk result (λ found. Reads (state S.Store conn.old) (λ db. IsVersionOf (rows_of_version db) found)) }
+        → IfOk result (λ found. Reads (state S.Store conn.old)
+        (λ db. IsVersionOf (rows_of_version db) found)) }
     ensures reads { ReadsOnly S.Store conn.old conn.new }
     ensures inside { IsRefusedInside result conn.old conn.new }
 {

@@ -1,14 +1,14 @@
 //! Edits, written in one transaction.
 
-ghost use Rattle.std.specs.Prelude.{◌≡◌, ◌<◌, ◌≤◌, false, length, take, IsTrue, IfOk, IfSome, OnOk, OnErr, [], ◌∷◌};
+ghost use Rattle.std.specs.Prelude.{◌≡◌, ◌<◌, ◌≤◌, length, take, IsTrue, IfOk, IfSome, OnOk, OnErr, [], ◌∷◌};
 ghost use Rattle.sqlite_trees.specs.Tree.{Trees};
 ghost use Rattle.sqlite.specs.State.{HasCleanDisk, Survives, KeepsCommit};
 ghost use Rattle.sqlite.specs.Held.{state};
 ghost use Rattle.line_tables.specs.Edit.{PutAccepted, EditRow, row_edits, command_edits};
 ghost use Rattle.sqlite.specs.Values.{bound};
 ghost use Rattle.line_tables.specs.Placing.{ArePlacing};
-ghost use Rattle.line_tables.specs.Calls.{Edits, KeepsOthers, Writes, LeavesEdited};
-ghost use Rattle.line_tables.specs.Frames.{InTransaction, IsRefusedInside};
+ghost use Rattle.line_tables.specs.Calls.{Edited, Writes, LeavesEdited};
+ghost use Rattle.line_tables.specs.Frames.{InTransaction, InOwnTransaction};
 
 use crate::edit::Accepted;
 use crate::pieces::{put_eight, values_of_all};
@@ -31,12 +31,11 @@ pub fn append<S: Alter>(
 ) -> Result<(), Error>
     ensures done { HasCleanDisk (state S.Store conn.new)
         → OnOk result
-        (Edits (command_edits row.now edits.now) (state S.Store conn.old).committed
+        (Edited (command_edits row.now edits.now) (state S.Store conn.old).committed
         (state S.Store conn.new).committed) }
-    ensures others { HasCleanDisk (state S.Store conn.new)
-        → OnOk result (KeepsOthers (state S.Store conn.old).committed (state S.Store conn.new).committed) }
     ensures stays_open { HasCleanDisk (state S.Store conn.new)
-        → OnOk result (IsTrue (state S.Store conn.old).is_open × IsTrue (state S.Store conn.new).is_open) }
+        → OnOk result (IsTrue (state S.Store conn.old).is_open
+        × IsTrue (state S.Store conn.new).is_open) }
     ensures neither { HasCleanDisk (state S.Store conn.new)
         → OnErr result (KeepsCommit (state S.Store conn.old) (state S.Store conn.new)) }
     ensures alone { HasCleanDisk (state S.Store conn.new)
@@ -44,8 +43,7 @@ pub fn append<S: Alter>(
         → LeavesEdited (command_edits row.now edits.now) (state S.Store conn.old) trees) }
     ensures crash { Survives (state S.Store conn.old) (state S.Store conn.new)
         (LeavesEdited (command_edits row.now edits.now) (state S.Store conn.old)) }
-    ensures inside { IsRefusedInside result conn.old conn.new }
-    ensures mode { conn.old.in_transaction ≡ false → conn.new.in_transaction ≡ false }
+    ensures inside { InOwnTransaction result conn.old conn.new }
 {
     if !conn.is_autocommit() {
         return Err(Error::SqliteFailure(ErrorCode::TransactionState));
@@ -63,7 +61,8 @@ fn put_all<S: Alter>(
 ) -> Result<(), Error>
     ensures done { HasCleanDisk (state S.Store tx.new.conn.now)
         → OnOk result
-        (Writes (command_edits row.now edits.now) (state S.Store tx.old.conn.now) (state S.Store tx.new.conn.now)) }
+        (Writes (command_edits row.now edits.now) (state S.Store tx.old.conn.now)
+        (state S.Store tx.new.conn.now)) }
     ensures within { InTransaction S.Store tx.old tx.new }
 {
     put_accepted(tx, row)?;
@@ -112,7 +111,8 @@ fn first_eight<'a>(alloc: Global, edits: &'a [RowEdit]) -> Result<Option<Vec<Val
 fn put_accepted<S: Alter>(tx: &mut Transaction<'_, S>, row: &Accepted) -> Result<(), Error>
     ensures done { HasCleanDisk (state S.Store tx.new.conn.now)
         → OnOk result
-        (Writes (PutAccepted row.now ∷ []) (state S.Store tx.old.conn.now) (state S.Store tx.new.conn.now)) }
+        (Writes (PutAccepted row.now ∷ []) (state S.Store tx.old.conn.now)
+        (state S.Store tx.new.conn.now)) }
     ensures within { InTransaction S.Store tx.old tx.new }
 {
     run(

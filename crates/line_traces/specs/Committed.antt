@@ -37,7 +37,8 @@ FindsOfList of old found = Reads old (λ db. (H : History) → HoldsList db H �
 -- The columns that a query shows of a placed piece.
 abbrev pub placed_columns : Placement → Row
 placed_columns p =
-    Int (pos p.number) ∷ Int (pos p.place) ∷ Text p.board ∷ Text p.designator ∷ Text p.part ∷ Text p.lot ∷ Text p.reel ∷ Text p.machine ∷ Text p.slot ∷ Int (pos p.effective)
+    Int (pos p.number) ∷ Int (pos p.place) ∷ Text p.board ∷ Text p.designator ∷ Text p.part
+    ∷ Text p.lot ∷ Text p.reel ∷ Text p.machine ∷ Text p.slot ∷ Int (pos p.effective)
     ∷ Int (flag p.overdue) ∷ []
 
 -- The names, the designator and the minute are in the columns of a placed piece.

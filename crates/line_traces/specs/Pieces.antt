@@ -65,4 +65,5 @@ lot_board_names H lot = if is_lot H lot then Some (boards_of H lot) else None
 -- The traces of a board and of a lot agree. The lot is among the lots of the board's pieces exactly when the board is
 -- among the lot's boards. A board that was not started has no piece, and a lot that was not received is on no board.
 abbrev pub AreConverse : Name → Option (List Placement) → Name → Option (List Name) → Type 0
-AreConverse board pieces lot boards = Contains (map (λ (p : Placement). p.lot) (unwrap_or pieces [])) lot ↔ Contains (unwrap_or boards []) board
+AreConverse board pieces lot boards = Contains (map
+    (λ (p : Placement). p.lot) (unwrap_or pieces [])) lot ↔ Contains (unwrap_or boards []) board

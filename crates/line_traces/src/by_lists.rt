@@ -29,7 +29,8 @@ pub fn pieces_of_board<S: Alter, D: Desk>(
 ) -> Result<PlacedRows, Error>
     ensures pieces { HasCleanDisk (state S.Store conn.new)
         → IfOk result
-        (FindsBeside D.Stands (option_copied lists.entry) (option_copied desk.entry) (λ H. pieces_on H board.now)
+        (FindsBeside D.Stands (option_copied lists.entry) (option_copied desk.entry)
+        (λ H. pieces_on H board.now)
         (state S.Store conn.old)) }
     ensures reads { ReadsOnly S.Store conn.old conn.new }
 {
@@ -53,7 +54,8 @@ pub fn pieces_of_lot<S: Alter, D: Desk>(
 ) -> Result<PlacedRows, Error>
     ensures pieces { HasCleanDisk (state S.Store conn.new)
         → IfOk result
-        (FindsBeside D.Stands (option_copied lists.entry) (option_copied desk.entry) (λ H. pieces_of_lot H lot.now)
+        (FindsBeside D.Stands (option_copied lists.entry) (option_copied desk.entry)
+        (λ H. pieces_of_lot H lot.now)
         (state S.Store conn.old)) }
     ensures reads { ReadsOnly S.Store conn.old conn.new }
 {
@@ -77,7 +79,8 @@ pub fn boards_of_lot<S: Alter, D: Desk>(
 ) -> Result<IdList, Error>
     ensures boards { HasCleanDisk (state S.Store conn.new)
         → IfOk result
-        (FindsBeside D.Stands (option_copied lists.entry) (option_copied desk.entry) (λ H. boards_of H lot.now)
+        (FindsBeside D.Stands (option_copied lists.entry) (option_copied desk.entry)
+        (λ H. boards_of H lot.now)
         (state S.Store conn.old)) }
     ensures reads { ReadsOnly S.Store conn.old conn.new }
 {
@@ -126,7 +129,8 @@ fn keys_of(alloc: Global, installs: &[Install]) -> Result<Vec<PieceKey>, AllocEr
 }
 
 fn add_keys(keys: &mut Vec<PieceKey>, install: Install) -> Result<(), AllocError>
-    ensures { OnOk result (map key_of keys.new.items ≡ map key_of keys.old.items ++ keys_of_install install) }
+    ensures { OnOk result
+        (map key_of keys.new.items ≡ map key_of keys.old.items ++ keys_of_install install) }
 {
     for before in 0..install.pieces {
         keys.push(PieceKey {
@@ -139,7 +143,8 @@ fn add_keys(keys: &mut Vec<PieceKey>, install: Install) -> Result<(), AllocError
 
 /// Returns the boards of the pieces, each once and in byte order.
 fn boards_among(alloc: Global, pieces: &[Placement]) -> Result<IdList, AllocError>
-    ensures { IfOk result (λ boards. boards ≡ set_of (map (λ (p : Placement). p.board) pieces.now)) }
+    ensures { IfOk result
+        (λ boards. boards ≡ set_of (map (λ (p : Placement). p.board) pieces.now)) }
 {
     let mut boards = BTreeSet::new(alloc);
     for piece in pieces.iter().rev() {

@@ -47,7 +47,8 @@ fn designator(row: &Row, at: usize) -> Result<Designator, Error>
 
 fn minute(row: &Row, at: usize) -> Result<Minute, Error>
     ensures ok { IfOk result (λ minute. column row.now at ≡ Int (pos minute)) }
-    ensures err { IfErr result (OnlyWhere ((minute : ℕ) → IsMinute minute → column row.now at ≢ Int (pos minute))) }
+    ensures err { IfErr result
+        (OnlyWhere ((minute : ℕ) → IsMinute minute → column row.now at ≢ Int (pos minute))) }
 {
     match Minute::new(row.get(at)?) {
         Some(minute) => Ok(minute),
@@ -69,7 +70,8 @@ fn yes_or_no(row: &Row, at: usize) -> Result<bool, Error>
 
 fn piece(row: &Row) -> Result<Placement, Error>
     ensures ok { IfOk result (λ piece. row.now ≡ placed_columns piece) }
-    ensures err { IfErr result (OnlyWhere ((piece : Placement) → IsPiece piece → row.now ≢ placed_columns piece)) }
+    ensures err { IfErr result
+        (OnlyWhere ((piece : Placement) → IsPiece piece → row.now ≢ placed_columns piece)) }
 {
     if row.column_count() != 11 {
         return Err(Error::InvalidColumnIndex(11));

@@ -28,7 +28,8 @@ use trace_lists::{PieceKey, TraceLists};
 
 /// The error for a connection that does not answer.
 fn ask<S: Alter>(conn: &mut Connection<S>) -> Result<(), Error>
-    ensures answers { HasCleanDisk (state S.Store conn.new) → OnOk result (IsTrue (state S.Store conn.old).is_open) }
+    ensures answers { HasCleanDisk (state S.Store conn.new)
+        → OnOk result (IsTrue (state S.Store conn.old).is_open) }
     ensures reads { ReadsOnly S.Store conn.old conn.new }
     ensures inside { IsRefusedInside result conn.old conn.new }
 {
@@ -129,7 +130,8 @@ fn add_rows<D: Desk>(
     pieces: &mut Vec<Placement>,
 ) -> Result<bool, Error>
     ensures { IfOk result (λ all. IsTrue all → (db : Database) (H : History)
-        → HoldsBeside D.Stands (Some lists.now) (Some desk.now) db H → AreOf line.placement rows.now db
+        → HoldsBeside D.Stands (Some lists.now) (Some desk.now) db H
+        → AreOf line.placement rows.now db
         → AddsPieces H (map key_of keys.now) pieces.old.items pieces.new.items) }
 {
     for (at, key) in keys.iter().enumerate() {
@@ -184,7 +186,8 @@ pub fn pieces_at<S: Alter, D: Desk>(
     ensures told { HasCleanDisk (state S.Store conn.new)
         → IfOk result
         (λ found. IfSome found
-        (λ pieces. FindsBeside D.Stands (Some lists.now) (Some desk.now) (λ H. map (piece_at H) (map key_of keys.now))
+        (λ pieces. FindsBeside D.Stands (Some lists.now) (Some desk.now)
+        (λ H. map (piece_at H) (map key_of keys.now))
         (state S.Store conn.old) (map Some pieces))) }
     ensures reads { ReadsOnly S.Store conn.old conn.new }
     ensures inside { IsRefusedInside result conn.old conn.new }

@@ -29,7 +29,8 @@ pub fn board_rows<S: Alter, D: Desk>(
 ) -> Result<Option<PlacedRows>, Error>
     ensures trace { HasCleanDisk (state S.Store conn.new)
         → IfOk result
-        (FindsBeside D.Stands (option_copied lists.entry) (option_copied desk.entry) (λ H. board_trace H board.now)
+        (FindsBeside D.Stands (option_copied lists.entry) (option_copied desk.entry)
+        (λ H. board_trace H board.now)
         (state S.Store conn.old)) }
     ensures reads { ReadsOnly S.Store conn.old conn.new }
     ensures inside { IsRefusedInside result conn.old conn.new }
@@ -50,7 +51,8 @@ pub fn lot_rows<S: Alter, D: Desk>(
 ) -> Result<Option<PlacedRows>, Error>
     ensures trace { HasCleanDisk (state S.Store conn.new)
         → IfOk result
-        (FindsBeside D.Stands (option_copied lists.entry) (option_copied desk.entry) (λ H. lot_trace H lot.now)
+        (FindsBeside D.Stands (option_copied lists.entry) (option_copied desk.entry)
+        (λ H. lot_trace H lot.now)
         (state S.Store conn.old)) }
     ensures reads { ReadsOnly S.Store conn.old conn.new }
     ensures inside { IsRefusedInside result conn.old conn.new }
@@ -89,7 +91,8 @@ pub fn lot_boards<S: Alter, D: Desk>(
 ) -> Result<Option<IdList>, Error>
     ensures boards { HasCleanDisk (state S.Store conn.new)
         → IfOk result
-        (FindsBeside D.Stands (option_copied lists.entry) (option_copied desk.entry) (λ H. lot_board_names H lot.now)
+        (FindsBeside D.Stands (option_copied lists.entry) (option_copied desk.entry)
+        (λ H. lot_board_names H lot.now)
         (state S.Store conn.old)) }
     ensures reads { ReadsOnly S.Store conn.old conn.new }
     ensures inside { IsRefusedInside result conn.old conn.new }

@@ -22,7 +22,8 @@ pub fn alternates_of(alloc: Global, entries: &[Entry]) -> Result<Alternates, All
 
 fn note_alternate(alternates: &mut Alternates, command: &Command) -> Result<(), AllocError>
     ensures { OnOk result ((p q : Name)
-        → is_pair_among alternates.new p q ≡ (allows p q command.now || is_pair_among alternates.old p q)) }
+        → is_pair_among alternates.new p q
+        ≡ (allows p q command.now || is_pair_among alternates.old p q)) }
 {
     if let Command::AlternateAllowed { part, alternate } = command {
         alternates.add(*part, *alternate)?;

@@ -27,7 +27,8 @@ pub struct Install {
 impl Install {
     /// Returns the designator's slot in that sheet.
     pub fn slot(&self, designator: &Designator) -> Option<Id>
-        ensures { (H : History) → IsInstall H self.now → result ≡ slot_on H self.now.machine designator.now }
+        ensures { (H : History) → IsInstall H self.now
+            → result ≡ slot_on H self.now.machine designator.now }
     {
         let sheet = self.sheet.as_ref()?;
         sheet.slot(designator)
@@ -44,7 +45,8 @@ fn look_up(alloc: Global, entries: &[Entry], machine: &Id) -> Result<Option<Shee
 }
 
 fn add_all(names: &mut BTreeSet<Designator>, designators: &[Designator]) -> Result<(), AllocError>
-    ensures { (d : Name) → OnOk result (is_in names.new d ≡ (list_any (same d) designators.now || is_in names.old d)) }
+    ensures { (d : Name) → OnOk result
+        (is_in names.new d ≡ (list_any (same d) designators.now || is_in names.old d)) }
 {
     for designator in designators {
         names.insert(*designator)?;
@@ -57,7 +59,8 @@ fn note_placed(
     board: &Id,
     command: &Command,
 ) -> Result<(), AllocError>
-    ensures { (d : Name) → OnOk result (is_in placed.new d ≡ (places board.now d command.now || is_in placed.old d)) }
+    ensures { (d : Name) → OnOk result
+        (is_in placed.new d ≡ (places board.now d command.now || is_in placed.old d)) }
 {
     match command {
         Command::MaterialsInstalled {
@@ -77,7 +80,8 @@ fn placed_on(
     entries: &[Entry],
     board: &Id,
 ) -> Result<BTreeSet<Designator>, AllocError>
-    ensures { (d : Name) → IfOk result (λ placed. is_in placed d ≡ is_placed_on (reverse entries.now) board.now d) }
+    ensures { (d : Name) → IfOk result
+        (λ placed. is_in placed d ≡ is_placed_on (reverse entries.now) board.now d) }
 {
     let mut placed = BTreeSet::new(alloc);
     for entry in entries {

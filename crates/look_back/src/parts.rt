@@ -11,7 +11,8 @@ use std::alloc::{AllocError, Global};
 
 /// Returns the parts defined in the entries.
 pub fn parts_of(alloc: Global, entries: &[Entry]) -> Result<Parts, AllocError>
-    ensures { IfOk result (λ parts. (p : Name) → is_among parts p ≡ is_part (reverse entries.now) p) }
+    ensures { IfOk result
+        (λ parts. (p : Name) → is_among parts p ≡ is_part (reverse entries.now) p) }
 {
     let mut parts = Parts::new(alloc);
     for entry in entries {
@@ -21,7 +22,8 @@ pub fn parts_of(alloc: Global, entries: &[Entry]) -> Result<Parts, AllocError>
 }
 
 fn note_part(parts: &mut Parts, command: &Command) -> Result<(), AllocError>
-    ensures { OnOk result ((p : Name) → is_among parts.new p ≡ (defines p command.now || is_among parts.old p)) }
+    ensures { OnOk result ((p : Name)
+        → is_among parts.new p ≡ (defines p command.now || is_among parts.old p)) }
 {
     if let Command::PartDefined { part } = command {
         parts.add(*part)?;

@@ -44,7 +44,8 @@ impl Model for PlainDesk {
 
     ghost view = { λ a. record { rules = a.rules; history = reverse a.entries.items } };
 
-    ghost invariant = { λ a. IsJudged a.rules (reverse a.entries.items) × AreTakes (reverse a.entries.items) (reverse a.takes.items)
+    ghost invariant = { λ a. IsJudged a.rules (reverse a.entries.items)
+        × AreTakes (reverse a.entries.items) (reverse a.takes.items)
         × (length a.entries.items ≤ MOST_ENTRIES) };
 }
 
@@ -87,7 +88,8 @@ impl PlainDesk {
     pub fn append(&mut self, change: Change) -> Result<(), AllocError>
         requires room { length self.old.history + 1 ≤ MOST_ENTRIES }
         requires judged { IsChange self.old.rules self.old.history change.stamped change }
-        ensures ok { OnOk result (self.new ≡ record self.old { history = accept self.old.history change.stamped }) }
+        ensures ok { OnOk result
+            (self.new ≡ record self.old { history = accept self.old.history change.stamped }) }
         ensures err { OnErr result (self.new ≡ self.old) }
     {
         let entry = Entry {

@@ -22,18 +22,22 @@ use Rattle.many_runs.specs.Runs.{Run}
 use Rattle.many_runs.specs.Runs.Ending.{closed}
 
 -- The desk was closed, its disk never lied, and these are its files' contents then, or after a crash.
-abbrev pub ClosesTo : {D : Type 0} {g : disk.Ghosts D} → LineStore (FileStore D g) StateDesk → Files D → Image → Type 0
-ClosesTo {g = g} desk files image = Closes state.Stands state.kept_rules desk files × HasCleanDisk (state_of over_files desk) × AreClean g files.log files.db
+abbrev pub ClosesTo : {D : Type 0} {g : disk.Ghosts D} → LineStore (FileStore D g) StateDesk
+    → Files D → Image → Type 0
+ClosesTo {g = g} desk files image = Closes state.Stands state.kept_rules desk files
+    × HasCleanDisk (state_of over_files desk) × AreClean g files.log files.db
     × ((image ≡ image_of g files) ⊎ outcomes g files.log files.db image)
 
 -- The disk never lied, and these are the closed files' contents then, or after a crash.
-pub record ReadsClean {D : Type 0} (g : disk.Ghosts D) (files : Files D) (image : Image) : Type 0 where
+pub record ReadsClean {D : Type 0} (g : disk.Ghosts D) (files : Files D)
+    (image : Image) : Type 0 where
   pub clean : AreClean g files.log files.db
   pub reads : MayRead g files image
 
 -- A run that made these calls.
 abbrev pub run_of : {T : Type 0} → start.Ghosts T → Option ℕ → List Call → Image → Run
-run_of first make calls image = record { first = image_at first; make = make; calls = calls; ending = closed; last = image }
+run_of first make calls image =
+    record { first = image_at first; make = make; calls = calls; ending = closed; last = image }
 
 -- Connections, each with the bytes that its client sent and received.
 abbrev pub connections_of : List Exchange → List Call

@@ -15,13 +15,16 @@ use Rattle.line_schema.specs.Stands.{IsAcceptable, Kept, Stands, state_of}
 
 -- The tables of the history, or those with one more command that would be accepted.
 abbrev pub HoldsUpToOneMore : Kept → Trees → Type 0
-HoldsUpToOneMore L trees = HoldsAt (ledger_tables L.greatest L.history) trees ⊎ ((s : Stamped) × IsAcceptable L s × HoldsAt (ledger_tables L.greatest (accept L.history s)) trees)
+HoldsUpToOneMore L trees = HoldsAt (ledger_tables L.greatest L.history) trees ⊎ ((s : Stamped)
+    × IsAcceptable L s × HoldsAt (ledger_tables L.greatest (accept L.history s)) trees)
 
 -- The store represents the history, and a crash leaves its tables, or those with one more command. Its connection may
 -- be shut.
-pub record IsWatched {S D : Type 0} (g : Ghosts S) (StandsFor : D → History → Type 0) (kept_rules : D → Rules) (store : LineStore S D) (L : Kept) : Type 0 where
+pub record IsWatched {S D : Type 0} (g : Ghosts S) (StandsFor : D → History → Type 0)
+    (kept_rules : D → Rules) (store : LineStore S D) (L : Kept) : Type 0 where
   pub stands : Stands g StandsFor kept_rules store L
-  pub crash : HasCleanDisk (state_of g store) → (trees : Trees) → (state_of g store).may_leave trees → HoldsUpToOneMore L trees
+  pub crash : HasCleanDisk (state_of g store) → (trees : Trees) → (state_of g store).may_leave trees
+      → HoldsUpToOneMore L trees
 
 -- A ledger with the desk's own tables.
 abbrev pub own_kept : Ledger → Kept

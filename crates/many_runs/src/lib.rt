@@ -40,7 +40,8 @@ use state_rows::KeepsRows;
 /// all their calls. So every answer of every run is that of one list of accepted commands, which is lawful and
 /// consistent, and the files hold its tables.
 pub fn many_runs_are_one()
-    ensures { (reports : Reports) (run : Run) (runs : List Run) → IsRun reports run → AreRuns reports run.last runs
+    ensures { (reports : Reports) (run : Run) (runs : List Run) → IsRun reports run
+        → AreRuns reports run.last runs
         → IsRun reports (as_one run runs) }
 {
     next_run_goes_on();
@@ -48,28 +49,36 @@ pub fn many_runs_are_one()
 
 /// A law: a run of the program that closed its desk's file is a run, with the calls that its contracts give.
 pub fn closed_runs_are_runs<T: Start>(desk: &FileDesk<T, StateDesk>, files: &Files<FileFrom<T>>)
-    ensures feeds { (make : Option ℕ) (input out out' : Option (List ℕ)) (ended : Ended) (image : Image)
+    ensures feeds { (make : Option ℕ) (input out out' : Option (List ℕ))
+        (ended : Ended) (image : Image)
         → RunsOn T.Start make (Desk desk.now) (λ G H. Feeds G input out out' ended H)
         → ClosesTo desk.now files.now image
         → IsRun report_of (run_of T.Start make (fed input out out' ended ∷ []) image) }
     ensures serves { (make : Option ℕ) (exchanges : List Exchange) (image : Image)
         → RunsOn T.Start make (Desk desk.now) (ServesEach exchanges)
-        → ClosesTo desk.now files.now image → IsRun report_of (run_of T.Start make (connections_of exchanges) image) }
+        → ClosesTo desk.now files.now image
+        → IsRun report_of (run_of T.Start make (connections_of exchanges) image) }
     ensures reports { (make : Option ℕ) (target : List ℕ) (told : Told) (image : Image)
         → RunsOn T.Start make (Desk desk.now) (AnswersReport report_of target told)
-        → ClosesTo desk.now files.now image → IsRun report_of (run_of T.Start make (asked target told ∷ []) image) }
-    ensures imports { (make : Option ℕ) (import : Import) (bytes out out' : Option (List ℕ)) (ended : ImportEnded)
-        (image : Image) → RunsOn T.Start make (Desk desk.now) (λ G H. Imports G import bytes out out' ended H)
+        → ClosesTo desk.now files.now image
+        → IsRun report_of (run_of T.Start make (asked target told ∷ []) image) }
+    ensures imports { (make : Option ℕ) (import : Import)
+        (bytes out out' : Option (List ℕ)) (ended : ImportEnded)
+        (image : Image) → RunsOn T.Start make (Desk desk.now)
+        (λ G H. Imports G import bytes out out' ended H)
         → ClosesTo desk.now files.now image
         → IsRun report_of (run_of T.Start make (imported import bytes out out' ended ∷ []) image) }
-    ensures stays { (make : Option ℕ) (image : Image) → RunsOn T.Start make (Desk desk.now) StaysSame
+    ensures stays { (make : Option ℕ) (image : Image)
+        → RunsOn T.Start make (Desk desk.now) StaysSame
         → ClosesTo desk.now files.now image → IsRun report_of (run_of T.Start make [] image) }
 {}
 
 /// A law: a whole run of the program that closed its desk's file is a run, with the calls that its contract gives.
 pub fn whole_runs_are_runs<T: Start>(files: &Files<FileFrom<T>>)
-    ensures feeds { (make : Option ℕ) (input out out' : Option (List ℕ)) (ended : Ended) (image : Image)
-        → RunsTo whole T.Start ⟦<FileFrom<T> as Disk>⟧ (Some files.now) make (λ G H. Feeds G input out out' ended H)
+    ensures feeds { (make : Option ℕ) (input out out' : Option (List ℕ))
+        (ended : Ended) (image : Image)
+        → RunsTo whole T.Start ⟦<FileFrom<T> as Disk>⟧ (Some files.now) make
+        (λ G H. Feeds G input out out' ended H)
         → ReadsClean ⟦<FileFrom<T> as Disk>⟧ files.now image
         → IsRun report_of (run_of T.Start make (fed input out out' ended ∷ []) image) }
     ensures serves { (make : Option ℕ) (exchanges : List Exchange) (image : Image)
@@ -77,10 +86,12 @@ pub fn whole_runs_are_runs<T: Start>(files: &Files<FileFrom<T>>)
         → ReadsClean ⟦<FileFrom<T> as Disk>⟧ files.now image
         → IsRun report_of (run_of T.Start make (connections_of exchanges) image) }
     ensures reports { (make : Option ℕ) (target : List ℕ) (told : Told) (image : Image)
-        → RunsTo whole T.Start ⟦<FileFrom<T> as Disk>⟧ (Some files.now) make (AnswersReport report_of target told)
+        → RunsTo whole T.Start ⟦<FileFrom<T> as Disk>⟧ (Some files.now) make
+        (AnswersReport report_of target told)
         → ReadsClean ⟦<FileFrom<T> as Disk>⟧ files.now image
         → IsRun report_of (run_of T.Start make (asked target told ∷ []) image) }
-    ensures imports { (make : Option ℕ) (import : Import) (bytes out out' : Option (List ℕ)) (ended : ImportEnded)
+    ensures imports { (make : Option ℕ) (import : Import)
+        (bytes out out' : Option (List ℕ)) (ended : ImportEnded)
         (image : Image)
         → RunsTo whole T.Start ⟦<FileFrom<T> as Disk>⟧ (Some files.now) make
         (λ G H. Imports G import bytes out out' ended H)
@@ -88,17 +99,20 @@ pub fn whole_runs_are_runs<T: Start>(files: &Files<FileFrom<T>>)
         → IsRun report_of (run_of T.Start make (imported import bytes out out' ended ∷ []) image) }
     ensures stays { (make : Option ℕ) (image : Image)
         → RunsTo whole T.Start ⟦<FileFrom<T> as Disk>⟧ (Some files.now) make StaysSame
-        → ReadsClean ⟦<FileFrom<T> as Disk>⟧ files.now image → IsRun report_of (run_of T.Start make [] image) }
+        → ReadsClean ⟦<FileFrom<T> as Disk>⟧ files.now image
+        → IsRun report_of (run_of T.Start make [] image) }
 {}
 
 /// A law: a whole run that was refused its files, and closed them, keeps their history and makes no call.
 pub fn refused_runs_keep_lists<T: Start>(files: &Files<FileFrom<T>>)
     ensures refused { (make : Option ℕ) (fault : OpenFault) (image : Image)
         → RefusesTo whole T.Start ⟦<FileFrom<T> as Disk>⟧ (Some files.now) make fault
-        → ReadsClean ⟦<FileFrom<T> as Disk>⟧ files.now image → KeepsList (run_of T.Start make [] image) }
+        → ReadsClean ⟦<FileFrom<T> as Disk>⟧ files.now image
+        → KeepsList (run_of T.Start make [] image) }
     ensures unmigrated { (make : Option ℕ) (fault : OpenFault) (image : Image)
         → RefusesToMigrateTo whole T.Start ⟦<FileFrom<T> as Disk>⟧ (Some files.now) fault
-        → ReadsClean ⟦<FileFrom<T> as Disk>⟧ files.now image → KeepsList (run_of T.Start make [] image) }
+        → ReadsClean ⟦<FileFrom<T> as Disk>⟧ files.now image
+        → KeepsList (run_of T.Start make [] image) }
 {
     next_run_goes_on();
 }
@@ -145,16 +159,22 @@ pub fn reported_calls_are_calls<F: Disk + Drop>(
 pub fn crashed_runs_are_runs<T: Start>(desk: &FileDesk<T, StateDesk>, files: &Files<FileFrom<T>>)
     ensures crashed { (make : Option ℕ) (calls : List Call) (image : Image)
         → RunsOn T.Start make (Desk desk.now) (λ G H. AnswersByTheList report_of G calls H)
-        → CrashesTo desk.now files.now image → IsRun report_of (killed_run_of T.Start make calls image) }
-    ensures feeds { (make : Option ℕ) (input out out' : Option (List ℕ)) (ended : Ended) (image : Image)
+        → CrashesTo desk.now files.now image
+        → IsRun report_of (killed_run_of T.Start make calls image) }
+    ensures feeds { (make : Option ℕ) (input out out' : Option (List ℕ))
+        (ended : Ended) (image : Image)
         → RunsOn T.Start make (Desk desk.now) (λ G H. Feeds G input out out' ended H)
         → CrashesTo desk.now files.now image
         → IsRun report_of (killed_run_of T.Start make (fed input out out' ended ∷ []) image) }
     ensures serves { (make : Option ℕ) (exchanges : List Exchange) (image : Image)
-        → RunsOn T.Start make (Desk desk.now) (ServesEach exchanges) → CrashesTo desk.now files.now image
-        → IsRun report_of (killed_run_of T.Start make (connections_of exchanges) image) }
-    ensures imports { (make : Option ℕ) (import : Import) (bytes out out' : Option (List ℕ)) (ended : ImportEnded)
-        (image : Image) → RunsOn T.Start make (Desk desk.now) (λ G H. Imports G import bytes out out' ended H)
+        → RunsOn T.Start make (Desk desk.now) (ServesEach exchanges)
         → CrashesTo desk.now files.now image
-        → IsRun report_of (killed_run_of T.Start make (imported import bytes out out' ended ∷ []) image) }
+        → IsRun report_of (killed_run_of T.Start make (connections_of exchanges) image) }
+    ensures imports { (make : Option ℕ) (import : Import)
+        (bytes out out' : Option (List ℕ)) (ended : ImportEnded)
+        (image : Image) → RunsOn T.Start make (Desk desk.now)
+        (λ G H. Imports G import bytes out out' ended H)
+        → CrashesTo desk.now files.now image
+        → IsRun report_of
+        (killed_run_of T.Start make (imported import bytes out out' ended ∷ []) image) }
 {}

@@ -1,9 +1,11 @@
 -- The state of a reel, and the history that it represents.
-use Rattle.std.specs.Prelude.{◌≡◌, ℕ, ◌+◌, ◌-◌, ◌≤◌, nat_le, Bool, true, false, not, ◌&&◌, Option, Some, None, unwrap_or}
+use Rattle.std.specs.Prelude.{◌≡◌, ℕ, ◌+◌, ◌-◌, ◌≤◌, nat_le, Bool, true, false, not, ◌&&◌, Option, Some, unwrap_or, if◌then◌else◌}
 use Rattle.std.specs.Option.{option_map, option_map_or}
 use Rattle.desk_types.specs.declared.command.Receipt.{Receipt}
+use Rattle.desk_types.specs.declared.row.ReelRow.{ReelRow}
 use Rattle.desk_types.specs.Id.{Name}
-use Rattle.desk_types.specs.Level.{LevelWithLabel, limit_of}
+use Rattle.desk_types.specs.Level.{limit_of}
+use Rattle.desk_types.specs.Row.{exposure_at}
 use Rattle.desk_types.specs.History.{History}
 use Rattle.desk_types.specs.Setup.{receipt_of}
 use Rattle.desk_types.specs.FloorLife.{out_since, exposure_of, exposure_starts, is_baked, is_six}
@@ -11,103 +13,66 @@ use Rattle.reels.specs.declared.reel.Reel.{Reel}
 use Rattle.reels.specs.declared.reel.Usage.{Usage}
 use Rattle.reels.specs.declared.reel.Usage.TheVariants.{Placed, Scrapped}
 
--- The reel's exposure at a minute: the stored one, and the minutes since it left its bag.
-abbrev pub exposure_at : Reel → ℕ → ℕ
-exposure_at reel minute = reel.used + option_map_or (λ since. minute - since) reel.open_since 0
-
 -- The reel's remaining minutes of floor life, 0 if expired; none without a limit.
 abbrev pub minutes_left_at : Reel → ℕ → Option ℕ
-minutes_left_at reel minute = option_map (λ limit. limit - exposure_at reel minute) (limit_of reel.level reel.label)
+minutes_left_at reel minute = option_map
+    (λ limit. limit - exposure_at reel.row minute) (limit_of reel.row.level reel.row.label)
 
 -- Whether the reel's exposure has reached its limit, if it has one.
 abbrev pub is_expired_at : Reel → ℕ → Bool
-is_expired_at reel minute = option_map_or (λ limit. nat_le limit (exposure_at reel minute)) (limit_of reel.level reel.label) false
+is_expired_at reel minute = option_map_or (λ limit. nat_le limit (exposure_at reel.row minute))
+    (limit_of reel.row.level reel.row.label) false
 
 -- Whether the reel waits for its bake: it has level 6 and isn't baked.
 abbrev pub is_unbaked_reel : Reel → Bool
-is_unbaked_reel reel = is_six reel.level && not reel.baked
-
--- The history has this reel's receipt; the received pieces are the receipt's and those found later.
-pub record HasReceipt (H : History) (name : Name) (reel : Reel) : Type 0 where
-  pub receipt : Receipt
-  pub is : receipt_of H name ≡ Some receipt
-  pub part : reel.part ≡ receipt.part
-  pub lot : reel.lot ≡ receipt.lot
-  pub level : reel.level ≡ receipt.moisture.level
-  pub label : reel.label ≡ receipt.moisture.label
-  pub received : reel.received ≡ receipt.quantity + reel.found
-
--- The reel has the state of this name in the history: receipt, bake, time out of its bag, and
--- exposure from its last command on.
-pub record StandsFor (H : History) (name : Name) (reel : Reel) : Type 0 where
-  pub receipt : HasReceipt H name reel
-  pub baked : reel.baked ≡ is_baked H name
-  pub open_since : reel.open_since ≡ out_since H name
-  pub starts : exposure_starts H name ≤ reel.last
-  pub used : reel.used ≡ exposure_of H name (unwrap_or reel.open_since reel.last)
-  pub exposure : (minute : ℕ) → reel.last ≤ minute → exposure_at reel minute ≡ exposure_of H name minute
-
--- All pieces of the receipt remain, and none were found.
-pub record IsReceived (quantity : ℕ) (reel : Reel) : Type 0 where
-  pub received : reel.received ≡ quantity
-  pub found : reel.found ≡ 0
-  pub placed : reel.placed ≡ 0
-  pub scrapped : reel.scrapped ≡ 0
-  pub remaining : reel.remaining ≡ quantity
-
--- The reel has the receipt's part, lot and moisture data.
-pub record IsOfReceipt (part lot : Name) (moisture : LevelWithLabel) (reel : Reel) : Type 0 where
-  pub is_part : reel.part ≡ part
-  pub is_lot : reel.lot ≡ lot
-  pub level : reel.level ≡ moisture.level
-  pub label : reel.label ≡ moisture.label
-
--- The reel is in its bag, unused and unbaked.
-pub record IsInNewBag (reel : Reel) : Type 0 where
-  pub used : reel.used ≡ 0
-  pub open_since : reel.open_since ≡ None
-  pub baked : reel.baked ≡ false
-
--- The reel is out of its bag, from this minute on unless it was out already.
-pub record IsOpened (minute : ℕ) (old new : Reel) : Type 0 where
-  pub used : new.used ≡ old.used
-  pub open_since : new.open_since ≡ Some (unwrap_or old.open_since minute)
-  pub baked : new.baked ≡ old.baked
-
--- The reel is in its bag and keeps its exposure at this minute.
-pub record IsSealed (minute : ℕ) (old new : Reel) : Type 0 where
-  pub used : new.used ≡ exposure_at old minute
-  pub open_since : new.open_since ≡ None
-  pub baked : new.baked ≡ old.baked
-
--- The reel is in its bag, baked and without exposure.
-pub record IsBaked (new : Reel) : Type 0 where
-  pub used : new.used ≡ 0
-  pub open_since : new.open_since ≡ None
-  pub baked : new.baked ≡ true
-
--- Part, lot and moisture data stay the same.
-pub record SameReceipt (old new : Reel) : Type 0 where
-  pub part : new.part ≡ old.part
-  pub lot : new.lot ≡ old.lot
-  pub level : new.level ≡ old.level
-  pub label : new.label ≡ old.label
-
--- The pieces stay the same.
-pub record SamePieces (old new : Reel) : Type 0 where
-  pub received : new.received ≡ old.received
-  pub found : new.found ≡ old.found
-  pub placed : new.placed ≡ old.placed
-  pub scrapped : new.scrapped ≡ old.scrapped
-  pub remaining : new.remaining ≡ old.remaining
-
--- The floor life stays the same.
-pub record SameLife (old new : Reel) : Type 0 where
-  pub used : new.used ≡ old.used
-  pub open_since : new.open_since ≡ old.open_since
-  pub baked : new.baked ≡ old.baked
-  pub last : new.last ≡ old.last
+is_unbaked_reel reel = is_six reel.row.level && not reel.row.baked
 
 abbrev pub is_placed_usage : Usage → Bool
 is_placed_usage Placed = true
 is_placed_usage Scrapped = false
+
+-- The row without pieces that were taken off the reel, each placed or scrapped.
+abbrev pub taken_row : Usage → ℕ → ReelRow → ReelRow
+taken_row usage pieces row = record row {
+  placed = row.placed + (if is_placed_usage usage then pieces else 0);
+  scrapped = row.scrapped + (if is_placed_usage usage then 0 else pieces);
+  remaining = row.remaining - pieces;
+}
+
+-- The row after a count of so many pieces: the missing ones are scrapped.
+abbrev pub counted_row : ℕ → ReelRow → ReelRow
+counted_row pieces row = record row {
+  scrapped = row.scrapped + (row.remaining - pieces);
+  remaining = pieces;
+}
+
+-- The row after a count above the remaining pieces: the surplus is received.
+abbrev pub risen_row : ℕ → ReelRow → ReelRow
+risen_row pieces row = record row {
+  received = row.received + (pieces - row.remaining);
+  remaining = pieces;
+}
+
+-- The history has this row's receipt; the received pieces are the receipt's and those found later.
+pub record HasReceipt (H : History) (name : Name) (row : ReelRow) (found : ℕ) : Type 0 where
+  pub receipt : Receipt
+  pub is : receipt_of H name ≡ Some receipt
+  pub part : row.part ≡ receipt.part
+  pub lot : row.lot ≡ receipt.lot
+  pub level : row.level ≡ receipt.moisture.level
+  pub label : row.label ≡ receipt.moisture.label
+  pub received : row.received ≡ receipt.quantity + found
+
+-- The row has the state of this name in the history: receipt, bake, time out of its bag, and
+-- exposure from its last command on.
+pub record RowStandsFor (H : History) (name : Name) (row : ReelRow) (found last : ℕ) : Type 0 where
+  pub receipt : HasReceipt H name row found
+  pub baked : row.baked ≡ is_baked H name
+  pub open_since : row.open_since ≡ out_since H name
+  pub starts : exposure_starts H name ≤ last
+  pub used : row.used ≡ exposure_of H name (unwrap_or row.open_since last)
+  pub exposure : (minute : ℕ) → last ≤ minute → exposure_at row minute ≡ exposure_of H name minute
+
+-- The reel has the state of this name in the history.
+abbrev pub StandsFor : History → Name → Reel → Type 0
+StandsFor H name reel = RowStandsFor H name reel.row reel.found reel.last

@@ -11,16 +11,19 @@ use Rattle.report_texts.specs.Shown.{left_text}
 
 -- Whether the reel is mounted, out of its bag, or sealed.
 abbrev pub state_text : ReelView → List ℕ
-state_text r = if r.mounted then codes "mounted" else if r.is_open then codes "open" else codes "sealed"
+state_text r = if r.mounted then codes "mounted" else if r.is_open
+    then codes "open" else codes "sealed"
 
 abbrev pub card_header : List (List ℕ)
 card_header =
-    codes "reel" ∷ codes "part" ∷ codes "lot" ∷ codes "level" ∷ codes "received" ∷ codes "placed" ∷ codes "scrapped" ∷ codes "remaining"
+    codes "reel" ∷ codes "part" ∷ codes "lot" ∷ codes "level" ∷ codes "received" ∷ codes "placed"
+    ∷ codes "scrapped" ∷ codes "remaining"
     ∷ codes "minutes_left" ∷ codes "state" ∷ []
 
 abbrev pub card_fields : ReelView → List (List ℕ)
 card_fields r =
-    r.reel ∷ r.part ∷ r.lot ∷ text_of r.level ∷ decimal r.received ∷ decimal r.placed ∷ decimal r.scrapped ∷ decimal r.remaining
+    r.reel ∷ r.part ∷ r.lot ∷ text_of r.level ∷ decimal r.received ∷ decimal r.placed
+    ∷ decimal r.scrapped ∷ decimal r.remaining
     ∷ left_text r.left ∷ state_text r ∷ []
 
 -- The card of the reel, if it was received.

@@ -32,7 +32,8 @@ prefixes (x ∷ xs) = [] ∷ map (λ p. x ∷ p) (prefixes xs)
 
 -- The shortest prefix of the reels with the pieces needed, or else all of them.
 abbrev pub enough : ℕ → List ReelView → List ReelView
-enough needed reels = unwrap_or (find (λ p. nat_le needed (pieces_of_reels p)) (prefixes reels)) reels
+enough needed reels =
+    unwrap_or (find (λ p. nat_le needed (pieces_of_reels p)) (prefixes reels)) reels
 
 -- The free reels for the part in order of use, except those already given.
 abbrev pub still_free : History → List Name → Name → List ReelView
@@ -46,24 +47,32 @@ reels_for H boards given row = enough (needed_by boards row) (still_free H given
 
 -- One reel for a sheet row.
 abbrev pub reel_row : SheetRow → ℕ → ReelView → KitRow
-reel_row row needed r = record { slot = row.slot; part = row.part; needed = needed; supply = Reel r.reel r.remaining r.left }
+reel_row row needed r = record {
+  slot = row.slot;
+  part = row.part;
+  needed = needed;
+  supply = Reel r.reel r.remaining r.left;
+}
 
 -- The pieces that a sheet row lacks.
 abbrev pub short_row : SheetRow → ℕ → ℕ → KitRow
-short_row row needed missing = record { slot = row.slot; part = row.part; needed = needed; supply = Short missing }
+short_row row needed missing =
+    record { slot = row.slot; part = row.part; needed = needed; supply = Short missing }
 
 -- The kit's rows for one sheet row: its reels, then the missing pieces, if any.
 abbrev pub rows_for : SheetRow → ℕ → List ReelView → List KitRow
 rows_for row needed reels =
     map (reel_row row needed) reels
-    ++ (if nat_lt (pieces_of_reels reels) needed then short_row row needed (needed - pieces_of_reels reels) ∷ [] else [])
+    ++ (if nat_lt (pieces_of_reels reels) needed
+    then short_row row needed (needed - pieces_of_reels reels) ∷ [] else [])
 
 -- The kit's rows for the sheet rows in order; no reel is given twice.
 unfoldable pub kit_rows : History → ℕ → List Name → List SheetRow → List KitRow
 kit_rows H boards given [] = []
 kit_rows H boards given (row ∷ rows) =
     rows_for row (needed_by boards row) (reels_for H boards given row)
-    ++ kit_rows H boards (given ++ map (λ (r : ReelView). r.reel) (reels_for H boards given row)) rows
+    ++ kit_rows H boards
+    (given ++ map (λ (r : ReelView). r.reel) (reels_for H boards given row)) rows
 
 -- The reel in a kit row.
 abbrev pub reel_in : Supply → Option Name
@@ -77,7 +86,8 @@ reels_in rows = filter_map (λ (row : KitRow). reel_in row.supply) rows
 -- ---- the text
 
 abbrev pub kit_header : List (List ℕ)
-kit_header = codes "slot" ∷ codes "part" ∷ codes "needed" ∷ codes "reel" ∷ codes "pieces" ∷ codes "minutes_left" ∷ []
+kit_header = codes "slot" ∷ codes "part" ∷ codes "needed" ∷ codes "reel" ∷ codes "pieces"
+    ∷ codes "minutes_left" ∷ []
 
 -- The last three fields: a reel, its pieces and its floor life; or no reel, the missing pieces and
 -- a word.
@@ -91,4 +101,5 @@ kit_fields row = row.slot ∷ row.part ∷ decimal row.needed ∷ supply_fields 
 -- The kit list, if the product has a sheet on the machine.
 abbrev pub kit_list : History → Name → Name → ℕ → Option (List ℕ)
 kit_list H product machine boards =
-    option_map (λ sheet. csv_text kit_header (map kit_fields (kit_rows H boards [] sheet))) (sheet_of H product machine)
+    option_map (λ sheet. csv_text kit_header (map kit_fields (kit_rows H boards [] sheet)))
+    (sheet_of H product machine)

@@ -19,7 +19,8 @@ yes_or_no b = if b then codes "yes" else codes "no"
 
 -- The columns at detail 4.
 abbrev pub board_header : Fields
-board_header = codes "designator" ∷ codes "part" ∷ codes "lot" ∷ codes "reel" ∷ codes "machine" ∷ codes "slot" ∷ codes "overdue" ∷ []
+board_header = codes "designator" ∷ codes "part" ∷ codes "lot" ∷ codes "reel" ∷ codes "machine"
+    ∷ codes "slot" ∷ codes "overdue" ∷ []
 
 abbrev pub on_board : Placement → Fields
 on_board p = p.designator ∷ p.part ∷ p.lot ∷ p.reel ∷ p.machine ∷ p.slot ∷ yes_or_no p.overdue ∷ []
@@ -37,13 +38,15 @@ board_rows detail pieces = set_of (map (λ p. project (board_columns detail) (on
 
 -- A board's trace from its pieces: a header and these rows.
 abbrev pub board_text : TraceDetail → List Placement → List ℕ
-board_text detail pieces = csv_text (project (board_columns detail) board_header) (board_rows detail pieces)
+board_text detail pieces =
+    csv_text (project (board_columns detail) board_header) (board_rows detail pieces)
 
 -- ---- trace of a lot
 
 -- The columns at detail 4.
 abbrev pub lot_header : Fields
-lot_header = codes "board" ∷ codes "designator" ∷ codes "part" ∷ codes "reel" ∷ codes "machine" ∷ codes "slot" ∷ codes "overdue" ∷ []
+lot_header = codes "board" ∷ codes "designator" ∷ codes "part" ∷ codes "reel" ∷ codes "machine"
+    ∷ codes "slot" ∷ codes "overdue" ∷ []
 
 abbrev pub of_lot : Placement → Fields
 of_lot p = p.board ∷ p.designator ∷ p.part ∷ p.reel ∷ p.machine ∷ p.slot ∷ yes_or_no p.overdue ∷ []

@@ -78,7 +78,8 @@ impl Report<ReelView> for ReelCard {
 /// Returns the reel's card at the desk minute: its receipt, pieces and floor life, or none if it
 /// wasn't received.
 pub fn reel_card<D: Desk>(alloc: Global, desk: &D, reel: &Id) -> Result<Option<Text>, AllocError>
-    ensures { (H : History) → D.Stands desk.now H → IfOk result (λ text. text ≡ reel_card H reel.now) }
+    ensures { (H : History) → D.Stands desk.now H
+        → IfOk result (λ text. text ≡ reel_card H reel.now) }
 {
     match desk.reel(reel) {
         Some(view) => Ok(Some(csv_text(alloc, &ReelCard, &[view])?)),

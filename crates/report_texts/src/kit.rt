@@ -98,7 +98,8 @@ fn enough(
 ) -> Result<Vec<ReelView>, AllocError>
     ensures { (names : List Name) → HasSeen given.now names
         → IfOk result
-        (λ chosen. chosen.items ≡ enough needed (filter (λ (r : ReelView). not (is_among names r.reel)) reels.now)) }
+        (λ chosen. chosen.items
+        ≡ enough needed (filter (λ (r : ReelView). not (is_among names r.reel)) reels.now)) }
 {
     let mut chosen = Vec::new(alloc);
     let mut missing = needed;
@@ -121,7 +122,8 @@ fn put_rows(
     given: &mut BTreeSet<Id>,
     kit: &mut Vec<KitRow>,
 ) -> Result<(), AllocError>
-    ensures rows { OnOk result (kit.new.items ≡ kit.old.items ++ rows_for row.now needed reels.now) }
+    ensures rows { OnOk result
+        (kit.new.items ≡ kit.old.items ++ rows_for row.now needed reels.now) }
     ensures given { (names : List Name) → HasSeen given.old names
         → OnOk result (HasSeen given.new (names ++ map (λ (r : ReelView). r.reel) reels.now)) }
 {
@@ -163,7 +165,8 @@ fn kit_rows<D: Desk>(
     boards: Boards,
     sheet: &[SheetRow],
 ) -> Result<Vec<KitRow>, AllocError>
-    ensures { (H : History) → D.Stands desk.now H → IfOk result (λ rows. rows.items ≡ kit_rows H boards [] sheet.now) }
+    ensures { (H : History) → D.Stands desk.now H
+        → IfOk result (λ rows. rows.items ≡ kit_rows H boards [] sheet.now) }
 {
     let mut given = BTreeSet::new(alloc);
     let mut kit = Vec::new(alloc);

@@ -18,7 +18,8 @@ ghost use Rattle.report_texts.specs.Traces.{project, board_columns, lot_columns,
 /// Reading a report with `csv` gives back its header and records, even with commas, quotes or line ends in fields.
 /// Holds for all records with at least one field.
 pub fn texts_read_back()
-    ensures { (header : List (List ℕ)) (rows : List (List (List ℕ))) → All (λ r. r ≢ []) (header ∷ rows)
+    ensures { (header : List (List ℕ)) (rows : List (List (List ℕ)))
+        → All (λ r. r ≢ []) (header ∷ rows)
         → records default_config (csv_text header rows) ≡ header ∷ rows }
 {}
 

@@ -22,7 +22,8 @@ fn on_board<'a>(
     detail: TraceDetail,
     piece: &'a Placement,
 ) -> Result<Record<'a>, AllocError>
-    ensures { IfOk result (λ row. bytes_of row.items ≡ project (board_columns detail) (on_board piece.now)) }
+    ensures { IfOk result
+        (λ row. bytes_of row.items ≡ project (board_columns detail) (on_board piece.now)) }
 {
     let part = piece.part.as_bytes();
     let lot = piece.lot.as_bytes();
@@ -48,7 +49,8 @@ fn of_lot<'a>(
     detail: TraceDetail,
     piece: &'a Placement,
 ) -> Result<Record<'a>, AllocError>
-    ensures { IfOk result (λ row. bytes_of row.items ≡ project (lot_columns detail) (of_lot piece.now)) }
+    ensures { IfOk result
+        (λ row. bytes_of row.items ≡ project (lot_columns detail) (of_lot piece.now)) }
 {
     let board = piece.board.as_bytes();
     let part = piece.part.as_bytes();
@@ -74,7 +76,8 @@ pub fn board_rows<'a>(
     detail: TraceDetail,
     pieces: &'a [Placement],
 ) -> Result<BTreeSet<Record<'a>>, AllocError>
-    ensures { IfOk result (λ rows. map (λ r. bytes_of r.items) rows.keys ≡ board_rows detail pieces.now) }
+    ensures { IfOk result
+        (λ rows. map (λ r. bytes_of r.items) rows.keys ≡ board_rows detail pieces.now) }
 {
     let mut rows = BTreeSet::new(alloc);
     for i in (0..pieces.len()).rev() {
@@ -88,7 +91,8 @@ pub fn lot_rows<'a>(
     detail: TraceDetail,
     pieces: &'a [Placement],
 ) -> Result<BTreeSet<Record<'a>>, AllocError>
-    ensures { IfOk result (λ rows. map (λ r. bytes_of r.items) rows.keys ≡ lot_rows detail pieces.now) }
+    ensures { IfOk result
+        (λ rows. map (λ r. bytes_of r.items) rows.keys ≡ lot_rows detail pieces.now) }
 {
     let mut rows = BTreeSet::new(alloc);
     for i in (0..pieces.len()).rev() {

@@ -47,7 +47,8 @@ pub fn write_fields(writer: &mut TextWriter, fields: &[&[u8]]) -> Result<(), All
 
 /// Returns the report's header and a record for each row in order.
 pub fn csv_text<T, R: Report<T>>(alloc: Global, report: &R, rows: &[T]) -> Result<Text, AllocError>
-    ensures { IfOk result (λ text. text ≡ csv_text (R.header report.now) (map (R.fields report.now) rows.now)) }
+    ensures { IfOk result
+        (λ text. text ≡ csv_text (R.header report.now) (map (R.fields report.now) rows.now)) }
 {
     let mut writer = WriterBuilder::new().from_writer(Vec::new(alloc));
     report.write_header(&mut writer)?;

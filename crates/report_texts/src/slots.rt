@@ -53,7 +53,8 @@ impl Report<Mount> for SlotList {
 /// Returns the machine's live reels by slot and position, with the front at position 1, or none if
 /// no sheet is for the machine.
 pub fn slot_list<D: Desk>(alloc: Global, desk: &D, machine: &Id) -> Result<Option<Text>, AllocError>
-    ensures { (H : History) → D.Stands desk.now H → IfOk result (λ text. text ≡ slot_list H machine.now) }
+    ensures { (H : History) → D.Stands desk.now H
+        → IfOk result (λ text. text ≡ slot_list H machine.now) }
 {
     match desk.slots_of(machine)? {
         Some(mounts) => Ok(Some(csv_text(alloc, &SlotList, mounts.as_slice())?)),

@@ -18,7 +18,8 @@ fn text_of_set(
     header: &[&[u8]],
     rows: &BTreeSet<Record<'_>>,
 ) -> Result<Text, AllocError>
-    ensures { IfOk result (λ text. text ≡ csv_text (bytes_of header.now) (map (λ r. bytes_of r.items) rows.now.keys)) }
+    ensures { IfOk result (λ text. text
+        ≡ csv_text (bytes_of header.now) (map (λ r. bytes_of r.items) rows.now.keys)) }
 {
     let mut writer = WriterBuilder::new().from_writer(Vec::new(alloc));
     write_fields(&mut writer, header)?;

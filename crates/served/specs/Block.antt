@@ -2,6 +2,8 @@
 use Rattle.std.specs.Prelude.{◌≡◌, ℕ, ◌+◌, ◌-◌, ◌*◌, ◌≤◌, List, length, take, drop, Option}
 use Rattle.std.specs.Io.KnownBytes.{prepend_known}
 use Rattle.desk_types.specs.declared.limits.TheConstants.{BLOCK}
+use Rattle.desk_types.specs.declared.wire.Wire.{Wire}
+use Rattle.desk_types.specs.Wire.{reads_of}
 use Rattle.served.specs.declared.block.Block.{Block}
 
 -- The pending bytes, from `at` to `end`, lie in a buffer of full size.
@@ -16,5 +18,6 @@ abbrev pub source : Block → Option (List ℕ) → Option (List ℕ)
 source block known = prepend_known (pending_bytes block) known
 
 -- A measure for loops: the bytes of all reads still allowed, and the pending ones.
-abbrev pub fuel : ℕ → ℕ → Block → ℕ
-fuel most_reads reads block = (most_reads - reads) * (BLOCK + 1) + length (pending_bytes block)
+abbrev pub fuel : {R : Type 0} → ℕ → Wire R → Block → ℕ
+fuel most_reads wire block = (most_reads - reads_of wire) * (BLOCK + 1)
+    + length (pending_bytes block)

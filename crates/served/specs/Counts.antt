@@ -1,5 +1,7 @@
 -- Counts of the answers sent.
 use Rattle.std.specs.Prelude.{◌+◌, ◌^◌, ◌<◌, ◌≤◌}
+use Rattle.desk_types.specs.declared.wire.Wire.{Wire}
+use Rattle.desk_types.specs.Wire.{failures_of}
 use Rattle.served.specs.declared.serving.Served.{Served}
 
 -- Nothing was answered yet.
@@ -15,3 +17,8 @@ pub record CanCountOne (served : Served) : Type 0 where
 pub record CountsUpToOne (old new : Served) : Type 0 where
   pub few_answers : new.answered ≤ old.answered + 1
   pub refused : new.refused ≤ new.answered
+
+-- One more answer can be sent and counted, or its failure.
+pub record CanCountAnswer {W : Type 0} (output : Wire W) (served : Served) : Type 0 where
+  pub few_failures : failures_of output < 2 ^ 63
+  pub few_answers : CanCountOne served

@@ -1,5 +1,6 @@
 pub mod Block
 pub mod Counts
+pub mod Owners
 pub mod Reads
 pub mod Sent
 pub mod Shown

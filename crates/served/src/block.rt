@@ -1,10 +1,9 @@
 //! A buffer for reads in blocks, instead of byte by byte.
 
-ghost use Rattle.std.specs.Prelude.{◌≡◌, ◌+◌, ◌-◌, ◌^◌, ◌<◌, ◌≤◌, ◌++◌, [], ℕ, List, length, take, drop, slice_range, true, false, IfOk, OnOk, OnErr, Ok};
-ghost use Rattle.std.specs.Io.KnownBytes.{Keeps, Consumes, IsAtEnd};
-ghost use Rattle.desk_types.specs.Wire.{inner_of, reads_of, failures_of};
-ghost use Rattle.served.specs.Block.{IsBlock, pending_bytes, source, fuel};
-ghost use Rattle.served.specs.Reads.{MayRead, ReadsUpTo};
+ghost use Rattle.std.specs.Prelude.{◌≡◌, ◌+◌, ◌-◌, ◌<◌, ◌≤◌, [], length, drop, slice_range, OnOk};
+ghost use Rattle.desk_types.specs.Wire.{inner_of};
+ghost use Rattle.served.specs.Block.{IsBlock, pending_bytes, fuel};
+ghost use Rattle.served.specs.Reads.{CanCountRead, CountsRead, HasRoom, KeepsSource, MayReadInto, ReadsBehind, ReadsInto, ReadsMore};
 
 use desk_types::{BLOCK, Wire};
 use std::io::Read;
@@ -70,20 +69,14 @@ impl Block {
 
     /// Reads once more behind the pending bytes. Returns false at the end.
     pub fn more<R: Read>(&mut self, wire: &mut Wire<R>, most_reads: u64) -> Result<bool, ReadFault>
-        requires valid { IsBlock self.old }
+        requires reads { MayReadInto most_reads wire.old self.old }
         requires room { length (pending_bytes self.old) < BLOCK }
-        requires reads { MayRead most_reads wire.old }
-        ensures valid { IsBlock self.new }
-        ensures source { OnOk result
-            (Keeps (source self.old (R.remaining (inner_of wire.old)))
-            (source self.new (R.remaining (inner_of wire.new)))) }
-        ensures some { result ≡ Ok true → 0 < length (pending_bytes self.new) }
-        ensures end { result ≡ Ok false
-            → IsAtEnd (R.remaining (inner_of wire.new)) × (pending_bytes self.new ≡ pending_bytes self.old) }
-        ensures unread { OnErr result (Keeps (R.remaining (inner_of wire.old)) (R.remaining (inner_of wire.new))) }
+        ensures reads { ReadsInto most_reads result wire.old wire.new self.new }
+        ensures source { KeepsSource result self.old self.new
+            (R.remaining (inner_of wire.old)) (R.remaining (inner_of wire.new)) }
+        ensures more { ReadsMore result self.old self.new (R.remaining (inner_of wire.new)) }
         ensures falls { OnOk result
-            (fuel most_reads (reads_of wire.new) self.new < fuel most_reads (reads_of wire.old) self.old) }
-        ensures reads { ReadsUpTo most_reads result wire.old wire.new }
+            (fuel most_reads wire.new self.new < fuel most_reads wire.old self.old) }
     {
         if wire.reads() >= most_reads {
             return Err(ReadFault::TooMany);
@@ -118,20 +111,11 @@ fn read_behind<R: Read>(
     block: &mut [u8; BLOCK],
     end: usize,
 ) -> Result<usize, ReadFault>
-    requires room { end < BLOCK }
-    requires few_failures { failures_of wire.old < 2 ^ 63 }
-    requires few_reads { reads_of wire.old < 2 ^ 64 - 1 }
-    requires len { length block.old ≡ BLOCK }
-    ensures len { length block.new ≡ BLOCK }
-    ensures bound { IfOk result (λ count. end + count ≤ BLOCK) }
-    ensures bytes { IfOk result (λ count. (gone : List ℕ) × (take (end + count) block.new ≡ take end block.old ++ gone)
-        × (length gone ≡ count)
-        × Consumes (R.remaining (inner_of wire.old)) (R.remaining (inner_of wire.new)) gone) }
-    ensures end { result ≡ Ok 0 → IsAtEnd (R.remaining (inner_of wire.new)) }
-    ensures unread { OnErr result (Keeps (R.remaining (inner_of wire.old)) (R.remaining (inner_of wire.new))) }
-    ensures reads { reads_of wire.new ≡ reads_of wire.old + 1 }
-    ensures kept { OnOk result (failures_of wire.new ≡ failures_of wire.old) }
-    ensures failed { OnErr result (failures_of wire.new ≡ failures_of wire.old + 1) }
+    requires counts { CanCountRead wire.old }
+    requires room { HasRoom block.old end }
+    ensures counts { CountsRead result wire.old wire.new }
+    ensures block { ReadsBehind end result block.old block.new
+        (R.remaining (inner_of wire.old)) (R.remaining (inner_of wire.new)) }
 {
     match wire.read(&mut block[end..]) {
         Ok(count) => Ok(count),

@@ -16,11 +16,13 @@ pub struct WriteFailed;
 pub fn send_line<W: Write>(wire: &mut Wire<W>, text: &[u8]) -> Result<(), WriteFailed>
     requires few_failures { failures_of wire.old < 2 ^ 63 }
     ensures ok { OnOk result
-        (Appends (W.contents (inner_of wire.old)) (W.contents (inner_of wire.new)) (text.now ++ 10 ∷ [])) }
+        (Appends (W.contents (inner_of wire.old)) (W.contents (inner_of wire.new))
+        (text.now ++ 10 ∷ [])) }
     ensures kept { OnOk result (failures_of wire.new ≡ failures_of wire.old) }
     ensures failed { OnErr result (failures_of wire.new ≡ failures_of wire.old + 1) }
     ensures front { OnErr result
-        (SendsFront (W.contents (inner_of wire.old)) (W.contents (inner_of wire.new)) (text.now ++ 10 ∷ [])) }
+        (SendsFront (W.contents (inner_of wire.old)) (W.contents (inner_of wire.new))
+        (text.now ++ 10 ∷ [])) }
 {
     if text.len() < ONE_WRITE {
         let line = with_line_feed(text);
@@ -43,7 +45,8 @@ fn with_line_feed(text: &[u8]) -> [u8; ONE_WRITE]
 /// Writes all the bytes.
 pub fn send<W: Write>(wire: &mut Wire<W>, bytes: &[u8]) -> Result<(), WriteFailed>
     requires few_failures { failures_of wire.old < 2 ^ 63 }
-    ensures ok { OnOk result (Appends (W.contents (inner_of wire.old)) (W.contents (inner_of wire.new)) bytes.now) }
+    ensures ok { OnOk result
+        (Appends (W.contents (inner_of wire.old)) (W.contents (inner_of wire.new)) bytes.now) }
     ensures kept { OnOk result (failures_of wire.new ≡ failures_of wire.old) }
     ensures failed { OnErr result (failures_of wire.new ≡ failures_of wire.old + 1) }
     ensures front { OnErr result

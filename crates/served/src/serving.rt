@@ -15,7 +15,8 @@ impl Served {
     pub fn count(&mut self, refused: bool)
         requires counts { CanCountOne self.old }
         ensures answered { self.new.answered ≡ self.old.answered + 1 }
-        ensures refused { self.new.refused ≡ (if refused then self.old.refused + 1 else self.old.refused) }
+        ensures refused { self.new.refused
+            ≡ (if refused then self.old.refused + 1 else self.old.refused) }
     {
         self.answered += 1;
         if refused {

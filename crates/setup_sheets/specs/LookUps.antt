@@ -17,6 +17,7 @@ abbrev pub row_at : List SheetRow → BTreeMap Name ℕ → Name → Option Shee
 row_at rows places slot = option_and_then (slice_get rows) (tree.get by_name places slot)
 
 -- The indexes find each slot's row and each designator's slot.
-pub record AreLookUps (rows : List SheetRow) (places : BTreeMap Name ℕ) (slots : BTreeMap Name Name) : Type 0 where
+pub record AreLookUps (rows : List SheetRow) (places : BTreeMap Name ℕ)
+    (slots : BTreeMap Name Name) : Type 0 where
   pub row : (slot : Name) → row_at rows places slot ≡ row_in rows slot
   pub slot : (designator : Name) → slot_at slots designator ≡ slot_in rows designator

@@ -19,14 +19,17 @@ slots_of_fronts fronts = map (λ (front : Front). front.slot) fronts
 abbrev pub front_fault : List (Name × Name) → ℕ → SheetRow → Option FrontReel → Option Refusal
 front_fault alternates minute row None = Some (SlotEmpty row.slot)
 front_fault alternates minute row (Some reel) =
-    feeding_refusal row.slot (not (is_allowed_by alternates row.part reel.part)) (is_unbaked_life reel.life) (is_expired_life reel.life minute)
+    feeding_refusal row.slot (not (is_allowed_by alternates row.part reel.part))
+    (is_unbaked_life reel.life) (is_expired_life reel.life minute)
 
 -- The first faulty slot in sheet order, with its fault.
-abbrev pub first_fault : List (Name × Name) → ℕ → List SheetRow → List Front → Option (Name × Refusal)
+abbrev pub first_fault : List (Name × Name) → ℕ → List SheetRow → List Front
+    → Option (Name × Refusal)
 first_fault alternates minute [] fronts = None
 first_fault alternates minute (row ∷ rows) [] = None
 first_fault alternates minute (row ∷ rows) (front ∷ fronts) =
-    option_or (option_map (λ refusal. (row.slot, refusal)) (front_fault alternates minute row front.reel)) (first_fault alternates minute rows fronts)
+    option_or (option_map (λ refusal. (row.slot, refusal))
+    (front_fault alternates minute row front.reel)) (first_fault alternates minute rows fronts)
 
 -- The fronts are those of the rows' slots at the desk minute.
 abbrev pub AreFronts : History → Name → List SheetRow → List Front → Type 0

@@ -49,7 +49,8 @@ impl Alternates {
     pub fn add(&mut self, part: Id, alternate: Id) -> Result<(), AllocError>
         ensures ok { OnOk result (self.new ≡ insert_key by_pair self.old (part, alternate)) }
         ensures has { OnOk result ((p q : Name)
-            → is_pair_among self.new p q ≡ (same_pair (part, alternate) (p, q) || is_pair_among self.old p q)) }
+            → is_pair_among self.new p q
+            ≡ (same_pair (part, alternate) (p, q) || is_pair_among self.old p q)) }
         ensures err { OnErr result (self.new ≡ self.old) }
     {
         self.pairs.insert((part, alternate))?;

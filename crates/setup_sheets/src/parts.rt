@@ -47,7 +47,8 @@ impl Parts {
     /// Puts a part into the set. Without memory the set is as before.
     pub fn add(&mut self, part: Id) -> Result<(), AllocError>
         ensures ok { OnOk result (self.new ≡ insert_key by_name self.old part) }
-        ensures has { OnOk result ((p : Name) → is_among self.new p ≡ (same part p || is_among self.old p)) }
+        ensures has { OnOk result ((p : Name)
+            → is_among self.new p ≡ (same part p || is_among self.old p)) }
         ensures err { OnErr result (self.new ≡ self.old) }
     {
         self.names.insert(part)?;

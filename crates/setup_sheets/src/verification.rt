@@ -25,11 +25,14 @@ pub fn verify(
 ) -> Result<(), (Id, Refusal)>
     requires { slots_of_fronts fronts.now ≡ slots_of_rows rows.now }
     ensures ok { OnOk result (first_fault alternates.now at rows.now fronts.now ≡ None) }
-    ensures fault { IfErr result (λ fault. first_fault alternates.now at rows.now fronts.now ≡ Some fault) }
-    ensures slots_ready { (rules : Rules) (H : History) (machine : Name) → IsJudged rules H → now_of H ≤ at
+    ensures fault { IfErr result
+        (λ fault. first_fault alternates.now at rows.now fronts.now ≡ Some fault) }
+    ensures slots_ready { (rules : Rules) (H : History) (machine : Name)
+        → IsJudged rules H → now_of H ≤ at
         → AreAlternates H alternates.now → AreFronts H machine rows.now fronts.now
         → OnOk result (slots_refusal H at machine rows.now ≡ None) }
-    ensures slots_at_fault { (rules : Rules) (H : History) (machine : Name) → IsJudged rules H → now_of H ≤ at
+    ensures slots_at_fault { (rules : Rules) (H : History) (machine : Name)
+        → IsJudged rules H → now_of H ≤ at
         → AreAlternates H alternates.now → AreFronts H machine rows.now fronts.now
         → IfErr result (λ fault. slots_refusal H at machine rows.now ≡ Some fault.1) }
 {

@@ -39,8 +39,9 @@ use Rattle.desk_types.specs.declared.edit.RowEdit.{RowEdit}
 use Rattle.desk_types.specs.Tables.{at_place, columns_of, sheet_row, reel_row, last_put, mount_row, board_row, placement_row, found_row, Tables, tables_of}
 use Rattle.desk_types.specs.Edits.{with_edits}
 use Rattle.state_rows.specs.Kept.{without_number, unnumbered}
-use Rattle.state_rows.specs.After.{fresh_row, used_after, bakes, step_row, reel_after, mount_after, board_after, placed_row, placement_after, found_after}
-use Rattle.state_rows.specs.EditsOf.{opened_row, sealed_row, baked_row, reel_edit, board_edit, taken_rows, put_rows, reels_on, pick_of, picked_rows, after_rows, after_placing, AreEditsOf}
+use Rattle.desk_types.specs.Row.{fresh_row, opened_row, sealed_row, baked_row}
+use Rattle.state_rows.specs.After.{used_after, bakes, step_row, reel_after, mount_after, board_after, placed_row, placement_after, found_after}
+use Rattle.state_rows.specs.EditsOf.{reel_edit, board_edit, taken_rows, put_rows, reels_on, pick_of, picked_rows, after_rows, after_placing, AreEditsOf}
 use Rattle.state_rows.proofs.ReelRows.{same-rows, reel_row-next, found_row-next}
 use Rattle.state_rows.proofs.MountRows.{some_left, left_after, mount_row-next}
 use Rattle.state_rows.proofs.BoardRows.{board_row-next, some-of, working}

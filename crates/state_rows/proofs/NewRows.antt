@@ -33,8 +33,9 @@ use Rattle.desk_types.specs.declared.edit.RowEdit.{RowEdit}
 use Rattle.desk_types.specs.declared.edit.RowEdit.TheVariants.{TakeSheetRow, TakeMount, PutSheetRow, PutReel, PutMount, PutPlacement, PutFound}
 use Rattle.desk_types.specs.Tables.{at_place, columns_of, Tables, tables_of, last_put, reel_row}
 use Rattle.desk_types.specs.Edits.{with_edit, with_edits, IsNew, AreNew, takes_out, AreTakesFirst, IsBalanced, AreBalanced}
-use Rattle.state_rows.specs.After.{fresh_row, step_row, placed_row}
-use Rattle.state_rows.specs.EditsOf.{taken_rows, put_rows, opened_row, sealed_row, baked_row, reel_edit, board_edit, reels_on, pick_of, picked_rows, take_spent, counted_row, counted_edits, count_edits, place_rows, AreTakeEdits, AreEditsOf}
+use Rattle.desk_types.specs.Row.{fresh_row, opened_row, sealed_row, baked_row}
+use Rattle.state_rows.specs.After.{step_row, placed_row}
+use Rattle.state_rows.specs.EditsOf.{taken_rows, put_rows, reel_edit, board_edit, reels_on, pick_of, picked_rows, take_spent, counted_row, counted_edits, count_edits, place_rows, AreTakeEdits, AreEditsOf}
 use Rattle.state_rows.proofs.EditLists.{rows-taken}
 use Rattle.state_rows.proofs.ReelRows.{reel_row-next}
 use Rattle.state_rows.proofs.TablesLess.{OnlyTakes, picks-again, reels-took}

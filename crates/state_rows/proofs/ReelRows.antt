@@ -21,7 +21,8 @@ use Rattle.desk_laws.proofs.Judgements.{or-none, by-desk_minute, untouched}
 use Rattle.desk_laws.proofs.Totals.{placed-next, scrapped-next}
 use Rattle.desk_types.specs.declared.row.ReelRow.{ReelRow}
 use Rattle.desk_types.specs.Tables.{columns_of, reel_row, found_row}
-use Rattle.state_rows.specs.After.{fresh_row, used_after, bakes, step_row, reel_after, found_after}
+use Rattle.desk_types.specs.Row.{fresh_row}
+use Rattle.state_rows.specs.After.{used_after, bakes, step_row, reel_after, found_after}
 use Rattle.state_rows.proofs.Exposed.{now-next, now-before, exposure-in_bag, exposure-out, since-by}
 use Rattle.state_rows.proofs.ReelCommands.{IsReceipt, IsReceipt-said, IsBake-said, IsQuiet-said, unbaked}
 

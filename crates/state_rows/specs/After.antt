@@ -11,6 +11,7 @@ use Rattle.desk_types.specs.declared.take.Take.{Take}
 use Rattle.desk_types.specs.declared.take.Purpose.{Purpose}
 use Rattle.desk_types.specs.declared.take.Purpose.TheVariants.{Placed}
 use Rattle.desk_types.specs.Id.{Name, same}
+use Rattle.desk_types.specs.Row.{fresh_row}
 use Rattle.desk_types.specs.Setup.{receipt_by}
 use Rattle.desk_types.specs.Pieces.{pieces_picked, is_placed, pieces_by, found_by}
 use Rattle.desk_types.specs.FloorLife.{open_by, since_after, baked_by}
@@ -27,27 +28,11 @@ placed_in picks reel = pieces_picked (filter (λ p. is_placed p.purpose) picks) 
 abbrev pub scrapped_in : List Pick → Name → ℕ
 scrapped_in picks reel = pieces_picked (filter (λ p. not (is_placed p.purpose)) picks) reel
 
--- The row of a reel that was just received.
-abbrev pub fresh_row : Name → Receipt → ReelRow
-fresh_row reel receipt = record {
-  reel = reel;
-  part = receipt.part;
-  lot = receipt.lot;
-  level = receipt.moisture.level;
-  label = receipt.moisture.label;
-  received = receipt.quantity;
-  placed = 0;
-  scrapped = 0;
-  remaining = receipt.quantity;
-  used = 0;
-  open_since = None;
-  baked = false;
-}
-
 -- The exposure that is kept after a command, by whether it bakes the reel and how it leaves its bag.
 abbrev pub used_after : Bool → Option Bool → ℕ → Option ℕ → ℕ → ℕ
 used_after true out minute since used = 0
-used_after false (Some false) minute since used = used + option_map_or (λ from. minute - from) since 0
+used_after false (Some false) minute since used =
+    used + option_map_or (λ from. minute - from) since 0
 used_after false (Some true) minute since used = used
 used_after false None minute since used = used
 
@@ -71,7 +56,8 @@ step_row minute picks reel command row = record row {
 -- The reel's row after a command.
 abbrev pub reel_after : ℕ → List Pick → Name → Command → Option ReelRow → Option ReelRow
 reel_after minute picks reel command row =
-    option_or (option_map (fresh_row reel) (receipt_by reel minute command)) (option_map (step_row minute picks reel command) row)
+    option_or (option_map (fresh_row reel) (receipt_by reel minute command))
+    (option_map (step_row minute picks reel command) row)
 
 -- The found pieces of a reel after a command, if it had this many left.
 abbrev pub found_after : ℕ → Name → Command → Option ℕ → Option ℕ
@@ -82,11 +68,15 @@ found_after left reel command found = some_of (unwrap_or found 0 + found_by left
 
 -- The row of a mounted reel after the entry of this number, by whether the reel then has pieces left and on which slots
 -- it was live.
-abbrev pub mount_after : Bool → (Name → Name → Bool) → Name → ℕ → Command → Option MountRow → Option MountRow
-mount_after some live reel number (MaterialsLoaded m s r) row = if same r reel then Some (record { since = number; machine = m; slot = s; reel = reel }) else row
-mount_after some live reel number (MaterialsSpliced m s r) row = if same r reel then Some (record { since = number; machine = m; slot = s; reel = reel }) else row
+abbrev pub mount_after : Bool → (Name → Name → Bool) → Name → ℕ → Command
+    → Option MountRow → Option MountRow
+mount_after some live reel number (MaterialsLoaded m s r) row = if same r reel
+    then Some (record { since = number; machine = m; slot = s; reel = reel }) else row
+mount_after some live reel number (MaterialsSpliced m s r) row = if same r reel
+    then Some (record { since = number; machine = m; slot = s; reel = reel }) else row
 mount_after some live reel number (MaterialsUnloaded m s) row = if live m s then None else row
-mount_after some live reel number (MaterialsInstalled m board designators) row = if some then row else None
+mount_after some live reel number (MaterialsInstalled m board designators) row =
+    if some then row else None
 mount_after some live reel number (MaterialsScrapped m s quantity) row = if some then row else None
 mount_after some live reel number (CountsTaken counts) row = if some then row else None
 mount_after some live reel number command row = row
@@ -94,9 +84,11 @@ mount_after some live reel number command row = row
 -- The row of a board after a command, by the products selected before it.
 abbrev pub board_after : (Name → Option Name) → Name → Command → Option BoardRow → Option BoardRow
 board_after selected board (WorkStarted m b) row =
-    if same b board then option_map (λ product. record { board = board; product = product; machine = Some m }) (selected m) else row
+    if same b board then option_map (λ product.
+    record { board = board; product = product; machine = Some m }) (selected m) else row
 board_after selected board (WorkCompleted m b) row =
-    if same b board then option_map (λ product. record { board = board; product = product; machine = None }) (selected m) else row
+    if same b board then option_map (λ product.
+    record { board = board; product = product; machine = None }) (selected m) else row
 board_after selected board command row = row
 
 -- A take as a row of `placement`, if its piece was placed.
@@ -118,4 +110,5 @@ placed_row number place take = row take.purpose
 
 -- The row of a placed piece after the entry of a number, by its takes.
 abbrev pub placement_after : ℕ → List Take → ℕ → ℕ → Option PlacementRow → Option PlacementRow
-placement_after number takes n k row = if number == n then option_and_then (placed_row n k) (at_place 1 takes k) else row
+placement_after number takes n k row = if number == n
+    then option_and_then (placed_row n k) (at_place 1 takes k) else row

@@ -22,7 +22,8 @@ use Rattle.desk_types.specs.Tables.{Tables}
 
 -- By product, then machine, then place.
 abbrev pub by_sheet_place : Name × Name × ℕ → Name × Name × ℕ → Ordering
-by_sheet_place a b = ordering_then (ordering_then (by_name a.0 b.0) (by_name a.1 b.1)) (nat_cmp a.2 b.2)
+by_sheet_place a b =
+    ordering_then (ordering_then (by_name a.0 b.0) (by_name a.1 b.1)) (nat_cmp a.2 b.2)
 
 -- By number, then place.
 abbrev pub by_piece : ℕ × ℕ → ℕ × ℕ → Ordering
@@ -83,30 +84,38 @@ without_number row = record row { since = 0 }
 
 -- The tables without the numbers of commands: without placements, and without the `since` of each mount.
 abbrev pub unnumbered : Tables → Tables
-unnumbered t = record t { mounts = λ r. option_map without_number (t.mounts r); placements = λ n k. None }
+unnumbered t = record t {
+  mounts = λ r. option_map without_number (t.mounts r);
+  placements = λ n k. None;
+}
 
 -- ---- lists of a table's rows
 
 -- The entries are the rows of the table: their keys ascend, and each key has the table's row, if any.
-pub record Lists {K X : Type 0} (cmp : K → K → Ordering) (entries : List (K × X)) (table : K → Option X) : Type 0 where
+pub record Lists {K X : Type 0} (cmp : K → K → Ordering) (entries : List (K × X))
+    (table : K → Option X) : Type 0 where
   pub ascending : IsStrictlySortedBy cmp (keys_of entries)
   pub rows : (k : K) → row_at cmp entries k ≡ table k
 
 -- The keys are those of the table, in ascending order.
-pub record ListsKeys {K : Type 0} (cmp : K → K → Ordering) (keys : List K) (table : K → Bool) : Type 0 where
+pub record ListsKeys {K : Type 0} (cmp : K → K → Ordering) (keys : List K)
+    (table : K → Bool) : Type 0 where
   pub ascending : IsStrictlySortedBy cmp keys
   pub rows : (k : K) → has_key cmp keys k ≡ table k
 
 -- The row, if its number is this one.
 abbrev pub since_is : ℕ → Option MountRow → Option MountRow
-since_is since row = option_and_then (λ (m : MountRow). if m.since == since then Some m else None) row
+since_is since row = option_and_then
+    (λ (m : MountRow). if m.since == since then Some m else None) row
 
 -- The entries are the rows of `mount` in the order of their numbers: each reel has the row that the table has, and each entry is one of the table.
-pub record ListsMounts (entries : List ((ℕ × Name) × MountRow)) (table : Name → Option MountRow) : Type 0 where
+pub record ListsMounts (entries : List ((ℕ × Name) × MountRow))
+    (table : Name → Option MountRow) : Type 0 where
   pub ascending : IsStrictlySortedBy by_since (keys_of entries)
   pub rows : (reel : Name) → lookup (λ k. same reel k.1) entries ≡ table reel
   pub each : All (λ e. since_is e.0.0 (table e.0.1) ≡ Some e.1) entries
 
 -- The rows by numbers and reels are those by reels.
 abbrev pub AreTheSame : List ((ℕ × Name) × MountRow) → List (Name × MountRow) → Type 0
-AreTheSame numbered named = (k : ℕ × Name) → row_at by_since numbered k ≡ since_is k.0 (row_at by_name named k.1)
+AreTheSame numbered named = (k : ℕ × Name)
+    → row_at by_since numbered k ≡ since_is k.0 (row_at by_name named k.1)

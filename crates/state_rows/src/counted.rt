@@ -35,7 +35,8 @@ fn counted_row(view: &ReelView, pieces: u64) -> ReelRow
 
 fn note(edits: &mut Vec<RowEdit>, view: &ReelView, pieces: u64) -> Result<(), AllocError>
     requires { CountFits pieces view.now }
-    ensures { OnOk result (edits.new.items ≡ edits.old.items ++ counted_edits pieces (Some view.now)) }
+    ensures { OnOk result
+        (edits.new.items ≡ edits.old.items ++ counted_edits pieces (Some view.now)) }
 {
     edits.push(RowEdit::PutReel(counted_row(view, pieces)))?;
     if view.remaining < pieces {

@@ -33,7 +33,8 @@ pub trait KeepsRows: Desk {
         requires judged { (H : History) → Self.Stands self.old H
             → IsChange (Self.kept_rules self.old) H change.stamped change }
         requires lead { (H : History) → Self.Stands self.old H
-            → unnumbered (with_edits edits.now (tables_of H)) ≡ unnumbered (tables_of (accept H change.stamped)) }
+            → unnumbered (with_edits edits.now (tables_of H))
+            ≡ unnumbered (tables_of (accept H change.stamped)) }
         ensures stands { (H : History) → Self.Stands self.old H
             → OnOk result (Self.Stands self.new (accept H change.stamped)) }
         ensures rules { OnOk result (Self.kept_rules self.new ≡ Self.kept_rules self.old) }

@@ -44,7 +44,8 @@ impl Mounts {
     /// Takes the reel's row out.
     pub fn take(&mut self, reel: &Id)
         ensures { (r : Name)
-            → row_at by_name self.new r ≡ (if same reel.now r then None else row_at by_name self.old r) }
+            → row_at by_name self.new r
+            ≡ (if same reel.now r then None else row_at by_name self.old r) }
     {
         take_both(&mut self.by_reel, &mut self.by_since, reel);
     }
@@ -53,7 +54,8 @@ impl Mounts {
     pub fn put(&mut self, row: &MountRow) -> Result<(), AllocError>
         ensures { (r : Name)
             → OnOk result
-            (row_at by_name self.new r ≡ (if same row.now.reel r then Some row.now else row_at by_name self.old r)) }
+            (row_at by_name self.new r
+            ≡ (if same row.now.reel r then Some row.now else row_at by_name self.old r)) }
     {
         take_both(&mut self.by_reel, &mut self.by_since, &row.reel);
         put_both(&mut self.by_reel, &mut self.by_since, row)?;
@@ -114,7 +116,8 @@ fn put_both(
         (row_at by_name by_reel.new.entries r
         ≡ (if same row.now.reel r then Some row.now else row_at by_name by_reel.old.entries r)) }
     ensures alike { row_at by_name by_reel.old.entries row.now.reel ≡ None
-        → AreTheSame by_since.old.entries by_reel.old.entries → AreTheSame by_since.new.entries by_reel.new.entries }
+        → AreTheSame by_since.old.entries by_reel.old.entries
+        → AreTheSame by_since.new.entries by_reel.new.entries }
 {
     by_reel.insert(row.reel, *row)?;
     match by_since.insert((row.since, row.reel), *row) {

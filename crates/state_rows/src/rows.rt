@@ -11,12 +11,14 @@ ghost use Rattle.state_rows.specs.Kept.{unnumbered};
 ghost use Rattle.state_rows.specs.EditsOf.{pick_of, AreEditsOf, ArePiecesFitting};
 
 use crate::counted::count;
-use crate::reels::{bake, fresh_row, mount, open, seal};
+use crate::reels::{bake, mount, open, seal};
 use crate::sheets::define;
 use crate::slot_rows::{board, unload};
 use crate::takes::take;
 use crate::views::{DeskViews, Views};
-use desk_types::{Change, Command, Desk, Listing, Minute, MountRow, RowEdit, RowEdits, Take};
+use desk_types::{
+    Change, Command, Desk, Listing, Minute, MountRow, ReelRow, RowEdit, RowEdits, Take,
+};
 use std::alloc::{AllocError, Global};
 
 fn one(alloc: Global, edit: RowEdit) -> Result<Vec<RowEdit>, AllocError>
@@ -38,7 +40,8 @@ fn edits_of<D: Views>(
     requires room { HasRoom D.Stands desk.now 1 }
     requires judged { (H : History) → D.Stands desk.now H → IsJudged Two H }
     requires not_before { (H : History) → D.Stands desk.now H → now_of H ≤ minute }
-    requires fits { (H : History) × D.Stands desk.now H × ArePiecesFitting H (map pick_of takes.now) }
+    requires fits { (H : History) × D.Stands desk.now H
+        × ArePiecesFitting H (map pick_of takes.now) }
     ensures { (H : History) → D.Stands desk.now H
         → IfOk result (λ edits. AreEditsOf H number minute takes.now command.now edits.items) }
 {
@@ -71,7 +74,7 @@ fn edits_of<D: Views>(
             quantity,
         } => one(
             alloc,
-            RowEdit::PutReel(fresh_row(*reel, *part, *lot, *moisture, *quantity)),
+            RowEdit::PutReel(ReelRow::fresh(*reel, *part, *lot, *moisture, *quantity)),
         ),
         Command::ReelOpened { reel } => open(alloc, desk, reel, minute),
         Command::ReelSealed { reel } => seal(alloc, desk, reel, minute),
@@ -121,14 +124,15 @@ pub fn edits_for<D: Views>(
     requires judged { (H : History) → D.Stands desk.now H
         → IsChange (D.kept_rules desk.now) H change.now.stamped change.now }
     ensures lead { (H : History) → D.Stands desk.now H → number ≡ length H + 1
-        → IfOk result (λ edits. with_edits edits (tables_of H) ≡ tables_of (accept H change.now.stamped)) }
+        → IfOk result (λ edits. with_edits edits (tables_of H)
+        ≡ tables_of (accept H change.now.stamped)) }
     ensures new { (H : History) → D.Stands desk.now H → number ≡ length H + 1
         → IfOk result (λ edits. AreNew edits (tables_of H)) }
     ensures same { (H : History) → D.Stands desk.now H
         → IfOk result
-        (λ edits. unnumbered (with_edits edits (tables_of H)) ≡ unnumbered (tables_of (accept H change.now.stamped))) }
-    ensures takes_first { IfOk result (λ edits. AreTakesFirst edits) }
-    ensures balanced { IfOk result (λ edits. AreBalanced edits) }
+        (λ edits. unnumbered (with_edits edits (tables_of H))
+        ≡ unnumbered (tables_of (accept H change.now.stamped))) }
+    ensures in_order { IfOk result (λ edits. AreTakesFirst edits × AreBalanced edits) }
 {
     desk.is_judged();
     change.stamped.ranges_hold();
@@ -157,14 +161,15 @@ pub fn rows_of<D: Desk>(
     requires judged { (H : History) → D.Stands desk.now H
         → IsChange (D.kept_rules desk.now) H change.now.stamped change.now }
     ensures lead { (H : History) → D.Stands desk.now H → number ≡ length H + 1
-        → IfOk result (λ edits. with_edits edits (tables_of H) ≡ tables_of (accept H change.now.stamped)) }
+        → IfOk result (λ edits. with_edits edits (tables_of H)
+        ≡ tables_of (accept H change.now.stamped)) }
     ensures new { (H : History) → D.Stands desk.now H → number ≡ length H + 1
         → IfOk result (λ edits. AreNew edits (tables_of H)) }
     ensures same { (H : History) → D.Stands desk.now H
         → IfOk result
-        (λ edits. unnumbered (with_edits edits (tables_of H)) ≡ unnumbered (tables_of (accept H change.now.stamped))) }
-    ensures takes_first { IfOk result (λ edits. AreTakesFirst edits) }
-    ensures balanced { IfOk result (λ edits. AreBalanced edits) }
+        (λ edits. unnumbered (with_edits edits (tables_of H))
+        ≡ unnumbered (tables_of (accept H change.now.stamped))) }
+    ensures in_order { IfOk result (λ edits. AreTakesFirst edits × AreBalanced edits) }
 {
     let views = DeskViews { desk };
     edits_for(alloc, &views, change, number)

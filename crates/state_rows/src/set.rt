@@ -84,7 +84,8 @@ impl RowSet {
     /// Makes the edits of all tables except `placement`, whose rows are unchanged. After an `Err` drop the set.
     pub fn apply_but_placements(&mut self, edits: &[RowEdit]) -> Result<(), AllocError>
         ensures { OnOk result
-            (tables_in self.new ≡ but_placements (with_edits edits.now (tables_in self.old)) (tables_in self.old)) }
+            (tables_in self.new ≡ but_placements (with_edits edits.now (tables_in self.old))
+            (tables_in self.old)) }
     {
         for edit in edits {
             self.make_but_placement(edit)?;
@@ -94,7 +95,8 @@ impl RowSet {
 
     fn make_but_placement(&mut self, edit: &RowEdit) -> Result<(), AllocError>
         ensures { OnOk result
-            (tables_in self.new ≡ but_placements (with_edit edit.now (tables_in self.old)) (tables_in self.old)) }
+            (tables_in self.new ≡ but_placements (with_edit edit.now (tables_in self.old))
+            (tables_in self.old)) }
     {
         if is_placement(edit) {
             return Ok(());
@@ -137,7 +139,8 @@ impl RowSet {
     }
 
     fn take_sheet_row(&mut self, product: Id, machine: Id, place: u64)
-        ensures { tables_in self.new ≡ with_edit (TakeSheetRow product machine place) (tables_in self.old) }
+        ensures { tables_in self.new
+            ≡ with_edit (TakeSheetRow product machine place) (tables_in self.old) }
     {
         self.sheets.remove(&(product, machine, place));
     }
@@ -156,7 +159,8 @@ impl RowSet {
     }
 
     fn put_alternate(&mut self, part: Id, alternate: Id) -> Result<(), AllocError>
-        ensures { OnOk result (tables_in self.new ≡ with_edit (PutAlternate part alternate) (tables_in self.old)) }
+        ensures { OnOk result
+            (tables_in self.new ≡ with_edit (PutAlternate part alternate) (tables_in self.old)) }
     {
         self.alternates.add(part, alternate)?;
         Ok(())
@@ -170,7 +174,8 @@ impl RowSet {
         row: &SheetRow,
     ) -> Result<(), AllocError>
         ensures { OnOk result
-            (tables_in self.new ≡ with_edit (PutSheetRow product machine place row.now) (tables_in self.old)) }
+            (tables_in self.new ≡ with_edit (PutSheetRow product machine place row.now)
+            (tables_in self.old)) }
     {
         let copy = row.clone()?;
         self.sheets.insert((product, machine, place), copy)?;
@@ -178,7 +183,8 @@ impl RowSet {
     }
 
     fn put_selected(&mut self, machine: Id, product: Id) -> Result<(), AllocError>
-        ensures { OnOk result (tables_in self.new ≡ with_edit (PutSelected machine product) (tables_in self.old)) }
+        ensures { OnOk result
+            (tables_in self.new ≡ with_edit (PutSelected machine product) (tables_in self.old)) }
     {
         self.selected.insert(machine, product)?;
         Ok(())
@@ -186,7 +192,8 @@ impl RowSet {
 
     /// The minute is the row's: with it in the signature the borrow checker knows its type.
     fn put_reel(&mut self, row: &ReelRow, _since: Option<Minute>) -> Result<(), AllocError>
-        ensures { OnOk result (tables_in self.new ≡ with_edit (PutReel row.now) (tables_in self.old)) }
+        ensures { OnOk result
+            (tables_in self.new ≡ with_edit (PutReel row.now) (tables_in self.old)) }
     {
         if let Some(old) = self.reels.get_mut(&row.reel) {
             *old = *row;
@@ -197,28 +204,32 @@ impl RowSet {
     }
 
     fn put_mount(&mut self, row: &MountRow) -> Result<(), AllocError>
-        ensures { OnOk result (tables_in self.new ≡ with_edit (PutMount row.now) (tables_in self.old)) }
+        ensures { OnOk result
+            (tables_in self.new ≡ with_edit (PutMount row.now) (tables_in self.old)) }
     {
         self.mounts.put(row)?;
         Ok(())
     }
 
     fn put_board(&mut self, row: &BoardRow) -> Result<(), AllocError>
-        ensures { OnOk result (tables_in self.new ≡ with_edit (PutBoard row.now) (tables_in self.old)) }
+        ensures { OnOk result
+            (tables_in self.new ≡ with_edit (PutBoard row.now) (tables_in self.old)) }
     {
         self.boards.insert(row.board, *row)?;
         Ok(())
     }
 
     fn put_placement(&mut self, row: &PlacementRow) -> Result<(), AllocError>
-        ensures { OnOk result (tables_in self.new ≡ with_edit (PutPlacement row.now) (tables_in self.old)) }
+        ensures { OnOk result
+            (tables_in self.new ≡ with_edit (PutPlacement row.now) (tables_in self.old)) }
     {
         self.placements.insert((row.number, row.place), *row)?;
         Ok(())
     }
 
     fn put_found(&mut self, reel: Id, pieces: u64) -> Result<(), AllocError>
-        ensures { OnOk result (tables_in self.new ≡ with_edit (PutFound reel pieces) (tables_in self.old)) }
+        ensures { OnOk result
+            (tables_in self.new ≡ with_edit (PutFound reel pieces) (tables_in self.old)) }
     {
         self.found.insert(reel, pieces)?;
         Ok(())
@@ -296,7 +307,8 @@ impl RowSet {
 
     /// Returns the alternates as a set.
     pub fn alternate_set(&self) -> &Alternates
-        ensures { (p q : Name) → is_pair_among result.now p q ≡ (tables_in self.now).alternates p q }
+        ensures { (p q : Name) → is_pair_among result.now p q
+            ≡ (tables_in self.now).alternates p q }
     {
         &self.alternates
     }

@@ -15,7 +15,8 @@ fn take_old(
     machine: &Id,
     rows: &[SheetRow],
 ) -> Result<(), AllocError>
-    ensures { OnOk result (edits.new.items ≡ edits.old.items ++ taken_rows product.now machine.now 1 rows.now) }
+    ensures { OnOk result
+        (edits.new.items ≡ edits.old.items ++ taken_rows product.now machine.now 1 rows.now) }
 {
     for index in 0..rows.len() {
         let _ = &rows[index];
@@ -34,7 +35,8 @@ fn put_new(
     machine: &Id,
     rows: &[SheetRow],
 ) -> Result<(), AllocError>
-    ensures { OnOk result (edits.new.items ≡ edits.old.items ++ put_rows product.now machine.now 1 rows.now) }
+    ensures { OnOk result
+        (edits.new.items ≡ edits.old.items ++ put_rows product.now machine.now 1 rows.now) }
 {
     for index in 0..rows.len() {
         let row = rows[index].clone()?;
@@ -59,7 +61,8 @@ pub fn define<D: Views>(
     ensures { (H : History) → D.Stands desk.now H
         → IfOk result
         (λ edits. edits.items ≡ taken_rows product.now machine.now 1
-        (unwrap_or (sheet_of H product.now machine.now) []) ++ put_rows product.now machine.now 1 rows.now) }
+        (unwrap_or (sheet_of H product.now machine.now) [])
+        ++ put_rows product.now machine.now 1 rows.now) }
 {
     let mut edits = Vec::new(alloc);
     match desk.sheet_of(product, machine)? {

@@ -21,7 +21,8 @@ fn on_slot(slot: &Id, mount: &Mount) -> Option<Id>
 }
 
 fn take_if(edits: &mut Vec<RowEdit>, reel: Option<Id>) -> Result<(), AllocError>
-    ensures { OnOk result (edits.new.items ≡ edits.old.items ++ map (λ r. TakeMount r) (option_to_list reel)) }
+    ensures { OnOk result (edits.new.items ≡ edits.old.items ++ map
+        (λ r. TakeMount r) (option_to_list reel)) }
 {
     match reel {
         Some(reel) => {
@@ -34,7 +35,8 @@ fn take_if(edits: &mut Vec<RowEdit>, reel: Option<Id>) -> Result<(), AllocError>
 
 fn take_mounts(edits: &mut Vec<RowEdit>, slot: &Id, mounts: &[Mount]) -> Result<(), AllocError>
     ensures { OnOk result
-        (edits.new.items ≡ edits.old.items ++ map (λ r. TakeMount r) (filter_map (reel_on_slot slot.now) mounts.now)) }
+        (edits.new.items ≡ edits.old.items ++ map
+        (λ r. TakeMount r) (filter_map (reel_on_slot slot.now) mounts.now)) }
 {
     for mount in mounts {
         take_if(edits, on_slot(slot, mount))?;
@@ -50,7 +52,8 @@ pub fn unload<D: Views>(
     slot: &Id,
 ) -> Result<Vec<RowEdit>, AllocError>
     ensures { (H : History) → D.Stands desk.now H
-        → IfOk result (λ edits. edits.items ≡ map (λ r. TakeMount r) (reels_on H machine.now slot.now)) }
+        → IfOk result
+        (λ edits. edits.items ≡ map (λ r. TakeMount r) (reels_on H machine.now slot.now)) }
 {
     let mut edits = Vec::new(alloc);
     match desk.slots_of(machine)? {

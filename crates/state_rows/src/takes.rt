@@ -7,7 +7,6 @@ ghost use Rattle.std.specs.Option.{option_map, option_or, option_to_list};
 ghost use Rattle.std.specs.BTreeMap.{get, keys, values};
 ghost use Rattle.desk_types.specs.Id.{Name, same, by_name};
 ghost use Rattle.desk_types.specs.History.{History};
-ghost use Rattle.desk_types.specs.Pieces.{is_placed};
 ghost use Rattle.desk_types.specs.declared.row.ReelRow.{ReelRow};
 ghost use Rattle.desk_types.specs.declared.row.PlacementRow.{PlacementRow};
 ghost use Rattle.desk_types.specs.declared.edit.RowEdit.TheVariants.{PutReel, PutPlacement};
@@ -21,20 +20,13 @@ use desk_types::{Id, PlacementRow, Purpose, ReelRow, RowEdit, Take};
 use std::alloc::{AllocError, Global};
 use std::collections::BTreeMap;
 
-/// Whether a piece was placed, and not thrown away.
-fn is_placed(purpose: &Purpose) -> bool
-    ensures { result ≡ is_placed purpose.now }
-{
-    matches!(purpose, Purpose::Placed { .. })
-}
-
 /// Takes a take's pieces off a row.
 fn lessen(row: &mut ReelRow, take: &Take)
     requires { LessFits (pick_of take.now) row.old }
     ensures { row.new ≡ less_by (pick_of take.now) row.old }
 {
     row.remaining = row.remaining.saturating_sub(take.quantity);
-    if is_placed(&take.purpose) {
+    if take.purpose.is_placed() {
         row.placed = row.placed.saturating_add(take.quantity);
     } else {
         row.scrapped = row.scrapped.saturating_add(take.quantity);
@@ -44,7 +36,8 @@ fn lessen(row: &mut ReelRow, take: &Take)
 /// Takes a take's pieces off the row of its reel: that among the rows, or else the desk's.
 fn note<D: Views>(rows: &mut BTreeMap<Id, ReelRow>, desk: &D, take: &Take) -> Result<(), AllocError>
     requires fits { (H : History) × D.Stands desk.now H
-        × ((row : ReelRow) → option_or (get by_name rows.old take.now.reel) (reel_row H take.now.reel) ≡ Some row
+        × ((row : ReelRow)
+        → option_or (get by_name rows.old take.now.reel) (reel_row H take.now.reel) ≡ Some row
         → LessFits (pick_of take.now) row) }
     ensures { (H : History) → D.Stands desk.now H → (r : Name) → OnOk result (get by_name rows.new r
         ≡ (if same take.now.reel r then option_map (less_by (pick_of take.now))
@@ -68,9 +61,11 @@ fn gather<D: Views>(
     desk: &D,
     takes: &[Take],
 ) -> Result<BTreeMap<Id, ReelRow>, AllocError>
-    requires fits { (H : History) × D.Stands desk.now H × ArePiecesFitting H (map pick_of takes.now) }
+    requires fits { (H : History) × D.Stands desk.now H
+        × ArePiecesFitting H (map pick_of takes.now) }
     ensures { (H : History) → D.Stands desk.now H
-        → IfOk result (λ rows. (r : Name) → get by_name rows r ≡ picked_rows (reel_row H) (map pick_of takes.now) r) }
+        → IfOk result (λ rows. (r : Name)
+        → get by_name rows r ≡ picked_rows (reel_row H) (map pick_of takes.now) r) }
 {
     let mut rows = BTreeMap::new(alloc);
     for take in takes {
@@ -80,7 +75,8 @@ fn gather<D: Views>(
 }
 
 fn take_off(edits: &mut Vec<RowEdit>, rows: &BTreeMap<Id, ReelRow>) -> Result<(), AllocError>
-    ensures { OnOk result (edits.new.items ≡ edits.old.items ++ flat_map take_spent (values rows.now)) }
+    ensures { OnOk result
+        (edits.new.items ≡ edits.old.items ++ flat_map take_spent (values rows.now)) }
 {
     for row in rows.values() {
         take_if(edits, row)?;
@@ -99,7 +95,8 @@ fn take_if(edits: &mut Vec<RowEdit>, row: &ReelRow) -> Result<(), AllocError>
 }
 
 fn put_all(edits: &mut Vec<RowEdit>, rows: &BTreeMap<Id, ReelRow>) -> Result<(), AllocError>
-    ensures put { OnOk result (edits.new.items ≡ edits.old.items ++ map (λ row. PutReel row) (values rows.now)) }
+    ensures put { OnOk result
+        (edits.new.items ≡ edits.old.items ++ map (λ row. PutReel row) (values rows.now)) }
     ensures ordered { IsStrictlySortedBy by_name (keys rows.now) }
 {
     for row in rows.values() {
@@ -112,7 +109,8 @@ fn put_all(edits: &mut Vec<RowEdit>, rows: &BTreeMap<Id, ReelRow>) -> Result<(),
 fn place(edits: &mut Vec<RowEdit>, number: u64, place: u64, take: &Take) -> Result<(), AllocError>
     ensures { OnOk result
         (edits.new.items ≡ edits.old.items ++
-        option_to_list (option_map (λ (r : PlacementRow). PutPlacement r) (placed_row number place take.now))) }
+        option_to_list (option_map
+        (λ (r : PlacementRow). PutPlacement r) (placed_row number place take.now))) }
 {
     if let Purpose::Placed {
         board,
@@ -152,8 +150,10 @@ pub fn take<D: Views>(
     number: u64,
     takes: &[Take],
 ) -> Result<Vec<RowEdit>, AllocError>
-    requires fits { (H : History) × D.Stands desk.now H × ArePiecesFitting H (map pick_of takes.now) }
-    ensures { (H : History) → D.Stands desk.now H → IfOk result (λ edits. AreTakeEdits H number takes.now edits.items) }
+    requires fits { (H : History) × D.Stands desk.now H
+        × ArePiecesFitting H (map pick_of takes.now) }
+    ensures { (H : History) → D.Stands desk.now H
+        → IfOk result (λ edits. AreTakeEdits H number takes.now edits.items) }
 {
     let rows = gather(alloc, desk, takes)?;
     let pieces_and_reels = takes.len().saturating_add(rows.len().saturating_mul(2));

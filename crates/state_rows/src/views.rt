@@ -31,7 +31,8 @@ pub trait Views {
 
     /// Returns the last sheet of the product on the machine.
     fn sheet_of(&self, product: &Id, machine: &Id) -> Result<Option<SheetRows>, AllocError>
-        ensures { (H : History) → Stands self.now H → IfOk result (λ rows. rows ≡ sheet_of H product.now machine.now) };
+        ensures { (H : History) → Stands self.now H
+            → IfOk result (λ rows. rows ≡ sheet_of H product.now machine.now) };
 
     /// Returns the reel at the desk minute, or none if no such reel was received. Takes no memory.
     fn reel(&self, reel: &Id) -> Option<ReelView>
@@ -39,7 +40,8 @@ pub trait Views {
 
     /// Returns the live reels of the machine's slots, or none if no sheet names the machine.
     fn slots_of(&self, machine: &Id) -> Result<Option<Mounts>, AllocError>
-        ensures { (H : History) → Stands self.now H → IfOk result (λ mounts. mounts ≡ mounts_on H machine.now) };
+        ensures { (H : History) → Stands self.now H
+            → IfOk result (λ mounts. mounts ≡ mounts_on H machine.now) };
 }
 
 /// The views of a desk.

@@ -20,15 +20,18 @@ fields_left (Some text) = fields_in text
 
 -- Succeeds exactly if the fields begin with the spelling of a value in range; may run out of
 -- memory.
-abbrev pub Reads : {X : Type 0} → (X → Type 0) → (X → List Field) → List Field → List Field → Result X Unread → Type 0
+abbrev pub Reads : {X : Type 0} → (X → Type 0) → (X → List Field) → List Field → List Field
+    → Result X Unread → Type 0
 Reads InRange spelling before after (Ok x) = InRange x × (before ≡ spelling x ++ after)
-Reads {X} InRange spelling before after (Err NotStored) = (x : X) (more : List Field) → InRange x → ¬ (before ≡ spelling x ++ more)
+Reads {X} InRange spelling before after (Err NotStored) = (x : X) (more : List Field) → InRange x
+    → ¬ (before ≡ spelling x ++ more)
 Reads InRange spelling before after (Err NoMemory) = ⊤
 
 -- No value's spelling is a prefix of another's, even with more fields after it.
 abbrev pub IsPrefixFree : {X : Type 0} → (X → Type 0) → (X → List Field) → Type 0
 IsPrefixFree {X} InRange spelling =
-    (a b : X) (left right : List Field) → InRange a → InRange b → spelling a ++ left ≡ spelling b ++ right → (a ≡ b) × (left ≡ right)
+    (a b : X) (left right : List Field) → InRange a → InRange b
+    → spelling a ++ left ≡ spelling b ++ right → (a ≡ b) × (left ≡ right)
 
 -- The fields of two values in sequence.
 abbrev pub PairInRange : {A B : Type 0} → (A → Type 0) → (B → Type 0) → A × B → Type 0
@@ -38,10 +41,12 @@ abbrev pub pair_fields : {A B : Type 0} → (A → List Field) → (B → List F
 pair_fields first second p = first p.0 ++ second p.1
 
 -- Three values in sequence.
-abbrev pub TripleInRange : {A B C : Type 0} → (A → Type 0) → (B → Type 0) → (C → Type 0) → A × B × C → Type 0
+abbrev pub TripleInRange : {A B C : Type 0} → (A → Type 0) → (B → Type 0)
+    → (C → Type 0) → A × B × C → Type 0
 TripleInRange First Second Third t = First t.0 × Second t.1 × Third t.2
 
-abbrev pub triple_fields : {A B C : Type 0} → (A → List Field) → (B → List Field) → (C → List Field) → A × B × C → List Field
+abbrev pub triple_fields : {A B C : Type 0} → (A → List Field) → (B → List Field) → (C → List Field)
+    → A × B × C → List Field
 triple_fields first second third t = first t.0 ++ (second t.1 ++ third t.2)
 
 abbrev pub number_fields : ℕ → List Field
@@ -73,10 +78,12 @@ members_of command = drop 1 (fields_of command)
 
 -- The command is in range, and this is its first field.
 abbrev pub IsSaidBy : Word → Command → Type 0
-IsSaidBy word command = IsCommand command × (fields_of command ≡ word_text word ∷ members_of command)
+IsSaidBy word command = IsCommand command
+    × (fields_of command ≡ word_text word ∷ members_of command)
 
 -- Reading a text succeeds exactly if it is the text of a command in range; may run out of memory.
 abbrev pub IsReading : List ℕ → Result Command Unread → Type 0
 IsReading text (Ok command) = (text ≡ stored_text command) × IsCommand command
-IsReading text (Err NotStored) = (command : Command) → IsCommand command → ¬ (text ≡ stored_text command)
+IsReading text (Err NotStored) = (command : Command) → IsCommand command
+    → ¬ (text ≡ stored_text command)
 IsReading text (Err NoMemory) = ⊤

@@ -35,8 +35,11 @@ word_text word.ClockSet = codes "ClockSet"
 
 -- The kinds of commands.
 abbrev pub words : List Word
-words = word.PartDefined ∷ word.AlternateAllowed ∷ word.SheetDefined ∷ word.ProductSelected ∷ word.ReelReceived ∷ word.ReelOpened ∷ word.ReelSealed ∷ word.ReelBaked ∷ word.MaterialsLoaded ∷
-    word.MaterialsSpliced ∷ word.MaterialsUnloaded ∷ word.WorkStarted ∷ word.WorkCompleted ∷ word.MaterialsInstalled ∷ word.MaterialsScrapped ∷ word.CountsTaken ∷ word.ClockSet ∷ []
+words = word.PartDefined ∷ word.AlternateAllowed ∷ word.SheetDefined
+    ∷ word.ProductSelected ∷ word.ReelReceived ∷ word.ReelOpened ∷ word.ReelSealed
+    ∷ word.ReelBaked ∷ word.MaterialsLoaded ∷
+    word.MaterialsSpliced ∷ word.MaterialsUnloaded ∷ word.WorkStarted ∷ word.WorkCompleted
+    ∷ word.MaterialsInstalled ∷ word.MaterialsScrapped ∷ word.CountsTaken ∷ word.ClockSet ∷ []
 
 -- A list's length, followed by the fields of its elements.
 abbrev pub list_fields : {X : Type 0} → (X → List Field) → List X → List Field
@@ -54,22 +57,29 @@ count_fields row = row.reel ∷ decimal row.quantity ∷ []
 -- The command's kind and its members in message order; numbers are decimal without leading zeros.
 abbrev pub fields_of : Command → List Field
 fields_of (PartDefined part) = word_text word.PartDefined ∷ part ∷ []
-fields_of (AlternateAllowed part alternate) = word_text word.AlternateAllowed ∷ part ∷ alternate ∷ []
-fields_of (SheetDefined product machine rows) = word_text word.SheetDefined ∷ product ∷ machine ∷ list_fields row_fields rows
-fields_of (ProductSelected machine product) = word_text word.ProductSelected ∷ machine ∷ product ∷ []
+fields_of (AlternateAllowed part alternate) =
+    word_text word.AlternateAllowed ∷ part ∷ alternate ∷ []
+fields_of (SheetDefined product machine rows) =
+    word_text word.SheetDefined ∷ product ∷ machine ∷ list_fields row_fields rows
+fields_of (ProductSelected machine product) =
+    word_text word.ProductSelected ∷ machine ∷ product ∷ []
 fields_of (ReelReceived reel part lot moisture quantity) =
-    word_text word.ReelReceived ∷ reel ∷ part ∷ lot ∷ text_of moisture.level ∷ decimal quantity ∷ decimal moisture.label ∷ []
+    word_text word.ReelReceived ∷ reel ∷ part ∷ lot ∷ text_of moisture.level ∷ decimal quantity
+    ∷ decimal moisture.label ∷ []
 fields_of (ReelOpened reel) = word_text word.ReelOpened ∷ reel ∷ []
 fields_of (ReelSealed reel) = word_text word.ReelSealed ∷ reel ∷ []
 fields_of (ReelBaked reel) = word_text word.ReelBaked ∷ reel ∷ []
-fields_of (MaterialsLoaded machine slot reel) = word_text word.MaterialsLoaded ∷ machine ∷ slot ∷ reel ∷ []
-fields_of (MaterialsSpliced machine slot reel) = word_text word.MaterialsSpliced ∷ machine ∷ slot ∷ reel ∷ []
+fields_of (MaterialsLoaded machine slot reel) =
+    word_text word.MaterialsLoaded ∷ machine ∷ slot ∷ reel ∷ []
+fields_of (MaterialsSpliced machine slot reel) =
+    word_text word.MaterialsSpliced ∷ machine ∷ slot ∷ reel ∷ []
 fields_of (MaterialsUnloaded machine slot) = word_text word.MaterialsUnloaded ∷ machine ∷ slot ∷ []
 fields_of (WorkStarted machine board) = word_text word.WorkStarted ∷ machine ∷ board ∷ []
 fields_of (WorkCompleted machine board) = word_text word.WorkCompleted ∷ machine ∷ board ∷ []
 fields_of (MaterialsInstalled machine board designators) =
     word_text word.MaterialsInstalled ∷ machine ∷ board ∷ list_fields name_fields designators
-fields_of (MaterialsScrapped machine slot quantity) = word_text word.MaterialsScrapped ∷ machine ∷ slot ∷ decimal quantity ∷ []
+fields_of (MaterialsScrapped machine slot quantity) =
+    word_text word.MaterialsScrapped ∷ machine ∷ slot ∷ decimal quantity ∷ []
 fields_of (CountsTaken counts) = word_text word.CountsTaken ∷ list_fields count_fields counts
 fields_of ClockSet = word_text word.ClockSet ∷ []
 

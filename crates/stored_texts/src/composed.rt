@@ -35,7 +35,8 @@ impl<A: Stored, B: Stored, C: Stored> Stored for (A, B, C) {
 
     ghost spelling = { triple_fields A.spelling B.spelling C.spelling };
 
-    ghost apart = { triples_apart A.in_range B.in_range C.in_range A.spelling B.spelling C.spelling A.apart B.apart C.apart };
+    ghost apart = { triples_apart A.in_range B.in_range C.in_range A.spelling B.spelling C.spelling
+        A.apart B.apart C.apart };
 
     fn write(&self, text: &mut Vec<u8>) -> Result<(), AllocError> {
         self.0.write(text)?;
@@ -59,7 +60,8 @@ fn put<T: Drop>(found: &mut Vec<T>, value: T) -> Result<(), AllocError>
 }
 
 fn values<T: Stored>(alloc: Global, fields: &mut Fields, count: u64) -> Result<Listing<T>, Unread>
-    ensures { Reads (AreCounted T.in_range count) (flat_map T.spelling) fields.old fields.new result }
+    ensures { Reads (AreCounted T.in_range count)
+        (flat_map T.spelling) fields.old fields.new result }
 {
     let mut found = Vec::new(alloc);
     for _ in 0..count {

@@ -28,7 +28,8 @@ pub trait Kept: Drop + Sized {
     fn read_text(alloc: Global, text: &[u8]) -> Result<Option<Self>, AllocError>
         ensures read { IfOk result (λ found. IfSome found (λ it. text.now ≡ stored it)) }
         ensures range { IfOk result (λ found. IfSome found in_range) }
-        ensures refused { IfOk result (λ found. IfNone found ((it : Self) → in_range it → ¬ (text.now ≡ stored it))) };
+        ensures refused { IfOk result
+            (λ found. IfNone found ((it : Self) → in_range it → ¬ (text.now ≡ stored it))) };
 }
 
 impl Kept for Command {

@@ -83,7 +83,8 @@ impl Word {
 }
 
 fn first_named<'a>(words: &'a [Word], text: &[u8]) -> Option<&'a Word>
-    ensures { option_map (λ word. word.now) result ≡ find (λ word. same (word_text word) text.now) words.now }
+    ensures { option_map (λ word. word.now) result ≡ find
+        (λ word. same (word_text word) text.now) words.now }
 {
     words.iter().find(|word| word.as_str().as_bytes() == text)
 }

@@ -43,7 +43,8 @@ HasPieces i = 0 < i.pieces
 
 -- The effective minute of the entry with this number.
 abbrev pub minute_of : History → ℕ → Option ℕ
-minute_of H number = option_map (λ (e : Entry). e.effective) (find (λ (e : Entry). e.number == number) H)
+minute_of H number = option_map
+    (λ (e : Entry). e.effective) (find (λ (e : Entry). e.number == number) H)
 
 -- The minute at a number, counting from 1.
 abbrev pub minute_in : List ℕ → ℕ → Option ℕ
@@ -59,7 +60,8 @@ kept_at kept name = unwrap_or (tree.get by_name kept name) []
 -- The indexes have the keys of each placed piece of H and the effective minute of each entry.
 pub record IsListed (lists : TraceLists) (H : History) : Type 0 where
   pub lots : (lot : Name) → map key_of (kept_at lists.lots lot) ≡ keys_where (λ p. same p.lot lot) H
-  pub boards : (board : Name) → keys_of_installs (kept_at lists.boards board) ≡ keys_where (λ p. same p.board board) H
+  pub boards : (board : Name) → keys_of_installs (kept_at lists.boards board) ≡ keys_where
+      (λ p. same p.board board) H
   pub installs : (board : Name) → All HasPieces (kept_at lists.boards board)
   pub overdue : map key_of lists.overdue.items ≡ keys_where (λ p. p.overdue) H
   pub minutes : (number : ℕ) → minute_in lists.minutes.items number ≡ minute_of H number

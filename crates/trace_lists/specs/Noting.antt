@@ -16,9 +16,15 @@ keys_in test number minute place takes =
     map (λ (p : Placement). (p.number, p.place)) (
     filter test (
     filter_map placement_of (
-    map (λ (place, take). record { number = number; place = place; effective = minute; take = take }) (enumerate_from place takes))))
+    map (λ (place, take). record {
+      number = number;
+      place = place;
+      effective = minute;
+      take = take;
+    }) (enumerate_from place takes))))
 
 -- The keys of the install, if the command is one on the board.
 abbrev pub install_keys : Name → Command → Install → List Key
-install_keys board (MaterialsInstalled machine b designators) install = if same b board then keys_of_install install else []
+install_keys board (MaterialsInstalled machine b designators) install = if same b board
+    then keys_of_install install else []
 install_keys board command install = []

@@ -50,7 +50,8 @@ pub fn keep<T: Drop>(
     thing: T,
 ) -> Result<(), AllocError>
     ensures { (n : Name)
-        → OnOk result (kept_at map.new n ≡ kept_at map.old n ++ (if same name.now n then thing ∷ [] else [])) }
+        → OnOk result (kept_at map.new n
+        ≡ kept_at map.old n ++ (if same name.now n then thing ∷ [] else [])) }
 {
     match map.get_mut(name) {
         Some(kept) => kept.items.push(thing)?,

@@ -113,7 +113,8 @@ impl TraceLists {
 
     /// Returns the overdue pieces.
     pub fn overdue(&self) -> &[PieceKey]
-        ensures listed { (H : History) → IsListed self.now H → map key_of result.now ≡ keys_where (λ p. p.overdue) H }
+        ensures listed { (H : History) → IsListed self.now H
+            → map key_of result.now ≡ keys_where (λ p. p.overdue) H }
     {
         self.overdue.as_slice()
     }

@@ -8,7 +8,7 @@ ghost use Rattle.trace_lists.specs.Noting.{keys_in, install_keys};
 
 use crate::kept::{Kept, keep, make_room};
 use crate::lists::{Install, PieceKey};
-use desk_types::{Command, Id, Purpose, Take};
+use desk_types::{Command, Id, Take};
 use std::alloc::{AllocError, Global};
 use std::collections::BTreeMap;
 
@@ -37,20 +37,11 @@ pub fn room_for_pieces(
 {
     for i in 0..takes.len() {
         let take = &takes[i];
-        if is_placed(take) && (i == 0 || takes[i - 1].lot != take.lot) {
+        if take.purpose.is_placed() && (i == 0 || takes[i - 1].lot != take.lot) {
             make_room(alloc, lots, &take.lot, takes.len())?;
         }
     }
     Ok(())
-}
-
-fn is_placed(take: &Take) -> bool
-    ensures { result ≡ is_placed take.now.purpose }
-{
-    match take.purpose {
-        Purpose::Placed { .. } => true,
-        _ => false,
-    }
 }
 
 /// Adds the install of a command to those on its board, if it placed any piece.
@@ -119,7 +110,7 @@ fn note_piece(
         (overdue.new.items ≡ overdue.old.items ++
         (if is_placed take.now.purpose && take.now.overdue then piece ∷ [] else [])) }
 {
-    if !is_placed(take) {
+    if !take.purpose.is_placed() {
         return Ok(());
     }
     keep(alloc, lots, &take.lot, piece)?;

@@ -25,8 +25,8 @@ lot_trace detail H lot = option_map (lot_text detail) (traced.lot_trace H lot)
 abbrev pub overdue_list : History → List ℕ
 overdue_list H = overdue_text (overdue_of H)
 
--- The result of a call: the report if there is one, or that its subject is not found. Either may be Unavailable
--- instead.
+-- The result of a call: the report if there is one, or that its subject is not found. Either may be
+-- Unavailable instead.
 abbrev pub Answers : Kind → Option (List ℕ) → Result (List ℕ) ReportFault → Type 0
 Answers kind (Some text) (Ok told) = told ≡ text
 Answers kind (Some text) (Err fault) = fault ≡ Unavailable

@@ -14,7 +14,8 @@ use std::alloc::{AllocError, Global};
 pub enum ReportFault {
     /// The history has nothing of this kind and name.
     NotFound(Kind),
-    /// Memory was refused, or the database failed. The history is unchanged, and the call may be repeated.
+    /// Memory was refused, or the database failed. The history is unchanged, and the call may be
+    /// repeated.
     Unavailable,
 }
 

@@ -1,7 +1,7 @@
 //! Traces, cards and lists of a line's store, as CSV texts.
 //!
-//! `specs/Reports.antt` defines each report over the history. No report changes the history or its tables. A report
-//! that needs the desk loads it first.
+//! `specs/Reports.antt` defines each report over the history. No report changes the history or its
+//! tables. A report that needs the desk loads it first.
 #![tactic(auto)]
 
 mod fault;

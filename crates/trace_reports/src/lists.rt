@@ -26,8 +26,8 @@ fn or_not_found(text: Option<Text>, kind: Kind) -> Result<Text, ReportFault>
     }
 }
 
-/// Returns the card of a reel: its received pieces, where they went, and its floor life at the desk minute. It is not
-/// found if no such reel was received.
+/// Returns the card of a reel: its received pieces, where they went, and its floor life at the desk
+/// minute. It is not found if no such reel was received.
 pub fn reel_card<S: Alter, D: KeepsRows + Drop>(
     alloc: Global,
     store: &mut LineStore<S, D>,
@@ -45,8 +45,8 @@ pub fn reel_card<S: Alter, D: KeepsRows + Drop>(
     or_not_found(report_texts::reel_card(alloc, desk, reel)?, Kind::Reel)
 }
 
-/// Returns the live reels of a machine's slots, by slot and then by position. It is not found if no sheet names the
-/// machine.
+/// Returns the live reels of a machine's slots, by slot and then by position. It is not found if no
+/// sheet names the machine.
 pub fn slot_list<S: Alter, D: KeepsRows + Drop>(
     alloc: Global,
     store: &mut LineStore<S, D>,
@@ -67,8 +67,8 @@ pub fn slot_list<S: Alter, D: KeepsRows + Drop>(
     )
 }
 
-/// Returns the reels to bring for this number of boards of a product on a machine. It is not found if the product has
-/// no sheet there.
+/// Returns the reels to bring for this number of boards of a product on a machine. It is not found
+/// if the product has no sheet there.
 pub fn kit_list<S: Alter, D: KeepsRows + Drop>(
     alloc: Global,
     store: &mut LineStore<S, D>,

@@ -13,7 +13,8 @@ use sqlite::Alter;
 use state_rows::KeepsRows;
 use std::alloc::Global;
 
-/// Returns the trace of a board: its pieces. It is not found if no accepted command started the board.
+/// Returns the trace of a board: its pieces. It is not found if no accepted command started the
+/// board.
 pub fn board_trace<S: Alter, D: KeepsRows + Drop>(
     alloc: Global,
     store: &mut LineStore<S, D>,
@@ -30,8 +31,8 @@ pub fn board_trace<S: Alter, D: KeepsRows + Drop>(
     Ok(board_text(alloc, detail, pieces.as_slice())?)
 }
 
-/// Returns the trace of a lot: the boards that hold its pieces. It is not found if no accepted command received a reel
-/// of the lot.
+/// Returns the trace of a lot: the boards that hold its pieces. It is not found if no accepted
+/// command received a reel of the lot.
 pub fn lot_trace<S: Alter, D: KeepsRows + Drop>(
     alloc: Global,
     store: &mut LineStore<S, D>,
@@ -48,8 +49,8 @@ pub fn lot_trace<S: Alter, D: KeepsRows + Drop>(
     Ok(lot_text(alloc, detail, pieces.as_slice())?)
 }
 
-/// Returns the pieces placed from reels whose floor life was used up, by number, then place, with the effective minutes
-/// of their installs.
+/// Returns the pieces placed from reels whose floor life was used up, by number, then place, with
+/// the effective minutes of their installs.
 pub fn overdue_list<S: Alter, D: KeepsRows + Drop>(
     alloc: Global,
     store: &mut LineStore<S, D>,

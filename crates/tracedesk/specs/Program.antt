@@ -33,20 +33,28 @@ use Rattle.tracedesk.specs.Ways.{Ways}
 -- The arguments ask to answer lines, and that was done: on a new desk in memory, or on that of a file.
 abbrev pub RunsAsked : Ways → List (List ℕ) → (Ledger → History → Type 0) → Type 0
 RunsAsked ways words Fact =
-    ((greatest : ℕ) × AsksForFeed words None greatest × (H : History) × IsConsistent H × Fact (fresh greatest) H)
-    ⊎ ((file : List ℕ) × (greatest : ℕ) × AsksForFeed words (Some file) greatest × ways.Runs (Some greatest) Fact)
+    ((greatest : ℕ) × AsksForFeed words None greatest × (H : History) × IsConsistent H
+    × Fact (fresh greatest) H)
+    ⊎ ((file : List ℕ) × (greatest : ℕ) × AsksForFeed words (Some file) greatest
+    × ways.Runs (Some greatest) Fact)
 
 -- The arguments ask for an import, and it was answered in this way, on the desk of the file that they name.
-abbrev pub RunsImport : Ways → List (List ℕ) → (Import → List ℕ → Ledger → History → Type 0) → Type 0
+abbrev pub RunsImport : Ways → List (List ℕ)
+    → (Import → List ℕ → Ledger → History → Type 0) → Type 0
 RunsImport ways words Fact =
-    (file : List ℕ) × (import : Import) × (from : List ℕ) × AsksForImport words file import from × ways.Runs None (Fact import from)
+    (file : List ℕ) × (import : Import) × (from : List ℕ) × AsksForImport words file import from
+    × ways.Runs None (Fact import from)
 
 -- The arguments ask to serve connections at a port. These were served there on the desk of the file that the arguments
 -- name, with this exit status and a line for each on the output.
-abbrev pub RunsServing : {W : Type 0} → Ways → List (List ℕ) → (ℕ → List Exchange → Type 0) → (W → Option (List ℕ)) → Wire W → Wire W → ℕ → Type 0
+abbrev pub RunsServing : {W : Type 0} → Ways → List (List ℕ) → (ℕ → List Exchange → Type 0)
+    → (W → Option (List ℕ)) → Wire W → Wire W → ℕ → Type 0
 RunsServing ways words serves contents output output' status =
-    (file : List ℕ) × (port : ℕ) × (connections : ℕ) × (greatest : ℕ) × AsksForServing words file port connections greatest
-    × (exchanges : List Exchange) × TellsConnections connections (ends_of exchanges) status (contents (inner_of output)) (contents (inner_of output')) (failures_of output) (failures_of output')
+    (file : List ℕ) × (port : ℕ) × (connections : ℕ) × (greatest : ℕ)
+    × AsksForServing words file port connections greatest
+    × (exchanges : List Exchange)
+    × TellsConnections connections (ends_of exchanges) status (contents (inner_of output))
+    (contents (inner_of output')) (failures_of output) (failures_of output')
     × serves port exchanges × ways.Runs (Some greatest) (ServesEach exchanges)
 
 -- The arguments ask for a report, and it was answered in this way by the history of the desk of the file that they
@@ -58,13 +66,16 @@ RunsReport ways words Shown =
 
 -- The arguments ask for an import of a file that may fail to be read, and the history is unchanged.
 abbrev pub ImportUnread : Ways → List (List ℕ) → (List ℕ → Type 0) → Type 0
-ImportUnread ways words may_fail = (file : List ℕ) × (import : Import) × (from : List ℕ) × AsksForImport words file import from × may_fail from × ways.Runs None StaysSame
+ImportUnread ways words may_fail = (file : List ℕ) × (import : Import) × (from : List ℕ)
+    × AsksForImport words file import from × may_fail from × ways.Runs None StaysSame
 
 -- The arguments name a file whose desk is opened.
 abbrev pub NamesDesk : List (List ℕ) → Type 0
-NamesDesk words = (file : List ℕ) × (AsksForAudit words file ⊎ ((greatest : ℕ) × AsksForFeed words (Some file) greatest)
+NamesDesk words = (file : List ℕ)
+    × (AsksForAudit words file ⊎ ((greatest : ℕ) × AsksForFeed words (Some file) greatest)
     ⊎ ((import : Import) × (from : List ℕ) × AsksForImport words file import from)
-    ⊎ ((port : ℕ) × (connections : ℕ) × (greatest : ℕ) × AsksForServing words file port connections greatest)
+    ⊎ ((port : ℕ) × (connections : ℕ) × (greatest : ℕ)
+    × AsksForServing words file port connections greatest)
     ⊎ ((target : List ℕ) × AsksForReport words file target))
 
 -- The arguments name a file that is migrated.
@@ -86,10 +97,14 @@ Names words (left.Refused r) = NamesFile words
 -- by a migration.
 abbrev pub RefusesNamed : Ways → List (List ℕ) → OpenFault → Type 0
 RefusesNamed ways words fault =
-    ((file : List ℕ) × (greatest : ℕ) × AsksForFeed words (Some file) greatest × ways.Refuses (Some greatest) fault)
-    ⊎ ((file : List ℕ) × (port : ℕ) × (connections : ℕ) × (greatest : ℕ) × AsksForServing words file port connections greatest × ways.Refuses (Some greatest) fault)
-    ⊎ ((file : List ℕ) × (import : Import) × (from : List ℕ) × AsksForImport words file import from × ways.Refuses None fault)
-    ⊎ ((file : List ℕ) × (target : List ℕ) × AsksForReport words file target × ways.Refuses None fault)
+    ((file : List ℕ) × (greatest : ℕ) × AsksForFeed words (Some file) greatest
+    × ways.Refuses (Some greatest) fault)
+    ⊎ ((file : List ℕ) × (port : ℕ) × (connections : ℕ) × (greatest : ℕ)
+    × AsksForServing words file port connections greatest × ways.Refuses (Some greatest) fault)
+    ⊎ ((file : List ℕ) × (import : Import) × (from : List ℕ) × AsksForImport words file import from
+    × ways.Refuses None fault)
+    ⊎ ((file : List ℕ) × (target : List ℕ) × AsksForReport words file target
+    × ways.Refuses None fault)
     ⊎ ((file : List ℕ) × AsksForAudit words file × ways.Refuses None fault)
     ⊎ ((file : List ℕ) × AsksForMigration words file × ways.RefusesToMigrate fault)
 
@@ -99,8 +114,11 @@ RefusesNamed ways words fault =
 -- before and after. `ways` is the effect on its files, by the open files or by those that it closed. `holds` gives the
 -- contents of an import's file, and `may_fail` whether reading it may fail. `serves` gives the connections on a port.
 -- `reads` is the rest of a reader and `writes` the bytes sent to a writer, as far as they are known.
-module _ {R W E : Type 0} (ways : Ways) (holds : List ℕ → Option (List ℕ)) (may_fail : List ℕ → Type 0) (serves : ℕ → List Exchange → Type 0) (reads : R → Option (List ℕ)) (writes : W → Option (List ℕ)) (tells : E → Option (List ℕ))
-    (words : List (List ℕ)) (input input' : Wire R) (output output' : Wire W) (errors errors' : Wire E) where
+module _ {R W E : Type 0} (ways : Ways) (holds : List ℕ → Option (List ℕ))
+    (may_fail : List ℕ → Type 0) (serves : ℕ → List Exchange → Type 0) (reads : R → Option (List ℕ))
+    (writes : W → Option (List ℕ)) (tells : E → Option (List ℕ))
+    (words : List (List ℕ)) (input input' : Wire R) (output output' : Wire W)
+    (errors errors' : Wire E) where
   -- This text was written, or only its first bytes were.
   abbrev pub Sent : List ℕ → Type 0
   Sent text = Appends (writes (inner_of output)) (writes (inner_of output')) text
@@ -114,20 +132,27 @@ module _ {R W E : Type 0} (ways : Ways) (holds : List ℕ → Option (List ℕ))
 
   -- Status 0: the command did everything that was asked, and nothing was refused.
   abbrev pub Done : Type 0
-  Done = ((served : Served) × (served.refused ≡ 0) × RunsAsked ways words (AnswersAll reads writes input output output' served))
-      ⊎ ((file : List ℕ) × AsksForAudit words file × (count : ℕ) × Sent (lawful_line count) × ways.Audits count)
+  Done = ((served : Served) × (served.refused ≡ 0)
+      × RunsAsked ways words (AnswersAll reads writes input output output' served))
+      ⊎ ((file : List ℕ) × AsksForAudit words file × (count : ℕ)
+      × Sent (lawful_line count) × ways.Audits count)
       ⊎ ((file : List ℕ) × AsksForMigration words file × Sent version_line × ways.Migrates)
-      ⊎ RunsImport ways words (λ import from. AnswersImport writes output output' false import (holds from))
+      ⊎ RunsImport ways words
+      (λ import from. AnswersImport writes output output' false import (holds from))
       ⊎ (AsksForText words × (text : List ℕ) × Sent text)
       ⊎ RunsServing ways words serves writes output output' 0
-      ⊎ RunsReport ways words (λ answer. (code_of answer.status ≡ 200) × Sent (report_output answer))
+      ⊎ RunsReport ways words
+      (λ answer. (code_of answer.status ≡ 200) × Sent (report_output answer))
 
   -- Status 1: some line was refused; the import was; some connection was faulty; there is no such report.
   abbrev pub Refused : Type 0
-  Refused = ((served : Served) × (0 < served.refused) × RunsAsked ways words (AnswersAll reads writes input output output' served))
-      ⊎ RunsImport ways words (λ import from. AnswersImport writes output output' true import (holds from))
+  Refused = ((served : Served) × (0 < served.refused)
+      × RunsAsked ways words (AnswersAll reads writes input output output' served))
+      ⊎ RunsImport ways words
+      (λ import from. AnswersImport writes output output' true import (holds from))
       ⊎ RunsServing ways words serves writes output output' 1
-      ⊎ RunsReport ways words (λ answer. (code_of answer.status ≢ 200) × Sent (report_output answer))
+      ⊎ RunsReport ways words
+      (λ answer. (code_of answer.status ≢ 200) × Sent (report_output answer))
 
   -- Status 2: the arguments have no meaning, or an option of an import can't be read.
   abbrev pub Bad : Type 0
@@ -136,29 +161,42 @@ module _ {R W E : Type 0} (ways : Ways) (holds : List ℕ → Option (List ℕ))
 
   -- Status 3: the file that the arguments name was refused, or memory was, and nothing was read or sent.
   abbrev pub NoDesk : Type 0
-  NoDesk = ((input' ≡ input) × (output' ≡ output)) × HasNoDesk (RefusesNamed ways words) (ways.OpensNone ⊎ ways.Runs None StaysSame) ToldLine
+  NoDesk = ((input' ≡ input) × (output' ≡ output))
+      × HasNoDesk (RefusesNamed ways words) (ways.OpensNone ⊎ ways.Runs None StaysSame) ToldLine
 
   -- Status 4: a read or a write failed, or the file of an import could not be read, or no further connection was
   -- served.
   abbrev pub Failed : Type 0
-  Failed = ((fault : ServeFault) × IsShown fault input input' output output' × ToldLine (fault_line fault)
-      × ((LeavesNone (reads (inner_of input)) (reads (inner_of input')) fault × RunsAsked ways words (AnswersUpTo reads writes input output output' fault))
-      ⊎ ((file : List ℕ) × AsksForAudit words file × (count : ℕ) × SentFront (lawful_line count) × ways.Audits count)
+  Failed = ((fault : ServeFault) × IsShown fault input input' output output'
+      × ToldLine (fault_line fault)
+      × ((LeavesNone (reads (inner_of input)) (reads (inner_of input')) fault
+      × RunsAsked ways words (AnswersUpTo reads writes input output output' fault))
+      ⊎ ((file : List ℕ) × AsksForAudit words file × (count : ℕ)
+      × SentFront (lawful_line count) × ways.Audits count)
       ⊎ ((file : List ℕ) × AsksForMigration words file × SentFront version_line × ways.Migrates)
       ⊎ RunsImport ways words (λ import from. CutsImport writes output output' import (holds from))
       ⊎ (AsksForText words × (text : List ℕ) × SentFront text)
       ⊎ RunsReport ways words (λ answer. SentFront (report_output answer))))
-      ⊎ ((input' ≡ input) × (output' ≡ output) × ToldLine (fault_line (ReadFault none_served)) × ImportUnread ways words may_fail)
-      ⊎ ((input' ≡ input) × TellsEnd tells output output' errors errors' × RunsServing ways words serves writes output output' 4)
+      ⊎ ((input' ≡ input) × (output' ≡ output) × ToldLine (fault_line (ReadFault none_served))
+      × ImportUnread ways words may_fail)
+      ⊎ ((input' ≡ input) × TellsEnd tells output output' errors errors'
+      × RunsServing ways words serves writes output output' 4)
 
   -- The effect of a run that ended with this status.
   abbrev pub Ends : ℕ → Type 0
-  Ends status = ((status ≡ 0) × Done) ⊎ ((status ≡ 1) × Refused) ⊎ ((status ≡ 2) × Bad) ⊎ ((status ≡ 3) × NoDesk) ⊎ ((status ≡ 4) × Failed)
+  Ends status = ((status ≡ 0) × Done) ⊎ ((status ≡ 1) × Refused) ⊎ ((status ≡ 2) × Bad)
+      ⊎ ((status ≡ 3) × NoDesk) ⊎ ((status ≡ 4) × Failed)
 
 -- The files could not be closed, and the status is 3: there was no desk; or Unavailable was printed after the run's own
 -- texts, and its effects remain.
-abbrev pub Unclosed : {R W E : Type 0} → Ways → (List ℕ → Option (List ℕ)) → (List ℕ → Type 0) → (ℕ → List Exchange → Type 0) → (R → Option (List ℕ)) → (W → Option (List ℕ)) → (E → Option (List ℕ))
+abbrev pub Unclosed : {R W E : Type 0} → Ways → (List ℕ → Option (List ℕ))
+    → (List ℕ → Type 0) → (ℕ → List Exchange → Type 0) → (R → Option (List ℕ))
+    → (W → Option (List ℕ)) → (E → Option (List ℕ))
     → List (List ℕ) → Wire R → Wire R → Wire W → Wire W → Wire E → Wire E → Type 0
-Unclosed {E = E} ways holds may_fail serves reads writes tells words input input' output output' errors errors' =
-    NoDesk ways holds may_fail serves reads writes tells words input input' output output' errors errors'
-    ⊎ ((status : ℕ) × (told : Wire E) × Ends ways holds may_fail serves reads writes tells words input input' output output' errors told status × TellsLine tells told errors' unavailable_line)
+Unclosed {E = E} ways holds may_fail serves reads writes tells words input input'
+    output output' errors errors' =
+    NoDesk ways holds may_fail serves reads writes tells words input input'
+    output output' errors errors'
+    ⊎ ((status : ℕ) × (told : Wire E) × Ends ways holds
+    may_fail serves reads writes tells words input input' output output' errors told status
+    × TellsLine tells told errors' unavailable_line)

@@ -38,7 +38,8 @@ ways_when_open first it = record {
 }
 
 -- For a run that closed these files, completely or not.
-abbrev pub ways_when_closed : {T D : Type 0} → Close → start.Ghosts T → disk.Ghosts D → Option (Files D) → Ways
+abbrev pub ways_when_closed : {T D : Type 0} → Close → start.Ghosts T → disk.Ghosts D
+    → Option (Files D) → Ways
 ways_when_closed how first g files = record {
   OpensNone = files ≡ None;
   Runs = λ make Fact. RunsTo how first g files make Fact;

@@ -48,37 +48,56 @@ pub fn whole_run<T: Start, F: Folder, C: Clients, R: Read, W: Write, E: Write>(
     requires error_failures { failures_of errors.old + 1 < 2 ^ 63 }
     ensures status { result.0 ≤ 4 }
     ensures done { result.0 ≡ 0
-        → Done (ways_when_closed whole T.Start ⟦<FileFrom<T> as Disk>⟧ result.1) (F.holds folder.now)
-        (F.may_fail folder.now) (ServesAt C.Saw clients.old clients.new) R.remaining W.contents E.contents
-        (map string_bytes words.now) input.old input.new output.old output.new errors.old errors.new }
+        → Done (ways_when_closed whole T.Start ⟦<FileFrom<T> as Disk>⟧ result.1)
+        (F.holds folder.now)
+        (F.may_fail folder.now)
+        (ServesAt C.Saw clients.old clients.new) R.remaining W.contents E.contents
+        (map string_bytes words.now) input.old input.new output.old
+        output.new errors.old errors.new }
     ensures refused { result.0 ≡ 1
-        → Refused (ways_when_closed whole T.Start ⟦<FileFrom<T> as Disk>⟧ result.1) (F.holds folder.now)
-        (F.may_fail folder.now) (ServesAt C.Saw clients.old clients.new) R.remaining W.contents E.contents
-        (map string_bytes words.now) input.old input.new output.old output.new errors.old errors.new }
+        → Refused (ways_when_closed whole T.Start ⟦<FileFrom<T> as Disk>⟧ result.1)
+        (F.holds folder.now)
+        (F.may_fail folder.now)
+        (ServesAt C.Saw clients.old clients.new) R.remaining W.contents E.contents
+        (map string_bytes words.now) input.old input.new output.old
+        output.new errors.old errors.new }
     ensures bad { result.0 ≡ 2
         → Bad (ways_when_closed whole T.Start ⟦<FileFrom<T> as Disk>⟧ result.1) (F.holds folder.now)
-        (F.may_fail folder.now) (ServesAt C.Saw clients.old clients.new) R.remaining W.contents E.contents
-        (map string_bytes words.now) input.old input.new output.old output.new errors.old errors.new }
+        (F.may_fail folder.now)
+        (ServesAt C.Saw clients.old clients.new) R.remaining W.contents E.contents
+        (map string_bytes words.now) input.old input.new output.old
+        output.new errors.old errors.new }
     ensures no_desk { result.0 ≡ 3
-        → NoDesk (ways_when_closed whole T.Start ⟦<FileFrom<T> as Disk>⟧ result.1) (F.holds folder.now)
-        (F.may_fail folder.now) (ServesAt C.Saw clients.old clients.new) R.remaining W.contents E.contents
+        → NoDesk (ways_when_closed whole T.Start ⟦<FileFrom<T> as Disk>⟧ result.1)
+        (F.holds folder.now)
+        (F.may_fail folder.now)
+        (ServesAt C.Saw clients.old clients.new) R.remaining W.contents E.contents
         (map string_bytes words.now) input.old input.new output.old output.new errors.old errors.new
-        ⊎ Unclosed (ways_when_closed failed T.Start ⟦<FileFrom<T> as Disk>⟧ result.1) (F.holds folder.now)
-        (F.may_fail folder.now) (ServesAt C.Saw clients.old clients.new) R.remaining W.contents E.contents
-        (map string_bytes words.now) input.old input.new output.old output.new errors.old errors.new }
+        ⊎ Unclosed (ways_when_closed failed T.Start ⟦<FileFrom<T> as Disk>⟧ result.1)
+        (F.holds folder.now)
+        (F.may_fail folder.now)
+        (ServesAt C.Saw clients.old clients.new) R.remaining W.contents E.contents
+        (map string_bytes words.now) input.old input.new output.old
+        output.new errors.old errors.new }
     ensures failed { result.0 ≡ 4
-        → Failed (ways_when_closed whole T.Start ⟦<FileFrom<T> as Disk>⟧ result.1) (F.holds folder.now)
-        (F.may_fail folder.now) (ServesAt C.Saw clients.old clients.new) R.remaining W.contents E.contents
-        (map string_bytes words.now) input.old input.new output.old output.new errors.old errors.new }
+        → Failed (ways_when_closed whole T.Start ⟦<FileFrom<T> as Disk>⟧ result.1)
+        (F.holds folder.now)
+        (F.may_fail folder.now)
+        (ServesAt C.Saw clients.old clients.new) R.remaining W.contents E.contents
+        (map string_bytes words.now) input.old input.new output.old
+        output.new errors.old errors.new }
     ensures unopened { result.0 ≡ 2 → result.1 ≡ None }
     ensures opened { OnSome result.1 (NamesFile (map string_bytes words.now)) }
     ensures untouched { result.0 ≡ 2 → (input.new ≡ input.old) × (output.new ≡ output.old) }
     ensures unasked { result.0 ≡ 2 → clients.new ≡ clients.old }
     ensures end { (result.0 ≡ 0) ⊎ (result.0 ≡ 1) → (file : _) (greatest : ℕ)
-        → AsksForFeed (map string_bytes words.now) file greatest → IsAtEnd (R.remaining (inner_of input.new)) }
-    ensures kept { (result.0 ≡ 0) ⊎ (result.0 ≡ 1) → FailsNever input.old input.new output.old output.new }
+        → AsksForFeed (map string_bytes words.now) file greatest
+        → IsAtEnd (R.remaining (inner_of input.new)) }
+    ensures kept { (result.0 ≡ 0) ⊎ (result.0 ≡ 1)
+        → FailsNever input.old input.new output.old output.new }
     ensures few_reads { reads_of input.new ≤ reads_of input.old + MOST_READS }
-    ensures unread { ((file : _) (greatest : ℕ) → AsksForFeed (map string_bytes words.now) file greatest → ⊥)
+    ensures unread { ((file : _) (greatest : ℕ)
+        → AsksForFeed (map string_bytes words.now) file greatest → ⊥)
         → input.new ≡ input.old }
     ensures unserved { ((file : _) (port connections greatest : ℕ)
         → AsksForServing (map string_bytes words.now) file port connections greatest → ⊥)
@@ -134,33 +153,47 @@ fn open_run<T: Start, F: Folder, C: Clients, R: Read, W: Write, E: Write>(
     ensures status { result.0 ≤ 4 }
     ensures done { result.0 ≡ 0
         → Done (ways_when_open T.Start result.1) (F.holds folder.now)
-        (F.may_fail folder.now) (ServesAt C.Saw clients.old clients.new) R.remaining W.contents E.contents
-        (map string_bytes words.now) input.old input.new output.old output.new errors.old errors.new }
+        (F.may_fail folder.now)
+        (ServesAt C.Saw clients.old clients.new) R.remaining W.contents E.contents
+        (map string_bytes words.now) input.old input.new output.old
+        output.new errors.old errors.new }
     ensures refused { result.0 ≡ 1
         → Refused (ways_when_open T.Start result.1) (F.holds folder.now)
-        (F.may_fail folder.now) (ServesAt C.Saw clients.old clients.new) R.remaining W.contents E.contents
-        (map string_bytes words.now) input.old input.new output.old output.new errors.old errors.new }
+        (F.may_fail folder.now)
+        (ServesAt C.Saw clients.old clients.new) R.remaining W.contents E.contents
+        (map string_bytes words.now) input.old input.new output.old
+        output.new errors.old errors.new }
     ensures bad { result.0 ≡ 2
         → Bad (ways_when_open T.Start result.1) (F.holds folder.now)
-        (F.may_fail folder.now) (ServesAt C.Saw clients.old clients.new) R.remaining W.contents E.contents
-        (map string_bytes words.now) input.old input.new output.old output.new errors.old errors.new }
+        (F.may_fail folder.now)
+        (ServesAt C.Saw clients.old clients.new) R.remaining W.contents E.contents
+        (map string_bytes words.now) input.old input.new output.old
+        output.new errors.old errors.new }
     ensures no_desk { result.0 ≡ 3
         → NoDesk (ways_when_open T.Start result.1) (F.holds folder.now)
-        (F.may_fail folder.now) (ServesAt C.Saw clients.old clients.new) R.remaining W.contents E.contents
-        (map string_bytes words.now) input.old input.new output.old output.new errors.old errors.new }
+        (F.may_fail folder.now)
+        (ServesAt C.Saw clients.old clients.new) R.remaining W.contents E.contents
+        (map string_bytes words.now) input.old input.new output.old
+        output.new errors.old errors.new }
     ensures failed { result.0 ≡ 4
         → Failed (ways_when_open T.Start result.1) (F.holds folder.now)
-        (F.may_fail folder.now) (ServesAt C.Saw clients.old clients.new) R.remaining W.contents E.contents
-        (map string_bytes words.now) input.old input.new output.old output.new errors.old errors.new }
+        (F.may_fail folder.now)
+        (ServesAt C.Saw clients.old clients.new) R.remaining W.contents E.contents
+        (map string_bytes words.now) input.old input.new output.old
+        output.new errors.old errors.new }
     ensures unopened { result.0 ≡ 2 → result.1 ≡ Nothing }
     ensures named { Names (map string_bytes words.now) result.1 }
-    ensures untouched { (result.0 ≡ 2) ⊎ (result.0 ≡ 3) → (input.new ≡ input.old) × (output.new ≡ output.old) }
+    ensures untouched { (result.0 ≡ 2) ⊎ (result.0 ≡ 3)
+        → (input.new ≡ input.old) × (output.new ≡ output.old) }
     ensures unasked { (result.0 ≡ 2) ⊎ (result.0 ≡ 3) → clients.new ≡ clients.old }
     ensures end { (result.0 ≡ 0) ⊎ (result.0 ≡ 1) → (file : _) (greatest : ℕ)
-        → AsksForFeed (map string_bytes words.now) file greatest → IsAtEnd (R.remaining (inner_of input.new)) }
-    ensures kept { (result.0 ≡ 0) ⊎ (result.0 ≡ 1) → FailsNever input.old input.new output.old output.new }
+        → AsksForFeed (map string_bytes words.now) file greatest
+        → IsAtEnd (R.remaining (inner_of input.new)) }
+    ensures kept { (result.0 ≡ 0) ⊎ (result.0 ≡ 1)
+        → FailsNever input.old input.new output.old output.new }
     ensures few_reads { reads_of input.new ≤ reads_of input.old + MOST_READS }
-    ensures unread { ((file : _) (greatest : ℕ) → AsksForFeed (map string_bytes words.now) file greatest → ⊥)
+    ensures unread { ((file : _) (greatest : ℕ)
+        → AsksForFeed (map string_bytes words.now) file greatest → ⊥)
         → input.new ≡ input.old }
     ensures unserved { ((file : _) (port connections greatest : ℕ)
         → AsksForServing (map string_bytes words.now) file port connections greatest → ⊥)

@@ -35,10 +35,13 @@ pub fn program<R: Read, W: Write, E: Write>(
     ensures status { result ≤ 4 }
     ensures untouched { result ≡ 2 → (input.new ≡ input.old) × (output.new ≡ output.old) }
     ensures end { (result ≡ 0) ⊎ (result ≡ 1) → (file : _) (greatest : ℕ)
-        → AsksForFeed (map string_bytes words.now) file greatest → IsAtEnd (R.remaining (inner_of input.new)) }
-    ensures kept { (result ≡ 0) ⊎ (result ≡ 1) → FailsNever input.old input.new output.old output.new }
+        → AsksForFeed (map string_bytes words.now) file greatest
+        → IsAtEnd (R.remaining (inner_of input.new)) }
+    ensures kept { (result ≡ 0) ⊎ (result ≡ 1)
+        → FailsNever input.old input.new output.old output.new }
     ensures few_reads { reads_of input.new ≤ reads_of input.old + MOST_READS }
-    ensures unread { ((file : _) (greatest : ℕ) → AsksForFeed (map string_bytes words.now) file greatest → ⊥)
+    ensures unread { ((file : _) (greatest : ℕ)
+        → AsksForFeed (map string_bytes words.now) file greatest → ⊥)
         → input.new ≡ input.old }
     ensures quiet { (result ≡ 0) ⊎ (result ≡ 1) → errors.new ≡ errors.old }
 {
@@ -65,9 +68,11 @@ pub fn wordless<E: Write>(error: &io::Error, errors: &mut Wire<E>) -> u8
     requires error_failures { failures_of errors.old < 2 ^ 63 }
     ensures unavailable { error_kind error.now ≡ ErrorKind.OutOfMemory → result ≡ 3 }
     ensures bad { error_kind error.now ≢ ErrorKind.OutOfMemory → result ≡ 2 }
-    ensures told_unavailable { result ≡ 3 → TellsLine E.contents errors.old errors.new (refusal_line Unavailable) }
+    ensures told_unavailable { result ≡ 3
+        → TellsLine E.contents errors.old errors.new (refusal_line Unavailable) }
     ensures told_bad { result ≡ 2
-        → TellsLine E.contents errors.old errors.new (codes "tracedesk: a word of the command line is not UTF-8") }
+        → TellsLine E.contents errors.old errors.new
+        (codes "tracedesk: a word of the command line is not UTF-8") }
 {
     if error.kind() == ErrorKind::OutOfMemory {
         return unavailable(errors);

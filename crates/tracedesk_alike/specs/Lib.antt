@@ -1,1 +1,4 @@
+pub mod CommandLine
+pub mod Found
 pub mod Program
+pub mod Texts

@@ -1,8 +1,13 @@
 //! The program that says whether the desks in two files are alike.
 #![tactic(auto)]
 
+mod command_line;
+mod compared;
+mod desks;
+mod files;
 mod program;
 mod run;
+mod shown;
 mod telling;
 
 use desk_types::Wire;

@@ -5,9 +5,9 @@ ghost use Rattle.desk_runs.specs.Told.{TellsUnwritten};
 ghost use Rattle.desk_runs.specs.Wires.{HaveFewFailures};
 ghost use Rattle.tracedesk_alike.specs.Program.{Bad, Compares, Differing, Done, NoDesk};
 
+use crate::command_line::{Asked, read_words};
+use crate::files::compare_files;
 use crate::telling::tell_found;
-use alike_files::compare_files;
-use alike_words::{Asked, read_words};
 use desk_runs::{Exit, send_text, tell, unavailable};
 use desk_types::Wire;
 use sqlite::{FileFrom, Files, Start};
@@ -28,17 +28,22 @@ pub fn whole_run<T: Start, U: Start, W: Write, E: Write>(
     requires few { HaveFewFailures output.old errors.old }
     ensures status { result.0 ≤ 4 }
     ensures done { result.0 ≡ 0
-        → Done (Compares T.Start U.Start ⟦<FileFrom<T> as Disk>⟧ ⟦<FileFrom<U> as Disk>⟧ result.1 result.2
-        (map string_bytes words.now)) (map string_bytes words.now) W.contents output.old output.new }
+        → Done (Compares T.Start U.Start ⟦<FileFrom<T> as Disk>⟧
+        ⟦<FileFrom<U> as Disk>⟧ result.1 result.2
+        (map string_bytes words.now))
+        (map string_bytes words.now) W.contents output.old output.new }
     ensures differs { result.0 ≡ 1
-        → Differing (Compares T.Start U.Start ⟦<FileFrom<T> as Disk>⟧ ⟦<FileFrom<U> as Disk>⟧ result.1 result.2
+        → Differing
+        (Compares T.Start U.Start ⟦<FileFrom<T> as Disk>⟧ ⟦<FileFrom<U> as Disk>⟧ result.1 result.2
         (map string_bytes words.now)) W.contents output.old output.new }
     ensures bad { result.0 ≡ 2
         → Bad (map string_bytes words.now) E.contents output.old output.new errors.old errors.new }
     ensures no_desk { result.0 ≡ 3
-        → NoDesk (Compares T.Start U.Start ⟦<FileFrom<T> as Disk>⟧ ⟦<FileFrom<U> as Disk>⟧ result.1 result.2
+        → NoDesk
+        (Compares T.Start U.Start ⟦<FileFrom<T> as Disk>⟧ ⟦<FileFrom<U> as Disk>⟧ result.1 result.2
         (map string_bytes words.now)) E.contents output.old output.new errors.old errors.new }
-    ensures failed { result.0 ≡ 4 → TellsUnwritten E.contents output.old output.new errors.old errors.new }
+    ensures failed { result.0 ≡ 4
+        → TellsUnwritten E.contents output.old output.new errors.old errors.new }
 {
     match read_words(rt.alloc(), words) {
         Ok(Asked::Compare { old, new }) => {

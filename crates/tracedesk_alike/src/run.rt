@@ -39,9 +39,11 @@ pub fn wordless<E: Write>(error: &io::Error, errors: &mut Wire<E>) -> u8
     requires error_failures { failures_of errors.old < 2 ^ 63 }
     ensures unavailable { error_kind error.now ≡ ErrorKind.OutOfMemory → result ≡ 3 }
     ensures bad { error_kind error.now ≢ ErrorKind.OutOfMemory → result ≡ 2 }
-    ensures told_unavailable { result ≡ 3 → TellsLine E.contents errors.old errors.new unavailable_line }
+    ensures told_unavailable { result ≡ 3
+        → TellsLine E.contents errors.old errors.new unavailable_line }
     ensures told_bad { result ≡ 2
-        → TellsLine E.contents errors.old errors.new (codes "tracedesk: a word of the command line is not UTF-8") }
+        → TellsLine E.contents errors.old errors.new
+        (codes "tracedesk: a word of the command line is not UTF-8") }
 {
     if error.kind() == ErrorKind::OutOfMemory {
         return unavailable(errors);

@@ -7,7 +7,7 @@ ghost use Rattle.desk_runs.specs.Told.{unavailable_line, TellsLine, TellsUnwritt
 ghost use Rattle.desk_runs.specs.Wires.{HaveFewFailures};
 ghost use Rattle.tracedesk_alike.specs.Program.{found_line, refused_line, status_of};
 
-use alike_files::Compared;
+use crate::compared::Compared;
 use desk_runs::{Exit, send_text, tell_line, unavailable};
 use desk_types::Wire;
 use std::alloc::Global;
@@ -24,12 +24,15 @@ pub fn tell_found<W: Write, E: Write>(
     ensures status { (result ≡ 0) ⊎ (result ≡ 1) ⊎ (result ≡ 3) ⊎ (result ≡ 4) }
     ensures sent { (result ≡ 0) ⊎ (result ≡ 1)
         → (status_of found.now ≡ result)
-        × Appends (W.contents (inner_of output.old)) (W.contents (inner_of output.new)) (found_line found.now) }
+        × Appends (W.contents (inner_of output.old)) (W.contents (inner_of output.new))
+        (found_line found.now) }
     ensures refused { result ≡ 3
         → TellsLine E.contents errors.old errors.new unavailable_line
-        ⊎ ((status_of found.now ≡ 3) × TellsLine E.contents errors.old errors.new (refused_line found.now)) }
+        ⊎ ((status_of found.now ≡ 3)
+        × TellsLine E.contents errors.old errors.new (refused_line found.now)) }
     ensures untouched { result ≡ 3 → output.new ≡ output.old }
-    ensures failed { result ≡ 4 → TellsUnwritten E.contents output.old output.new errors.old errors.new }
+    ensures failed { result ≡ 4
+        → TellsUnwritten E.contents output.old output.new errors.old errors.new }
 {
     let status = status_of(found);
     if status == Exit::NoDesk as u8 {

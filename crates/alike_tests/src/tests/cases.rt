@@ -7,7 +7,7 @@ pub const BASE: &str = "0\tPartDefined\tP
 0\tProductSelected\tM\tPR";
 
 /// What the old desk got after its setup, what the new one got, and the first difference.
-pub const CASES: [(&str, &str, &str); 21] = [
+pub const CASES: [(&str, &str, &str); 25] = [
     (
         "0\tReelReceived\tK1\tP\tL1\t5a\t50\t0
 0\tReelOpened\tK1
@@ -93,6 +93,36 @@ pub const CASES: [(&str, &str, &str); 21] = [
         "0\tReelReceived\tK1\tP\tL1\t1\t10\t0",
         "0\tClockSet",
         "Some(Remaining { reel: K1, old: 10, new: 0 })",
+    ),
+    (
+        "0\tReelReceived\tK1\tP\tL1\t1\t10\t0
+0\tMaterialsLoaded\tM\t1\tK1
+0\tMaterialsScrapped\tM\t1\t3",
+        "0\tReelReceived\tK1\tP\tL1\t1\t10\t0
+0\tMaterialsLoaded\tM\t1\tK1
+0\tMaterialsScrapped\tM\t1\t3",
+        "Some(Received { reel: K1, old: 7, new: 10 })",
+    ),
+    (
+        "0\tReelReceived\tK1\tP\tL1\t1\t5\t0
+0\tMaterialsLoaded\tM\t1\tK1
+0\tMaterialsScrapped\tM\t1\t5",
+        "0\tReelReceived\tK1\tP\tL1\t1\t5\t0
+0\tMaterialsLoaded\tM\t1\tK1
+0\tMaterialsScrapped\tM\t1\t5",
+        "Some(Received { reel: K1, old: 0, new: 5 })",
+    ),
+    (
+        "0\tReelReceived\tK1\tP\tL1\t1\t10\t0",
+        "0\tReelReceived\tK1\tP\tL1\t1\t8\t0
+0\tCountsTaken\t1\tK1\t10",
+        "Some(Received { reel: K1, old: 10, new: 8 })",
+    ),
+    (
+        "0\tReelReceived\tK1\tP\tL1\t1\t8\t0
+0\tCountsTaken\t1\tK1\t10",
+        "0\tReelReceived\tK1\tP\tL1\t1\t10\t0",
+        "None",
     ),
     (
         "0\tReelReceived\tK1\tP\tL1\t1\t10\t0",

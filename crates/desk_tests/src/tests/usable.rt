@@ -12,7 +12,7 @@ fn reel_of_level(level: Level, label: u64, at: Minute) -> Result<Reel, Fail>
 {
     let moisture = Moisture::new(level, label).ok_or("no label")?;
     let pieces = Quantity::new(100).ok_or("no quantity")?;
-    Ok(Reel::receive(id("P")?, id("L")?, moisture, pieces, at))
+    Ok(Reel::receive(id("K1")?, id("P")?, id("L")?, moisture, pieces, at))
 }
 
 /// A reel of level 6 may be used from its bake on, one of level 1 from its receipt on.

@@ -16,7 +16,8 @@ fn put(
     slot: Id,
 ) -> Result<(), AllocError>
     ensures { (r : Name)
-        → OnOk result (mount_at mounts.new r ≡ (if same reel r then Some (machine, slot) else mount_at mounts.old r)) }
+        → OnOk result (mount_at mounts.new r
+        ≡ (if same reel r then Some (machine, slot) else mount_at mounts.old r)) }
 {
     mounts.insert(reel, (machine, slot))?;
     Ok(())
@@ -25,7 +26,8 @@ fn put(
 /// Updates the map for a command.
 pub fn note_mount(mounts: &mut BTreeMap<Id, (Id, Id)>, command: &Command) -> Result<(), AllocError>
     ensures { (r : Name)
-        → OnOk result (mount_at mounts.new r ≡ option_or (mount_by r command.now) (mount_at mounts.old r)) }
+        → OnOk result (mount_at mounts.new r
+        ≡ option_or (mount_by r command.now) (mount_at mounts.old r)) }
 {
     match command {
         Command::MaterialsLoaded {

@@ -10,7 +10,7 @@ ghost use Rattle.desk_types.specs.Judged.{IsJudged};
 ghost use Rattle.entry_search.specs.Floor.{reel_at, AreReels, AreReelsBy};
 
 use crate::floor_life::reel_after;
-use desk_types::{Command, Entry, Id};
+use desk_types::{Command, Entry, Id, ReelRow};
 use reels::Reel;
 use std::alloc::AllocError;
 use std::collections::BTreeMap;
@@ -50,6 +50,8 @@ pub fn note_reel(reels: &mut BTreeMap<Id, Reel>, entry: &Entry) -> Result<(), Al
     let before = reel_in(reels, &name);
     match reel_after(before, &name, entry) {
         Some(after) => {
+            // A local of this type, without which the borrow checker finds no proof.
+            let _row: ReelRow = after.row;
             reels.insert(name, after)?;
         }
         None => {

@@ -21,7 +21,8 @@ pub fn pieces(stock: &BTreeMap<Id, u64>, reel: &Id) -> u64
 }
 
 fn lower(stock: &mut BTreeMap<Id, u64>, reel: &Id, n: u64)
-    ensures { (r : Name) → pieces_at stock.new r ≡ pieces_at stock.old r - (if same reel.now r then n else 0) }
+    ensures { (r : Name) → pieces_at stock.new r
+        ≡ pieces_at stock.old r - (if same reel.now r then n else 0) }
 {
     if let Some(left) = stock.get_mut(reel) {
         *left = left.saturating_sub(n);
@@ -29,7 +30,8 @@ fn lower(stock: &mut BTreeMap<Id, u64>, reel: &Id, n: u64)
 }
 
 fn lower_all(stock: &mut BTreeMap<Id, u64>, takes: &[Take])
-    ensures { (r : Name) → pieces_at stock.new r ≡ pieces_at stock.old r - pieces_taken takes.now r }
+    ensures { (r : Name) → pieces_at stock.new r
+        ≡ pieces_at stock.old r - pieces_taken takes.now r }
 {
     for take in takes {
         lower(stock, &take.reel, take.quantity);
@@ -38,7 +40,8 @@ fn lower_all(stock: &mut BTreeMap<Id, u64>, takes: &[Take])
 
 /// Sets a reel's pieces.
 fn tell(stock: &mut BTreeMap<Id, u64>, reel: Id, n: u64) -> Result<(), AllocError>
-    ensures { (r : Name) → OnOk result (pieces_at stock.new r ≡ (if same reel r then n else pieces_at stock.old r)) }
+    ensures { (r : Name)
+        → OnOk result (pieces_at stock.new r ≡ (if same reel r then n else pieces_at stock.old r)) }
 {
     stock.insert(reel, n)?;
     Ok(())
@@ -46,7 +49,8 @@ fn tell(stock: &mut BTreeMap<Id, u64>, reel: Id, n: u64) -> Result<(), AllocErro
 
 /// Sets the pieces of counted reels; a reel's first row counts.
 fn tell_counts(stock: &mut BTreeMap<Id, u64>, rows: &[CountRow]) -> Result<(), AllocError>
-    ensures { (r : Name) → OnOk result (pieces_at stock.new r ≡ count_or rows.now r (pieces_at stock.old r)) }
+    ensures { (r : Name)
+        → OnOk result (pieces_at stock.new r ≡ count_or rows.now r (pieces_at stock.old r)) }
 {
     let mut rest = rows;
     while let Some((row, before)) = rest.split_last() {

@@ -85,7 +85,8 @@ fn load(
 ) -> Result<(), AllocError>
     ensures { (m s : Name)
         → OnOk result
-        (tape_at tapes.new m s ≡ (if same machine m && same slot s then reel ∷ [] else tape_at tapes.old m s)) }
+        (tape_at tapes.new m s
+        ≡ (if same machine m && same slot s then reel ∷ [] else tape_at tapes.old m s)) }
 {
     let tape = Tape::of(alloc, reel)?;
     tapes.insert((machine, slot), tape)?;
@@ -111,7 +112,8 @@ fn splice(
 
 fn unload(tapes: &mut BTreeMap<(Id, Id), Tape>, machine: Id, slot: Id)
     ensures { (m s : Name)
-        → tape_at tapes.new m s ≡ (if same machine m && same slot s then [] else tape_at tapes.old m s) }
+        → tape_at tapes.new m s
+        ≡ (if same machine m && same slot s then [] else tape_at tapes.old m s) }
 {
     tapes.remove(&(machine, slot));
 }
@@ -122,7 +124,8 @@ pub fn note_tape(
     tapes: &mut BTreeMap<(Id, Id), Tape>,
     command: &Command,
 ) -> Result<(), AllocError>
-    ensures { (m s : Name) → OnOk result (tape_at tapes.new m s ≡ tape_after m s command.now (tape_at tapes.old m s)) }
+    ensures { (m s : Name)
+        → OnOk result (tape_at tapes.new m s ≡ tape_after m s command.now (tape_at tapes.old m s)) }
 {
     match command {
         Command::MaterialsLoaded {

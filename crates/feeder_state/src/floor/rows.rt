@@ -24,7 +24,8 @@ fn join(
     ensures { (m s : Name)
         → OnOk result
         (tape_at tapes.new m s
-        ≡ (if same row.now.machine m && same row.now.slot s then tape_at tapes.old m s ++ row.now.reel ∷ []
+        ≡ (if same row.now.machine m && same row.now.slot s
+        then tape_at tapes.old m s ++ row.now.reel ∷ []
         else tape_at tapes.old m s)) }
 {
     let key = (row.machine, row.slot);

@@ -43,7 +43,8 @@ fn put_group(
 ) -> Result<(), AllocError>
     ensures { (p m : Name)
         → OnOk result
-        (sheet_at sheets.new p m ≡ (if same product p && same machine m then option_or (sheet_in group)
+        (sheet_at sheets.new p m
+        ≡ (if same product p && same machine m then option_or (sheet_in group)
         (sheet_at sheets.old p m) else sheet_at sheets.old p m)) }
 {
     if let Some(rows) = Bounded::new(group.items) {

@@ -35,7 +35,8 @@ fn designators_of(
     rows: &RowSet,
 ) -> Result<BTreeMap<Id, Group<Designator>>, AllocError>
     ensures { (H : History) → AreRowsOf H rows.now → (b d : Name)
-        → IfOk result (λ groups. list_any (same d) (group_at by_name groups b) ≡ is_placed_on H b d) }
+        → IfOk result
+        (λ groups. list_any (same d) (group_at by_name groups b) ≡ is_placed_on H b d) }
 {
     let mut groups = BTreeMap::new(alloc);
     for (_, row) in rows.placements() {

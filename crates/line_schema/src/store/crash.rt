@@ -19,28 +19,33 @@ use sqlite::Alter;
 use state_rows::KeepsRows;
 
 impl<S: Alter, D: KeepsRows + Drop> LineStore<S, D> {
-    /// A law: while the connection is open, a crash leaves exactly the tables of the store's history. That holds
-    /// between any two calls, even after a refusal, a report or Unavailable.
+    /// A law: while the connection is open, a crash leaves exactly the tables of the store's
+    /// history. That holds between any two calls, even after a refusal, a report or Unavailable.
     pub fn crash_leaves_the_list(&self)
         ensures list { (L : Kept) → Stands S.Store D.Stands D.kept_rules self.now L
-            → HasCleanDisk (state_of S.Store self.now) → IsTrue L.own → IsTrue (state_of S.Store self.now).is_open
+            → HasCleanDisk (state_of S.Store self.now) → IsTrue L.own
+            → IsTrue (state_of S.Store self.now).is_open
             → (trees : Trees) → (state_of S.Store self.now).may_leave trees
             → HoldsAt (ledger_tables L.greatest L.history) trees }
     {
         let _obeyed = self.conn.schema();
     }
 
-    /// A law: after commands in a row that were answered Unavailable, even if the disk failed and the connection is
-    /// shut, the history is unchanged. A crash leaves its tables, or its tables with one of these commands. Sent once
-    /// more, an accepted command changes nothing.
+    /// A law: after commands in a row that were answered Unavailable, even if the disk failed and
+    /// the connection is shut, the history is unchanged. A crash leaves its tables, or its tables
+    /// with one of these commands. Sent once more, an accepted command changes nothing.
     pub fn unanswered_commands_leave_the_list(&self, last: &LineStore<S, D>)
-        ensures stands { (L : Kept) (sent : List Stamped) → Stands S.Store D.Stands D.kept_rules self.now L
+        ensures stands { (L : Kept) (sent : List Stamped)
+            → Stands S.Store D.Stands D.kept_rules self.now L
             → IsTrue L.own → GoUnanswered S.Store D.Stands D.kept_rules self.now sent last.now
-            → HasCleanDisk (state_of S.Store last.now) → Stands S.Store D.Stands D.kept_rules last.now L }
-        ensures crash { (L : Kept) (sent : List Stamped) → Stands S.Store D.Stands D.kept_rules self.now L
+            → HasCleanDisk (state_of S.Store last.now)
+            → Stands S.Store D.Stands D.kept_rules last.now L }
+        ensures crash { (L : Kept) (sent : List Stamped)
+            → Stands S.Store D.Stands D.kept_rules self.now L
             → IsTrue L.own → IsTrue (state_of S.Store self.now).is_open
             → GoUnanswered S.Store D.Stands D.kept_rules self.now sent last.now
-            → HasCleanDisk (state_of S.Store last.now) → (trees : Trees) → (state_of S.Store last.now).may_leave trees
+            → HasCleanDisk (state_of S.Store last.now) → (trees : Trees)
+            → (state_of S.Store last.now).may_leave trees
             → HoldsWithAtMostOne L sent trees }
         ensures again { (greatest : ℕ) (H : History) (s : Stamped)
             → command_after Two greatest (accept H s) s ≡ accept H s }

@@ -1,5 +1,5 @@
-//! The pieces of a board, of a lot, and of overdue reels, from a store's tables. The desk and its trace indexes locate
-//! them if they are loaded; a trace does not load them.
+//! The pieces of a board, of a lot, and of overdue reels, from a store's tables. The desk and its
+//! trace indexes locate them if they are loaded; a trace does not load them.
 
 ghost use Rattle.std.specs.Prelude.{◌≡◌, IfOk};
 ghost use Rattle.desk_types.specs.Id.{Name};
@@ -16,13 +16,15 @@ use sqlite::Alter;
 use state_rows::KeepsRows;
 
 impl<S: Alter, D: KeepsRows + Drop> LineStore<S, D> {
-    /// Returns the pieces on a board by number, then place, or `None` if no accepted command started the board.
+    /// Returns the pieces on a board by number, then place, or `None` if no accepted command
+    /// started the board.
     pub fn board_rows(&mut self, board: &Id) -> Result<Option<PlacedRows>, Unavailable>
         ensures trace { ForKept S.Store D.Stands D.kept_rules self.old self.new
             (λ L. IfOk result (λ pieces. pieces ≡ board_trace L.history board.now)) }
         ensures converse { ForKept S.Store D.Stands D.kept_rules self.old self.new
             (λ L. IfOk result
-            (λ pieces. (lot : Name) → AreConverse board.now pieces lot (lot_board_names L.history lot))) }
+            (λ pieces. (lot : Name) → AreConverse board.now pieces lot
+            (lot_board_names L.history lot))) }
         ensures reads { ReadsStore S.Store D.Stands D.kept_rules self.old self.new }
     {
         let lists = self.lists.as_ref();
@@ -30,7 +32,8 @@ impl<S: Alter, D: KeepsRows + Drop> LineStore<S, D> {
         Ok(line_traces::board_rows(self.alloc, &mut self.conn, lists, desk, board)?)
     }
 
-    /// Returns the pieces of a lot by number, then place, or `None` if no accepted command received a reel of the lot.
+    /// Returns the pieces of a lot by number, then place, or `None` if no accepted command received
+    /// a reel of the lot.
     pub fn lot_rows(&mut self, lot: &Id) -> Result<Option<PlacedRows>, Unavailable>
         ensures trace { ForKept S.Store D.Stands D.kept_rules self.old self.new
             (λ L. IfOk result (λ pieces. pieces ≡ lot_trace L.history lot.now)) }
@@ -41,14 +44,15 @@ impl<S: Alter, D: KeepsRows + Drop> LineStore<S, D> {
         Ok(line_traces::lot_rows(self.alloc, &mut self.conn, lists, desk, lot)?)
     }
 
-    /// Returns the boards that hold a piece of a lot, each once and in byte order, or `None` if no accepted command
-    /// received a reel of the lot.
+    /// Returns the boards that hold a piece of a lot, each once and in byte order, or `None` if no
+    /// accepted command received a reel of the lot.
     pub fn lot_boards(&mut self, lot: &Id) -> Result<Option<IdList>, Unavailable>
         ensures boards { ForKept S.Store D.Stands D.kept_rules self.old self.new
             (λ L. IfOk result (λ boards. boards ≡ lot_board_names L.history lot.now)) }
         ensures converse { ForKept S.Store D.Stands D.kept_rules self.old self.new
             (λ L. IfOk result
-            (λ boards. (board : Name) → AreConverse board (board_trace L.history board) lot.now boards)) }
+            (λ boards. (board : Name) → AreConverse board
+            (board_trace L.history board) lot.now boards)) }
         ensures reads { ReadsStore S.Store D.Stands D.kept_rules self.old self.new }
     {
         let lists = self.lists.as_ref();

@@ -14,8 +14,8 @@ returns-in-Some-first_reel-clause-differs c = λ H H' of_old of_new.
     let one = c.in-Some-first_reel.ensures.differs H H' of_old of_new in
     reel-difference H H' one.0 _ (state-two H c.args.old.now of_old) (state-two H' c.args.new.now of_new) one.1
 
-pub returns-clause-alike : goal.returns-clause-alike
-returns-clause-alike c = λ H H' of_old of_new.
+pub returns-clause-carries : goal.returns-clause-carries
+returns-clause-carries c = λ H H' of_old of_new.
     let judged = state-two H c.args.old.now of_old in
     let judged' = state-two H' c.args.new.now of_new in
     let is = c.rows-old_rows.ensures.same H of_old in
@@ -26,16 +26,19 @@ returns-clause-alike c = λ H H' of_old of_new.
     let now : now_of H ≡ now_of H' = ap (λ o. unwrap_or o 0) minute in
     let reels = c.in_default-first_reel.ensures.same H H' is is' of_old of_new in
     record {
-      minute = minute;
-      parts = tables.0.parts;
-      alternates = tables.0.alternates;
-      sheets = c.in_default-first_sheet.ensures.same H H' is is' of_old of_new;
-      selections = tables.0.selections;
-      old_idle = tables.1.old_idle;
-      new_idle = tables.1.new_idle;
-      slots = c.in_default-slot_difference.ensures.same H H' of_old of_new;
-      left = λ reel. (carried H H' reel judged judged' now (reels reel)).left;
-      reels = λ reel. (carried H H' reel judged judged' now (reels reel)).same;
-      boards_known = tables.1.boards_known;
-      reels_known = λ reel. (carried H H' reel judged judged' now (reels reel)).known;
+      alike = record {
+        minute = minute;
+        parts = tables.0.parts;
+        alternates = tables.0.alternates;
+        sheets = c.in_default-first_sheet.ensures.same H H' is is' of_old of_new;
+        selections = tables.0.selections;
+        old_idle = tables.1.old_idle;
+        new_idle = tables.1.new_idle;
+        slots = c.in_default-slot_difference.ensures.same H H' of_old of_new;
+        left = λ reel. (carried H H' reel judged judged' now (reels reel)).left;
+        reels = λ reel. (carried H H' reel judged judged' now (reels reel)).same;
+        boards_known = tables.1.boards_known;
+        reels_known = λ reel. (carried H H' reel judged judged' now (reels reel)).known;
+      };
+      quantities = λ reel. (carried H H' reel judged judged' now (reels reel)).quantity;
     }

@@ -19,5 +19,5 @@ returns-in-Some-slot_in-clause-differs c = λ H H' of_old of_new same.
 pub returns-clause-same : goal.returns-clause-same
 returns-clause-same c = λ H H' of_old of_new m s.
     either-list (live_on H m s) (live_on H' m s)
-    (λ some. sym (of_old.floor.tapes m s) ∙ c.in_default.ensures.same H (state-two H c.args.old.now of_old) (c.rows.ensures.same H of_old) m s some ∙ of_new.floor.tapes m s)
-    (λ some. sym (of_old.floor.tapes m s) ∙ c.in_default-slot_in.ensures.same H' (state-two H' c.args.new.now of_new) (c.rows-2.ensures.same H' of_new) m s some ∙ of_new.floor.tapes m s)
+    (λ some. sym (of_old.floor.tapes m s) ∙ c.in_default.ensures.same H (state-two H c.args.old.now of_old) (c.rows.ensures.same H of_old) of_old.floor.tapes m s some ∙ of_new.floor.tapes m s)
+    (λ some. sym (of_old.floor.tapes m s) ∙ c.in_default-slot_in.ensures.same H' (state-two H' c.args.new.now of_new) (c.rows-2.ensures.same H' of_new) of_new.floor.tapes m s some ∙ of_new.floor.tapes m s)

@@ -1,15 +1,11 @@
-use Rattle.std.proofs.Common.{◌≡◌, ◌∙◌, ◌++◌, true, false, sym, ap, subst, arith, length, [], refl, Bool}
+use Rattle.std.proofs.Common.{◌≡◌, ◌∙◌, ◌++◌, true, false, sym, ap, subst, arith, rules, length, [], refl, Bool}
 use Rattle.desk_types.specs.Wire.{inner_of}
-use Rattle.desk_feed.proofs.AnsweredLines.{same_write}
-use Rattle.desk_answers.specs.Ledger.{ForLists}
 use Rattle.desk_feed.proofs.OwnersOfLines.{goes_none, goes_on, stops_into}
 use Rattle.desk_feed.proofs.LinesOfInputs.{EndsGone, start_gone, lines_go, last_goes, next_first, end_behind, no_end, one_more_end, all_ended}
 use Rattle.desk_feed.specs.Lines.{lines_in}
 use Rattle.desk_feed.specs.Taking.{TakesLine, LinesGone}
 use Rattle.served.specs.Block.{pending_bytes, source}
 use Rattle.served.specs.Counts.{none_served}
-use Rattle.desk_feed.specs.Stream.{AnsweredInto}
-use Rattle.served.specs.declared.serving.Served.{Served}
 use Rattle.served.proofs.Blocks.{none_pending}
 use Rattle.desk_feed.proofs.feeding.feed.Goals as goal
 
@@ -33,8 +29,8 @@ lines-init g c =
       answered = goes_none g.L.Owner.Stands g.L.Owner.Trusts c.args.owner.now (g.W.Write.contents (inner_of c.args.output.now));
     }
 
-pub returns-in-Ok-serve_line-clause-end : goal.returns-in-Ok-serve_line-clause-end
-returns-in-Ok-serve_line-clause-end g c =
+pub returns-in-Ok-serve_line-clause-read : goal.returns-in-Ok-serve_line-clause-read
+returns-in-Ok-serve_line-clause-read g c =
     let got = c.in-Ok.ensures.line in
     let block = c.take_line.new.block in
     let known = g.R.Read.remaining (inner_of c.take_line.new.wire) in
@@ -44,8 +40,8 @@ returns-in-Ok-serve_line-clause-end g c =
     let took = subst (λ (b : Bool). TakesLine before got.0 b (source block known)) is_last took in
     end_behind (pending_bytes block) known took.2
 
-pub returns-in-Ok-serve_line-clause-ok : goal.returns-in-Ok-serve_line-clause-ok
-returns-in-Ok-serve_line-clause-ok g c = λ G stands trusts.
+pub returns-in-Ok-serve_line-clause-answers : goal.returns-in-Ok-serve_line-clause-answers
+returns-in-Ok-serve_line-clause-answers g c = λ G stands trusts.
     let inv = c.lines.invariant in
     let got = c.in-Ok.ensures.line in
     let raw = got.0 in
@@ -58,7 +54,7 @@ returns-in-Ok-serve_line-clause-ok g c = λ G stands trusts.
     let contents = g.W.Write.contents in
     let all = goes_on g.L.Owner.Stands g.L.Owner.Trusts inv.lines (lines_in raw) c.args.owner.now c.lines.owner c.serve_line.new.owner
     (contents (inner_of c.args.output.now)) (contents (inner_of c.lines.output)) (contents (inner_of c.serve_line.new.output)) none_served c.lines.served c.serve_line.new.served
-    c.serve_line.ensures.trusts inv.answered (λ G stands trusts. c.in-Ok-serve_line.ensures.ok G stands trusts raw got.1) G stands trusts in
+    c.serve_line.ensures.stays.trusts inv.answered (c.in-Ok-serve_line.ensures.answers raw got.1) G stands trusts in
     (all.0, all.1, (inv.lines ++ lines_in raw, all.2.0, last_goes asked before behind inv.lines raw inv.gone took, all.2.1))
 
 pub lines-preserved : goal.lines-preserved
@@ -74,25 +70,25 @@ lines-preserved g c =
     let took = subst (λ (b : Bool). TakesLine before raw b behind) not_last took in
     let contents = g.W.Write.contents in
     let falls = c.in-Ok.ensures.falls in
-    let few = c.serve_line.ensures.counts.few_answers in record {
-      block = c.take_line.ensures.valid;
-      reads = c.take_line.ensures.reads.few_reads;
-      read_failures = c.in-Ok.ensures.reads.kept ∙ inv.read_failures;
-      write_failures = c.in-Ok-serve_line.ensures.kept ∙ inv.write_failures;
+    let few = c.serve_line.ensures.counts.up_to_one.few_answers in record {
+      block = c.take_line.ensures.reads.valid;
+      reads = c.take_line.ensures.reads.reads.few_reads;
+      read_failures = c.in-Ok.ensures.reads.reads.kept ∙ inv.read_failures;
+      write_failures = c.in-Ok-serve_line.ensures.writes.kept ∙ inv.write_failures;
       counted = omega (arith, inv.counted, falls, few);
-      refused = c.serve_line.ensures.counts.refused;
-      ready = c.serve_line.ensures.ready;
-      trusts = λ trusts. inv.trusts (c.serve_line.ensures.trusts trusts);
+      refused = c.serve_line.ensures.counts.up_to_one.refused;
+      ready = c.serve_line.ensures.stays.ready;
+      trusts = λ trusts. inv.trusts (c.serve_line.ensures.stays.trusts trusts);
       lines = inv.lines ++ lines_in raw;
-      ended = one_more_end asked before behind c.lines.served.answered c.serve_line.new.served.answered raw inv.ended took (c.in-Ok-serve_line.ensures.counted raw got.1);
+      ended = one_more_end asked before behind c.lines.served.answered c.serve_line.new.served.answered raw inv.ended took (c.in-Ok-serve_line.ensures.counts.each raw got.1);
       gone = lines_go asked before behind inv.lines raw inv.gone took;
       answered = goes_on g.L.Owner.Stands g.L.Owner.Trusts inv.lines (lines_in raw) c.args.owner.now c.lines.owner c.serve_line.new.owner
           (contents (inner_of c.args.output.now)) (contents (inner_of c.lines.output)) (contents (inner_of c.serve_line.new.output)) none_served c.lines.served c.serve_line.new.served
-          c.serve_line.ensures.trusts inv.answered (λ G stands trusts. c.in-Ok-serve_line.ensures.ok G stands trusts raw got.1);
+          c.serve_line.ensures.stays.trusts inv.answered (c.in-Ok-serve_line.ensures.answers raw got.1);
     }
 
-pub returns-in-Err-clause-write : goal.returns-in-Err-clause-write
-returns-in-Err-clause-write g c = λ served e.
+pub returns-in-Err-clause-answers : goal.returns-in-Err-clause-answers
+returns-in-Err-clause-answers g c =
     let inv = c.lines.invariant in
     let got = c.in-Ok.ensures.line in
     let raw = got.0 in
@@ -101,22 +97,22 @@ returns-in-Err-clause-write g c = λ served e.
     let behind = source c.take_line.new.block (g.R.Read.remaining (inner_of c.take_line.new.wire)) in
     let took : TakesLine before raw c.in-Ok.field-0.last behind = got.2 in
     let contents = g.W.Write.contents in
-    let out₀ = contents (inner_of c.args.output.now) in
-    let out₂ = contents (inner_of c.serve_line.new.output) in
-    let failed = c.in-Err.ensures.failed in
-    let into = stops_into g.L.Owner.Stands g.L.Owner.Trusts inv.lines (lines_in raw) asked c.args.owner.now c.lines.owner c.serve_line.new.owner out₀ (contents (inner_of c.lines.output)) out₂ c.lines.served c.serve_line.new.served
-    c.serve_line.ensures.trusts (λ line is. next_first asked before behind inv.lines raw line c.in-Ok.field-0.last inv.gone took is) inv.answered (λ G stands trusts. c.in-Err.ensures.err G stands trusts raw got.1) in (
-      (omega (arith, failed, inv.write_failures), c.in-Ok.ensures.reads.kept ∙ inv.read_failures),
-      subst (λ (s : Served). ForLists g.L.Owner.Stands g.L.Owner.Trusts c.args.owner.now c.serve_line.new.owner (λ G H. AnsweredInto G.rules G.greatest asked G.history out₀ H out₂ s))
-          (same_write c.serve_line.new.served served e) into,
-    )
+    stops_into g.L.Owner.Stands g.L.Owner.Trusts inv.lines (lines_in raw) asked c.args.owner.now c.lines.owner c.serve_line.new.owner
+    (contents (inner_of c.args.output.now)) (contents (inner_of c.lines.output)) (contents (inner_of c.serve_line.new.output)) c.lines.served c.serve_line.new.served
+    c.serve_line.ensures.stays.trusts (λ line is. next_first asked before behind inv.lines raw line c.in-Ok.field-0.last inv.gone took is) inv.answered (c.in-Err.ensures.answers raw got.1)
 
-pub returns-in-Err-Failed-clause-unread : goal.returns-in-Err-Failed-clause-unread
-returns-in-Err-Failed-clause-unread g c =
+pub returns-in-Err-clause-counts : goal.returns-in-Err-clause-counts
+returns-in-Err-clause-counts g c =
+    let inv = c.lines.invariant in
+    let failed = c.in-Err.ensures.writes.failed in
+    record { few_reads = search rules; kept = search rules; fault = (omega (arith, failed, inv.write_failures), c.in-Ok.ensures.reads.reads.kept ∙ inv.read_failures) }
+
+pub returns-in-Err-Failed-clause-read : goal.returns-in-Err-Failed-clause-read
+returns-in-Err-Failed-clause-read g c =
     let asked = g.R.Read.remaining (inner_of c.args.input.now) in
     all_ended asked (source c.lines.block (g.R.Read.remaining (inner_of c.lines.input))) (g.R.Read.remaining (inner_of c.take_line.new.wire)) c.lines.served c.lines.invariant.ended c.in-Err-Failed.ensures.unread
 
-pub returns-in-Err-TooMany-clause-unread : goal.returns-in-Err-TooMany-clause-unread
-returns-in-Err-TooMany-clause-unread g c =
+pub returns-in-Err-TooMany-clause-read : goal.returns-in-Err-TooMany-clause-read
+returns-in-Err-TooMany-clause-read g c =
     let asked = g.R.Read.remaining (inner_of c.args.input.now) in
     all_ended asked (source c.lines.block (g.R.Read.remaining (inner_of c.lines.input))) (g.R.Read.remaining (inner_of c.take_line.new.wire)) c.lines.served c.lines.invariant.ended c.in-Err-TooMany.ensures.unread

@@ -14,7 +14,7 @@ invariant-lines g l = record {
   reads : reads_of l.input ≤ l.most_reads;
   read_failures : failures_of l.input ≡ failures_of l.fn.input;
   write_failures : failures_of l.output ≡ failures_of l.fn.output;
-  counted : l.served.answered + fuel l.most_reads (reads_of l.input) l.block ≤ MOST_READS * (BLOCK + 1);
+  counted : l.served.answered + fuel l.most_reads l.input l.block ≤ MOST_READS * (BLOCK + 1);
   refused : l.served.refused ≤ l.served.answered;
   ready : g.L.Owner.Ready l.owner;
   trusts : g.L.Owner.Trusts l.owner → g.L.Owner.Trusts l.fn.owner;
@@ -25,4 +25,4 @@ invariant-lines g l = record {
 }
 
 abbrev pub decreases-lines : goal.decreases-lines
-decreases-lines g l = fuel l.most_reads (reads_of l.input) l.block
+decreases-lines g l = fuel l.most_reads l.input l.block

@@ -7,9 +7,9 @@ use Rattle.desk_feed.specs.Stream.{Answered}
 use Rattle.desk_feed.proofs.AnsweredLines.{one_answered}
 use Rattle.desk_feed.proofs.feeding.serve_line.Goals as goal
 
-pub returns-in_ok-send_line-clause-ok : goal.returns-in_ok-send_line-clause-ok
-returns-in_ok-send_line-clause-ok g c = λ G stands trusts bytes holds.
-    let a = c.in-Some.ensures.answer G stands trusts bytes holds in
+pub returns-in_ok-send_line-clause-answers : goal.returns-in_ok-send_line-clause-answers
+returns-in_ok-send_line-clause-answers g c = λ bytes holds G stands trusts.
+    let a = c.in-Some.ensures.answer bytes holds G stands trusts in
     let H' = a.0 in
     let mark = a.2.0 in
     let out = g.W.Write.contents (inner_of c.args.output.now) in

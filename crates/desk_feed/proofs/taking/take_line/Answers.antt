@@ -1,4 +1,4 @@
-use Rattle.std.proofs.Common.{rules, arith, List, ℕ, ◌≡◌, ◌∙◌, ◌++◌, [], ◌∷◌, length, take, sym, ap, subst, append_assoc, false}
+use Rattle.std.proofs.Common.{rules, arith, ◌≡◌, ◌∙◌, ◌++◌, [], ◌∷◌, length, take, sym, ap, subst, append_assoc, false}
 use Rattle.std.specs.Io.KnownBytes.{Consumes}
 use Rattle.std.proofs.KnownBytes.{Consumes-trans, Consumes-kept}
 use Rattle.std.proofs.lemmas.List.{length-drop}
@@ -6,7 +6,7 @@ use Rattle.std.proofs.lemmas.List.Elements.{All-append}
 use Rattle.desk_types.specs.Wire.{inner_of}
 use Rattle.served.specs.Block.{pending_bytes, source}
 use Rattle.desk_feed.specs.Lines.{is_feed}
-use Rattle.desk_feed.specs.Taking.{HasNoFeed}
+use Rattle.desk_feed.specs.Taking.{ReadsInside}
 use Rattle.desk_feed.proofs.TakenLines.{line_goes, all_goes}
 use Rattle.desk_feed.proofs.taking.take_line.Goals as goal
 
@@ -36,9 +36,9 @@ loop-line-preserved g c =
     let here = Consumes-kept _ _ _ _ inv.gone c.in_ok-ready.ensures.source in
     let step = all_goes bytes pend (pending_bytes c.give-in-None.new.self) (g.R.Read.remaining (inner_of c.ready.new.wire)) c.pending-bytes.ensures left in record {
       block = c.give-in-None.ensures.valid;
-      reads = c.ready.ensures.reads.few_reads;
-      failures = c.in_ok-ready.ensures.reads.kept ∙ inv.failures;
-      falls = omega (arith, c.in_ok-ready.ensures.falls, inv.falls, ap length left, length-drop (length bytes) pend);
+      reads = c.ready.ensures.reads.reads.few_reads;
+      failures = c.in_ok-ready.ensures.reads.reads.kept ∙ inv.failures;
+      falls = omega (arith, c.in_ok-ready.ensures.falls.falls, inv.falls, ap length left, length-drop (length bytes) pend);
       raw = inv.raw ++ bytes;
       gone = Consumes-trans _ _ _ _ _ here step;
       no_feed = All-append (λ b. is_feed b ≡ false) inv.raw bytes inv.no_feed c.in-None.ensures;
@@ -50,5 +50,5 @@ returns-in_err-ready-clause-unread g c =
     let inv = c.loop-line.invariant in
     let before = source c.args.block.now (g.R.Read.remaining (inner_of c.args.wire.now)) in
     let behind = g.R.Read.remaining (inner_of c.ready.new.wire) in
-    let stops : (rest : List ℕ) × HasNoFeed rest × Consumes before behind rest = (inv.raw, inv.no_feed, Consumes-kept _ _ _ _ inv.gone c.in_err-ready.ensures.unread) in
+    let stops : ReadsInside before behind = (inv.raw, inv.no_feed, Consumes-kept _ _ _ _ inv.gone c.in_err-ready.ensures.unread) in
     search rules

@@ -10,7 +10,7 @@ invariant-loop-line g l = record {
   block : IsBlock l.block;
   reads : reads_of l.wire ≤ l.most_reads;
   failures : failures_of l.wire ≡ failures_of l.fn.wire;
-  falls : fuel l.most_reads (reads_of l.wire) l.block ≤ fuel l.most_reads (reads_of l.fn.wire) l.fn.block;
+  falls : fuel l.most_reads l.wire l.block ≤ fuel l.most_reads l.fn.wire l.fn.block;
   raw : List ℕ;
   gone : Consumes (source l.fn.block (g.R.Read.remaining (inner_of l.fn.wire))) (source l.block (g.R.Read.remaining (inner_of l.wire))) raw;
   no_feed : HasNoFeed raw;
@@ -18,4 +18,4 @@ invariant-loop-line g l = record {
 }
 
 abbrev pub decreases-loop-line : goal.decreases-loop-line
-decreases-loop-line g l = fuel l.most_reads (reads_of l.wire) l.block
+decreases-loop-line g l = fuel l.most_reads l.wire l.block

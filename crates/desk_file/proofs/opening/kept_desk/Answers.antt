@@ -12,16 +12,16 @@ use Rattle.desk_file.proofs.opening.kept_desk.Goals as goal
 pub returns-in-Ok-clause-begins : goal.returns-in-Ok-clause-begins
 returns-in-Ok-clause-begins g c = λ clean alone.
     let conn = c.in_ok-conn.conn in
-    let before : HasCleanDisk (file_state conn) = omega (arith, c.in-Ok.ensures.reads.survives.clean, clean) in
+    let before : HasCleanDisk (file_state conn) = omega (arith, c.in-Ok.ensures.opened.1.reads.survives.clean, clean) in
     let opened = c.in_ok-conn.ensures.opened before in
-    let L = c.in-Ok.ensures.stands.0 in
-    let begins = opened_begins (image_at g.T.Start) (file_state conn) (c.in_ok-conn.ensures.found before) opened.0 opened.1 None L.greatest L.history c.in-Ok.ensures.named
-    (c.in-Ok.ensures.stands.3 clean) alone in (
+    let L = c.in-Ok.ensures.opened.0 in
+    let begins = opened_begins (image_at g.T.Start) (file_state conn) (c.in_ok-conn.ensures.found before) opened.0 opened.1 None L.greatest L.history c.in-Ok.ensures.opened.1.named
+    (c.in-Ok.ensures.opened.1.tables clean) alone in (
       L.greatest,
       L.history,
       begins.0,
       subst (λ (own : Bool). Stands over_files g.D.Desk.Stands g.D.Desk.kept_rules c.in-Ok.store (record { greatest = L.greatest; history = L.history; own = own }))
-          (c.in-Ok.ensures.stands.1 ∙ begins.1) c.in-Ok.ensures.stands.2,
+          (c.in-Ok.ensures.opened.1.own ∙ begins.1) c.in-Ok.ensures.opened.1.stands,
     )
 
 pub returns-in-Err-clause-refused : goal.returns-in-Err-clause-refused
@@ -29,5 +29,5 @@ returns-in-Err-clause-refused g c =
     let image = image_at g.T.Start in
     let first = c.in_ok-conn in
     let told = c.in-Err.ensures in
-    let stands = fault_in image first.conn c.in-Err.conn (λ _ _. ⊥) first.ensures.opened first.ensures.found told.refused.kept told.refused.survives Two c.in-Err.fault told.fault told.told in
+    let stands = fault_in image first.conn c.in-Err.conn (λ _ _. ⊥) first.ensures.opened first.ensures.found told.refused.kept told.refused.survives Two c.in-Err.fault told.fault.holds told.fault.told in
     refused image first.conn c.in-Err.conn (λ _ _. ⊥) first.ensures.opened first.ensures.found told.refused.kept told.refused.survives (IsFaultIn image Two) ⊥ c.in-Err.fault stands (λ none. absurd none)

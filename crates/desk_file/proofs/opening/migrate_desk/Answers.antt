@@ -15,8 +15,8 @@ returns-in-Ok-clause-migrated g c = λ clean alone.
     let conn = c.in_ok-conn.conn in
     let before : HasCleanDisk (file_state conn) = omega (arith, c.migrate.ensures.crash.clean, clean) in
     let opened = c.in_ok-conn.ensures.opened before in
-    let m = c.in-Ok.ensures.migrated clean in
-    let told = migrates (image_at g.T.Start) (file_state conn) (c.in_ok-conn.ensures.found before) opened.0 opened.1 (file_state c.migrate.new.conn) m.0 m.1 _ c.in-Ok.ensures.named m.2 alone in
+    let m = c.in-Ok.ensures.migrated.migrated clean in
+    let told = migrates (image_at g.T.Start) (file_state conn) (c.in_ok-conn.ensures.found before) opened.0 opened.1 (file_state c.migrate.new.conn) m.0 m.1 _ c.in-Ok.ensures.migrated.named m.2 alone in
     (m.0, m.1, told.0, told.1, told.2)
 
 pub returns-in-Err-clause-refused : goal.returns-in-Err-clause-refused
@@ -25,5 +25,5 @@ returns-in-Err-clause-refused g c =
     let first = c.in_ok-conn in
     let last = c.migrate.new.conn in
     let told = c.in-Err.ensures in
-    let stands = fault_in image first.conn last LeavesMigrated first.ensures.opened first.ensures.found told.unchanged c.migrate.ensures.crash One c.in-Err.fault told.fault told.told in
-    refused image first.conn last LeavesMigrated first.ensures.opened first.ensures.found told.unchanged c.migrate.ensures.crash (IsFaultIn image One) ⊤ c.in-Err.fault stands (λ _. told.never)
+    let stands = fault_in image first.conn last LeavesMigrated first.ensures.opened first.ensures.found told.unchanged c.migrate.ensures.crash One c.in-Err.fault told.fault.holds told.fault.told in
+    refused image first.conn last LeavesMigrated first.ensures.opened first.ensures.found told.unchanged c.migrate.ensures.crash (IsFaultIn image One) ⊤ c.in-Err.fault stands (λ _. told.fault.never)

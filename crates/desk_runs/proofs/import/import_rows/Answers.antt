@@ -14,7 +14,7 @@ returns-in-Ok-true-clause-refused g c = λ is.
     let out' = g.W.Write.contents (inner_of c.serve_import.new.output) in
     let read : IsRead file bytes = subst (λ (b : List ℕ). IsRead file b) (sym c.deref.ensures.value) c.in-Ok.ensures.bytes in
     let told : c.in-Ok-true.field-0 ≡ true = search rules in
-    let all = subst (λ (refused : Bool). ForLists g.L.Owner.Stands g.L.Owner.Trusts c.args.owner.now c.serve_import.new.owner (IsAnswered (command_said c.args.import.now bytes) out out' refused)) told c.in-Ok-true.ensures.ok in
+    let all = subst (λ (refused : Bool). ForLists g.L.Owner.Stands g.L.Owner.Trusts c.args.owner.now c.serve_import.new.owner (IsAnswered (command_said c.args.import.now bytes) out out' refused)) told c.in-Ok-true.ensures.answers in
     says_all g.L.Owner.Stands g.L.Owner.Trusts c.args.owner.now c.serve_import.new.owner c.args.import.now file bytes (λ said. IsAnswered said out out' true) read all
 
 pub returns-in-Ok-false-clause-done : goal.returns-in-Ok-false-clause-done
@@ -25,7 +25,7 @@ returns-in-Ok-false-clause-done g c = λ is.
     let out' = g.W.Write.contents (inner_of c.serve_import.new.output) in
     let read : IsRead file bytes = subst (λ (b : List ℕ). IsRead file b) (sym c.deref.ensures.value) c.in-Ok.ensures.bytes in
     let told : c.in-Ok-false.field-0 ≡ false = search rules in
-    let all = subst (λ (refused : Bool). ForLists g.L.Owner.Stands g.L.Owner.Trusts c.args.owner.now c.serve_import.new.owner (IsAnswered (command_said c.args.import.now bytes) out out' refused)) told c.in-Ok-false.ensures.ok in
+    let all = subst (λ (refused : Bool). ForLists g.L.Owner.Stands g.L.Owner.Trusts c.args.owner.now c.serve_import.new.owner (IsAnswered (command_said c.args.import.now bytes) out out' refused)) told c.in-Ok-false.ensures.answers in
     says_all g.L.Owner.Stands g.L.Owner.Trusts c.args.owner.now c.serve_import.new.owner c.args.import.now file bytes (λ said. IsAnswered said out out' false) read all
 
 pub returns-clause-failed : goal.returns-clause-failed
@@ -35,4 +35,4 @@ returns-clause-failed g c = λ is.
     let out = g.W.Write.contents (inner_of c.args.output.now) in
     let out' = g.W.Write.contents (inner_of c.serve_import.new.output) in
     let read : IsRead file bytes = subst (λ (b : List ℕ). IsRead file b) (sym c.deref.ensures.value) c.in-Ok.ensures.bytes in
-    inl ((c.in-Err.ensures.failed, c.tell_line-in-Err.ensures), says_all g.L.Owner.Stands g.L.Owner.Trusts c.args.owner.now c.serve_import.new.owner c.args.import.now file bytes (λ said. IsCutOff said out out') read c.in-Err.ensures.err)
+    inl ((c.in-Err.ensures.writes.failed, c.tell_line-in-Err.ensures), says_all g.L.Owner.Stands g.L.Owner.Trusts c.args.owner.now c.serve_import.new.owner c.args.import.now file bytes (λ said. IsCutOff said out out') read c.in-Err.ensures.answers)

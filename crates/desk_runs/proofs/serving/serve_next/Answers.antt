@@ -23,6 +23,5 @@ returns-clause-served g c =
           client.writer (inner_of c.new-answers.result) (inner_of served.new.output) c.into_inner-2.result
           c.new-input.ensures.inner c.new-answers.ensures.inner c.into_inner.ensures c.into_inner-2.ensures client.ensures.ok c.leave.ensures,
       serves_one g.A.Handler.rule g.A.Handler.Stands g.A.Handler.Trusts c.args.handler.now served.new.handler
-          (reads (inner_of c.new-input.result)) (reads (inner_of served.new.input)) (writes (inner_of c.new-answers.result)) (writes (inner_of served.new.output)) served.result
-          served.ensures.ok (λ all is. (served.ensures.read all is).1) (λ all is. (served.ensures.too_many all is).1) (λ all is. (served.ensures.write all is).1),
+          (reads (inner_of c.new-input.result)) (reads (inner_of served.new.input)) (writes (inner_of c.new-answers.result)) (writes (inner_of served.new.output)) served.result served.ensures.answers,
     )

@@ -11,6 +11,6 @@ returns c H judged none =
     let entry = c.args.entry.now in
     let says : receipt_by c.args.name.now entry.effective entry.stamped.command ≡ Some c.in_ok-said.said = sym c.receipt_by.ensures ∙ c.in_ok-said.was in
     let command = received c.args.name.now entry.effective entry.stamped.command c.in_ok-said.said says in (
-      c.receive.ensures.stands H c.args.name.now entry (untouched H c.args.name.now judged.1 none) command refl,
+      c.receive.ensures.stands H entry (untouched H c.args.name.now judged.1 none) command refl,
       omega (arith, c.receive.ensures.last, le-max_left entry.effective (now_of H)),
     )

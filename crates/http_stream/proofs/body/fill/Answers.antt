@@ -7,35 +7,28 @@ use Rattle.served.proofs.Blocks.{at_end}
 use Rattle.http_stream.proofs.Bodies.{split_front, body_goes, all_goes}
 use Rattle.http_stream.proofs.body.fill.Goals as goal
 
-pub returns-clause-whole : goal.returns-clause-whole
-returns-clause-whole g c = λ e.
+pub returns-clause-room : goal.returns-clause-room
+returns-clause-room g c =
     let pend = pending_bytes c.args.block.now in
     let have = c.min-have.result in
     let front = c.copy_from_slice.new.self in
     let behind = pending_bytes c.give.new.self in
+    let known = g.R.Read.remaining (inner_of c.args.wire.now) in
+    let after = g.R.Read.remaining (inner_of c.read_whole.new.wire) in
     let cut = split_front c.pending-bytes.result.now pend front behind have c.pending-bytes.ensures c.copy_from_slice.ensures.after c.give.ensures.pending in
     let none : 0 < length c.read_whole.new.room → behind ≡ [] =
-    λ some. c.give.ensures.pending ∙ drop_all have pend (omega (arith, ap length c.pending-bytes.ensures, c.min-have.ensures, c.split_at_mut-front.ensures.back_len, c.read_whole.auto.room, some)) in
-    body_goes pend front behind c.read_whole.new.room (g.R.Read.remaining (inner_of c.args.wire.now)) (g.R.Read.remaining (inner_of c.read_whole.new.wire))
-    cut none (c.read_whole.ensures.whole e)
-
-pub returns-clause-end : goal.returns-clause-end
-returns-clause-end g c = λ e.
-    let pend = pending_bytes c.args.block.now in
-    let have = c.min-have.result in
-    let front = c.copy_from_slice.new.self in
-    let behind = pending_bytes c.give.new.self in
-    let cut = split_front c.pending-bytes.result.now pend front behind have c.pending-bytes.ensures c.copy_from_slice.ensures.after c.give.ensures.pending in
-    let got = c.read_whole.ensures.end e in
-    let few = got.1 in
-    let none : behind ≡ [] =
-    c.give.ensures.pending ∙ drop_all have pend (omega (arith, ap length c.pending-bytes.ensures, c.min-have.ensures, c.split_at_mut-front.ensures.back_len, few)) in
-    let after = g.R.Read.remaining (inner_of c.read_whole.new.wire) in (
-      front ++ got.0,
-      omega (arith, length-append front got.0, c.copy_from_slice.ensures.len, c.split_at_mut-front.ensures.front_len, c.split_at_mut-front.ensures.back_len, few),
-      body_goes pend front behind got.0 (g.R.Read.remaining (inner_of c.args.wire.now)) after cut (λ _. none) got.2,
-      at_end behind after none got.3,
-    )
+    λ some. c.give.ensures.pending ∙ drop_all have pend (omega (arith, ap length c.pending-bytes.ensures, c.min-have.ensures, c.split_at_mut-front.ensures.back_len, c.read_whole.auto.room, some)) in record {
+      whole = λ e. body_goes pend front behind c.read_whole.new.room known after cut none (c.read_whole.ensures.room.whole e);
+      end = λ e.
+          let got = c.read_whole.ensures.room.end e in
+          let few = got.1 in
+          let none : behind ≡ [] = none (omega (arith, c.read_whole.auto.room, few)) in (
+            front ++ got.0,
+            omega (arith, length-append front got.0, c.copy_from_slice.ensures.len, c.split_at_mut-front.ensures.front_len, c.split_at_mut-front.ensures.back_len, few),
+            body_goes pend front behind got.0 known after cut (λ _. none) got.2,
+            at_end behind after none got.3,
+          );
+    }
 
 pub returns-clause-unread : goal.returns-clause-unread
 returns-clause-unread g c = on_err_weaker c.read_whole.result (λ got.

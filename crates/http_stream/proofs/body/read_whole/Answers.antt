@@ -1,4 +1,4 @@
-use Rattle.std.proofs.Common.{◌≡◌, ◌∙◌, ◌≤◌, ◌-◌, ℕ, take, length, subst, sym, arith, append-nil}
+use Rattle.std.proofs.Common.{rules, ◌≡◌, ◌∙◌, ◌≤◌, ◌-◌, ℕ, take, length, subst, sym, arith, append-nil}
 use Rattle.std.proofs.lemmas.List.{length-take}
 use Rattle.std.specs.Io.KnownBytes.{Consumes}
 use Rattle.std.proofs.KnownBytes.{Consumes-trans, Consumes-kept}
@@ -6,18 +6,21 @@ use Rattle.desk_types.specs.Wire.{inner_of}
 use Rattle.http_stream.proofs.Bodies.{take-put_mid_some, put_mid_room}
 use Rattle.http_stream.proofs.body.read_whole.Goals as goal
 
-pub returns-in-Ok-eq0-clause-end : goal.returns-in-Ok-eq0-clause-end
-returns-in-Ok-eq0-clause-end g c = λ _.
+pub returns-in-Ok-eq0-clause-room : goal.returns-in-Ok-eq0-clause-room
+returns-in-Ok-eq0-clause-room g c =
     let inv = c.loop-got.invariant in
     let e : c.in-Ok-eq0.field-0 ≡ 0 = cc in
     let read = c.in-Ok-eq0.ensures.bytes in
     let room = c.loop-got.room in
-    let all = Consumes-trans _ _ _ _ _ inv.bytes (subst (λ (n : ℕ). Consumes (g.R.Read.remaining (inner_of c.loop-got.wire)) (g.R.Read.remaining (inner_of c.read.new.self)) (take n c.read.new.buf)) e read.0) in (
-      take c.loop-got.got room,
-      omega (arith, length-take c.loop-got.got room, c.loop-got.auto.room, c.loop-got-test.true),
-      subst (Consumes _ _) (append-nil (take c.loop-got.got room)) all,
-      read.1 e (omega (arith, c.read.auto.buf, c.loop-got-test.true)),
-    )
+    let all = Consumes-trans _ _ _ _ _ inv.bytes (subst (λ (n : ℕ). Consumes (g.R.Read.remaining (inner_of c.loop-got.wire)) (g.R.Read.remaining (inner_of c.read.new.self)) (take n c.read.new.buf)) e read.0) in record {
+      whole = search rules;
+      end = λ _. (
+        take c.loop-got.got room,
+        omega (arith, length-take c.loop-got.got room, c.loop-got.auto.room, c.loop-got-test.true),
+        subst (Consumes _ _) (append-nil (take c.loop-got.got room)) all,
+        read.1 e (omega (arith, c.read.auto.buf, c.loop-got-test.true)),
+      );
+    }
 
 pub loop-got-preserved : goal.loop-got-preserved
 loop-got-preserved g c =

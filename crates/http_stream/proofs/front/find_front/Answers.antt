@@ -42,7 +42,7 @@ returns-then-not-branch-clause-front g c =
     let is = window_is c.pending-bytes.result.now pend c.min-len.result c.pending-bytes.ensures c.min-len.ensures in
     let few : length pend < HEAD_LIMIT = omega (arith, c.min-len.ensures, ap length c.pending-bytes.ensures, c.if-len-ge-HEAD_LIMIT.false) in
     let no : c.in_ok-more-in-Unfinished.field-0 ≡ false = cc in
-    let end = c.in_ok-more-in-Unfinished.ensures.end (ap Ok no) in
+    let end = c.in_ok-more-in-Unfinished.ensures.more.end (ap Ok no) in
     let told = subst IsUnfinished (is ∙ take_all HEAD_LIMIT pend (omega (arith, few)) ∙ sym end.1) (c.in-Unfinished.ensures.unfinished refl) in
     (omega (arith, few, ap length end.1), told, end.0)
 
@@ -54,5 +54,5 @@ returns-in_err-more-in-Unfinished-clause-unread g c =
     let told = subst IsUnfinished (is ∙ take_all HEAD_LIMIT pend (omega (arith, few))) (c.in-Unfinished.ensures.unfinished refl) in
     let old = source c.args.block.now (g.R.Read.remaining (inner_of c.args.wire.now)) in
     let new = g.R.Read.remaining (inner_of c.more.new.wire) in
-    let stops : ReadsInside old new = stops_in_head old pend (g.R.Read.remaining (inner_of c.looks.wire)) new c.looks.invariant.source c.in_err-more-in-Unfinished.ensures.unread few told in
+    let stops : ReadsInside old new = stops_in_head old pend (g.R.Read.remaining (inner_of c.looks.wire)) new c.looks.invariant.source c.in_err-more-in-Unfinished.ensures.source.unread few told in
     search rules

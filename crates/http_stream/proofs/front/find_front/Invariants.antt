@@ -9,9 +9,9 @@ invariant-looks g l = record {
   block : IsBlock l.block;
   reads : reads_of l.wire ≤ l.most_reads;
   failures : failures_of l.wire ≡ failures_of l.fn.wire;
-  falls : fuel l.most_reads (reads_of l.wire) l.block ≤ fuel l.most_reads (reads_of l.fn.wire) l.fn.block;
+  falls : fuel l.most_reads l.wire l.block ≤ fuel l.most_reads l.fn.wire l.fn.block;
   source : Keeps (source l.fn.block (g.R.Read.remaining (inner_of l.fn.wire))) (source l.block (g.R.Read.remaining (inner_of l.wire)));
 }
 
 abbrev pub decreases-looks : goal.decreases-looks
-decreases-looks g l = fuel l.most_reads (reads_of l.wire) l.block
+decreases-looks g l = fuel l.most_reads l.wire l.block

@@ -1,4 +1,4 @@
-use Rattle.std.proofs.Common.{subst}
+use Rattle.std.proofs.Common.{rules, subst}
 use Rattle.std.proofs.lemmas.Result.{on_err_weaker}
 use Rattle.desk_types.specs.Wire.{inner_of}
 use Rattle.served.specs.Block.{source, pending_bytes}
@@ -6,17 +6,17 @@ use Rattle.http_stream.specs.Fronts.{IsFront}
 use Rattle.http_stream.proofs.Portions.{takes_bad, takes_large, keeps_inside}
 use Rattle.http_stream.proofs.portion.take_portion.Goals as goal
 
-pub returns-in-Bad-clause-portion : goal.returns-in-Bad-clause-portion
-returns-in-Bad-clause-portion g c =
+pub returns-in-Bad-clause-next : goal.returns-in-Bad-clause-next
+returns-in-Bad-clause-next g c =
     let known = g.R.Read.remaining (inner_of c.find_front.new.wire) in
     let told = subst (IsFront c.find_front.new.block known) c.in-Bad.is c.in_ok-find_front.ensures.front in
-    takes_bad (source c.args.block.now (g.R.Read.remaining (inner_of c.args.input.now))) (pending_bytes c.find_front.new.block) known c.in_ok-find_front.ensures.source told
+    record { taken = search rules; portion = takes_bad (source c.args.block.now (g.R.Read.remaining (inner_of c.args.input.now))) (pending_bytes c.find_front.new.block) known c.in_ok-find_front.ensures.source told }
 
-pub returns-in-TooLarge-clause-portion : goal.returns-in-TooLarge-clause-portion
-returns-in-TooLarge-clause-portion g c =
+pub returns-in-TooLarge-clause-next : goal.returns-in-TooLarge-clause-next
+returns-in-TooLarge-clause-next g c =
     let known = g.R.Read.remaining (inner_of c.find_front.new.wire) in
     let told = subst (IsFront c.find_front.new.block known) c.in-TooLarge.is c.in_ok-find_front.ensures.front in
-    takes_large (source c.args.block.now (g.R.Read.remaining (inner_of c.args.input.now))) (pending_bytes c.find_front.new.block) known c.in_ok-find_front.ensures.source told.0 told.1
+    record { taken = search rules; portion = takes_large (source c.args.block.now (g.R.Read.remaining (inner_of c.args.input.now))) (pending_bytes c.find_front.new.block) known c.in_ok-find_front.ensures.source told.0 told.1 }
 
 pub returns-in-Head-clause-unread : goal.returns-in-Head-clause-unread
 returns-in-Head-clause-unread g c = on_err_weaker c.take_request.result

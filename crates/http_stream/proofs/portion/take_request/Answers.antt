@@ -11,22 +11,25 @@ use Rattle.http_stream.specs.Portions.{method_of, target_of}
 use Rattle.http_stream.proofs.Portions.{takes_whole, takes_starved, takes_unread, ends_in_body, stops_in_body}
 use Rattle.http_stream.proofs.portion.take_request.Goals as goal
 
-pub returns-in-Err-clause-portion : goal.returns-in-Err-clause-portion
-returns-in-Err-clause-portion g c =
+pub returns-in-Err-clause-next : goal.returns-in-Err-clause-next
+returns-in-Err-clause-next g c =
     let block = c.args.block.now in
     let pend = pending_bytes block in
     let seen = c.args.seen in
     let f = c.requires.seen in
-    takes_unread pend (seen_bytes block.bytes seen) (drop seen.head.len pend) seen.head f.0 (g.R.Read.remaining (inner_of c.args.input.now)) c.in-Err.fault
-    (record { is = f.1; all = f.2; left = refl }) c.in-Err.is
+    record {
+      taken = search rules;
+      portion = takes_unread pend (seen_bytes block.bytes seen) (drop seen.head.len pend) seen.head f.0 (g.R.Read.remaining (inner_of c.args.input.now)) c.in-Err.fault
+          (record { is = f.1; all = f.2; left = refl }) c.in-Err.is;
+    }
 
 pub give-requires-clause-there : goal.give-requires-clause-there
 give-requires-clause-there g c =
     let f = c.requires.seen in
     omega (arith, f.1.in_bytes, ap length f.2, length-take HEAD_LIMIT (pending_bytes c.args.block.now))
 
-pub returns-in-Whole-clause-portion : goal.returns-in-Whole-clause-portion
-returns-in-Whole-clause-portion g c =
+pub returns-in-Whole-clause-next : goal.returns-in-Whole-clause-next
+returns-in-Whole-clause-next g c =
     let block = c.args.block.now in
     let seen = c.args.seen in
     let known = g.R.Read.remaining (inner_of c.args.input.now) in
@@ -36,29 +39,35 @@ returns-in-Whole-clause-portion g c =
     let told = takes_whole (pending_bytes block) (seen_bytes block.bytes seen) (pending_bytes c.give.new.self) seen.head f.0 known new c.in-Whole.bytes.items
     (record { is = f.1; all = f.2; left = c.give.ensures.pending }) (c.in-Ok.is ∙ ap Ok (sym got.0)) got.1 in
     let same : block.bytes ≡ c.take_body.new.block.bytes = sym (c.take_body.ensures.bytes ∙ c.give.ensures.bytes) in
-    subst (λ (b : List ℕ). TakesPortion (source block known) (whole (record { method = method_of b seen; target = target_of b seen; body = c.in-Whole.bytes.items }) seen.head.closes) new) same told
+    record { taken = search rules; portion = subst (λ (b : List ℕ). TakesPortion (source block known) (whole (record { method = method_of b seen; target = target_of b seen; body = c.in-Whole.bytes.items }) seen.head.closes) new) same told }
 
-pub returns-in-End-clause-portion : goal.returns-in-End-clause-portion
-returns-in-End-clause-portion g c =
+pub returns-in-End-clause-next : goal.returns-in-End-clause-next
+returns-in-End-clause-next g c =
     let block = c.args.block.now in
     let seen = c.args.seen in
     let known = g.R.Read.remaining (inner_of c.args.input.now) in
     let new = source c.take_body.new.block (g.R.Read.remaining (inner_of c.take_body.new.wire)) in
     let f = c.requires.seen in
     let got = subst (λ (b : BodyTaken). TakesBody (source c.give.new.self known) c.in-Ok.length b new) c.in-End.is c.in_ok-bytes-in-Ok.ensures.body in
-    ends_in_body (pending_bytes block) (seen_bytes block.bytes seen) (pending_bytes c.give.new.self) seen.head f.0 known new c.in-Ok.length got.0
-    (record { is = f.1; all = f.2; left = c.give.ensures.pending }) c.in-Ok.is got.1 got.2 got.3
+    record {
+      taken = search rules;
+      portion = ends_in_body (pending_bytes block) (seen_bytes block.bytes seen) (pending_bytes c.give.new.self) seen.head f.0 known new c.in-Ok.length got.0
+          (record { is = f.1; all = f.2; left = c.give.ensures.pending }) c.in-Ok.is got.1 got.2 got.3;
+    }
 
-pub returns-in-NoMemory-clause-portion : goal.returns-in-NoMemory-clause-portion
-returns-in-NoMemory-clause-portion g c =
+pub returns-in-NoMemory-clause-next : goal.returns-in-NoMemory-clause-next
+returns-in-NoMemory-clause-next g c =
     let block = c.args.block.now in
     let seen = c.args.seen in
     let known = g.R.Read.remaining (inner_of c.args.input.now) in
     let new = source c.take_body.new.block (g.R.Read.remaining (inner_of c.take_body.new.wire)) in
     let f = c.requires.seen in
     let got = subst (λ (b : BodyTaken). TakesBody (source c.give.new.self known) c.in-Ok.length b new) c.in-NoMemory.is c.in_ok-bytes-in-Ok.ensures.body in
-    takes_starved (pending_bytes block) (seen_bytes block.bytes seen) (pending_bytes c.give.new.self) seen.head f.0 known new c.in-Ok.length
-    (record { is = f.1; all = f.2; left = c.give.ensures.pending }) c.in-Ok.is got.0 got.1
+    record {
+      taken = search rules;
+      portion = takes_starved (pending_bytes block) (seen_bytes block.bytes seen) (pending_bytes c.give.new.self) seen.head f.0 known new c.in-Ok.length
+          (record { is = f.1; all = f.2; left = c.give.ensures.pending }) c.in-Ok.is got.0 got.1;
+    }
 
 pub returns-in-Whole-clause-falls : goal.returns-in-Whole-clause-falls
 returns-in-Whole-clause-falls g c = λ _.

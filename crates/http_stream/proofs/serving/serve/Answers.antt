@@ -1,16 +1,12 @@
-use Rattle.std.proofs.Common.{Option, IfSome, MatchOption, ◌+◌, ◌<◌, ◌≡◌, ◌∙◌, ◌++◌, ◌∷◌, Some, true, false, subst, sym, ap, arith, length, [], refl}
-use Rattle.desk_types.specs.Wire.{inner_of, reads_of}
+use Rattle.std.proofs.Common.{rules, Option, IfSome, ◌+◌, ◌<◌, ◌≡◌, ◌∙◌, ◌++◌, ◌∷◌, Some, true, false, subst, sym, ap, arith, length, [], refl}
+use Rattle.desk_types.specs.Wire.{inner_of}
 use Rattle.served.specs.Block.{pending_bytes, source, fuel}
 use Rattle.served.specs.Counts.{none_served}
-use Rattle.served.specs.declared.serving.Served.{Served}
 use Rattle.desk_types.specs.declared.limits.TheConstants.{MOST_READS}
 use Rattle.http_stream.specs.declared.portion.Taken.{Taken}
 use Rattle.served.proofs.Blocks.{none_pending}
-use Rattle.http_stream.specs.Cut.{EndsInside, PortionsGone, TakesPortion, is_last}
-use Rattle.http_stream.specs.Portions.{portion_of}
-use Rattle.desk_answers.specs.Ledger.{ForLists}
-use Rattle.http_stream.specs.Stream.{AnsweredInto}
-use Rattle.http_stream.proofs.AnsweredPortions.{same_write}
+use Rattle.http_stream.specs.Cut.{PortionsGone, is_last}
+use Rattle.http_stream.specs.Portions.{TakesNext, portion_of}
 use Rattle.http_stream.proofs.HandlersOfPortions.{goes_none, goes_on, stops_into}
 use Rattle.http_stream.proofs.Portions.{start_gone, portions_go, last_goes, end_comes, next_first}
 use Rattle.http_stream.proofs.serving.serve.Goals as goal
@@ -34,29 +30,29 @@ portions-init g c =
       answered = goes_none g.A.Handler.rule g.A.Handler.Stands g.A.Handler.Trusts c.args.handler.now (g.W.Write.contents (inner_of c.args.output.now));
     }
 
-pub returns-in-Ok-true-clause-ok : goal.returns-in-Ok-true-clause-ok
-returns-in-Ok-true-clause-ok g c = λ G stands trusts.
+pub returns-in-Ok-true-clause-answers : goal.returns-in-Ok-true-clause-answers
+returns-in-Ok-true-clause-answers g c = λ G stands trusts.
     let inv = c.portions.invariant in
     let asked = g.R.Read.remaining (inner_of c.args.input.now) in
     let before = source c.portions.block (g.R.Read.remaining (inner_of c.portions.input)) in
     let behind = source c.take_portion.new.block (g.R.Read.remaining (inner_of c.take_portion.new.input)) in
     let p = portion_of c.take_portion.new.block.bytes c.in-Ok-Some.taken in
     let is : c.in-Ok-Some.field-0 ≡ Some c.in-Ok-Some.taken = c.in-Ok-Some.field-0-is in
-    let took = subst (λ (o : Option Taken). MatchOption o (IfSome before EndsInside) (λ t. TakesPortion before (portion_of c.take_portion.new.block.bytes t) behind)) is c.in-Ok-Some.ensures.portion in
+    let took = (subst (λ (o : Option Taken). TakesNext o c.take_portion.new.block.bytes before behind) is c.in-Ok-Some.ensures.next).portion in
     let contents = g.W.Write.contents in
     let all = goes_on g.A.Handler.rule g.A.Handler.Stands g.A.Handler.Trusts inv.portions (p ∷ []) c.args.handler.now c.portions.handler c.serve_portion.new.handler
     (contents (inner_of c.args.output.now)) (contents (inner_of c.portions.output)) (contents (inner_of c.serve_portion.new.output)) none_served c.portions.served c.serve_portion.new.served
-    c.serve_portion.ensures.trusts inv.answered c.in-Ok-true.ensures.ok G stands trusts in
-    let last : is_last p ≡ true = sym c.in-Ok-true.ensures.last ∙ c.in-Ok-true.field-0-test in
+    c.serve_portion.ensures.stays.trusts inv.answered c.in-Ok-true.ensures.answers G stands trusts in
+    let last : is_last p ≡ true = sym c.in-Ok-true.ensures.sent.last ∙ c.in-Ok-true.field-0-test in
     (all.0, all.1, (inv.portions ++ p ∷ [], all.2.0, last_goes asked before behind inv.portions p inv.gone took last, all.2.1))
 
-pub returns-in-Ok-None-clause-ok : goal.returns-in-Ok-None-clause-ok
-returns-in-Ok-None-clause-ok g c = λ G stands trusts.
+pub returns-in-Ok-None-clause-answers : goal.returns-in-Ok-None-clause-answers
+returns-in-Ok-None-clause-answers g c = λ G stands trusts.
     let inv = c.portions.invariant in
     let asked = g.R.Read.remaining (inner_of c.args.input.now) in
     let before = source c.portions.block (g.R.Read.remaining (inner_of c.portions.input)) in
     let behind = source c.take_portion.new.block (g.R.Read.remaining (inner_of c.take_portion.new.input)) in
-    let ends = subst (λ (o : Option Taken). MatchOption o (IfSome before EndsInside) (λ t. TakesPortion before (portion_of c.take_portion.new.block.bytes t) behind)) c.in-Ok-None.field-0-is c.in-Ok-None.ensures.portion in
+    let ends = (subst (λ (o : Option Taken). TakesNext o c.take_portion.new.block.bytes before behind) c.in-Ok-None.field-0-is c.in-Ok-None.ensures.next).portion in
     let all = inv.answered G stands trusts in
     (all.0, all.1, (inv.portions, all.2.0, end_comes asked before inv.portions inv.gone ends, all.2.1))
 
@@ -68,45 +64,45 @@ portions-preserved g c =
     let behind = source c.take_portion.new.block (g.R.Read.remaining (inner_of c.take_portion.new.input)) in
     let p = portion_of c.take_portion.new.block.bytes c.in-Ok-Some.taken in
     let is : c.in-Ok-Some.field-0 ≡ Some c.in-Ok-Some.taken = c.in-Ok-Some.field-0-is in
-    let took = subst (λ (o : Option Taken). MatchOption o (IfSome before EndsInside) (λ t. TakesPortion before (portion_of c.take_portion.new.block.bytes t) behind)) is c.in-Ok-Some.ensures.portion in
-    let last : is_last p ≡ false = sym c.in-Ok-false.ensures.last ∙ c.in-Ok-false.field-0-test in
+    let took = (subst (λ (o : Option Taken). TakesNext o c.take_portion.new.block.bytes before behind) is c.in-Ok-Some.ensures.next).portion in
+    let last : is_last p ≡ false = sym c.in-Ok-false.ensures.sent.last ∙ c.in-Ok-false.field-0-test in
     let most = c.reads-most_reads.result + MOST_READS in
     let falls = subst (λ (o : Option Taken). IfSome o (λ t. is_last (portion_of c.take_portion.new.block.bytes t) ≡ false
-    → fuel most (reads_of c.take_portion.new.input) c.take_portion.new.block < fuel most (reads_of c.portions.input) c.portions.block)) is c.in-Ok-Some.ensures.falls in
+    → fuel most c.take_portion.new.input c.take_portion.new.block < fuel most c.portions.input c.portions.block)) is c.in-Ok-Some.ensures.falls in
     let falls = falls last in
-    let few = c.serve_portion.ensures.counts.few_answers in
+    let few = c.serve_portion.ensures.sent.counts.few_answers in
     let contents = g.W.Write.contents in record {
-      block = c.take_portion.ensures.valid;
-      reads = c.take_portion.ensures.reads.few_reads;
-      read_failures = c.in-Ok-Some.ensures.reads.kept ∙ inv.read_failures;
-      write_failures = c.in-Ok-false.ensures.kept ∙ inv.write_failures;
+      block = c.take_portion.ensures.reads.valid;
+      reads = c.take_portion.ensures.reads.reads.few_reads;
+      read_failures = c.in-Ok-Some.ensures.reads.reads.kept ∙ inv.read_failures;
+      write_failures = c.in-Ok-false.ensures.sent.writes.kept ∙ inv.write_failures;
       counted = omega (arith, inv.counted, falls, few);
-      refused = c.serve_portion.ensures.counts.refused;
-      ready = c.serve_portion.ensures.ready;
-      trusts = λ trusts. inv.trusts (c.serve_portion.ensures.trusts trusts);
+      refused = c.serve_portion.ensures.sent.counts.refused;
+      ready = c.serve_portion.ensures.stays.ready;
+      trusts = λ trusts. inv.trusts (c.serve_portion.ensures.stays.trusts trusts);
       portions = inv.portions ++ p ∷ [];
       gone = portions_go asked before behind inv.portions p inv.gone took last;
       answered = goes_on g.A.Handler.rule g.A.Handler.Stands g.A.Handler.Trusts inv.portions (p ∷ []) c.args.handler.now c.portions.handler c.serve_portion.new.handler
           (contents (inner_of c.args.output.now)) (contents (inner_of c.portions.output)) (contents (inner_of c.serve_portion.new.output)) none_served c.portions.served c.serve_portion.new.served
-          c.serve_portion.ensures.trusts inv.answered c.in-Ok-false.ensures.ok;
+          c.serve_portion.ensures.stays.trusts inv.answered c.in-Ok-false.ensures.answers;
     }
 
-pub returns-in-Err-clause-write : goal.returns-in-Err-clause-write
-returns-in-Err-clause-write g c = λ served e.
+pub returns-in-Err-clause-answers : goal.returns-in-Err-clause-answers
+returns-in-Err-clause-answers g c =
     let inv = c.portions.invariant in
     let asked = g.R.Read.remaining (inner_of c.args.input.now) in
     let before = source c.portions.block (g.R.Read.remaining (inner_of c.portions.input)) in
     let behind = source c.take_portion.new.block (g.R.Read.remaining (inner_of c.take_portion.new.input)) in
     let p = portion_of c.take_portion.new.block.bytes c.in-Ok-Some.taken in
     let is : c.in-Ok-Some.field-0 ≡ Some c.in-Ok-Some.taken = c.in-Ok-Some.field-0-is in
-    let took = subst (λ (o : Option Taken). MatchOption o (IfSome before EndsInside) (λ t. TakesPortion before (portion_of c.take_portion.new.block.bytes t) behind)) is c.in-Ok-Some.ensures.portion in
+    let took = (subst (λ (o : Option Taken). TakesNext o c.take_portion.new.block.bytes before behind) is c.in-Ok-Some.ensures.next).portion in
     let contents = g.W.Write.contents in
-    let out₀ = contents (inner_of c.args.output.now) in
-    let out₂ = contents (inner_of c.serve_portion.new.output) in
-    let failed = c.in-Err.ensures.failed in
-    let into = stops_into g.A.Handler.rule g.A.Handler.Stands g.A.Handler.Trusts inv.portions p asked c.args.handler.now c.portions.handler c.serve_portion.new.handler out₀ (contents (inner_of c.portions.output)) out₂ c.portions.served c.serve_portion.new.served
-    c.serve_portion.ensures.trusts (next_first asked before behind inv.portions p inv.gone took) inv.answered c.in-Err.ensures.err in (
-      (omega (arith, failed, inv.write_failures), c.in-Ok-Some.ensures.reads.kept ∙ inv.read_failures),
-      subst (λ (s : Served). ForLists g.A.Handler.Stands g.A.Handler.Trusts c.args.handler.now c.serve_portion.new.handler (λ G H. AnsweredInto (g.A.Handler.rule G.rules G.greatest) asked G.history out₀ H out₂ s))
-          (same_write c.serve_portion.new.served served e) into,
-    )
+    stops_into g.A.Handler.rule g.A.Handler.Stands g.A.Handler.Trusts inv.portions p asked c.args.handler.now c.portions.handler c.serve_portion.new.handler
+    (contents (inner_of c.args.output.now)) (contents (inner_of c.portions.output)) (contents (inner_of c.serve_portion.new.output)) c.portions.served c.serve_portion.new.served
+    c.serve_portion.ensures.stays.trusts (next_first asked before behind inv.portions p inv.gone took) inv.answered c.in-Err.ensures.answers
+
+pub returns-in-Err-clause-counts : goal.returns-in-Err-clause-counts
+returns-in-Err-clause-counts g c =
+    let inv = c.portions.invariant in
+    let failed = c.in-Err.ensures.sent.writes.failed in
+    record { few_reads = search rules; kept = search rules; fault = (omega (arith, failed, inv.write_failures), c.in-Ok-Some.ensures.reads.reads.kept ∙ inv.read_failures) }

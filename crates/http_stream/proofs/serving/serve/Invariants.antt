@@ -13,7 +13,7 @@ invariant-portions g l = record {
   reads : reads_of l.input ≤ l.most_reads;
   read_failures : failures_of l.input ≡ failures_of l.fn.input;
   write_failures : failures_of l.output ≡ failures_of l.fn.output;
-  counted : l.served.answered + fuel l.most_reads (reads_of l.input) l.block ≤ MOST_READS * (BLOCK + 1);
+  counted : l.served.answered + fuel l.most_reads l.input l.block ≤ MOST_READS * (BLOCK + 1);
   refused : l.served.refused ≤ l.served.answered;
   ready : g.A.Handler.Ready l.handler;
   trusts : g.A.Handler.Trusts l.handler → g.A.Handler.Trusts l.fn.handler;
@@ -23,4 +23,4 @@ invariant-portions g l = record {
 }
 
 abbrev pub decreases-portions : goal.decreases-portions
-decreases-portions g l = fuel l.most_reads (reads_of l.input) l.block
+decreases-portions g l = fuel l.most_reads l.input l.block

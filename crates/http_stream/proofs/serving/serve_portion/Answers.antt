@@ -8,8 +8,8 @@ use Rattle.http_stream.specs.Stream.{has_body, outcome}
 use Rattle.http_stream.proofs.AnsweredPortions.{one_answered}
 use Rattle.http_stream.proofs.serving.serve_portion.Goals as goal
 
-pub returns-clause-ok : goal.returns-clause-ok
-returns-clause-ok g c = λ G stands trusts.
+pub returns-clause-answers : goal.returns-clause-answers
+returns-clause-answers g c = λ G stands trusts.
     let rule = g.A.Handler.rule G.rules G.greatest in
     let p = portion_of c.args.block.now c.args.taken in
     let a = c.answer_portion-told.ensures.told G stands trusts in

@@ -18,7 +18,7 @@ returns-then-not-branch-clause-verdict g c clean f es expected =
     let mid = state g.S.Store c.loop-table.conn in
     let early : HasCleanDisk mid = omega (arith, c.is_same.ensures.reads.survives.clean) in
     let kept = c.loop-table.invariant.reads.kept early in
-    let told = reads_before old mid kept _ (c.in_ok-is_same.ensures.same clean f es (expected_after old mid kept c.args.placed.all c.args.placed.count es f expected)) in
+    let told = reads_before old mid kept _ (c.in_ok-is_same.ensures.same clean f es (expected_after old mid kept c.args.placed es f expected)) in
     let i = c.loop-table.table-index in
     let within : i < length c.args.tables.now = omega (arith, c.loop-table-test.true) in
     record {
@@ -41,8 +41,8 @@ loop-table-preserved g c =
     let i = c.loop-table.table-index in
     let within : i < length c.args.tables.now = omega (arith, c.loop-table-test.true) in
     let early : HasCleanDisk new → HasCleanDisk mid = λ clean. omega (arith, c.is_same.ensures.reads.survives.clean) in
-    let told = λ (clean : HasCleanDisk new) (f : ℕ × ℕ → Option PlacementRow) (es : Pieces) (expected : IsExpected old c.args.placed.all c.args.placed.count es f).
-    reads_before old mid (was.reads.kept (early clean)) _ (c.in_ok-is_same.ensures.same clean f es (expected_after old mid (was.reads.kept (early clean)) c.args.placed.all c.args.placed.count es f expected)) in
+    let told = λ (clean : HasCleanDisk new) (f : ℕ × ℕ → Option PlacementRow) (es : Pieces) (expected : IsExpected old c.args.placed es f).
+    reads_before old mid (was.reads.kept (early clean)) _ (c.in_ok-is_same.ensures.same clean f es (expected_after old mid (was.reads.kept (early clean)) c.args.placed es f expected)) in
     record {
       opened = λ clean f es expected some. (told clean f es expected).was_open;
       right = λ clean f es expected schema. right_more _ c.args.tables.now i _ within (was.right (early clean) f es expected schema) (((told clean f es expected).are schema).0 c.if-not-branch.false);

@@ -1,9 +1,9 @@
-use Rattle.sqlite.specs.Held.{state}
-use Rattle.line_audit.proofs.PlacementsFound.{all_here}
 use Rattle.line_audit.proofs.placements.has_placements.Goals as goal
 
-pub returns-then-branch-clause-found : goal.returns-then-branch-clause-found
-returns-then-branch-clause-found g c clean =
-    let old = state g.S.Store c.args.conn.now in
-    let shown = c.in_ok-are_in_a_row.ensures.found clean in
-    record { was_open = shown.was_open; are = λ schema. all_here old.committed c.args.rows.now (shown.are schema c.if-branch.true) }
+pub returns-in-Some-clause-found : goal.returns-in-Some-clause-found
+returns-in-Some-clause-found g c clean = rw c.in-Some.is (c.has_range.ensures.found clean)
+
+pub returns-in_ok-has_own-in-None-clause-found : goal.returns-in_ok-has_own-in-None-clause-found
+returns-in_ok-has_own-in-None-clause-found g c clean =
+    let told = c.in_ok-has_own-in-None.ensures.found clean in
+    record { was_open = told.was_open; are = λ schema. (told.are schema, λ count was. tt) }

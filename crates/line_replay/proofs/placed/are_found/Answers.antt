@@ -2,21 +2,22 @@ use Rattle.std.proofs.Common.{◌≡◌, inl, inr, map, length, rules}
 use Rattle.sqlite.specs.Effect.{Database}
 use Rattle.sqlite.specs.Held.{state}
 use Rattle.line_audit.specs.Audit.{ArePlaced, piece_of}
+use Rattle.line_audit.specs.Placed.{HasMoreBefore}
 use Rattle.line_replay.specs.Expected.{ArePlacedToo}
 use Rattle.line_replay.proofs.ExpectedRows.{too_false, too_none, too_found}
 use Rattle.line_replay.proofs.ReadOfCommitted.{reads_as}
 use Rattle.line_replay.proofs.placed.are_found.Goals as goal
 
-pub returns-then-not-found-clause-told : goal.returns-then-not-found-clause-told
-returns-then-not-found-clause-told g c clean = inl (λ db. too_false db c.args.found c.args.rows.now c.if-not-found.true)
+pub returns-then-not-before-clause-told : goal.returns-then-not-before-clause-told
+returns-then-not-before-clause-told g c clean = inl (λ db. too_false db c.args.before c.args.rows.now c.if-not-before.true)
 
 pub returns-then-is_empty-clause-told : goal.returns-then-is_empty-clause-told
 returns-then-is_empty-clause-told g c clean =
     let empty : length c.args.rows.now ≡ 0 = search rules in
-    inl (λ db. too_none db c.args.found c.args.rows.now c.if-not-found.false empty)
+    inl (λ db. too_none db c.args.before c.args.rows.now c.if-not-before.false empty)
 
 pub returns-clause-told : goal.returns-clause-told
 returns-clause-told g c clean =
-    let b = c.in_ok-has_placements.field-0 in
-    inr (reads_as (state g.S.Store c.args.conn.now) (λ (db : Database). ArePlaced db b (map piece_of c.args.rows.now)) (λ (db : Database). ArePlacedToo db c.args.found b c.args.rows.now)
-    (λ db placed. too_found db c.args.found b c.args.rows.now c.if-not-found.false placed) (c.in_ok-has_placements.ensures.found clean))
+    let r = c.in_ok-has_placements.field-0 in
+    inr (reads_as (state g.S.Store c.args.conn.now) (λ (db : Database). ArePlaced db r.0 (map piece_of c.args.rows.now) × HasMoreBefore c.args.before.end r.1 (length c.args.rows.now) db) (λ (db : Database). ArePlacedToo db c.args.before r.0 r.1 c.args.rows.now)
+    (λ db placed. too_found db c.args.before r.0 r.1 c.args.rows.now c.if-not-before.false placed) (c.in_ok-has_placements.ensures.found clean))

@@ -30,9 +30,9 @@ returns-then-not-all-clause-fault g c clean =
     let early : After → HasCleanDisk last = λ done. omega (arith, c.are_all.ensures.reads.survives.clean) in
     let earlier : HasCleanDisk last → HasCleanDisk mid = λ done. omega (arith, c.take_rows.ensures.reads.survives.clean) in
     let t = rw c.fresh-desk.ensures.rules at c.in_ok-count.ensures.taken in
-    too_few (StandsListed g.D.Desk.Stands) c.args.rules c.args.greatest old mid last (c.take_rows.new.desk, c.take_rows.new.lists) (kept_with (g.D.KeepsRows.kept_rows c.take_rows.new.desk) c.in_ok-count.placed) c.in_ok-count.count t.0 (HasCleanDisk last) After early
-    (λ done. c.least_is_one.ensures.reads.kept (earlier (early done))) (λ done. c.take_rows.ensures.reads.kept (early done)) t.1 t.2 c.in_ok-all.all c.in_ok-all.ensures.counted
-    c.if-not-all.true clean (c.in_ok-least_is_one.ensures.ok (earlier (early clean))) (c.in_ok-count.ensures.ends (early clean))
+    too_few (StandsListed g.D.Desk.Stands) c.args.rules c.args.greatest old mid last (c.take_rows.new.desk, c.take_rows.new.lists) (kept_with (g.D.KeepsRows.kept_rows c.take_rows.new.desk) c.in_ok-count.placed) c.in_ok-count.count t.history (HasCleanDisk last) After early
+    (λ done. c.least_is_one.ensures.reads.kept (earlier (early done))) (λ done. c.take_rows.ensures.reads.kept (early done)) t.within t.taken c.in_ok-all.all c.in_ok-all.ensures.counted
+    c.if-not-all.true clean (c.in_ok-least_is_one.ensures.ok (earlier (early clean))) (t.ends (early clean))
 
 pub returns-clause-list : goal.returns-clause-list
 returns-clause-list g c =
@@ -43,9 +43,9 @@ returns-clause-list g c =
     let early : After → HasCleanDisk last = λ done. omega (arith, c.are_all.ensures.reads.survives.clean) in
     let earlier : HasCleanDisk last → HasCleanDisk mid = λ done. omega (arith, c.take_rows.ensures.reads.survives.clean) in
     let t = rw c.fresh-desk.ensures.rules at c.in_ok-count.ensures.taken in (
-      t.0,
-      replayed g.D.Desk.Stands c.args.rules c.args.greatest old mid last c.take_rows.new.desk (kept_with (g.D.KeepsRows.kept_rows c.take_rows.new.desk) c.in_ok-count.placed) c.in_ok-count.count t.0 (HasCleanDisk last) After early
-          (λ done. c.least_is_one.ensures.reads.kept (earlier (early done))) (λ done. c.take_rows.ensures.reads.kept (early done)) t.1 (desk-taken t.2) c.in_ok-all.all c.in_ok-all.ensures.counted
+      t.history,
+      replayed g.D.Desk.Stands c.args.rules c.args.greatest old mid last c.take_rows.new.desk (kept_with (g.D.KeepsRows.kept_rows c.take_rows.new.desk) c.in_ok-count.placed) c.in_ok-count.count t.history (HasCleanDisk last) After early
+          (λ done. c.least_is_one.ensures.reads.kept (earlier (early done))) (λ done. c.take_rows.ensures.reads.kept (early done)) t.within (desk-taken t.taken) c.in_ok-all.all c.in_ok-all.ensures.counted
           c.if-not-all.false,
-      t.2.stands.1,
+      t.taken.stands.1,
     )

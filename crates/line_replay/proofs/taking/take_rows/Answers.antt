@@ -20,11 +20,11 @@ loop-number-init g c =
       taken = (
         [],
         record {
-          stands = (c.requires.fresh, c.requires.empty);
+          stands = (c.requires.start.stands, c.requires.start.listed);
           judged = tt;
           counted = refl;
           rows = λ clean schema. tt;
-          others = none_expected (HasCleanDisk old) old.committed (g.D.KeepsRows.kept_rows c.args.desk.now) c.requires.none;
+          others = none_expected (HasCleanDisk old) old.committed (g.D.KeepsRows.kept_rows c.args.desk.now) c.requires.start.empty;
         },
       );
       reads = reads_same g.S.Store c.args.conn.now;

@@ -8,7 +8,7 @@ use Rattle.sqlite.proofs.StateLemmas.{survives_then}
 use Rattle.sqlite.proofs.Callers.{survives_begin}
 use Rattle.line_tables.specs.Calls.{LeavesEdited}
 use Rattle.line_tables.specs.Edit.{command_edits}
-use Rattle.line_tables.proofs.Leaves.{leaves_edited, settled_edits, settled_others}
+use Rattle.line_tables.proofs.Leaves.{leaves_edited, settled_edits}
 use Rattle.line_tables.proofs.writing.append.Goals as goal
 
 pub returns-clause-done : goal.returns-clause-done
@@ -52,17 +52,4 @@ returns-clause-alone g c clean =
     let committed = subst (λ h. (state g.S.Store h).committed ≡ (state g.S.Store last).now) same done.1.committed_is in
     leaves_edited g.S.Store old last trees (command_edits c.args.row.now c.args.edits.now) (c.is_autocommit.ensures.settled auto) (rw c.transaction-tx.ensures.begun at (c.in_ok-put_all.ensures.done (omega (arith, c.commit.ensures.survives.clean))))
     (left is_open trees may ∙ ap (λ (db : Database). db.trees) committed)
-    ) (c.commit.ensures.ok clean_end)
-
-pub returns-clause-others : goal.returns-clause-others
-returns-clause-others g c clean =
-    let old = c.args.conn.now in
-    let last = c.put_all.new.tx.conn.now in
-    let end = c.commit.new.self.0 in
-    let same : end ≡ c.conn-2-1.given.0 = search rules in
-    let clean_end : HasCleanDisk (state g.S.Store end) = subst (λ h. HasCleanDisk (state g.S.Store h)) (sym same) clean in
-    let auto : IsTrue c.is_autocommit.result = search rules in
-    on_ok_weaker c.commit.result (λ done.
-    let committed = subst (λ h. (state g.S.Store h).committed ≡ (state g.S.Store last).now) same done.1.committed_is in
-    settled_others g.S.Store old last (command_edits c.args.row.now c.args.edits.now) (c.is_autocommit.ensures.settled auto) (rw c.transaction-tx.ensures.begun at (c.in_ok-put_all.ensures.done (omega (arith, c.commit.ensures.survives.clean)))) _ committed
     ) (c.commit.ensures.ok clean_end)

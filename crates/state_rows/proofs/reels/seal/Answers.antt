@@ -1,7 +1,8 @@
 use Rattle.std.proofs.Common.{◌≡◌, Some, ◌++◌, ◌∷◌, [], sym, ap, ◌∙◌, arith}
 use Rattle.desk_types.specs.declared.edit.RowEdit.TheVariants.{PutReel}
 use Rattle.desk_types.specs.Tables.{reel_row}
-use Rattle.state_rows.specs.EditsOf.{sealed_row, reel_edit}
+use Rattle.desk_types.specs.Row.{sealed_row}
+use Rattle.state_rows.specs.EditsOf.{reel_edit}
 use Rattle.state_rows.proofs.SumsInRange.{kept-fits}
 use Rattle.state_rows.proofs.reels.seal.Goals as goal
 
@@ -10,6 +11,6 @@ returns-in_ok-push-in-Some g c = λ H judged stands le.
     let is : reel_row H c.args.reel.now ≡ Some c.in-Some.row = sym (c.row.ensures H stands) ∙ c.in-Some.is in
     let fits = kept-fits H c.args.reel.now c.args.minute c.in-Some.row judged le is in
     c.in_ok-push-in-Some.ensures.items
-    ∙ ap (λ l. l ++ PutReel c.sealed_row.result ∷ []) c.new-edits.ensures.items
-    ∙ ap (λ r. PutReel r ∷ []) (c.sealed_row.ensures (omega (arith, fits, c.get.ensures.range)))
+    ∙ ap (λ l. l ++ PutReel c.sealed.result ∷ []) c.new-edits.ensures.items
+    ∙ ap (λ r. PutReel r ∷ []) (c.sealed.ensures (omega (arith, fits, c.get.ensures.range)))
     ∙ sym (ap (reel_edit (sealed_row c.args.minute)) is)

@@ -49,22 +49,12 @@ returns-clause-same g c = λ H stands.
     ∙ rows-same _ H change.stamped change (c.requires.judged H stands) (c.is_judged.ensures H stands) c.ranges_hold.ensures range c.args.number c.in_ok-edits.edits.items
     (subst (λ takes. AreEditsOf H c.args.number change.minute takes change.stamped.command c.in_ok-edits.edits.items) c.takes.ensures (c.in_ok-edits.ensures H stands))
 
-pub returns-clause-takes_first : goal.returns-clause-takes_first
-returns-clause-takes_first g c =
+pub returns-clause-in_order : goal.returns-clause-in_order
+returns-clause-in_order g c =
     let change = c.args.change.now in
     let H : History = c.requires.room.0 in
     let stands = c.requires.room.1 in
     let range : IsMinute change.minute = subst IsMinute c.get.ensures.value c.get.ensures.range in
-    subst AreTakesFirst (sym c.new.ensures)
+    subst (λ xs. AreTakesFirst xs × AreBalanced xs) (sym c.new.ensures)
     (rows-fit _ H change.stamped change (c.requires.judged H stands) (c.is_judged.ensures H stands) c.ranges_hold.ensures range c.args.number c.in_ok-edits.edits.items
-    (subst (λ takes. AreEditsOf H c.args.number change.minute takes change.stamped.command c.in_ok-edits.edits.items) c.takes.ensures (c.in_ok-edits.ensures H stands))).0
-
-pub returns-clause-balanced : goal.returns-clause-balanced
-returns-clause-balanced g c =
-    let change = c.args.change.now in
-    let H : History = c.requires.room.0 in
-    let stands = c.requires.room.1 in
-    let range : IsMinute change.minute = subst IsMinute c.get.ensures.value c.get.ensures.range in
-    subst AreBalanced (sym c.new.ensures)
-    (rows-fit _ H change.stamped change (c.requires.judged H stands) (c.is_judged.ensures H stands) c.ranges_hold.ensures range c.args.number c.in_ok-edits.edits.items
-    (subst (λ takes. AreEditsOf H c.args.number change.minute takes change.stamped.command c.in_ok-edits.edits.items) c.takes.ensures (c.in_ok-edits.ensures H stands))).1
+    (subst (λ takes. AreEditsOf H c.args.number change.minute takes change.stamped.command c.in_ok-edits.edits.items) c.takes.ensures (c.in_ok-edits.ensures H stands)))

@@ -1,5 +1,5 @@
 use Rattle.std.proofs.Common.{rules, ◌∙◌, refl, map, string_bytes, inl, inr}
-use Rattle.alike_words.specs.CommandLine.{AsksForNothing, AsksForText, AsksToCompare}
+use Rattle.tracedesk_alike.specs.CommandLine.{AsksForNothing, AsksForText, AsksToCompare}
 use Rattle.tracedesk_alike.proofs.program.whole_run.Goals as goal
 
 pub returns-in-Ok-Compare-clause-done : goal.returns-in-Ok-Compare-clause-done

@@ -1,4 +1,4 @@
-use Rattle.std.proofs.Common.{◌≡◌, sym, subst, arith}
+use Rattle.std.proofs.Common.{◌≡◌, sym, subst}
 use Rattle.desk_types.specs.declared.command.Stamped.{Stamped}
 use Rattle.desk_types.specs.declared.rules.Rules.TheVariants.{Two}
 use Rattle.desk_answers.specs.declared.answer.Answer.{Answer}
@@ -20,58 +20,36 @@ answer_so L s Unavailable h = tt
 pub returns-in-Ok-clause-kept : goal.returns-in-Ok-clause-kept
 returns-in-Ok-clause-kept g c = c.answer.ensures.kept
 
-pub returns-in-Ok-clause-answer : goal.returns-in-Ok-clause-answer
-returns-in-Ok-clause-answer g c L stands clean own = answer_so L c.args.stamped.now c.in-Ok.answer (c.in-Ok.ensures.answer L stands clean own)
+pub returns-in-Ok-clause-answers : goal.returns-in-Ok-clause-answers
+returns-in-Ok-clause-answers g c L stands clean own =
+    let s = c.args.stamped.now in
+    let told = c.in-Ok.ensures.answers L stands clean own in
+    let same = sym (kept_so L s c.in-Ok.answer told.answer) in
+    let after = subst (λ (M : Kept). Stands g.S.Store g.D.Desk.Stands g.D.Desk.kept_rules c.answer.new.self M) same (c.in-Ok.ensures.ok L stands clean own) in
+    record {
+      is = answer_so L s c.in-Ok.answer told.answer;
+      stands = after;
+      tables = tables_there g.S.Store g.D.Desk.Stands g.D.Desk.kept_rules c.answer.new.self (kept_after L s c.in-Ok.answer) after;
+      rows = λ was. subst (λ (M : Kept). HasRows g.D.KeepsRows.kept_rows c.answer.new.self M.history) same (told.rows was);
+      crash = c.in-Ok.ensures.crash L stands clean own;
+    }
 
-pub returns-in-Ok-clause-stands : goal.returns-in-Ok-clause-stands
-returns-in-Ok-clause-stands g c L stands clean own =
-    subst (λ (M : Kept). Stands g.S.Store g.D.Desk.Stands g.D.Desk.kept_rules c.answer.new.self M)
-    (sym (kept_so L c.args.stamped.now c.in-Ok.answer (c.in-Ok.ensures.answer L stands clean own))) (c.in-Ok.ensures.ok L stands clean own)
-
-pub returns-in-Ok-clause-tables : goal.returns-in-Ok-clause-tables
-returns-in-Ok-clause-tables g c L stands clean own =
-    tables_there g.S.Store g.D.Desk.Stands g.D.Desk.kept_rules c.answer.new.self (kept_after L c.args.stamped.now c.in-Ok.answer) (returns-in-Ok-clause-stands g c L stands clean own) clean own
-
-pub returns-in-Ok-clause-crash : goal.returns-in-Ok-clause-crash
-returns-in-Ok-clause-crash g c = c.in-Ok.ensures.crash
-
-pub returns-in-Ok-clause-clean : goal.returns-in-Ok-clause-clean
-returns-in-Ok-clause-clean g c clean = omega (arith, c.answer.ensures.survives.clean, clean)
-
-pub returns-in-Ok-clause-survives : goal.returns-in-Ok-clause-survives
-returns-in-Ok-clause-survives g c = c.answer.ensures.survives
+pub returns-in-Ok-clause-file : goal.returns-in-Ok-clause-file
+returns-in-Ok-clause-file g c = c.answer.ensures.file
 
 pub returns-in-Err-clause-kept : goal.returns-in-Err-clause-kept
 returns-in-Err-clause-kept g c = c.answer.ensures.kept
 
-pub returns-in-Err-clause-answer : goal.returns-in-Err-clause-answer
-returns-in-Err-clause-answer g c L stands clean own = tt
+pub returns-in-Err-clause-answers : goal.returns-in-Err-clause-answers
+returns-in-Err-clause-answers g c L stands clean own =
+    let told = c.in-Err.ensures.answers L stands clean own in
+    record {
+      is = tt;
+      stands = told.err;
+      tables = tables_there g.S.Store g.D.Desk.Stands g.D.Desk.kept_rules c.answer.new.self L told.err;
+      rows = told.rows_stay;
+      crash = c.in-Err.ensures.crash L stands clean own;
+    }
 
-pub returns-in-Err-clause-stands : goal.returns-in-Err-clause-stands
-returns-in-Err-clause-stands g c = c.in-Err.ensures.err
-
-pub returns-in-Err-clause-tables : goal.returns-in-Err-clause-tables
-returns-in-Err-clause-tables g c L stands clean own = tables_there g.S.Store g.D.Desk.Stands g.D.Desk.kept_rules c.answer.new.self L (c.in-Err.ensures.err L stands clean own) clean own
-
-pub returns-in-Err-clause-crash : goal.returns-in-Err-clause-crash
-returns-in-Err-clause-crash g c = c.in-Err.ensures.crash
-
-pub returns-in-Err-clause-clean : goal.returns-in-Err-clause-clean
-returns-in-Err-clause-clean g c clean = omega (arith, c.answer.ensures.survives.clean, clean)
-
-pub returns-in-Err-clause-survives : goal.returns-in-Err-clause-survives
-returns-in-Err-clause-survives g c = c.answer.ensures.survives
-
-pub returns-in-Ok-clause-others : goal.returns-in-Ok-clause-others
-returns-in-Ok-clause-others g c = c.answer.ensures.others
-
-pub returns-in-Err-clause-others : goal.returns-in-Err-clause-others
-returns-in-Err-clause-others g c = c.answer.ensures.others
-
-pub returns-in-Ok-clause-rows : goal.returns-in-Ok-clause-rows
-returns-in-Ok-clause-rows g c L stands clean own was =
-    subst (λ (M : Kept). HasRows g.D.KeepsRows.kept_rows c.answer.new.self M.history)
-    (sym (kept_so L c.args.stamped.now c.in-Ok.answer (c.in-Ok.ensures.answer L stands clean own))) (c.in-Ok.ensures.rows L stands clean own was)
-
-pub returns-in-Err-clause-rows : goal.returns-in-Err-clause-rows
-returns-in-Err-clause-rows g c = c.in-Err.ensures.rows_stay
+pub returns-in-Err-clause-file : goal.returns-in-Err-clause-file
+returns-in-Err-clause-file g c = c.answer.ensures.file

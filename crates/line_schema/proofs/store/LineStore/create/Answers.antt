@@ -8,28 +8,27 @@ use Rattle.line_replay.proofs.ExpectedRows.{no_rows}
 use Rattle.line_schema.proofs.StandsAfter.{none_yet}
 use Rattle.line_schema.proofs.store.LineStore.create.Goals as goal
 
-pub returns-in-Ok-clause-stands : goal.returns-in-Ok-clause-stands
-returns-in-Ok-clause-stands g c = record {
-  greatest = refl;
-  bound = c.requires.most;
-  count = refl;
-  within = omega arith;
-  judged = tt;
-  consistent = consistent Two [] tt;
-  desk = (c.fresh-desk.ensures.stands, c.fresh-desk.ensures.rules);
-  lists = c.new.ensures.listed;
-  beside = refl;
-  mode = search rules;
-  stays_open = λ clean. inl (c.in-Ok.ensures.stays_open clean).1;
-  lawful = λ clean own. record { judged = tt; uids = none_yet; numbers = omega arith };
-  tables = λ clean own is_open. c.in-Ok.ensures.made clean (blank_is _ own);
+pub returns-in-Ok-clause-made : goal.returns-in-Ok-clause-made
+returns-in-Ok-clause-made g c = record {
+  stands = record {
+    greatest = refl;
+    bound = c.requires.most;
+    count = refl;
+    within = omega arith;
+    judged = tt;
+    consistent = consistent Two [] tt;
+    desk = (c.fresh-desk.ensures.stands, c.fresh-desk.ensures.rules);
+    lists = c.new.ensures.listed;
+    beside = refl;
+    mode = search rules;
+    stays_open = λ clean. inl (c.in-Ok.ensures.stays_open clean).1;
+    lawful = λ clean own. record { judged = tt; uids = none_yet; numbers = omega arith };
+    tables = λ clean own is_open. (c.in-Ok.ensures.made clean (blank_is _ own)).tables;
+  };
+  loaded = refl;
+  rows = subst (λ (rows : KeptRows). AreKept rows []) c.rows-empty.ensures.kept (no_rows (tables_in c.rows-empty.result.now) (c.rows-empty.ensures.same [] c.fresh-desk.ensures.stands));
+  nameless = search rules;
+  stays_open = λ clean. (c.in-Ok.ensures.stays_open clean).1;
+  leaves = c.make.ensures.crash;
+  alone = λ clean own trees left. ((c.in-Ok.ensures.alone clean trees left).holds (blank_is _ own)).0;
 }
-
-pub returns-in-Ok-clause-alone : goal.returns-in-Ok-clause-alone
-returns-in-Ok-clause-alone g c clean own trees left = ((c.in-Ok.ensures.alone clean trees left).holds (blank_is _ own)).0
-
-pub returns-in-Ok-clause-ready : goal.returns-in-Ok-clause-ready
-returns-in-Ok-clause-ready g c = (
-  refl,
-  subst (λ (rows : KeptRows). AreKept rows []) c.rows-empty.ensures.kept (no_rows (tables_in c.rows-empty.result.now) (c.rows-empty.ensures.same [] c.fresh-desk.ensures.stands)),
-)

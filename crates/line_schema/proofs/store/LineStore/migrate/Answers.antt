@@ -6,18 +6,21 @@ use Rattle.line_schema.proofs.Versions.{migrated_on, survives_migration}
 use Rattle.line_schema.proofs.store.LineStore.migrate.Goals as goal
 
 pub returns-clause-migrated : goal.returns-clause-migrated
-returns-clause-migrated g c clean =
+returns-clause-migrated g c =
     let old = state g.S.Store c.args.conn.now in
     let mid = state g.S.Store c.read_tables.new.conn in
     let new = state g.S.Store c.migrate_tables.new.conn in
-    let early : HasCleanDisk mid = omega (arith, c.migrate_tables.ensures.crash.clean, clean) in
+    let early : HasCleanDisk new → HasCleanDisk mid = λ clean. omega (arith, c.migrate_tables.ensures.crash.clean, clean) in
     let auto : IsTrue c.is_autocommit.result = search rules in
-    let all = c.in_ok-_desk.ensures.ok in (
-      _,
-      all.0,
-      migrated_on g.D.Desk.Stands g.D.Desk.kept_rules (HasCleanDisk mid) old mid new _ all.0 all.1 early c.in_ok-_desk.ensures.named (c.is_autocommit.ensures.settled auto) (c.read_tables.ensures.reads.kept early)
-          (c.in_ok-migrate_tables.ensures.done clean) (c.in_ok-migrate_tables.ensures.stays_open clean) (c.in_ok-migrate_tables.ensures.alone clean),
-    )
+    let all = c.in_ok-_desk.ensures.ok in record {
+      named = c.in_ok-_desk.ensures.named;
+      migrated = λ clean. (
+        _,
+        all.0,
+        migrated_on g.D.Desk.Stands g.D.Desk.kept_rules (HasCleanDisk mid) old mid new _ all.0 all.1 (early clean) c.in_ok-_desk.ensures.named (c.is_autocommit.ensures.settled auto) (c.read_tables.ensures.reads.kept (early clean))
+            (c.in_ok-migrate_tables.ensures.done clean) (c.in_ok-migrate_tables.ensures.stays_open clean) (c.in_ok-migrate_tables.ensures.alone clean),
+      );
+    }
 
 pub returns-clause-crash : goal.returns-clause-crash
 returns-clause-crash g c =

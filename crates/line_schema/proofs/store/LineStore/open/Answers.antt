@@ -12,8 +12,8 @@ use Rattle.line_schema.proofs.ReadOfCommitted.{opened_lawful, opened_holds}
 use Rattle.line_schema.proofs.StandsAfter.{still_open}
 use Rattle.line_schema.proofs.store.LineStore.open.Goals as goal
 
-pub returns-in-Ok-clause-stands : goal.returns-in-Ok-clause-stands
-returns-in-Ok-clause-stands g c =
+pub returns-in-Ok-clause-opened : goal.returns-in-Ok-clause-opened
+returns-in-Ok-clause-opened g c =
     let old = state g.S.Store c.args.conn in
     let F = g.D.Desk.Stands in
     let K = g.D.Desk.kept_rules in
@@ -23,22 +23,27 @@ returns-in-Ok-clause-stands g c =
     let holds = opened_holds F K _ old Two c.in-Ok.field-0 all.0 o c.in-Ok.ensures.named (c.is_autocommit.ensures.settled auto) in
     let L : Kept = record { greatest = c.in-Ok.field-0.greatest; history = all.0; own = is_ours old.committed.schema } in (
       L,
-      refl,
       record {
-        greatest = refl;
-        bound = o.bound;
-        count = o.count;
-        within = o.within;
-        judged = o.judged;
-        consistent = consistent Two all.0 o.judged;
-        desk = (o.stands, o.rules);
-        lists = o.lists;
-        beside = refl;
-        mode = search rules;
-        stays_open = λ clean. still_open _ c.read_tables.ensures.reads.survives (λ was. inl (o.apart clean).was_open) clean;
-        lawful = λ clean own. opened_lawful F K _ old c.in-Ok.field-0 all.0 o clean own;
-        tables = λ clean own is_open. subst (λ (db : Database). Holds db (ledger_tables L.greatest L.history)) (sym ((c.read_tables.ensures.reads.kept clean).committed is_open)) ((holds clean).are (let ours = ours_is old.committed.schema own in record { rules = Two; layout = ours.0; same = ours.1 }));
+        own = refl;
+        stands = record {
+          greatest = refl;
+          bound = o.bound;
+          count = o.count;
+          within = o.within;
+          judged = o.judged;
+          consistent = consistent Two all.0 o.judged;
+          desk = (o.stands, o.rules);
+          lists = o.lists;
+          beside = refl;
+          mode = search rules;
+          stays_open = λ clean. still_open _ c.read_tables.ensures.reads.survives (λ was. inl (o.apart clean).was_open) clean;
+          lawful = λ clean own. opened_lawful F K _ old c.in-Ok.field-0 all.0 o clean own;
+          tables = λ clean own is_open. subst (λ (db : Database). Holds db (ledger_tables L.greatest L.history)) (sym ((c.read_tables.ensures.reads.kept clean).committed is_open)) ((holds clean).are (let ours = ours_is old.committed.schema own in record { rules = Two; layout = ours.0; same = ours.1 }));
+        };
+        tables = holds;
+        rows = all.2;
+        loaded = refl;
+        named = c.in-Ok.ensures.named;
+        reads = c.read_tables.ensures.reads;
       },
-      holds,
-      all.2,
     )

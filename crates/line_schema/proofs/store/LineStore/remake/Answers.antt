@@ -4,7 +4,7 @@ use Rattle.sqlite.specs.Held.{state}
 use Rattle.line_tables.specs.Rows.{Holds}
 use Rattle.line_rows.specs.Rows.{ledger_tables}
 use Rattle.line_schema.proofs.StandsAfter.{remade, remade_same, read_on}
-use Rattle.line_schema.proofs.Others.{let_be_reads}
+use Rattle.line_schema.proofs.Others.{file_read}
 use Rattle.line_schema.proofs.store.LineStore.remake.Goals as goal
 
 pub returns-in-Some-clause-kept : goal.returns-in-Some-clause-kept
@@ -23,11 +23,11 @@ returns-in-Some-clause-stands g c L s clean own =
     let same = c.in-Some.ensures.same L.history s.judged held clean in
     remade_same g.S.Store g.D.Desk.Stands g.D.Desk.kept_rules c.args.self.now _ c.in-Some.field-0.desk c.in-Some.field-0.lists L refl same.1 refl refl (c.rebuild.ensures.reads.mode s.mode) same.0 same.2 c.in-Some.ensures.rules c.rebuild.ensures.reads.survives c.rebuild.ensures.reads.kept s
 
-pub returns-in-Some-clause-others : goal.returns-in-Some-clause-others
-returns-in-Some-clause-others g c = let_be_reads g.S.Store _ _ c.rebuild.ensures.reads
+pub returns-in-Some-clause-file : goal.returns-in-Some-clause-file
+returns-in-Some-clause-file g c = file_read g.S.Store _ _ c.rebuild.ensures.reads
 
-pub returns-in-None-clause-others : goal.returns-in-None-clause-others
-returns-in-None-clause-others g c = let_be_reads g.S.Store _ _ c.rebuild.ensures.reads
+pub returns-in-None-clause-file : goal.returns-in-None-clause-file
+returns-in-None-clause-file g c = file_read g.S.Store _ _ c.rebuild.ensures.reads
 
 pub returns-in-None-clause-kept : goal.returns-in-None-clause-kept
 returns-in-None-clause-kept g c =

@@ -1,7 +1,9 @@
-use Rattle.std.proofs.Common.{refl}
+use Rattle.std.proofs.Common.{◌∷◌, sym, subst}
+use Rattle.reels.specs.Reel.{RowStandsFor}
 use Rattle.reels.proofs.StandingReels.{StandsFor-bake}
 use Rattle.reels.proofs.reel.Reel.bake.Goals as goal
 
 pub returns-clause-stands : goal.returns-clause-stands
-returns-clause-stands c = λ H name e stands command at.
-    StandsFor-bake H e name c.args.self.now _ stands command (record { part = refl; lot = refl; level = refl; label = refl }) (record { received = refl; found = refl; placed = refl; scrapped = refl; remaining = refl }) refl at refl refl
+returns-clause-stands c = λ H name e stands command now.
+    let old = c.args.self.now in
+    subst (λ row. RowStandsFor (e ∷ H) name row old.found c.args.at) (sym c.baked-self.ensures) (StandsFor-bake H e name old.row old.found old.last c.args.at stands command now)

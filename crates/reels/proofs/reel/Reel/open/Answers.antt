@@ -1,19 +1,16 @@
-use Rattle.std.proofs.Common.{Some, refl, sym, ap, ◌∙◌}
-use Rattle.reels.proofs.StandingReels.{since-between, StandsFor-open}
+use Rattle.std.proofs.Common.{◌∷◌, sym, subst}
+use Rattle.reels.specs.Fitting.{IsFitting}
+use Rattle.reels.specs.Reel.{RowStandsFor}
+use Rattle.reels.proofs.StandingReels.{opened-fits, StandsFor-open}
 use Rattle.reels.proofs.reel.Reel.open.Goals as goal
 
 pub invariant_of-self : goal.invariant_of-self
 invariant_of-self c =
-    let reel = c.args.self.now in
-    record {
-      label_range = reel.label_range;
-      balance = reel.balance;
-      found_range = reel.found_range;
-      open_minutes = λ x is. since-between reel.open_since reel.used reel.last c.args.at x reel.open_minutes reel.sealed_minutes c.requires (sym c.unwrap_or.ensures ∙ cc);
-      sealed_minutes = λ is. absurd (cc);
-    }
+    let old = c.args.self.now in
+    record { fits = subst (λ row. IsFitting row old.found c.args.at) (sym c.opened-self.ensures) (opened-fits old.row old.found old.last c.args.at old.fits c.requires) }
 
 pub returns-clause-stands : goal.returns-clause-stands
-returns-clause-stands c = λ H name e stands says at.
-    StandsFor-open H e name c.args.self.now _ stands says (record { part = refl; lot = refl; level = refl; label = refl }) (record { received = refl; found = refl; placed = refl; scrapped = refl; remaining = refl }) refl refl c.requires at
-    (λ s is. (c.args.self.now.open_minutes s is).1) (ap Some c.unwrap_or.ensures)
+returns-clause-stands c = λ H name e stands says now.
+    let old = c.args.self.now in
+    subst (λ row. RowStandsFor (e ∷ H) name row old.found c.args.at) (sym c.opened-self.ensures)
+    (StandsFor-open H e name old.row old.found old.last c.args.at stands says c.requires now (λ s is. (old.fits.opened s is).1))

@@ -1,8 +1,0 @@
-//! The command line of `tracedesk_alike`, by `clap`'s statement of its grammar.
-//!
-//! `specs/CommandLine.antt` has the grammar and the meaning. Nothing is opened, and only the arguments are read.
-#![tactic(auto)]
-
-mod command_line;
-
-pub use command_line::{Asked, read_words};
