@@ -1,4 +1,4 @@
-//! The store's answers and contents at run time, with ample memory and with refused memory.
+//! The store's answers and contents at run time, with ample memory, with refused memory, and on a disk that stops.
 #![tactic(auto)]
 
 #[cfg(test)]

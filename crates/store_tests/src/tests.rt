@@ -1,16 +1,21 @@
-//! A store in memory: each allocation refused in turn by `dev/faults/run memory`, and the boards of a lot.
+//! A store over files in memory: each allocation refused in turn by `dev/faults/run memory`, the boards of a lot, and a
+//! disk that stops.
+//!
+//! No test drops a connection or a store: it takes the connection back and closes its files. A drop would prove again
+//! how each of their parts is dropped.
 
 mod sending;
 mod stopping;
 
-use desk_file::in_memory;
-use desk_types::Id;
+use desk_types::{Id, IdList};
 use feeder_state::StateDesk;
 use line_schema::LineStore;
-use sending::{BOARDS, FIRST_RUN, Sent, send, send_over, viewed};
-use sqlite::{Alter, Connection};
+use sending::{BOARDS, FIRST_RUN, Sent, send_over, viewed};
+use sqlite::{Alter, Connection, FileStore, Options};
+use sqlite_disk::{Fuse, Memory};
 use std::alloc::{AllocError, Global};
 use std::test::Fail;
+use stopping::files;
 
 /// Turns tables of version 2 into those of version 1.
 const VERSION_ONE: &str = "BEGIN; DROP TABLE found; UPDATE version SET number = 1; COMMIT";
@@ -25,6 +30,26 @@ fn migrated<S: Alter>(alloc: Global, conn: &mut Connection<S>) -> Option<i64> {
     Some(version)
 }
 
+/// A connection to new files.
+fn new_files(alloc: Global) -> Result<Connection<FileStore<Fuse<Memory>>>, AllocError> {
+    match Connection::open_files(alloc, files(alloc, u64::MAX, u64::MAX), Options::new(1)) {
+        Ok(conn) => Ok(conn),
+        Err((_error, left)) => {
+            let _ = left.into_files();
+            Err(AllocError)
+        }
+    }
+}
+
+fn close(conn: Connection<FileStore<Fuse<Memory>>>) {
+    match conn.close_files() {
+        Ok(_files) => {}
+        Err((_error, store)) => {
+            let _ = store.close();
+        }
+    }
+}
+
 /// For each refused allocation, in the fifth command's settling or later, at most one command is Unavailable, and each
 /// has one final answer. If memory was refused in settling, the next command rebuilds the desk, and the test prints
 /// that. A migration that meets it leaves complete tables of version 1, so the next one succeeds. The returned
@@ -32,56 +57,96 @@ fn migrated<S: Alter>(alloc: Global, conn: &mut Connection<S>) -> Option<i64> {
 #[test]
 fn refused_memory_is_made_good(rt: HostRuntime) -> Result<(), Fail> {
     let alloc = rt.alloc();
-    let Ok(mut store) = in_memory::<StateDesk>(alloc, 6) else {
-        return Err(Fail::from(AllocError));
-    };
-    let first = send(&rt, alloc, &mut store, FIRST_RUN);
-    let again = send(&rt, alloc, &mut store, FIRST_RUN);
-    let mut conn = store.into_connection();
+    let conn = new_files(alloc)?;
+    let Sent {
+        began: _,
+        told,
+        mut conn,
+    } = send_over(&rt, alloc, conn, FIRST_RUN);
     let made = conn.execute_batch(VERSION_ONE);
     let _ = migrated(alloc, &mut conn);
     let _ = migrated(alloc, &mut conn);
-    let Sent { began, told, conn } = send_over(&rt, alloc, conn, FIRST_RUN);
-    let _ = conn.close();
+    let Sent {
+        began,
+        told: again,
+        conn,
+    } = send_over(&rt, alloc, conn, FIRST_RUN);
+    close(conn);
     made?;
-    let (first, again, told) = (first?, again?, told?);
-    if first.made_again > 0 {
+    let (told, again) = (told?, again?);
+    if told.made_again > 0 {
         eprintln!(rt; "the desk was made again")?;
     }
-    assert!(rt; first.unavailable.saturating_add(again.unavailable) <= 1);
-    assert_eq!(rt; (first.count, began.ok_or(AllocError)?), (6, 6));
-    assert!(rt; first.text == again.text && first.text == told.text);
+    assert!(rt; told.unavailable.saturating_add(again.unavailable) <= 1);
+    assert_eq!(rt; (told.count, began.ok_or(AllocError)?), (6, 6));
+    assert!(rt; told.text == again.text);
     Ok(())
+}
+
+/// What a store over a connection shows of a lot: its boards, or `None` if it cannot be opened or asked; and whether
+/// its desk can be borrowed.
+struct Lot<S: Alter> {
+    boards: Option<Option<IdList>>,
+    is_viewed: bool,
+    conn: Connection<S>,
+}
+
+fn lot_over<S: Alter>(alloc: Global, conn: Connection<S>, lot: &Id) -> Lot<S> {
+    match LineStore::<S, StateDesk>::open(alloc, conn) {
+        Ok(mut store) => {
+            let boards = store.lot_boards(lot).ok();
+            Lot {
+                boards,
+                is_viewed: viewed(&mut store).is_some(),
+                conn: store.into_connection(),
+            }
+        }
+        Err((_fault, conn)) => Lot {
+            boards: None,
+            is_viewed: false,
+            conn,
+        },
+    }
 }
 
 /// The boards of a lot are returned once each and in byte order, and none for an unknown lot. No report calls this; it
 /// serves callers that want only the names. If rows are not at the places in the trace indexes, a query finds them.
 #[test]
 fn boards_of_a_lot(rt: HostRuntime) -> Result<(), Fail> {
+    let alloc = rt.alloc();
     let lot = Id::read(b"L1").ok_or("no lot")?;
     let other = Id::read(b"L2").ok_or("no lot")?;
     let first = Id::read(b"B10").ok_or("no board")?;
     let second = Id::read(b"B9").ok_or("no board")?;
-    let Ok(mut store) = in_memory::<StateDesk>(rt.alloc(), 11) else {
-        return Err(Fail::from(AllocError));
-    };
-    let told = send(&rt, rt.alloc(), &mut store, BOARDS);
-    let is_viewed = viewed(&mut store).is_some();
-    let by_lists = store.lot_boards(&lot);
-    let mut conn = store.into_connection();
+    let conn = new_files(alloc)?;
+    let Sent {
+        began: _,
+        told,
+        conn,
+    } = send_over(&rt, alloc, conn, BOARDS);
+    let Lot {
+        boards: by_lists,
+        is_viewed,
+        mut conn,
+    } = lot_over(alloc, conn, &lot);
     let moved = conn.execute_batch("UPDATE placement SET rowid = -rowid");
-    let Ok(mut store) = LineStore::<_, StateDesk>::open(rt.alloc(), conn) else {
-        return Err(Fail::from(AllocError));
-    };
-    let by_query = store.lot_boards(&lot);
-    let of_none = store.lot_boards(&other);
-    store.into_connection().close()?;
+    let Lot {
+        boards: by_query,
+        is_viewed: _,
+        conn,
+    } = lot_over(alloc, conn, &lot);
+    let Lot {
+        boards: of_none,
+        is_viewed: _,
+        conn,
+    } = lot_over(alloc, conn, &other);
+    close(conn);
     moved?;
     assert_eq!(rt; told?.count, 11);
     assert!(rt; is_viewed);
-    assert!(rt; matches!(of_none, Ok(None)));
+    assert!(rt; matches!(of_none, Some(None)));
     for boards in [by_lists, by_query] {
-        let Ok(Some(boards)) = boards else {
+        let Some(Some(boards)) = boards else {
             return Err(Fail::from("no boards"));
         };
         assert!(rt; boards.as_slice() == [first, second].as_slice());

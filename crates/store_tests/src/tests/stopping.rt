@@ -11,9 +11,19 @@ use std::alloc::{AllocError, Global};
 use std::process::Abort;
 use std::test::Fail;
 
-/// The result of sending commands to files: their version and number of commands before, if they had tables, the
-/// answers, whether a migration was reported, and the files and whether they were closed.
-#[derive(Drop)]
+/// New files whose log and whose database stop after these numbers of calls.
+pub fn files(alloc: Global, log: u64, db: u64) -> Files<Fuse<Memory>>
+    ensures log { IsTrue (⟦<Fuse<Memory> as Disk>⟧.is_usable result.log) }
+    ensures db { IsTrue (⟦<Fuse<Memory> as Disk>⟧.is_usable result.db) }
+{
+    Files {
+        log: Fuse::new(Memory::new(alloc), log),
+        db: Fuse::new(Memory::new(alloc), db),
+    }
+}
+
+/// What came of commands that were sent to files: the version of the tables and their number of commands before, if
+/// there were tables; the answers; whether a migration was reported; and the files, and whether they were closed.
 struct Session<D: Disk> {
     version: Option<i64>,
     began: Option<u32>,
@@ -23,8 +33,8 @@ struct Session<D: Disk> {
     is_whole: bool,
 }
 
-/// Sends commands to the desk in files, which are migrated first if they are of version 1. With `migrates` they are
-/// then turned into version 1, and migrated. Finally they are closed.
+/// Sends commands to the desk in files, which are migrated first if they are of version 1. With `migrates` the tables
+/// are then turned into version 1, and migrated. Last, the files are closed.
 fn work<D: Disk + Drop>(
     rt: &impl Abort,
     alloc: Global,
@@ -55,8 +65,7 @@ fn work<D: Disk + Drop>(
         told,
         mut conn,
     } = send_over(rt, alloc, conn, row);
-    let is_migrated = migrates
-        && conn.execute_batch(VERSION_ONE).is_ok()
+    let is_migrated = conn.execute_batch(VERSION_ONE).is_ok()
         && migrated(alloc, &mut conn) == Some(1);
     let (files, is_whole) = match conn.close_files() {
         Ok(files) => (files, true),
@@ -72,33 +81,23 @@ fn work<D: Disk + Drop>(
     }
 }
 
-/// Sends commands to new files whose log or database stops after this number of calls, and again after a crash, which
-/// loses unsynced data. The history then has each answered command, and at most one more; each has its first answer. A
-/// reported migration remains. Returns whether no call failed.
+/// Sends commands to new files that stop after these numbers of calls, and again after a crash, which loses unsynced
+/// data. The history then has each answered command, and at most one more; each has its first answer. A reported
+/// migration remains. Returns all answers, and whether no call failed.
 fn stop_after(
     rt: &impl Abort,
     alloc: Global,
-    (is_log, calls): (bool, u64),
+    (log, db): (u64, u64),
     row: &str,
-    migrates: bool,
-    wanted: &Told,
-) -> Result<bool, Fail> {
-    let (log, db) = if is_log {
-        (calls, u64::MAX)
-    } else {
-        (u64::MAX, calls)
-    };
-    let files = Files {
-        log: Fuse::new(Memory::new(alloc), log),
-        db: Fuse::new(Memory::new(alloc), db),
-    };
+) -> Result<(Told, bool), Fail> {
     let Session {
+        version: _,
+        began: _,
         told,
         is_migrated,
         files,
         is_whole,
-        ..
-    } = work(rt, alloc, files, 1, row, migrates);
+    } = work(rt, alloc, files(alloc, log, db), 1, row, true);
     let Files { mut log, mut db } = files;
     log.crash();
     db.crash();
@@ -106,32 +105,34 @@ fn stop_after(
         version,
         began,
         told: again,
-        ..
+        is_migrated: _,
+        files: _files,
+        is_whole: _,
     } = work(rt, alloc, Files { log, db }, 2, row, false);
     let (told, again) = (told?, again?);
     let more = began.unwrap_or(u32::MAX).saturating_sub(told.count);
-    assert!(rt;
-        began >= Some(told.count) && more <= 1,
-        "after {calls} calls"
-    );
-    assert!(rt; version == Some(2) || !is_migrated, "after {calls} calls");
-    assert!(rt; wanted.text.starts_with(&told.text), "after {calls} calls");
-    assert!(rt; again.text == wanted.text, "after {calls} calls");
-    Ok(is_whole && told.count == wanted.count && told.unavailable == 0)
+    assert!(rt; began >= Some(told.count) && more <= 1);
+    assert!(rt; version == Some(2) || !is_migrated);
+    assert!(rt; again.unavailable == 0 && again.text.starts_with(&told.text));
+    let is_whole = is_whole && is_migrated && told.unavailable == 0;
+    Ok((again, is_whole))
 }
 
-/// Stops the log, and then the database, after each number of calls until none fails. Returns how often that was.
-fn stop_at_each(rt: &impl Abort, alloc: Global, row: &str, migrates: bool) -> Result<u64, Fail> {
-    let files = Files {
-        log: Memory::new(alloc),
-        db: Memory::new(alloc),
-    };
-    let Session { told, .. } = work(rt, alloc, files, 1, row, false);
-    let wanted = told?;
+/// Stops the log, and then the database, after each number of calls until none fails. All answers are the same each
+/// time. Returns how often that was.
+fn stop_at_each(rt: &impl Abort, alloc: Global, row: &str) -> Result<u64, Fail> {
+    let (wanted, _) = stop_after(rt, alloc, (u64::MAX, u64::MAX), row)?;
     let (mut points, mut ends) = (0u64, 0u32);
     for is_log in [true, false] {
         for calls in 0..10_000u64 {
-            if stop_after(rt, alloc, (is_log, calls), row, migrates, &wanted)? {
+            let fuses = if is_log {
+                (calls, u64::MAX)
+            } else {
+                (u64::MAX, calls)
+            };
+            let (told, is_whole) = stop_after(rt, alloc, fuses, row)?;
+            assert!(rt; told.text == wanted.text, "after {calls} calls");
+            if is_whole {
                 points = points.saturating_add(calls);
                 ends = ends.saturating_add(1);
                 break;
@@ -143,32 +144,12 @@ fn stop_at_each(rt: &impl Abort, alloc: Global, row: &str, migrates: bool) -> Re
 }
 
 /// For each last call of a disk, every answered command is present after the crash, with at most the current one in
-/// addition. Sent again, each acts once. A test has 60 seconds, so each case has its own.
+/// addition. Sent again, each acts once. The migration leaves complete tables of version 1 or of version 2.
 #[test]
-fn a_disk_that_stops_under_first_run(rt: HostRuntime) -> Result<(), Fail> {
-    let points = stop_at_each(&rt, rt.alloc(), FIRST_RUN, false)?;
-    println!(rt; "stopped {points} times")?;
-    Ok(())
-}
-
-#[test]
-fn a_disk_that_stops_under_a_splice(rt: HostRuntime) -> Result<(), Fail> {
-    let points = stop_at_each(&rt, rt.alloc(), SPLICE, false)?;
-    println!(rt; "stopped {points} times")?;
-    Ok(())
-}
-
-#[test]
-fn a_disk_that_stops_under_a_moved_reel(rt: HostRuntime) -> Result<(), Fail> {
-    let points = stop_at_each(&rt, rt.alloc(), MOVED, false)?;
-    println!(rt; "stopped {points} times")?;
-    Ok(())
-}
-
-/// The migration leaves complete tables of version 1 or of version 2.
-#[test]
-fn a_disk_that_stops_under_a_migration(rt: HostRuntime) -> Result<(), Fail> {
-    let points = stop_at_each(&rt, rt.alloc(), FIRST_RUN, true)?;
-    println!(rt; "stopped {points} times")?;
+fn a_disk_that_stops(rt: HostRuntime) -> Result<(), Fail> {
+    for row in [FIRST_RUN, SPLICE, MOVED] {
+        let points = stop_at_each(&rt, rt.alloc(), row)?;
+        println!(rt; "stopped {points} times")?;
+    }
     Ok(())
 }
