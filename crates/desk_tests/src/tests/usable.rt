@@ -21,8 +21,10 @@ fn a_reel_waits_for_its_bake(rt: HostRuntime) -> Result<(), Fail> {
     let at = Minute::new(50).ok_or("no minute")?;
     assert!(rt; reel_of_level(Level::One, 0, at)?.usable(at));
     let mut reel = reel_of_level(Level::Six, 60, at)?;
-    assert!(rt; !reel.usable(at));
+    let row = reel.row;
+    assert!(rt; !row.baked && !reel.usable(at));
     reel.bake(at);
-    assert!(rt; reel.usable(at));
+    let row = reel.row;
+    assert!(rt; row.baked && reel.usable(at));
     Ok(())
 }
