@@ -1,5 +1,5 @@
 -- A run on a desk in a file.
-use Rattle.std.proofs.Common.{◌≡◌, ◌⊎◌, ℕ, true, Option, None, length, refl, subst, sym, inl, inr, arith}
+use Rattle.std.proofs.Common.{◌≡◌, ℕ, true, Option, None, length, refl, subst, sym}
 use Rattle.sqlite_disk.specs.declared.Disk as disk
 use Rattle.sqlite_disk.specs.declared.start.Start as start
 use Rattle.sqlite_wal.specs.Files.{image_at}
@@ -69,13 +69,3 @@ runs_behind first make store last old new Fact before after trusts begins goes =
     let begun = subst (λ (d : LineStore (FileStore _ _) StateDesk). HasCleanDisk (state_of over_files d) → HasOursFirst (image_at first) → (greatest : ℕ) × (H : History) × Begins (image_at first) make greatest H
     × Stands over_files state.Stands state.kept_rules d (record { greatest = greatest; history = H; own = true })) (sym before) begins in
     subst (λ (d : LineStore (FileStore _ _) StateDesk). RunsOn first make (Desk d) Fact) (sym after) (runs_on first make (store_in old) (store_in new) Fact trusts begun goes)
-
-pub never_refused : {A : Type 0} (status : ℕ) → (status ≡ 0) ⊎ (status ≡ 1) ⊎ (status ≡ 4) → status ≡ 3 → A
-never_refused status (inl done) is = absurd (omega (arith, done, is))
-never_refused status (inr (inl refused)) is = absurd (omega (arith, refused, is))
-never_refused status (inr (inr failed)) is = absurd (omega (arith, failed, is))
-
-pub ends_so : (status : ℕ) → (status ≡ 0) ⊎ (status ≡ 1) ⊎ (status ≡ 4) → (status ≡ 0) ⊎ (status ≡ 1) ⊎ (status ≡ 3) ⊎ (status ≡ 4)
-ends_so status (inl done) = inl done
-ends_so status (inr (inl refused)) = inr (inl refused)
-ends_so status (inr (inr failed)) = inr (inr (inr failed))

@@ -41,26 +41,26 @@ abbrev pub MayRead : {D : Type 0} → disk.Ghosts D → Files D → Image → Ty
 MayRead g files image = (image ≡ image_of g files) ⊎ outcomes g files.log files.db image
 
 -- The connection was closed in this way.
-abbrev pub ClosesConn : {D : Type 0} {g : disk.Ghosts D} → Close
-    → Held (FileStore D g) → Files D → Type 0
+abbrev pub ClosesConn : {D : Type 0} {g : disk.Ghosts D} → Close → Held (FileStore D g) → Files D
+    → Type 0
 ClosesConn whole conn files = KeepsTables conn files × Copies conn files
 ClosesConn failed conn files = Leaves conn files
 
 -- A desk was closed in this way.
 abbrev pub ClosesDesk : {D : Type 0} {g : disk.Ghosts D} → Close
     → LineStore (FileStore D g) StateDesk → Files D → Type 0
-ClosesDesk whole desk files = Closes state.Stands state.kept_rules desk files
-    × Copies (conn_of desk) files
+ClosesDesk whole desk files =
+    Closes state.Stands state.kept_rules desk files × Copies (conn_of desk) files
 ClosesDesk failed desk files = Leaves (conn_of desk) files
 
 -- So were the files that a command left, if it opened any.
-abbrev pub ClosesLeft : {D : Type 0} {g : disk.Ghosts D} → Close → Left D g
-    → Option (Files D) → Type 0
+abbrev pub ClosesLeft : {D : Type 0} {g : disk.Ghosts D} → Close → Left D g → Option (Files D)
+    → Type 0
 ClosesLeft how Nothing files = files ≡ None
 ClosesLeft how (Desk desk) files = IsSomeAnd files (ClosesDesk how desk)
 ClosesLeft how (Migrated conn) files = IsSomeAnd files (ClosesConn how conn)
-ClosesLeft how (Refused r) files = MatchOption r.file (files ≡ None)
-    (λ conn. IsSomeAnd files (ClosesConn how conn))
+ClosesLeft how (Refused r) files =
+    MatchOption r.file (files ≡ None) (λ conn. IsSomeAnd files (ClosesConn how conn))
 
 -- ---- contents of the files
 
@@ -71,7 +71,8 @@ HoldsTables failed g files tables = ⊤
 
 -- They hold the database that an open of the first files finds.
 abbrev pub HoldsFound : {D : Type 0} → Close → disk.Ghosts D → Files D → Image → Type 0
-HoldsFound whole g files first = (db : Database) × IsFoundIn first db
+HoldsFound whole g files first =
+    (db : Database) × IsFoundIn first db
     × ((image : Image) → MayRead g files image → HoldsAlone image db.trees)
 HoldsFound failed g files first = ⊤
 
@@ -90,14 +91,14 @@ RunsTo how first g files make Fact =
     × Fact (record { rules = Two; greatest = greatest; history = H }) H')
 
 -- An audit found this number of commands.
-abbrev pub AuditsTo : {T D : Type 0} → Close → start.Ghosts T → disk.Ghosts D
-    → Option (Files D) → ℕ → Type 0
-AuditsTo how first g files count = RunsTo how first g files None
-    (λ G H. (H ≡ G.history) × (count ≡ length H))
+abbrev pub AuditsTo : {T D : Type 0} → Close → start.Ghosts T → disk.Ghosts D → Option (Files D) → ℕ
+    → Type 0
+AuditsTo how first g files count =
+    RunsTo how first g files None (λ G H. (H ≡ G.history) × (count ≡ length H))
 
 -- Files that held the tables of a history by version 1 hold them by version 2.
-abbrev pub MigratesTo : {T D : Type 0} → Close → start.Ghosts T → disk.Ghosts D
-    → Option (Files D) → Type 0
+abbrev pub MigratesTo : {T D : Type 0} → Close → start.Ghosts T → disk.Ghosts D → Option (Files D)
+    → Type 0
 MigratesTo how first g files =
     IsSomeAnd files (λ f. AreClean g f.log f.db → HasOursFirst (image_at first)
     → (greatest : ℕ) × (H : History) × IsOfOne (image_at first) greatest H

@@ -8,6 +8,7 @@ use Rattle.sqlite.specs.Files.{file_state, over_files}
 use Rattle.desk_types.specs.declared.rules.Rules.TheVariants.{Two}
 use Rattle.desk_types.specs.History.{History}
 use Rattle.desk_types.specs.Judged.{IsLawful}
+use Rattle.desk_laws.specs.Consistent.{IsConsistent}
 use Rattle.desk_answers.specs.Ledger.{Ledger}
 use Rattle.feeder_state.specs.contracts.desk.StateDeskDesk.TheImpl.{ghosts as state}
 use Rattle.line_schema.specs.declared.fault.OpenFault.{OpenFault}
@@ -18,7 +19,7 @@ use Rattle.desk_file.specs.Refused.{RefusesMigration, RefusesRun}
 use Rattle.http_answers.specs.Requests.{request_rule}
 use Rattle.desk_runs.specs.Told.{unavailable_line}
 use Rattle.desk_runs.specs.Clients.{Exchange}
-use Rattle.desk_runs.specs.Connections.{ConnectedEach}
+use Rattle.desk_runs.specs.Connections.{AnswersEach}
 use Rattle.gateway_http.specs.Reports.{report_of}
 use Rattle.desk_commands.specs.declared.left.Left.{Left}
 use Rattle.desk_commands.specs.declared.left.Left.TheVariants.{Desk, Migrated, Refused}
@@ -26,6 +27,10 @@ use Rattle.desk_commands.specs.declared.left.Left.TheVariants.{Desk, Migrated, R
 -- A desk of rules Two that has accepted nothing.
 abbrev pub fresh : ℕ → Ledger
 fresh greatest = record { rules = Two; greatest = greatest; history = [] }
+
+-- Lines on a new desk in memory: the fact relates its empty history to the one after them.
+abbrev pub RunsInMemory : ℕ → (Ledger → History → Type 0) → Type 0
+RunsInMemory greatest Fact = (H : History) × IsConsistent H × Fact (fresh greatest) H
 
 -- If the disk did not lie and the file held only the desk's tables, the open desk went from their history to one that
 -- the fact gives. A run begins with tables of version 2 or with none, so a file of version 1 gives no answers.
@@ -35,7 +40,8 @@ RunsOn first make (Desk d) Fact =
     HasCleanDisk (state_of over_files d) → HasOursFirst (image_at first)
     → (greatest : ℕ) × (H : History) × Begins (image_at first) make greatest H
     × IsLawful Two greatest H
-    × (H' : History) × Stands over_files state.Stands state.kept_rules d
+    × (H' : History)
+    × Stands over_files state.Stands state.kept_rules d
     (record { greatest = greatest; history = H'; own = true })
     × Fact (record { rules = Two; greatest = greatest; history = H }) H'
 RunsOn first make _ Fact = ⊥
@@ -51,19 +57,20 @@ Audits first _ count = ⊥
 -- A file was migrated. If its disk did not lie, and it held only the desk's tables, its connection holds those of its
 -- history by version 2, and a crash leaves only these.
 abbrev pub Migrates : {T D : Type 0} {g : disk.Ghosts D} → start.Ghosts T → Left D g → Type 0
-Migrates first (Migrated conn) = HasCleanDisk (file_state conn) → HasOursFirst (image_at first)
+Migrates first (Migrated conn) =
+    HasCleanDisk (file_state conn) → HasOursFirst (image_at first)
     → MigratedFrom (image_at first) conn
 Migrates first _ = ⊥
 
 -- A run that may make a desk up to this number refused the files for this fault.
-abbrev pub Refuses : {T D : Type 0} {g : disk.Ghosts D} → start.Ghosts T → Option ℕ
-    → Left D g → OpenFault → Type 0
+abbrev pub Refuses : {T D : Type 0} {g : disk.Ghosts D} → start.Ghosts T → Option ℕ → Left D g
+    → OpenFault → Type 0
 Refuses first make (Refused r) fault = (r.fault ≡ fault) × RefusesRun (image_at first) make r
 Refuses first make _ fault = ⊥
 
 -- A migration refused them.
-abbrev pub RefusesToMigrate : {T D : Type 0} {g : disk.Ghosts D} → start.Ghosts T
-    → Left D g → OpenFault → Type 0
+abbrev pub RefusesToMigrate : {T D : Type 0} {g : disk.Ghosts D} → start.Ghosts T → Left D g
+    → OpenFault → Type 0
 RefusesToMigrate first (Refused r) fault = (r.fault ≡ fault) × RefusesMigration (image_at first) r
 RefusesToMigrate first _ fault = ⊥
 
@@ -79,8 +86,7 @@ LeavesFile _ = ⊤
 
 -- Connections were answered, each by the history that the previous one left.
 abbrev pub ServesEach : List Exchange → Ledger → History → Type 0
-ServesEach exchanges G H =
-    ConnectedEach (request_rule report_of G.rules G.greatest) G.history exchanges H
+ServesEach = AnswersEach (request_rule report_of)
 
 -- The line that says why the desk's file was refused.
 abbrev pub refusal_line : OpenFault → List ℕ

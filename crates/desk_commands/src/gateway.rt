@@ -1,19 +1,16 @@
 //! Requests, answered by a desk in a file.
 
-ghost use Rattle.std.specs.Prelude.{◌≡◌, ◌≢◌, ◌⊎◌, ◌≤◌, None, Some, List};
-ghost use Rattle.std.specs.Io.KnownBytes.{Appends};
+ghost use Rattle.std.specs.Prelude.{◌≡◌, ◌≤◌, None, Some};
 ghost use Rattle.desk_types.specs.declared.limits.TheConstants.{MOST_ENTRIES};
-ghost use Rattle.desk_types.specs.Wire.{inner_of, failures_of};
-ghost use Rattle.served.specs.Sent.{SendsFront};
-ghost use Rattle.http_stream.specs.Answers.{Told, code_of};
+ghost use Rattle.http_answers.specs.Requests.{request_rule};
 ghost use Rattle.gateway_http.specs.Reports.{report_of};
-ghost use Rattle.desk_runs.specs.Clients.{Exchange, ServesAt, ends_of};
-ghost use Rattle.desk_runs.specs.Connections.{TellsConnections};
+ghost use Rattle.desk_runs.specs.Clients.{ServesAt};
+ghost use Rattle.desk_runs.specs.Ends.{ReportEnds, ServingEnds};
 ghost use Rattle.desk_runs.specs.Runs.{AnswersReport};
-ghost use Rattle.desk_runs.specs.Told.{report_output, TellsEnd, TellsLine, TellsUnwritten};
-ghost use Rattle.desk_runs.specs.Wires.{GoesWell, HaveFewFailures};
+ghost use Rattle.desk_runs.specs.Told.{TellsLine};
+ghost use Rattle.desk_runs.specs.Wires.{HaveFewFailures};
 ghost use Rattle.desk_commands.specs.declared.left.Left.TheVariants.{Nothing};
-ghost use Rattle.desk_commands.specs.Runs.{HasNoDesk, LeavesDesk, Refuses, RunsOn, ServesEach};
+ghost use Rattle.desk_commands.specs.Runs.{HasNoDesk, LeavesDesk, Refuses, RunsOn};
 
 use crate::left::Left;
 use crate::refusal::tell_refusal;
@@ -44,24 +41,12 @@ pub fn serve_in_file<T: Start, C: Clients, W: Write, E: Write>(
     requires least { 1 ≤ greatest }
     requires most { greatest ≤ MOST_ENTRIES }
     requires few { HaveFewFailures output.old errors.old }
-    ensures status { (result.0 ≡ 0) ⊎ (result.0 ≡ 1) ⊎ (result.0 ≡ 3) ⊎ (result.0 ≡ 4) }
-    ensures served { (result.0 ≡ 0) ⊎ (result.0 ≡ 1) ⊎ (result.0 ≡ 4)
-        → (exchanges : List Exchange)
-        × TellsConnections connections (ends_of exchanges) result.0
-        (W.contents (inner_of output.old))
-        (W.contents (inner_of output.new)) (failures_of output.old) (failures_of output.new)
-        × ServesAt C.Saw clients.old clients.new port exchanges
-        × RunsOn T.Start (Some greatest) result.1 (ServesEach exchanges) }
-    ensures no_desk { result.0 ≡ 3
-        → HasNoDesk (Refuses T.Start (Some greatest) result.1) (result.1 ≡ Nothing)
-        (TellsLine E.contents errors.old errors.new) }
+    ensures ends { ServingEnds W.contents E.contents output.old output.new errors.old errors.new
+        connections (request_rule report_of) (ServesAt C.Saw clients.old clients.new port)
+        (RunsOn T.Start (Some greatest) result.1)
+        (HasNoDesk (Refuses T.Start (Some greatest) result.1) (result.1 ≡ Nothing)
+        (TellsLine E.contents errors.old errors.new) × (clients.new ≡ clients.old)) result.0 }
     ensures left { LeavesDesk result.1 }
-    ensures untouched { result.0 ≡ 3 → output.new ≡ output.old }
-    ensures unasked { result.0 ≡ 3 → clients.new ≡ clients.old }
-    ensures failed { result.0 ≡ 4
-        → TellsEnd E.contents output.old output.new errors.old errors.new }
-    ensures well { (result.0 ≡ 0) ⊎ (result.0 ≡ 1)
-        → GoesWell output.old output.new errors.old errors.new }
 {
     let Ok(routes) = RouteTable::new(rt.alloc()) else {
         return (unavailable(errors), Left::Nothing);
@@ -98,30 +83,11 @@ pub fn report_in_file<T: Start, W: Write, E: Write>(
     errors: &mut Wire<E>,
 ) -> (u8, Left<FileFrom<T>>)
     requires few { HaveFewFailures output.old errors.old }
-    ensures status { (result.0 ≡ 0) ⊎ (result.0 ≡ 1) ⊎ (result.0 ≡ 3) ⊎ (result.0 ≡ 4) }
-    ensures done { result.0 ≡ 0
-        → (answer : Told) × (code_of answer.status ≡ 200)
-        × Appends (W.contents (inner_of output.old)) (W.contents (inner_of output.new))
-        (report_output answer)
-        × RunsOn T.Start None result.1 (AnswersReport report_of target.now answer) }
-    ensures refused { result.0 ≡ 1
-        → (answer : Told) × (code_of answer.status ≢ 200)
-        × Appends (W.contents (inner_of output.old)) (W.contents (inner_of output.new))
-        (report_output answer)
-        × RunsOn T.Start None result.1 (AnswersReport report_of target.now answer) }
-    ensures no_desk { result.0 ≡ 3
-        → HasNoDesk (Refuses T.Start None result.1) (result.1 ≡ Nothing)
-        (TellsLine E.contents errors.old errors.new) }
+    ensures ends { ReportEnds W.contents E.contents output.old output.new errors.old errors.new
+        (λ answer. RunsOn T.Start None result.1 (AnswersReport report_of target.now answer))
+        (HasNoDesk (Refuses T.Start None result.1) (result.1 ≡ Nothing)
+        (TellsLine E.contents errors.old errors.new)) result.0 }
     ensures left { LeavesDesk result.1 }
-    ensures untouched { result.0 ≡ 3 → output.new ≡ output.old }
-    ensures failed { result.0 ≡ 4
-        → TellsUnwritten E.contents output.old output.new errors.old errors.new
-        × (answer : Told)
-        × SendsFront (W.contents (inner_of output.old)) (W.contents (inner_of output.new))
-        (report_output answer)
-        × RunsOn T.Start None result.1 (AnswersReport report_of target.now answer) }
-    ensures well { (result.0 ≡ 0) ⊎ (result.0 ≡ 1)
-        → GoesWell output.old output.new errors.old errors.new }
 {
     let Ok(routes) = RouteTable::new(rt.alloc()) else {
         return (unavailable(errors), Left::Nothing);

@@ -1,12 +1,10 @@
 //! A desk in a file, audited or migrated.
 
 ghost use Rattle.std.specs.Prelude.{◌≡◌, ◌⊎◌, None, ℕ};
-ghost use Rattle.std.specs.Io.KnownBytes.{Appends};
-ghost use Rattle.desk_types.specs.Wire.{inner_of};
-ghost use Rattle.served.specs.Sent.{SendsFront};
+ghost use Rattle.desk_runs.specs.Ends.{PrintEnds};
 ghost use Rattle.desk_runs.specs.Runs.{StaysSame};
-ghost use Rattle.desk_runs.specs.Told.{lawful_line, version_line, TellsLine, TellsUnwritten};
-ghost use Rattle.desk_runs.specs.Wires.{GoesWell, HaveFewFailures};
+ghost use Rattle.desk_runs.specs.Told.{lawful_line, version_line, TellsLine};
+ghost use Rattle.desk_runs.specs.Wires.{HaveFewFailures};
 ghost use Rattle.desk_commands.specs.Runs.{Audits, HasNoDesk, LeavesDesk, LeavesFile, Migrates, Refuses, RefusesToMigrate, RunsOn};
 
 use crate::left::Left;
@@ -28,24 +26,13 @@ pub fn audit_file<T: Start, W: Write, E: Write>(
     errors: &mut Wire<E>,
 ) -> (u8, Left<FileFrom<T>>)
     requires few { HaveFewFailures output.old errors.old }
-    ensures status { (result.0 ≡ 0) ⊎ (result.0 ≡ 3) ⊎ (result.0 ≡ 4) }
-    ensures done { result.0 ≡ 0
-        → (count : ℕ)
-        × Appends (W.contents (inner_of output.old))
-        (W.contents (inner_of output.new)) (lawful_line count)
-        × Audits T.Start result.1 count }
-    ensures no_desk { result.0 ≡ 3
-        → HasNoDesk (Refuses T.Start None result.1) (RunsOn T.Start None result.1 StaysSame)
-        (TellsLine E.contents errors.old errors.new) }
+    ensures ends { (count : ℕ)
+        × PrintEnds W.contents E.contents output.old output.new errors.old errors.new
+        (lawful_line count)
+        (HasNoDesk (Refuses T.Start None result.1) (RunsOn T.Start None result.1 StaysSame)
+        (TellsLine E.contents errors.old errors.new)) result.0
+        × ((result.0 ≡ 0) ⊎ (result.0 ≡ 4) → Audits T.Start result.1 count) }
     ensures left { LeavesDesk result.1 }
-    ensures untouched { result.0 ≡ 3 → output.new ≡ output.old }
-    ensures failed { result.0 ≡ 4
-        → TellsUnwritten E.contents output.old output.new errors.old errors.new
-        × (count : ℕ)
-        × SendsFront (W.contents (inner_of output.old))
-        (W.contents (inner_of output.new)) (lawful_line count)
-        × Audits T.Start result.1 count }
-    ensures well { result.0 ≡ 0 → GoesWell output.old output.new errors.old errors.new }
 {
     match open_desk::<T, StateDesk>(rt, file, start, None) {
         Ok(store) => {
@@ -69,21 +56,11 @@ pub fn migrate_file<T: Start, W: Write, E: Write>(
     errors: &mut Wire<E>,
 ) -> (u8, Left<FileFrom<T>>)
     requires few { HaveFewFailures output.old errors.old }
-    ensures status { (result.0 ≡ 0) ⊎ (result.0 ≡ 3) ⊎ (result.0 ≡ 4) }
-    ensures done { result.0 ≡ 0
-        → Appends (W.contents (inner_of output.old)) (W.contents (inner_of output.new)) version_line
-        × Migrates T.Start result.1 }
-    ensures no_desk { result.0 ≡ 3
-        → HasNoDesk (RefusesToMigrate T.Start result.1) ⊥
-        (TellsLine E.contents errors.old errors.new) }
+    ensures ends { PrintEnds W.contents E.contents output.old output.new errors.old errors.new
+        version_line (HasNoDesk (RefusesToMigrate T.Start result.1) ⊥
+        (TellsLine E.contents errors.old errors.new)) result.0 }
+    ensures migrates { (result.0 ≡ 0) ⊎ (result.0 ≡ 4) → Migrates T.Start result.1 }
     ensures left { LeavesFile result.1 }
-    ensures untouched { result.0 ≡ 3 → output.new ≡ output.old }
-    ensures failed { result.0 ≡ 4
-        → TellsUnwritten E.contents output.old output.new errors.old errors.new
-        × SendsFront (W.contents (inner_of output.old))
-        (W.contents (inner_of output.new)) version_line
-        × Migrates T.Start result.1 }
-    ensures well { result.0 ≡ 0 → GoesWell output.old output.new errors.old errors.new }
 {
     match migrate_desk::<T, StateDesk>(rt, file, start) {
         Ok(conn) => {

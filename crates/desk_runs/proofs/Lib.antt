@@ -1,5 +1,6 @@
 pub mod ClientsSeen
 pub mod ConnectionLines
+pub mod EndsOfRuns
 pub mod ImportsOfFiles
 pub mod ListsAfter
 pub mod Questions

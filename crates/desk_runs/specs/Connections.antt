@@ -3,10 +3,11 @@ use Rattle.std.specs.Prelude.{◌≡◌, ◌⊎◌, ◌<◌, ◌≤◌, ℕ, ◌
 use Rattle.std.specs.List.{list_any}
 use Rattle.std.specs.Io.KnownBytes.{Appends}
 use Rattle.desk_types.specs.History.{History}
+use Rattle.desk_answers.specs.Ledger.{Ledger}
 use Rattle.served.specs.Sent.{SendsFront}
 use Rattle.served.specs.declared.serving.Served.{Served}
 use Rattle.served.specs.declared.serving.ServeFault.TheVariants.{Read, Write, TooManyReads}
-use Rattle.http_stream.specs.Stream.{Rule, AnsweredAll, AnsweredFront, AnsweredInto}
+use Rattle.http_stream.specs.Stream.{Rule, RuleBy, AnsweredAll, AnsweredFront, AnsweredInto}
 use Rattle.desk_runs.specs.Clients.{Ended, Exchange}
 
 -- ---- the history
@@ -30,8 +31,12 @@ Connected rule H e H' = ConnectedSo rule e.sent e.unread H e.before e.ended H' e
 -- Each connection was answered by the history that the previous one left.
 abbrev pub ConnectedEach : Rule → History → List Exchange → History → Type 0
 ConnectedEach rule H [] H' = H' ≡ H
-ConnectedEach rule H (e ∷ es) H' = (H₁ : History) × Connected rule H e H₁
-    × ConnectedEach rule H₁ es H'
+ConnectedEach rule H (e ∷ es) H' =
+    (H₁ : History) × Connected rule H e H₁ × ConnectedEach rule H₁ es H'
+
+-- The same by the rule of the ledger.
+abbrev pub AnswersEach : RuleBy → List Exchange → Ledger → History → Type 0
+AnswersEach rule exchanges G H = ConnectedEach (rule G.rules G.greatest) G.history exchanges H
 
 -- ---- the lines
 
@@ -67,29 +72,29 @@ is_faulty (Err fault) = true
 
 -- All were served, and each has its line. The status is 0, or 1 if one of them was faulty.
 abbrev pub TellsAll : ℕ → List Ended → ℕ → Option (List ℕ) → Option (List ℕ) → ℕ → ℕ → Type 0
-TellsAll connections ends status out out' failures failures' = (length ends ≡ connections)
-    × (status ≡ (if list_any is_faulty ends then 1 else 0))
+TellsAll connections ends status out out' failures failures' =
+    (length ends ≡ connections) × (status ≡ (if list_any is_faulty ends then 1 else 0))
     × Appends out out' (lines_from 1 ends) × (failures' ≡ failures)
 
 -- The next one could not be accepted. The earlier ones have their lines.
 abbrev pub TellsSome : ℕ → List Ended → ℕ → Option (List ℕ) → Option (List ℕ) → ℕ → ℕ → Type 0
-TellsSome connections ends status out out' failures failures' = (length ends < connections)
-    × (status ≡ 4)
+TellsSome connections ends status out out' failures failures' =
+    (length ends < connections) × (status ≡ 4)
     × Appends out out' (lines_from 1 ends) × (failures' ≡ failures)
 
 -- A line could not be written, as the writer's count shows. Only its first bytes were sent, after the lines of all
 -- earlier connections.
 abbrev pub TellsFront : ℕ → List Ended → ℕ → Option (List ℕ) → Option (List ℕ) → ℕ → ℕ → Type 0
-TellsFront connections ends status out out' failures failures' = (length ends ≤ connections)
-    × (status ≡ 4) × (failures' ≡ failures + 1)
+TellsFront connections ends status out out' failures failures' =
+    (length ends ≤ connections) × (status ≡ 4) × (failures' ≡ failures + 1)
     × (before : List Ended) × (last : Ended) × (mid : Option (List ℕ))
     × (ends ≡ before ++ last ∷ [])
     × Appends out mid (lines_from 1 before)
     × SendsFront mid out' (connection_line (length before + 1) last)
 
 -- The lines and the exit status of connections with these ends.
-abbrev pub TellsConnections : ℕ → List Ended → ℕ → Option (List ℕ)
-    → Option (List ℕ) → ℕ → ℕ → Type 0
+abbrev pub TellsConnections : ℕ → List Ended → ℕ → Option (List ℕ) → Option (List ℕ) → ℕ → ℕ
+    → Type 0
 TellsConnections connections ends status out out' failures failures' =
     TellsAll connections ends status out out' failures failures'
     ⊎ TellsSome connections ends status out out' failures failures'

@@ -1,5 +1,6 @@
 pub mod Clients
 pub mod Connections
+pub mod Ends
 pub mod Runs
 pub mod Told
 pub mod Wires

@@ -67,16 +67,16 @@ abbrev pub TellsLine : {E : Type 0} → (E → Option (List ℕ)) → Wire E →
 TellsLine contents errors errors' line = Tells contents errors errors' (line ++ 10 ∷ [])
 
 -- One write to the output failed, and standard error says so.
-abbrev pub TellsUnwritten : {W E : Type 0} → (E → Option (List ℕ)) → Wire W → Wire W
-    → Wire E → Wire E → Type 0
+abbrev pub TellsUnwritten : {W E : Type 0} → (E → Option (List ℕ)) → Wire W → Wire W → Wire E
+    → Wire E → Type 0
 TellsUnwritten contents output output' errors errors' =
     (failures_of output' ≡ failures_of output + 1)
     × TellsLine contents errors errors' (fault_line (Write none_served))
 
 -- Standard error says why no further connection is served: a line could not be written, as the output's count shows, or
 -- none could be accepted.
-abbrev pub TellsEnd : {W E : Type 0} → (E → Option (List ℕ)) → Wire W → Wire W
-    → Wire E → Wire E → Type 0
+abbrev pub TellsEnd : {W E : Type 0} → (E → Option (List ℕ)) → Wire W → Wire W → Wire E → Wire E
+    → Type 0
 TellsEnd contents output output' errors errors' =
     ((failures_of output' ≡ failures_of output)
     × TellsLine contents errors errors' (fault_line (Read none_served)))

@@ -1,19 +1,19 @@
 //! Requests, answered: those of a port, or one that asks for a report.
 
-ghost use Rattle.std.specs.Prelude.{◌≡◌, ◌≢◌, ◌⊎◌, ◌+◌, ◌^◌, ◌<◌, ◌≤◌, true, false, List, OnOk, OnErr};
+ghost use Rattle.std.specs.Prelude.{◌≡◌, ◌+◌, ◌^◌, ◌<◌, ◌≤◌, true, false, OnOk, OnErr};
 ghost use Rattle.std.specs.Io.KnownBytes.{Appends};
 ghost use Rattle.desk_types.specs.Wire.{inner_of, failures_of};
 ghost use Rattle.served.specs.declared.serving.ServeFault.TheVariants.{Read as ReadFault, Write as WriteFault};
 ghost use Rattle.served.specs.Counts.{none_served};
 ghost use Rattle.served.specs.Sent.{SendsFront};
 ghost use Rattle.http_answers.specs.Gateways.{owner_of};
-ghost use Rattle.http_stream.specs.Answers.{Told, code_of, response_told};
+ghost use Rattle.http_stream.specs.Answers.{response_told};
 ghost use Rattle.desk_answers.specs.Ledger.{ForLists};
-ghost use Rattle.desk_runs.specs.Clients.{Exchange, ServesAt, ends_of};
-ghost use Rattle.desk_runs.specs.Connections.{ConnectedEach, TellsConnections};
+ghost use Rattle.desk_runs.specs.Clients.{ServesAt};
+ghost use Rattle.desk_runs.specs.Ends.{ReportEnds, ServingEnds};
 ghost use Rattle.desk_runs.specs.Runs.{AnswersReport};
-ghost use Rattle.desk_runs.specs.Told.{fault_line, report_output, TellsEnd, TellsLine, TellsUnwritten};
-ghost use Rattle.desk_runs.specs.Wires.{GoesWell, HaveFewFailures};
+ghost use Rattle.desk_runs.specs.Told.{fault_line, report_output, TellsLine};
+ghost use Rattle.desk_runs.specs.Wires.{HaveFewFailures};
 
 use crate::clients::{Clients, NoClient};
 use crate::exit::{Exit, tell_line};
@@ -41,16 +41,9 @@ pub fn serve_port<A: Handler, C: Clients, W: Write, E: Write>(
     requires ready { A.Ready handler.old }
     ensures ready { A.Ready handler.new }
     ensures trusts { A.Trusts handler.new → A.Trusts handler.old }
-    ensures status { (result ≡ 0) ⊎ (result ≡ 1) ⊎ (result ≡ 4) }
-    ensures served { (exchanges : List Exchange)
-        × TellsConnections connections (ends_of exchanges) result (W.contents (inner_of output.old))
-        (W.contents (inner_of output.new)) (failures_of output.old) (failures_of output.new)
-        × ServesAt C.Saw clients.old clients.new port exchanges
-        × ForLists A.Stands A.Trusts handler.old handler.new
-        (λ G H. ConnectedEach (A.rule G.rules G.greatest) G.history exchanges H) }
-    ensures failed { result ≡ 4 → TellsEnd E.contents output.old output.new errors.old errors.new }
-    ensures well { (result ≡ 0) ⊎ (result ≡ 1)
-        → GoesWell output.old output.new errors.old errors.new }
+    ensures ends { ServingEnds W.contents E.contents output.old output.new errors.old errors.new
+        connections A.rule (ServesAt C.Saw clients.old clients.new port)
+        (ForLists A.Stands A.Trusts handler.old handler.new) ⊥ result }
 {
     if let Err(NoClient) = clients.listen(port) {
         tell_line(errors, "tracedesk: Read");
@@ -90,28 +83,9 @@ pub fn tell_report<L: ReportedOwner, W: Write, E: Write>(
     requires ready { L.Ready (owner_of gateway.old) }
     ensures ready { L.Ready (owner_of gateway.new) }
     ensures trusts { L.Trusts (owner_of gateway.new) → L.Trusts (owner_of gateway.old) }
-    ensures status { (result ≡ 0) ⊎ (result ≡ 1) ⊎ (result ≡ 4) }
-    ensures done { result ≡ 0
-        → (answer : Told) × (code_of answer.status ≡ 200)
-        × Appends (W.contents (inner_of output.old)) (W.contents (inner_of output.new))
-        (report_output answer)
-        × ForLists L.Stands L.Trusts (owner_of gateway.old) (owner_of gateway.new)
-        (AnswersReport L.reports target.now answer) }
-    ensures refused { result ≡ 1
-        → (answer : Told) × (code_of answer.status ≢ 200)
-        × Appends (W.contents (inner_of output.old)) (W.contents (inner_of output.new))
-        (report_output answer)
-        × ForLists L.Stands L.Trusts (owner_of gateway.old) (owner_of gateway.new)
-        (AnswersReport L.reports target.now answer) }
-    ensures failed { result ≡ 4
-        → TellsUnwritten E.contents output.old output.new errors.old errors.new
-        × (answer : Told)
-        × SendsFront (W.contents (inner_of output.old)) (W.contents (inner_of output.new))
-        (report_output answer)
-        × ForLists L.Stands L.Trusts (owner_of gateway.old) (owner_of gateway.new)
-        (AnswersReport L.reports target.now answer) }
-    ensures well { (result ≡ 0) ⊎ (result ≡ 1)
-        → GoesWell output.old output.new errors.old errors.new }
+    ensures ends { ReportEnds W.contents E.contents output.old output.new errors.old errors.new
+        (λ answer. ForLists L.Stands L.Trusts (owner_of gateway.old) (owner_of gateway.new)
+        (AnswersReport L.reports target.now answer)) ⊥ result }
 {
     let response = gateway.ask(alloc, target.as_bytes());
     match send_report(output, &response) {

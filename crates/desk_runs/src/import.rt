@@ -1,12 +1,10 @@
 //! An import, answered.
 
-ghost use Rattle.std.specs.Prelude.{◌≡◌, ◌⊎◌, true, false};
-ghost use Rattle.served.specs.declared.serving.ServeFault.TheVariants.{Read as ReadFault};
-ghost use Rattle.served.specs.Counts.{none_served};
+ghost use Rattle.std.specs.Prelude.{◌≡◌};
 ghost use Rattle.desk_answers.specs.Ledger.{ForLists};
-ghost use Rattle.desk_runs.specs.Runs.{AnswersImport, CutsImport, StaysSame};
-ghost use Rattle.desk_runs.specs.Told.{fault_line, unavailable_line, TellsLine, TellsUnwritten};
-ghost use Rattle.desk_runs.specs.Wires.{GoesWell, HaveFewFailures};
+ghost use Rattle.desk_runs.specs.Ends.{ImportEnds};
+ghost use Rattle.desk_runs.specs.Told.{unavailable_line, TellsLine};
+ghost use Rattle.desk_runs.specs.Wires.{HaveFewFailures};
 
 use crate::exit::{Exit, tell_line, unavailable};
 use desk_answers::Owner;
@@ -29,26 +27,11 @@ pub fn import_rows<F: Folder, W: Write, E: Write, L: Owner>(
     requires ready { L.Ready owner.old }
     ensures ready { L.Ready owner.new }
     ensures trusts { L.Trusts owner.new → L.Trusts owner.old }
-    ensures status { (result ≡ 0) ⊎ (result ≡ 1) ⊎ (result ≡ 3) ⊎ (result ≡ 4) }
-    ensures done { result ≡ 0
-        → ForLists L.Stands L.Trusts owner.old owner.new
-        (AnswersImport W.contents output.old output.new false import.now
-        (F.holds folder.now from.now)) }
-    ensures refused { result ≡ 1
-        → ForLists L.Stands L.Trusts owner.old owner.new
-        (AnswersImport W.contents output.old output.new true import.now
-        (F.holds folder.now from.now)) }
-    ensures no_memory { result ≡ 3 → TellsLine E.contents errors.old errors.new unavailable_line }
-    ensures untouched { result ≡ 3 → (owner.new ≡ owner.old) × (output.new ≡ output.old) }
-    ensures failed { result ≡ 4
-        → (TellsUnwritten E.contents output.old output.new errors.old errors.new
-        × ForLists L.Stands L.Trusts owner.old owner.new
-        (CutsImport W.contents output.old output.new import.now (F.holds folder.now from.now)))
-        ⊎ (F.may_fail folder.now from.now × (output.new ≡ output.old)
-        × TellsLine E.contents errors.old errors.new (fault_line (ReadFault none_served))
-        × ForLists L.Stands L.Trusts owner.old owner.new StaysSame) }
-    ensures well { (result ≡ 0) ⊎ (result ≡ 1)
-        → GoesWell output.old output.new errors.old errors.new }
+    ensures ends { ImportEnds W.contents E.contents output.old output.new errors.old errors.new
+        import.now (F.holds folder.now from.now) (F.may_fail folder.now from.now)
+        (ForLists L.Stands L.Trusts owner.old owner.new)
+        ((owner.new ≡ owner.old) × TellsLine E.contents errors.old errors.new unavailable_line)
+        result }
 {
     let bytes = match folder.read(alloc, from) {
         Ok(bytes) => bytes,

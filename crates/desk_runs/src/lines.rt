@@ -1,16 +1,11 @@
 //! The lines of an input, answered.
 
-ghost use Rattle.std.specs.Prelude.{◌≡◌, ◌⊎◌, ◌+◌, ◌<◌, ◌≤◌};
-ghost use Rattle.desk_types.specs.Wire.{inner_of, reads_of};
-ghost use Rattle.desk_feed.specs.Stream.{LeavesNone};
-ghost use Rattle.served.specs.declared.serving.Served.{Served};
-ghost use Rattle.served.specs.declared.serving.ServeFault.{ServeFault};
+ghost use Rattle.std.specs.Prelude.{◌+◌, ◌≤◌};
+ghost use Rattle.desk_types.specs.Wire.{reads_of};
 ghost use Rattle.desk_types.specs.declared.limits.TheConstants.{MOST_READS};
-ghost use Rattle.served.specs.Shown.{IsShown};
 ghost use Rattle.desk_answers.specs.Ledger.{ForLists};
-ghost use Rattle.desk_runs.specs.Runs.{AnswersAll, AnswersUpTo};
-ghost use Rattle.desk_runs.specs.Told.{fault_line, TellsLine};
-ghost use Rattle.desk_runs.specs.Wires.{FeedsWell, HaveFewCounts};
+ghost use Rattle.desk_runs.specs.Ends.{FeedEnds};
+ghost use Rattle.desk_runs.specs.Wires.{HaveFewCounts};
 
 use crate::exit::{Exit, tell_failure};
 use desk_answers::Owner;
@@ -30,25 +25,11 @@ pub fn feed_lines<R: Read, W: Write, E: Write, L: Owner>(
     requires few { HaveFewCounts input.old output.old errors.old }
     requires ready { L.Ready owner.old }
     ensures ready { L.Ready owner.new }
-    ensures status { (result ≡ 0) ⊎ (result ≡ 1) ⊎ (result ≡ 4) }
-    ensures done { result ≡ 0
-        → (served : Served) × (served.refused ≡ 0)
-        × ForLists L.Stands L.Trusts owner.old owner.new
-        (AnswersAll R.remaining W.contents input.old output.old output.new served) }
-    ensures refused { result ≡ 1
-        → (served : Served) × (0 < served.refused)
-        × ForLists L.Stands L.Trusts owner.old owner.new
-        (AnswersAll R.remaining W.contents input.old output.old output.new served) }
-    ensures failed { result ≡ 4
-        → (fault : ServeFault) × IsShown fault input.old input.new output.old output.new
-        × LeavesNone (R.remaining (inner_of input.old)) (R.remaining (inner_of input.new)) fault
-        × TellsLine E.contents errors.old errors.new (fault_line fault)
-        × ForLists L.Stands L.Trusts owner.old owner.new
-        (AnswersUpTo R.remaining W.contents input.old output.old output.new fault) }
-    ensures well { (result ≡ 0) ⊎ (result ≡ 1)
-        → FeedsWell R.remaining input.old input.new output.old output.new errors.old errors.new }
-    ensures few_reads { reads_of input.new ≤ reads_of input.old + MOST_READS }
     ensures trusts { L.Trusts owner.new → L.Trusts owner.old }
+    ensures ends { FeedEnds R.remaining W.contents E.contents
+        input.old input.new output.old output.new errors.old errors.new
+        (ForLists L.Stands L.Trusts owner.old owner.new) ⊥ result }
+    ensures few_reads { reads_of input.new ≤ reads_of input.old + MOST_READS }
 {
     match feed(alloc, input, output, owner) {
         Ok(served) if served.refused == 0 => Exit::Done as u8,

@@ -6,7 +6,7 @@ ghost use Rattle.desk_types.specs.Wire.{inner_of, failures_of};
 ghost use Rattle.served.specs.Sent.{SendsFront};
 ghost use Rattle.desk_answers.specs.Ledger.{ForLists};
 ghost use Rattle.desk_runs.specs.Clients.{Exchange, Sees, ends_of, events_in};
-ghost use Rattle.desk_runs.specs.Connections.{Connected, ConnectedEach, TellsConnections, connection_line, fault_word, is_faulty, served_of};
+ghost use Rattle.desk_runs.specs.Connections.{AnswersEach, Connected, TellsConnections, connection_line, fault_word, is_faulty, served_of};
 
 use crate::clients::Clients;
 use desk_types::Wire;
@@ -37,8 +37,7 @@ pub fn serve_listener<A: Handler, C: Clients, W: Write>(
         × TellsConnections connections (ends_of exchanges) result (W.contents (inner_of output.old))
         (W.contents (inner_of output.new)) (failures_of output.old) (failures_of output.new)
         × Sees C.Saw clients.old clients.new (flat_map events_in exchanges)
-        × ForLists A.Stands A.Trusts handler.old handler.new
-        (λ G H. ConnectedEach (A.rule G.rules G.greatest) G.history exchanges H) }
+        × ForLists A.Stands A.Trusts handler.old handler.new (AnswersEach A.rule exchanges) }
 {
     let mut faulty = false;
     for k in 0..connections {
@@ -62,8 +61,8 @@ fn serve_next<A: Handler, C: Clients>(
     requires ready { A.Ready handler.old }
     ensures ready { A.Ready handler.new }
     ensures trusts { A.Trusts handler.new → A.Trusts handler.old }
-    ensures none { result ≡ None → (handler.new ≡ handler.old)
-        × Sees C.Saw clients.old clients.new [] }
+    ensures none { result ≡ None
+        → (handler.new ≡ handler.old) × Sees C.Saw clients.old clients.new [] }
     ensures served { IfSome result (λ ended. (exchange : Exchange) × (exchange.ended ≡ ended)
         × Sees C.Saw clients.old clients.new (events_in exchange)
         × ForLists A.Stands A.Trusts handler.old handler.new

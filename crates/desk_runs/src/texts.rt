@@ -4,6 +4,7 @@ ghost use Rattle.std.specs.Prelude.{◌≡◌, ◌⊎◌};
 ghost use Rattle.std.specs.Io.KnownBytes.{Appends};
 ghost use Rattle.desk_types.specs.Wire.{inner_of};
 ghost use Rattle.served.specs.Sent.{SendsFront};
+ghost use Rattle.desk_runs.specs.Ends.{PrintEnds};
 ghost use Rattle.desk_runs.specs.Told.{lawful_line, unavailable_line, TellsLine, TellsUnwritten};
 ghost use Rattle.desk_runs.specs.Wires.{GoesWell, HaveFewFailures};
 
@@ -21,18 +22,8 @@ pub fn tell_lawful<W: Write, E: Write>(
     errors: &mut Wire<E>,
 ) -> u8
     requires few { HaveFewFailures output.old errors.old }
-    ensures status { (result ≡ 0) ⊎ (result ≡ 3) ⊎ (result ≡ 4) }
-    ensures done { result ≡ 0
-        → Appends (W.contents (inner_of output.old))
-        (W.contents (inner_of output.new)) (lawful_line count) }
-    ensures no_desk { result ≡ 3 → TellsLine E.contents errors.old errors.new unavailable_line }
-    ensures untouched { result ≡ 3 → output.new ≡ output.old }
-    ensures failed { result ≡ 4
-        → TellsUnwritten E.contents output.old output.new errors.old errors.new }
-    ensures front { result ≡ 4
-        → SendsFront (W.contents (inner_of output.old))
-        (W.contents (inner_of output.new)) (lawful_line count) }
-    ensures well { result ≡ 0 → GoesWell output.old output.new errors.old errors.new }
+    ensures ends { PrintEnds W.contents E.contents output.old output.new errors.old errors.new
+        (lawful_line count) (TellsLine E.contents errors.old errors.new unavailable_line) result }
 {
     match format!(in alloc; "lawful {count}\n") {
         Ok(line) => send_text(line.as_str(), output, errors),
@@ -49,8 +40,8 @@ pub fn send_text<W: Write, E: Write>(text: &str, output: &mut Wire<W>, errors: &
     ensures failed { result ≡ 4
         → TellsUnwritten E.contents output.old output.new errors.old errors.new }
     ensures front { result ≡ 4
-        → SendsFront (W.contents (inner_of output.old))
-        (W.contents (inner_of output.new)) text.now }
+        → SendsFront (W.contents (inner_of output.old)) (W.contents (inner_of output.new))
+        text.now }
     ensures well { result ≡ 0 → GoesWell output.old output.new errors.old errors.new }
 {
     match send(output, text.as_bytes()) {

@@ -59,8 +59,8 @@ pub fn serve<R: Read, W: Write, L: ReportedOwner>(
 /// Calls `command`.
 pub fn command<L: ReportedOwner>(owner: &mut L, stamped: &Stamped) -> Answer
     requires ready { L.Ready owner.old }
-    ensures { CallsOnce L.reports L.Stands L.Trusts owner.old
-        (commanded stamped.now result) owner.new }
+    ensures { CallsOnce L.reports L.Stands L.Trusts owner.old (commanded stamped.now result)
+        owner.new }
 {
     owner.command(stamped)
 }
@@ -69,8 +69,7 @@ pub fn command<L: ReportedOwner>(owner: &mut L, stamped: &Stamped) -> Answer
 pub fn ask<L: ReportedOwner>(alloc: Global, gateway: &mut Gateway<L>, target: &[u8]) -> Response
     requires ready { L.Ready (owner_of gateway.old) }
     ensures { CallsOnce L.reports L.Stands L.Trusts (owner_of gateway.old)
-        (asked target.now (response_told result))
-        (owner_of gateway.new) }
+        (asked target.now (response_told result)) (owner_of gateway.new) }
 {
     gateway.ask(alloc, target)
 }

@@ -23,9 +23,8 @@ use http_answers::ReportedOwner;
 /// history of accepted commands alone determines every answer. That history is lawful and
 /// consistent, and the called owner represents it; a store represents a history by its tables.
 pub fn headline<L: ReportedOwner>(first: &L, last: &L)
-    ensures { (calls : List Call)
-        → Calls L.reports L.Stands L.Trusts first.now calls last.now → (G : Ledger)
-        → L.Stands first.now G → L.Trusts last.now
+    ensures { (calls : List Call) → Calls L.reports L.Stands L.Trusts first.now calls last.now
+        → (G : Ledger) → L.Stands first.now G → L.Trusts last.now
         → (H : History) × L.Stands last.now (record G { history = H })
         × AnswersByTheList L.reports G calls H
         × IsLawful G.rules G.greatest H × IsConsistent H }

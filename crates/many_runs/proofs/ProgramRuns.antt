@@ -16,12 +16,13 @@ use Rattle.served.specs.declared.serving.ServeFault.TheVariants.{Read, Write, To
 use Rattle.gateway_http.specs.Reports.{report_of}
 use Rattle.gateway_http.specs.Stores.{store_of}
 use Rattle.gateway_http.specs.declared.store.ReportedStore.{ReportedStore}
-use Rattle.headline.specs.Calls.{AnswersByTheList, Call, Calls, Serves}
+use Rattle.headline.specs.Calls.{AnswersByTheList, Call, Calls, Feeds, Imports, Serves}
+use Rattle.headline.specs.Calls.Call.{asked, fed, imported}
 use Rattle.desk_commands.specs.declared.left.Left.TheVariants.{Desk}
 use Rattle.desk_commands.specs.Runs.{RunsOn, ServesEach}
 use Rattle.desk_commands.specs.Closed.{RunsTo, whole}
 use Rattle.many_runs.specs.Runs.{by_two, IsRun}
-use Rattle.many_runs.specs.Closed.{ClosesTo, ReadsClean, connections_of, run_of}
+use Rattle.many_runs.specs.Closed.{ClosesTo, GivesCalls, ReadsClean, connections_of, run_of}
 use Rattle.many_runs.specs.Crashed.{CrashesTo, killed_run_of}
 use Rattle.sqlite_wal.specs.Files.{image_at}
 use Rattle.sqlite_trees.specs.Tree.{Trees}
@@ -35,7 +36,7 @@ use Rattle.line_rows.specs.Rows.{ledger_tables}
 use Rattle.line_schema.specs.declared.fault.OpenFault.{OpenFault}
 use Rattle.line_schema.specs.Stands.{state_of}
 use Rattle.desk_file.specs.Files.{IsFoundIn}
-use Rattle.desk_runs.specs.Runs.{StaysSame}
+use Rattle.desk_runs.specs.Runs.{AnswersReport, StaysSame}
 use Rattle.desk_commands.specs.Closed.{IsRefusedTo}
 use Rattle.headline.proofs.CallsInTurn.{goes_on, trusts_back}
 use Rattle.many_runs.specs.Crashed.{MakesCalls, StandsForList}
@@ -85,9 +86,20 @@ serves reports G sent unread before after (Err (Read served)) H connected = conn
 serves reports G sent unread before after (Err (TooManyReads served)) H connected = connected
 serves reports G sent unread before after (Err (Write served)) H connected = connected
 
-pub serves_each : (exchanges : List Exchange) (G : Ledger) (H : History) → ServesEach exchanges G H → AnswersByTheList report_of G (connections_of exchanges) H
+serves_each : (exchanges : List Exchange) (G : Ledger) (H : History) → ServesEach exchanges G H → AnswersByTheList report_of G (connections_of exchanges) H
 serves_each [] G H same = same
 serves_each (e ∷ es) G H (H₁, one, rest) = (H₁, serves report_of G e.sent e.unread e.before e.after e.ended H₁ one, serves_each es (record G { history = H₁ }) H rest)
+
+-- Facts that answer calls give what every such fact gives.
+pub gives_calls : (Gives : (Ledger → History → Type 0) → List Call → Type 0)
+    → ((Fact : Ledger → History → Type 0) (calls : List Call) → ((G : Ledger) (H : History) → Fact G H → AnswersByTheList report_of G calls H) → Gives Fact calls) → GivesCalls Gives
+gives_calls Gives gives = record {
+  feeds = λ input out out' ended. gives (λ G H. Feeds G input out out' ended H) (fed input out out' ended ∷ []) (λ G H fact. (H, fact, refl));
+  serves = λ exchanges. gives (ServesEach exchanges) (connections_of exchanges) (serves_each exchanges);
+  reports = λ target told. gives (AnswersReport report_of target told) (asked target told ∷ []) (λ G H fact. (H, (fact.1, fact.0), refl));
+  imports = λ import bytes out out' ended. gives (λ G H. Imports G import bytes out out' ended H) (imported import bytes out out' ended ∷ []) (λ G H fact. (H, fact, refl));
+  stays = gives StaysSame [] (λ G H same. same);
+}
 
 -- A run whose open desk was dropped.
 module _ {T D : Type 0} {g : disk.Ghosts D} (first : start.Ghosts T) (make : Option ℕ) (desk : LineStore (FileStore D g) StateDesk) (files : Files D) (image : Image) where

@@ -15,8 +15,10 @@ use Rattle.line_schema.specs.Stands.{IsAcceptable, Kept, Stands, state_of}
 
 -- The tables of the history, or those with one more command that would be accepted.
 abbrev pub HoldsUpToOneMore : Kept → Trees → Type 0
-HoldsUpToOneMore L trees = HoldsAt (ledger_tables L.greatest L.history) trees ⊎ ((s : Stamped)
-    × IsAcceptable L s × HoldsAt (ledger_tables L.greatest (accept L.history s)) trees)
+HoldsUpToOneMore L trees =
+    HoldsAt (ledger_tables L.greatest L.history) trees
+    ⊎ ((s : Stamped) × IsAcceptable L s
+    × HoldsAt (ledger_tables L.greatest (accept L.history s)) trees)
 
 -- The store represents the history, and a crash leaves its tables, or those with one more command. Its connection may
 -- be shut.

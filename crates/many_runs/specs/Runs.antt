@@ -50,20 +50,23 @@ pub record IsRunFrom (reports : Reports) (run : Run) (greatest : ℕ) (H H' : Hi
 
 -- If the files held only the tables of a desk, or no table at all, the run continued from their history.
 abbrev pub IsRun : Reports → Run → Type 0
-IsRun reports run = HasOursFirst run.first → (greatest : ℕ) × (H : History) × (H' : History)
+IsRun reports run =
+    HasOursFirst run.first → (greatest : ℕ) × (H : History) × (H' : History)
     × IsRunFrom reports run greatest H H'
 
 -- The run was refused its files: it made no call, and kept the tables of whatever history they held.
 abbrev pub KeepsList : Run → Type 0
-KeepsList run = (run.calls ≡ []) × ((greatest : ℕ) (H : History) (trees : Trees)
-    → ∥ HoldsDatabase run.first trees ∥₁ → HoldsAt (ledger_tables greatest H) trees
+KeepsList run =
+    (run.calls ≡ [])
+    × ((greatest : ℕ) (H : History) (trees : Trees) → ∥ HoldsDatabase run.first trees ∥₁
+    → HoldsAt (ledger_tables greatest H) trees
     → EndsWith run.ending (ledger_tables greatest H) run.last)
 
 -- Each run began on the files as the previous one left them, and continued from their history or kept it.
 abbrev pub AreRuns : Reports → Image → List Run → Type 0
 AreRuns reports image [] = ⊤
-AreRuns reports image (run ∷ runs) = (run.first ≡ image) × (IsRun reports run ⊎ KeepsList run)
-    × AreRuns reports run.last runs
+AreRuns reports image (run ∷ runs) =
+    (run.first ≡ image) × (IsRun reports run ⊎ KeepsList run) × AreRuns reports run.last runs
 
 -- Two runs combined: the combined run begins like the first, makes the calls of both, and ends like the second.
 abbrev pub run_then : Run → Run → Run

@@ -1,12 +1,11 @@
 //! A store on a disk that may fail. It is for proofs; nothing of it runs.
 
 ghost use Rattle.std.specs.Prelude.{ℕ, List, IsTrue};
-ghost use Rattle.sqlite_trees.specs.Tree.{Trees};
 ghost use Rattle.sqlite.specs.State.{HasCleanDisk};
 ghost use Rattle.desk_types.specs.History.{History};
 ghost use Rattle.line_schema.specs.Stands.{Stands, state_of};
 ghost use Rattle.headline.specs.Calls.{AnswersByTheList, Call, Calls};
-ghost use Rattle.many_runs.specs.Failing.{HoldsUpToOneMore, no_reports, own_kept};
+ghost use Rattle.many_runs.specs.Failing.{IsWatched, no_reports, own_kept};
 ghost use Rattle.many_runs.specs.Runs.{by_two};
 
 use desk_answers::{Answer, Owner};
@@ -72,9 +71,7 @@ pub fn failing_disks_leave_the_list<S: Alter, D: KeepsRows + Drop>(
         first.now calls last.now
         → HasCleanDisk (state_of S.Store last.now.store)
         → (H : History) × AnswersByTheList no_reports (by_two greatest G) calls H
-        × Stands S.Store D.Stands D.kept_rules last.now.store (own_kept (by_two greatest H))
-        × ((trees : Trees) → (state_of S.Store last.now.store).may_leave trees
-        → HoldsUpToOneMore (own_kept (by_two greatest H)) trees) }
+        × IsWatched S.Store D.Stands D.kept_rules last.now.store (own_kept (by_two greatest H)) }
 {
     first.store.crash_leaves_the_list();
 }

@@ -6,23 +6,18 @@
 
 mod failing;
 
-ghost use Rattle.std.specs.Prelude.{ℕ, List, [], ◌∷◌, Option, Some};
+ghost use Rattle.std.specs.Prelude.{ℕ, List, [], Option, Some};
 ghost use Rattle.sqlite_wal.specs.Recovery.{Image};
 ghost use Rattle.http_answers.specs.Requests.{Reports};
-ghost use Rattle.http_stream.specs.Answers.{Told};
 ghost use Rattle.gateway_http.specs.Reports.{report_of};
-ghost use Rattle.desk_runs.specs.Clients.{Ended, Exchange};
-ghost use Rattle.desk_runs.specs.Runs.{StaysSame, AnswersReport};
+ghost use Rattle.desk_runs.specs.Runs.{StaysSame};
 ghost use Rattle.desk_commands.specs.declared.left.Left.TheVariants.{Desk};
-ghost use Rattle.desk_commands.specs.Runs.{RunsOn, ServesEach};
-ghost use Rattle.desk_commands.specs.Closed.{RefusesTo, RefusesToMigrateTo, RunsTo, whole};
-ghost use Rattle.desk_import.specs.declared.options.Import.{Import};
+ghost use Rattle.desk_commands.specs.Runs.{RunsOn};
+ghost use Rattle.desk_commands.specs.Closed.{RefusesTo, RefusesToMigrateTo, whole};
 ghost use Rattle.line_schema.specs.declared.fault.OpenFault.{OpenFault};
-ghost use Rattle.headline.specs.Calls.{Feeds, ImportEnded, Imports};
-ghost use Rattle.headline.specs.Calls.Call.{asked, fed, imported};
-ghost use Rattle.many_runs.specs.Closed.{ClosesTo, ReadsClean, connections_of, run_of};
+ghost use Rattle.many_runs.specs.Closed.{GivesCalls, GivesClosedRun, GivesWholeRun, ReadsClean, run_of};
 ghost use Rattle.many_runs.specs.Runs.{AreRuns, IsRun, KeepsList, Run, as_one};
-ghost use Rattle.many_runs.specs.Crashed.{Crashes, CrashesTo, MakesCalls, killed_run_of};
+ghost use Rattle.many_runs.specs.Crashed.{Crashes, CrashesTo, GivesKilledRun, MakesCalls, killed_run_of};
 ghost use Rattle.gateway_http.specs.Stores.{store_of};
 ghost use Rattle.headline.specs.Calls.{AnswersByTheList, Call, Calls};
 
@@ -49,58 +44,12 @@ pub fn many_runs_are_one()
 
 /// A law: a run of the program that closed its desk's file is a run, with the calls that its contracts give.
 pub fn closed_runs_are_runs<T: Start>(desk: &FileDesk<T, StateDesk>, files: &Files<FileFrom<T>>)
-    ensures feeds { (make : Option ℕ) (input out out' : Option (List ℕ))
-        (ended : Ended) (image : Image)
-        → RunsOn T.Start make (Desk desk.now) (λ G H. Feeds G input out out' ended H)
-        → ClosesTo desk.now files.now image
-        → IsRun report_of (run_of T.Start make (fed input out out' ended ∷ []) image) }
-    ensures serves { (make : Option ℕ) (exchanges : List Exchange) (image : Image)
-        → RunsOn T.Start make (Desk desk.now) (ServesEach exchanges)
-        → ClosesTo desk.now files.now image
-        → IsRun report_of (run_of T.Start make (connections_of exchanges) image) }
-    ensures reports { (make : Option ℕ) (target : List ℕ) (told : Told) (image : Image)
-        → RunsOn T.Start make (Desk desk.now) (AnswersReport report_of target told)
-        → ClosesTo desk.now files.now image
-        → IsRun report_of (run_of T.Start make (asked target told ∷ []) image) }
-    ensures imports { (make : Option ℕ) (import : Import)
-        (bytes out out' : Option (List ℕ)) (ended : ImportEnded)
-        (image : Image) → RunsOn T.Start make (Desk desk.now)
-        (λ G H. Imports G import bytes out out' ended H)
-        → ClosesTo desk.now files.now image
-        → IsRun report_of (run_of T.Start make (imported import bytes out out' ended ∷ []) image) }
-    ensures stays { (make : Option ℕ) (image : Image)
-        → RunsOn T.Start make (Desk desk.now) StaysSame
-        → ClosesTo desk.now files.now image → IsRun report_of (run_of T.Start make [] image) }
+    ensures { GivesCalls (GivesClosedRun T.Start desk.now files.now) }
 {}
 
 /// A law: a whole run of the program that closed its desk's file is a run, with the calls that its contract gives.
 pub fn whole_runs_are_runs<T: Start>(files: &Files<FileFrom<T>>)
-    ensures feeds { (make : Option ℕ) (input out out' : Option (List ℕ))
-        (ended : Ended) (image : Image)
-        → RunsTo whole T.Start ⟦<FileFrom<T> as Disk>⟧ (Some files.now) make
-        (λ G H. Feeds G input out out' ended H)
-        → ReadsClean ⟦<FileFrom<T> as Disk>⟧ files.now image
-        → IsRun report_of (run_of T.Start make (fed input out out' ended ∷ []) image) }
-    ensures serves { (make : Option ℕ) (exchanges : List Exchange) (image : Image)
-        → RunsTo whole T.Start ⟦<FileFrom<T> as Disk>⟧ (Some files.now) make (ServesEach exchanges)
-        → ReadsClean ⟦<FileFrom<T> as Disk>⟧ files.now image
-        → IsRun report_of (run_of T.Start make (connections_of exchanges) image) }
-    ensures reports { (make : Option ℕ) (target : List ℕ) (told : Told) (image : Image)
-        → RunsTo whole T.Start ⟦<FileFrom<T> as Disk>⟧ (Some files.now) make
-        (AnswersReport report_of target told)
-        → ReadsClean ⟦<FileFrom<T> as Disk>⟧ files.now image
-        → IsRun report_of (run_of T.Start make (asked target told ∷ []) image) }
-    ensures imports { (make : Option ℕ) (import : Import)
-        (bytes out out' : Option (List ℕ)) (ended : ImportEnded)
-        (image : Image)
-        → RunsTo whole T.Start ⟦<FileFrom<T> as Disk>⟧ (Some files.now) make
-        (λ G H. Imports G import bytes out out' ended H)
-        → ReadsClean ⟦<FileFrom<T> as Disk>⟧ files.now image
-        → IsRun report_of (run_of T.Start make (imported import bytes out out' ended ∷ []) image) }
-    ensures stays { (make : Option ℕ) (image : Image)
-        → RunsTo whole T.Start ⟦<FileFrom<T> as Disk>⟧ (Some files.now) make StaysSame
-        → ReadsClean ⟦<FileFrom<T> as Disk>⟧ files.now image
-        → IsRun report_of (run_of T.Start make [] image) }
+    ensures { GivesCalls (GivesWholeRun T.Start ⟦<FileFrom<T> as Disk>⟧ files.now) }
 {}
 
 /// A law: a whole run that was refused its files, and closed them, keeps their history and makes no call.
@@ -157,24 +106,8 @@ pub fn reported_calls_are_calls<F: Disk + Drop>(
 /// gives of that desk. A feed, an import or a connection may have ended with a fault, such as a failed read or
 /// write. That a kill at that point leaves the same files is not proved.
 pub fn crashed_runs_are_runs<T: Start>(desk: &FileDesk<T, StateDesk>, files: &Files<FileFrom<T>>)
-    ensures crashed { (make : Option ℕ) (calls : List Call) (image : Image)
-        → RunsOn T.Start make (Desk desk.now) (λ G H. AnswersByTheList report_of G calls H)
-        → CrashesTo desk.now files.now image
-        → IsRun report_of (killed_run_of T.Start make calls image) }
-    ensures feeds { (make : Option ℕ) (input out out' : Option (List ℕ))
-        (ended : Ended) (image : Image)
-        → RunsOn T.Start make (Desk desk.now) (λ G H. Feeds G input out out' ended H)
-        → CrashesTo desk.now files.now image
-        → IsRun report_of (killed_run_of T.Start make (fed input out out' ended ∷ []) image) }
-    ensures serves { (make : Option ℕ) (exchanges : List Exchange) (image : Image)
-        → RunsOn T.Start make (Desk desk.now) (ServesEach exchanges)
-        → CrashesTo desk.now files.now image
-        → IsRun report_of (killed_run_of T.Start make (connections_of exchanges) image) }
-    ensures imports { (make : Option ℕ) (import : Import)
-        (bytes out out' : Option (List ℕ)) (ended : ImportEnded)
-        (image : Image) → RunsOn T.Start make (Desk desk.now)
-        (λ G H. Imports G import bytes out out' ended H)
-        → CrashesTo desk.now files.now image
-        → IsRun report_of
-        (killed_run_of T.Start make (imported import bytes out out' ended ∷ []) image) }
+    ensures crashed { (calls : List Call)
+        → GivesKilledRun T.Start desk.now files.now
+        (λ G H. AnswersByTheList report_of G calls H) calls }
+    ensures calls { GivesCalls (GivesKilledRun T.Start desk.now files.now) }
 {}

@@ -15,13 +15,13 @@ use Rattle.served.specs.Sent.{SendsFront}
 use Rattle.gateway_http.specs.Reports.{report_of}
 use Rattle.desk_runs.specs.Clients.{Exchange}
 use Rattle.desk_runs.specs.Runs.{AnswersAll, AnswersImport, AnswersUpTo, CutsImport, StaysSame, AnswersReport}
-use Rattle.desk_runs.specs.Told.{report_output, TellsEnd, TellsLine}
+use Rattle.desk_runs.specs.Told.{report_output, unavailable_line, TellsEnd, TellsLine}
 use Rattle.desk_commands.specs.declared.left.Left.{Left}
 use Rattle.desk_commands.specs.declared.left.Left.TheVariants as left
 use Rattle.desk_commands.specs.Runs.{ServesEach}
 use Rattle.desk_commands.specs.Closed.{Close, ClosesLeft}
 use Rattle.desk_commands.proofs.ClosedFiles.{audits_to, migrates_to, refuses_to, refuses_to_migrate, runs_to}
-use Rattle.tracedesk.specs.Program.{Bad, Done, Ends, Failed, ImportUnread, Names, NamesFile, NoDesk, Refused, RefusesNamed, RunsAsked, RunsImport, RunsReport, RunsServing}
+use Rattle.tracedesk.specs.Program.{Bad, Done, Failed, ImportUnread, LeavesAs, Names, NamesFile, NoDesk, Refused, RefusesNamed, RunsAs, RunsAsked, RunsImport, RunsReport, RunsServing, Unclosed}
 use Rattle.tracedesk.specs.Ways.{Ways, ways_when_closed, ways_when_open}
 use Rattle.tracedesk.proofs.AskedRuns.{has_none}
 
@@ -53,13 +53,27 @@ names_file how words (left.Migrated conn) (Some f) closed names = inr names
 names_file how words (left.Refused r) None closed names = tt
 names_file how words (left.Refused r) (Some f) closed names = names
 
-pub one_of_five : (n : ℕ) → n ≤ 4 → (n ≡ 0) ⊎ (n ≡ 1) ⊎ (n ≡ 2) ⊎ (n ≡ 3) ⊎ (n ≡ 4)
+one_of_five : (n : ℕ) → n ≤ 4 → (n ≡ 0) ⊎ (n ≡ 1) ⊎ (n ≡ 2) ⊎ (n ≡ 3) ⊎ (n ≡ 4)
 one_of_five zero most = inl refl
 one_of_five (suc zero) most = inr (inl refl)
 one_of_five (suc (suc zero)) most = inr (inr (inl refl))
 one_of_five (suc (suc (suc zero))) most = inr (inr (inr (inl refl)))
 one_of_five (suc (suc (suc (suc zero)))) most = inr (inr (inr (inr refl)))
 one_of_five (suc (suc (suc (suc (suc n))))) most = absurd (omega (arith, most))
+
+-- A run that ended with status 3.
+ends_none : {R W E : Type 0} (ways : Ways) (holds : List ℕ → Option (List ℕ)) (may_fail : List ℕ → Type 0) (serves : ℕ → List Exchange → Type 0) (reads : R → Option (List ℕ)) (writes : W → Option (List ℕ)) (tells : E → Option (List ℕ))
+    (words : List (List ℕ)) (input input' : Wire R) (output output' : Wire W) (errors errors' : Wire E) (Refusal : Type 0) {exit : ℕ} → exit ≡ 3 → Refusal → RunsAs ways holds may_fail serves reads writes tells words input input' output output' errors errors' Refusal exit
+ends_none ways holds may_fail serves reads writes tells words input input' output output' errors errors' Refusal at refusal = record {
+  status = omega (arith, at);
+  done = λ is. absurd (omega (arith, at, is));
+  refused = λ is. absurd (omega (arith, at, is));
+  bad = λ is. absurd (omega (arith, at, is));
+  no_desk = λ _. refusal;
+  failed = λ is. absurd (omega (arith, at, is));
+  kept = λ is. absurd (omega (arith, at, is));
+  quiet = λ is. absurd (omega (arith, at, is));
+}
 
 module _ {R W E : Type 0} (ways ways' : Ways) (to : Follows ways ways') (holds : List ℕ → Option (List ℕ)) (may_fail : List ℕ → Type 0) (serves : ℕ → List Exchange → Type 0) (reads : R → Option (List ℕ)) (writes : W → Option (List ℕ)) (tells : E → Option (List ℕ))
     (words : List (List ℕ)) (input input' : Wire R) (output output' : Wire W) (errors errors' : Wire E) where
@@ -84,7 +98,7 @@ module _ {R W E : Type 0} (ways ways' : Ways) (to : Follows ways ways') (holds :
   refused_named fault (inr (inr (inr (inr (inl (file, asks, is)))))) = inr (inr (inr (inr (inl (file, asks, to.refuses None fault is)))))
   refused_named fault (inr (inr (inr (inr (inr (file, asks, is)))))) = inr (inr (inr (inr (inr (file, asks, to.refuses_to_migrate fault is)))))
 
-  pub done : Done ways holds may_fail serves reads writes tells words input input' output output' errors errors' → Done ways' holds may_fail serves reads writes tells words input input' output output' errors errors'
+  done : Done ways holds may_fail serves reads writes tells words input input' output output' errors errors' → Done ways' holds may_fail serves reads writes tells words input input' output output' errors errors'
   done (inl (all, none, lines)) = inl (all, none, asked (AnswersAll reads writes input output output' all) lines)
   done (inr (inl (file, asks, count, sent, audits))) = inr (inl (file, asks, count, sent, to.audits count audits))
   done (inr (inr (inl (file, asks, sent, migrates)))) = inr (inr (inl (file, asks, sent, to.migrates migrates)))
@@ -93,23 +107,23 @@ module _ {R W E : Type 0} (ways ways' : Ways) (to : Follows ways ways') (holds :
   done (inr (inr (inr (inr (inr (inl serves)))))) = inr (inr (inr (inr (inr (inl (served 0 serves))))))
   done (inr (inr (inr (inr (inr (inr report)))))) = inr (inr (inr (inr (inr (inr (reported (λ answer. (code_of answer.status ≡ 200) × Appends (writes (inner_of output)) (writes (inner_of output')) (report_output answer)) report))))))
 
-  pub refused : Refused ways holds may_fail serves reads writes tells words input input' output output' errors errors' → Refused ways' holds may_fail serves reads writes tells words input input' output output' errors errors'
+  refused : Refused ways holds may_fail serves reads writes tells words input input' output output' errors errors' → Refused ways' holds may_fail serves reads writes tells words input input' output output' errors errors'
   refused (inl (all, some, lines)) = inl (all, some, asked (AnswersAll reads writes input output output' all) lines)
   refused (inr (inl rows)) = inr (inl (imported (λ import from. AnswersImport writes output output' true import (holds from)) rows))
   refused (inr (inr (inl serves))) = inr (inr (inl (served 1 serves)))
   refused (inr (inr (inr report))) = inr (inr (inr (reported (λ answer. (code_of answer.status ≢ 200) × Appends (writes (inner_of output)) (writes (inner_of output')) (report_output answer)) report)))
 
-  pub no_desk : NoDesk ways holds may_fail serves reads writes tells words input input' output output' errors errors' → NoDesk ways' holds may_fail serves reads writes tells words input input' output output' errors errors'
+  no_desk : NoDesk ways holds may_fail serves reads writes tells words input input' output output' errors errors' → NoDesk ways' holds may_fail serves reads writes tells words input input' output output' errors errors'
   no_desk (untouched, why) = (
     untouched,
     has_none (RefusesNamed ways words) (RefusesNamed ways' words) (ways.OpensNone ⊎ ways.Runs None StaysSame) (ways'.OpensNone ⊎ ways'.Runs None StaysSame) (TellsLine tells errors errors') refused_named
         (elim [ inl none ↦ inl (to.none none) | inr stays ↦ inr (to.runs None StaysSame stays) ]) why,
   )
 
-  pub unread : ImportUnread ways words may_fail → ImportUnread ways' words may_fail
+  unread : ImportUnread ways words may_fail → ImportUnread ways' words may_fail
   unread (file, import, from, asks, may, stays) = (file, import, from, asks, may, to.runs None StaysSame stays)
 
-  pub failed : Failed ways holds may_fail serves reads writes tells words input input' output output' errors errors' → Failed ways' holds may_fail serves reads writes tells words input input' output output' errors errors'
+  failed : Failed ways holds may_fail serves reads writes tells words input input' output output' errors errors' → Failed ways' holds may_fail serves reads writes tells words input input' output output' errors errors'
   failed (inl (fault, shown, told, inl (leaves, lines))) = inl (fault, shown, told, inl (leaves, asked (AnswersUpTo reads writes input output output' fault) lines))
   failed (inl (fault, shown, told, inr (inl (file, asks, count, sent, audits)))) = inl (fault, shown, told, inr (inl (file, asks, count, sent, to.audits count audits)))
   failed (inl (fault, shown, told, inr (inr (inl (file, asks, sent, migrates))))) = inl (fault, shown, told, inr (inr (inl (file, asks, sent, to.migrates migrates))))
@@ -119,17 +133,37 @@ module _ {R W E : Type 0} (ways ways' : Ways) (to : Follows ways ways') (holds :
   failed (inr (inl (in_same, out_same, told, import))) = inr (inl (in_same, out_same, told, unread import))
   failed (inr (inr (in_same, told, serves))) = inr (inr (in_same, told, served 4 serves))
 
-  pub ends : (status : ℕ) → status ≤ 4 → (status ≡ 0 → Done ways holds may_fail serves reads writes tells words input input' output output' errors errors')
-      → (status ≡ 1 → Refused ways holds may_fail serves reads writes tells words input input' output output' errors errors') → (status ≡ 2 → Bad ways holds may_fail serves reads writes tells words input input' output output' errors errors')
-      → (status ≡ 3 → NoDesk ways holds may_fail serves reads writes tells words input input' output output' errors errors') → (status ≡ 4 → Failed ways holds may_fail serves reads writes tells words input input' output output' errors errors')
-      → Ends ways' holds may_fail serves reads writes tells words input input' output output' errors errors' status
-  ends status most is_done is_refused is_bad is_none is_failed = elim (one_of_five status most) [
-    | inl is ↦ inl (is, done (is_done is))
-    | inr (inl is) ↦ inr (inl (is, refused (is_refused is)))
-    | inr (inr (inl is)) ↦ inr (inr (inl (is, is_bad is)))
-    | inr (inr (inr (inl is))) ↦ inr (inr (inr (inl (is, no_desk (is_none is)))))
-    | inr (inr (inr (inr is))) ↦ inr (inr (inr (inr (is, failed (is_failed is)))))
-  ]
+  bad : Bad ways holds may_fail serves reads writes tells words input input' output output' errors errors' → Bad ways' holds may_fail serves reads writes tells words input input' output output' errors errors'
+  bad (none, same, told) = (to.none none, same, told)
+
+  goes_on : (Refusal Refusal' : Type 0) (exit : ℕ) → (Refusal → Refusal') → RunsAs ways holds may_fail serves reads writes tells words input input' output output' errors errors' Refusal exit → RunsAs ways' holds may_fail serves reads writes tells words input input' output output' errors errors' Refusal' exit
+  goes_on Refusal Refusal' exit none run = record {
+    status = run.status;
+    done = λ is. done (run.done is);
+    refused = λ is. refused (run.refused is);
+    bad = λ is. bad (run.bad is);
+    no_desk = λ is. none (run.no_desk is);
+    failed = λ is. failed (run.failed is);
+    kept = run.kept;
+    quiet = run.quiet;
+  }
+
+module _ {R W E : Type 0} {ways ways' : Ways} (to : Follows ways ways') {holds : List ℕ → Option (List ℕ)} {may_fail : List ℕ → Type 0} {serves : ℕ → List Exchange → Type 0} {reads : R → Option (List ℕ)} {writes : W → Option (List ℕ)} {tells : E → Option (List ℕ)}
+    {words : List (List ℕ)} {input input' : Wire R} {output output' : Wire W} {errors errors' : Wire E} where
+  -- The run's files were closed completely.
+  pub closed : {exit : ℕ} (Other : Type 0) → LeavesAs ways holds may_fail serves reads writes tells words input input' output output' errors errors' exit → RunsAs ways' holds may_fail serves reads writes tells words input input' output output' errors errors' (NoDesk ways' holds may_fail serves reads writes tells words input input' output output' errors errors' ⊎ Other) exit
+  closed {exit = exit} Other = goes_on ways ways' to holds may_fail serves reads writes tells words input input' output output' errors errors' (NoDesk ways holds may_fail serves reads writes tells words input input' output output' errors errors') (NoDesk ways' holds may_fail serves reads writes tells words input input' output output' errors errors' ⊎ Other) exit (λ none. inl (no_desk ways ways' to holds may_fail serves reads writes tells words input input' output output' errors errors' none))
+
+  -- A close failed, and a fault was printed with status 3 before.
+  pub unclosed : {exit : ℕ} (other : Ways) (Other : Type 0) → exit ≡ 3 → LeavesAs ways holds may_fail serves reads writes tells words input input' output output' errors errors' exit → RunsAs other holds may_fail serves reads writes tells words input input' output output' errors errors' (Other ⊎ Unclosed ways' holds may_fail serves reads writes tells words input input' output output' errors errors') exit
+  unclosed other Other at run = ends_none other holds may_fail serves reads writes tells words input input' output output' errors errors' (Other ⊎ Unclosed ways' holds may_fail serves reads writes tells words input input' output output' errors errors') at (inr (inl (no_desk ways ways' to holds may_fail serves reads writes tells words input input' output output' errors errors' (run.no_desk at))))
+
+  -- A close failed, and Unavailable was printed.
+  pub unclosed_told : {exit left : ℕ} {told : Wire E} (other : Ways) (Other : Type 0) → exit ≡ 3 → TellsLine tells errors' told unavailable_line → LeavesAs ways holds may_fail serves reads writes tells words input input' output output' errors errors' left
+      → RunsAs other holds may_fail serves reads writes tells words input input' output output' errors told (Other ⊎ Unclosed ways' holds may_fail serves reads writes tells words input input' output output' errors told) exit
+  unclosed_told {left = left} {told = told} other Other at line run =
+      ends_none other holds may_fail serves reads writes tells words input input' output output' errors told (Other ⊎ Unclosed ways' holds may_fail serves reads writes tells words input input' output output' errors told) at
+      (inr (inr (left, errors', goes_on ways ways' to holds may_fail serves reads writes tells words input input' output output' errors errors' (NoDesk ways holds may_fail serves reads writes tells words input input' output output' errors errors') (NoDesk ways' holds may_fail serves reads writes tells words input input' output output' errors errors') left (no_desk ways ways' to holds may_fail serves reads writes tells words input input' output output' errors errors') run, line)))
 
 -- ---- printed texts
 
@@ -140,8 +174,8 @@ one_more before after (inr front) = let one = front.0 in omega (arith, one)
 module _ {R W E : Type 0} (ways : Ways) (holds : List ℕ → Option (List ℕ)) (may_fail : List ℕ → Type 0) (serves : ℕ → List Exchange → Type 0) (reads : R → Option (List ℕ)) (writes : W → Option (List ℕ)) (tells : E → Option (List ℕ))
     (words : List (List ℕ)) (input input' : Wire R) (output output' : Wire W) (errors errors' : Wire E) where
   bad_few : Bad ways holds may_fail serves reads writes tells words input input' output output' errors errors' → failures_of errors' ≤ failures_of errors + 1
-  bad_few (inl bad) = one_more (failures_of errors) (failures_of errors') bad.2
-  bad_few (inr bad) = one_more (failures_of errors) (failures_of errors') bad.2
+  bad_few (opens, same, inl bad) = one_more (failures_of errors) (failures_of errors') bad.2
+  bad_few (opens, same, inr bad) = one_more (failures_of errors) (failures_of errors') bad.2
 
   none_few : NoDesk ways holds may_fail serves reads writes tells words input input' output output' errors errors' → failures_of errors' ≤ failures_of errors + 1
   none_few (untouched, inl (fault, is, inl told)) = one_more (failures_of errors) (failures_of errors') told
@@ -157,13 +191,13 @@ module _ {R W E : Type 0} (ways : Ways) (holds : List ℕ → Option (List ℕ))
   failed_few (inr (inl unread)) = one_more (failures_of errors) (failures_of errors') unread.2
   failed_few (inr (inr serves)) = end_few serves.1
 
-  pub few : (status : ℕ) → status ≤ 4 → ((status ≡ 0) ⊎ (status ≡ 1) → errors' ≡ errors) → (status ≡ 2 → Bad ways holds may_fail serves reads writes tells words input input' output output' errors errors')
-      → (status ≡ 3 → NoDesk ways holds may_fail serves reads writes tells words input input' output output' errors errors') → (status ≡ 4 → Failed ways holds may_fail serves reads writes tells words input input' output output' errors errors')
-      → failures_of errors' ≤ failures_of errors + 1
-  few status most quiet is_bad is_none is_failed = elim (one_of_five status most) [
-    | inl is ↦ let same = ap failures_of (quiet (inl is)) in omega (arith, same)
-    | inr (inl is) ↦ let same = ap failures_of (quiet (inr is)) in omega (arith, same)
-    | inr (inr (inl is)) ↦ bad_few (is_bad is)
-    | inr (inr (inr (inl is))) ↦ none_few (is_none is)
-    | inr (inr (inr (inr is))) ↦ failed_few (is_failed is)
+module _ {R W E : Type 0} {ways : Ways} {holds : List ℕ → Option (List ℕ)} {may_fail : List ℕ → Type 0} {serves : ℕ → List Exchange → Type 0} {reads : R → Option (List ℕ)} {writes : W → Option (List ℕ)} {tells : E → Option (List ℕ)}
+    {words : List (List ℕ)} {input input' : Wire R} {output output' : Wire W} {errors errors' : Wire E} where
+  pub few : {exit : ℕ} → LeavesAs ways holds may_fail serves reads writes tells words input input' output output' errors errors' exit → failures_of errors' ≤ failures_of errors + 1
+  few {exit = exit} run = elim (one_of_five exit run.status) [
+    | inl is ↦ let same = ap failures_of (run.quiet (inl is)) in omega (arith, same)
+    | inr (inl is) ↦ let same = ap failures_of (run.quiet (inr is)) in omega (arith, same)
+    | inr (inr (inl is)) ↦ bad_few ways holds may_fail serves reads writes tells words input input' output output' errors errors' (run.bad is)
+    | inr (inr (inr (inl is))) ↦ none_few ways holds may_fail serves reads writes tells words input input' output output' errors errors' (run.no_desk is)
+    | inr (inr (inr (inr is))) ↦ failed_few ways holds may_fail serves reads writes tells words input input' output output' errors errors' (run.failed is)
   ]

@@ -1,11 +1,11 @@
 -- The effect of a run of the program.
-use Rattle.std.specs.Prelude.{◌≡◌, ◌≢◌, ◌<◌, ℕ, ◌⊎◌, ⊤, List, Option, Some, None, true, false}
-use Rattle.std.specs.Io.KnownBytes.{Appends}
+use Rattle.std.specs.Prelude.{◌≡◌, ◌≢◌, ◌<◌, ◌≤◌, ◌+◌, ◌^◌, ℕ, ◌⊎◌, ⊤, List, Option, Some, None, true, false}
+use Rattle.std.specs.Io.KnownBytes.{Appends, IsAtEnd}
 use Rattle.sqlite_disk.specs.declared.Disk as disk
 use Rattle.desk_types.specs.declared.wire.Wire.{Wire}
 use Rattle.desk_types.specs.History.{History}
-use Rattle.desk_types.specs.Wire.{inner_of, failures_of}
-use Rattle.desk_laws.specs.Consistent.{IsConsistent}
+use Rattle.desk_types.specs.Wire.{inner_of, reads_of, failures_of}
+use Rattle.desk_types.specs.declared.limits.TheConstants.{MOST_READS}
 use Rattle.desk_answers.specs.Ledger.{Ledger}
 use Rattle.line_schema.specs.declared.fault.OpenFault.{OpenFault}
 use Rattle.desk_feed.specs.Stream.{LeavesNone}
@@ -19,7 +19,7 @@ use Rattle.served.specs.declared.serving.ServeFault.{ServeFault}
 use Rattle.served.specs.declared.serving.ServeFault.TheVariants.{Read as ReadFault}
 use Rattle.served.specs.Counts.{none_served}
 use Rattle.served.specs.Sent.{SendsFront}
-use Rattle.served.specs.Shown.{IsShown}
+use Rattle.served.specs.Shown.{FailsNever, IsShown}
 use Rattle.desk_runs.specs.Clients.{Exchange, ends_of}
 use Rattle.desk_runs.specs.Connections.{TellsConnections}
 use Rattle.desk_runs.specs.Runs.{AnswersAll, AnswersImport, AnswersUpTo, CutsImport, StaysSame, AnswersReport}
@@ -27,20 +27,20 @@ use Rattle.desk_runs.specs.Told.{fault_line, lawful_line, option_line, report_ou
 use Rattle.desk_runs.specs.Told as told
 use Rattle.desk_commands.specs.declared.left.Left.{Left}
 use Rattle.desk_commands.specs.declared.left.Left.TheVariants as left
-use Rattle.desk_commands.specs.Runs.{HasNoDesk, ServesEach, fresh}
+use Rattle.desk_commands.specs.Runs.{HasNoDesk, RunsInMemory, ServesEach}
+use Rattle.desk_commands.specs.Closed.{Close, whole, failed}
 use Rattle.tracedesk.specs.Ways.{Ways}
 
 -- The arguments ask to answer lines, and that was done: on a new desk in memory, or on that of a file.
 abbrev pub RunsAsked : Ways → List (List ℕ) → (Ledger → History → Type 0) → Type 0
 RunsAsked ways words Fact =
-    ((greatest : ℕ) × AsksForFeed words None greatest × (H : History) × IsConsistent H
-    × Fact (fresh greatest) H)
+    ((greatest : ℕ) × AsksForFeed words None greatest × RunsInMemory greatest Fact)
     ⊎ ((file : List ℕ) × (greatest : ℕ) × AsksForFeed words (Some file) greatest
     × ways.Runs (Some greatest) Fact)
 
 -- The arguments ask for an import, and it was answered in this way, on the desk of the file that they name.
-abbrev pub RunsImport : Ways → List (List ℕ)
-    → (Import → List ℕ → Ledger → History → Type 0) → Type 0
+abbrev pub RunsImport : Ways → List (List ℕ) → (Import → List ℕ → Ledger → History → Type 0)
+    → Type 0
 RunsImport ways words Fact =
     (file : List ℕ) × (import : Import) × (from : List ℕ) × AsksForImport words file import from
     × ways.Runs None (Fact import from)
@@ -66,12 +66,14 @@ RunsReport ways words Shown =
 
 -- The arguments ask for an import of a file that may fail to be read, and the history is unchanged.
 abbrev pub ImportUnread : Ways → List (List ℕ) → (List ℕ → Type 0) → Type 0
-ImportUnread ways words may_fail = (file : List ℕ) × (import : Import) × (from : List ℕ)
-    × AsksForImport words file import from × may_fail from × ways.Runs None StaysSame
+ImportUnread ways words may_fail =
+    (file : List ℕ) × (import : Import) × (from : List ℕ) × AsksForImport words file import from
+    × may_fail from × ways.Runs None StaysSame
 
 -- The arguments name a file whose desk is opened.
 abbrev pub NamesDesk : List (List ℕ) → Type 0
-NamesDesk words = (file : List ℕ)
+NamesDesk words =
+    (file : List ℕ)
     × (AsksForAudit words file ⊎ ((greatest : ℕ) × AsksForFeed words (Some file) greatest)
     ⊎ ((import : Import) × (from : List ℕ) × AsksForImport words file import from)
     ⊎ ((port : ℕ) × (connections : ℕ) × (greatest : ℕ)
@@ -132,10 +134,11 @@ module _ {R W E : Type 0} (ways : Ways) (holds : List ℕ → Option (List ℕ))
 
   -- Status 0: the command did everything that was asked, and nothing was refused.
   abbrev pub Done : Type 0
-  Done = ((served : Served) × (served.refused ≡ 0)
+  Done =
+      ((served : Served) × (served.refused ≡ 0)
       × RunsAsked ways words (AnswersAll reads writes input output output' served))
-      ⊎ ((file : List ℕ) × AsksForAudit words file × (count : ℕ)
-      × Sent (lawful_line count) × ways.Audits count)
+      ⊎ ((file : List ℕ) × AsksForAudit words file × (count : ℕ) × Sent (lawful_line count)
+      × ways.Audits count)
       ⊎ ((file : List ℕ) × AsksForMigration words file × Sent version_line × ways.Migrates)
       ⊎ RunsImport ways words
       (λ import from. AnswersImport writes output output' false import (holds from))
@@ -146,7 +149,8 @@ module _ {R W E : Type 0} (ways : Ways) (holds : List ℕ → Option (List ℕ))
 
   -- Status 1: some line was refused; the import was; some connection was faulty; there is no such report.
   abbrev pub Refused : Type 0
-  Refused = ((served : Served) × (0 < served.refused)
+  Refused =
+      ((served : Served) × (0 < served.refused)
       × RunsAsked ways words (AnswersAll reads writes input output output' served))
       ⊎ RunsImport ways words
       (λ import from. AnswersImport writes output output' true import (holds from))
@@ -154,25 +158,29 @@ module _ {R W E : Type 0} (ways : Ways) (holds : List ℕ → Option (List ℕ))
       ⊎ RunsReport ways words
       (λ answer. (code_of answer.status ≢ 200) × Sent (report_output answer))
 
-  -- Status 2: the arguments have no meaning, or an option of an import can't be read.
+  -- Status 2: the arguments have no meaning, or an option of an import can't be read. No file was opened, and nothing
+  -- was read or sent.
   abbrev pub Bad : Type 0
-  Bad = (AsksForNothing words × (text : List ℕ) × told.Tells tells errors errors' text)
-      ⊎ ((option : BadOption) × HasBadOption words option × ToldLine (option_line option))
+  Bad = ways.OpensNone × ((input' ≡ input) × (output' ≡ output))
+      × ((AsksForNothing words × (text : List ℕ) × told.Tells tells errors errors' text)
+      ⊎ ((option : BadOption) × HasBadOption words option × ToldLine (option_line option)))
 
   -- Status 3: the file that the arguments name was refused, or memory was, and nothing was read or sent.
   abbrev pub NoDesk : Type 0
-  NoDesk = ((input' ≡ input) × (output' ≡ output))
+  NoDesk =
+      ((input' ≡ input) × (output' ≡ output))
       × HasNoDesk (RefusesNamed ways words) (ways.OpensNone ⊎ ways.Runs None StaysSame) ToldLine
 
   -- Status 4: a read or a write failed, or the file of an import could not be read, or no further connection was
   -- served.
   abbrev pub Failed : Type 0
-  Failed = ((fault : ServeFault) × IsShown fault input input' output output'
+  Failed =
+      ((fault : ServeFault) × IsShown fault input input' output output'
       × ToldLine (fault_line fault)
       × ((LeavesNone (reads (inner_of input)) (reads (inner_of input')) fault
       × RunsAsked ways words (AnswersUpTo reads writes input output output' fault))
-      ⊎ ((file : List ℕ) × AsksForAudit words file × (count : ℕ)
-      × SentFront (lawful_line count) × ways.Audits count)
+      ⊎ ((file : List ℕ) × AsksForAudit words file × (count : ℕ) × SentFront (lawful_line count)
+      × ways.Audits count)
       ⊎ ((file : List ℕ) × AsksForMigration words file × SentFront version_line × ways.Migrates)
       ⊎ RunsImport ways words (λ import from. CutsImport writes output output' import (holds from))
       ⊎ (AsksForText words × (text : List ℕ) × SentFront text)
@@ -182,21 +190,74 @@ module _ {R W E : Type 0} (ways : Ways) (holds : List ℕ → Option (List ℕ))
       ⊎ ((input' ≡ input) × TellsEnd tells output output' errors errors'
       × RunsServing ways words serves writes output output' 4)
 
-  -- The effect of a run that ended with this status.
-  abbrev pub Ends : ℕ → Type 0
-  Ends status = ((status ≡ 0) × Done) ⊎ ((status ≡ 1) × Refused) ⊎ ((status ≡ 2) × Bad)
-      ⊎ ((status ≡ 3) × NoDesk) ⊎ ((status ≡ 4) × Failed)
+  -- The effect of a run, by its exit status. `Refusal` says why it ended with status 3.
+  pub record RunsAs (Refusal : Type 0) (exit : ℕ) : Type 0 where
+    pub status : exit ≤ 4
+    pub done : exit ≡ 0 → Done
+    pub refused : exit ≡ 1 → Refused
+    pub bad : exit ≡ 2 → Bad
+    pub no_desk : exit ≡ 3 → Refusal
+    pub failed : exit ≡ 4 → Failed
+    pub kept : (exit ≡ 0) ⊎ (exit ≡ 1) → FailsNever input input' output output'
+    pub quiet : (exit ≡ 0) ⊎ (exit ≡ 1) → errors' ≡ errors
+
+  -- The effect of a run that left its desk or file open.
+  abbrev pub LeavesAs : ℕ → Type 0
+  LeavesAs exit = RunsAs NoDesk exit
 
 -- The files could not be closed, and the status is 3: there was no desk; or Unavailable was printed after the run's own
 -- texts, and its effects remain.
-abbrev pub Unclosed : {R W E : Type 0} → Ways → (List ℕ → Option (List ℕ))
-    → (List ℕ → Type 0) → (ℕ → List Exchange → Type 0) → (R → Option (List ℕ))
-    → (W → Option (List ℕ)) → (E → Option (List ℕ))
-    → List (List ℕ) → Wire R → Wire R → Wire W → Wire W → Wire E → Wire E → Type 0
-Unclosed {E = E} ways holds may_fail serves reads writes tells words input input'
-    output output' errors errors' =
-    NoDesk ways holds may_fail serves reads writes tells words input input'
-    output output' errors errors'
-    ⊎ ((status : ℕ) × (told : Wire E) × Ends ways holds
-    may_fail serves reads writes tells words input input' output output' errors told status
+abbrev pub Unclosed : {R W E : Type 0} → Ways → (List ℕ → Option (List ℕ)) → (List ℕ → Type 0)
+    → (ℕ → List Exchange → Type 0)
+    → (R → Option (List ℕ)) → (W → Option (List ℕ)) → (E → Option (List ℕ)) → List (List ℕ)
+    → Wire R → Wire R → Wire W → Wire W → Wire E → Wire E → Type 0
+Unclosed {E = E} ways holds may_fail serves reads writes tells words
+    input input' output output' errors errors' =
+    NoDesk ways holds may_fail serves reads writes tells words
+    input input' output output' errors errors'
+    ⊎ ((exit : ℕ) × (told : Wire E)
+    × LeavesAs ways holds may_fail serves reads writes tells words
+    input input' output output' errors told exit
     × TellsLine tells told errors' unavailable_line)
+
+-- The effect of a run that closed its files: completely, or a close failed.
+abbrev pub ClosesAs : {R W E : Type 0} → (Close → Ways) → (List ℕ → Option (List ℕ))
+    → (List ℕ → Type 0) → (ℕ → List Exchange → Type 0)
+    → (R → Option (List ℕ)) → (W → Option (List ℕ)) → (E → Option (List ℕ)) → List (List ℕ)
+    → Wire R → Wire R → Wire W → Wire W → Wire E → Wire E → ℕ → Type 0
+ClosesAs ways holds may_fail serves reads writes tells words
+    input input' output output' errors errors' exit =
+    RunsAs (ways whole) holds may_fail serves reads writes tells words
+    input input' output output' errors errors'
+    (NoDesk (ways whole) holds may_fail serves reads writes tells words
+    input input' output output' errors errors'
+    ⊎ Unclosed (ways failed) holds may_fail serves reads writes tells words
+    input input' output output' errors errors') exit
+
+-- ---- the input and the port
+
+-- The arguments don't ask to answer lines.
+abbrev pub AsksForNoFeed : List (List ℕ) → Type 0
+AsksForNoFeed words = (file : Option (List ℕ)) (greatest : ℕ) → AsksForFeed words file greatest → ⊥
+
+-- They don't ask to serve connections.
+abbrev pub AsksForNoServing : List (List ℕ) → Type 0
+AsksForNoServing words =
+    (file : List ℕ) (port connections greatest : ℕ)
+    → AsksForServing words file port connections greatest → ⊥
+
+-- The input is read only to answer its lines: to its end, unless that fails.
+pub record ReadsAsked {R : Type 0} (reads : R → Option (List ℕ)) (words : List (List ℕ))
+    (input input' : Wire R) (exit : ℕ) : Type 0 where
+  pub few : reads_of input' ≤ reads_of input + MOST_READS
+  pub unread : AsksForNoFeed words → input' ≡ input
+  pub end : (exit ≡ 0) ⊎ (exit ≡ 1) → (file : Option (List ℕ)) (greatest : ℕ)
+      → AsksForFeed words file greatest → IsAtEnd (reads (inner_of input'))
+
+-- The counts of the wires have room for a run, and for the line that a failed close prints.
+pub record HaveRoom {R W E : Type 0} (input : Wire R) (output : Wire W)
+    (errors : Wire E) : Type 0 where
+  pub reads : reads_of input < 2 ^ 63
+  pub read_failures : failures_of input < 2 ^ 63
+  pub write_failures : failures_of output < 2 ^ 63
+  pub error_failures : failures_of errors + 1 < 2 ^ 63

@@ -1,16 +1,10 @@
 //! A whole run of the program, over any files, folder, clients, input and output.
 
-ghost use Rattle.std.specs.Prelude.{◌≡◌, ◌⊎◌, ◌+◌, ◌^◌, ◌<◌, ◌≤◌, None, map, string_bytes, IfOk, IfErr, OnSome, ℕ};
-ghost use Rattle.std.specs.Io.KnownBytes.{IsAtEnd};
-ghost use Rattle.desk_types.specs.Wire.{inner_of, reads_of, failures_of};
-ghost use Rattle.desk_types.specs.declared.limits.TheConstants.{MOST_READS};
-ghost use Rattle.served.specs.Shown.{FailsNever};
-ghost use Rattle.desk_words.specs.CommandLine.{AsksForFeed, AsksForServing};
+ghost use Rattle.std.specs.Prelude.{◌≡◌, ◌⊎◌, map, string_bytes, IfOk, IfErr, OnSome};
 ghost use Rattle.desk_runs.specs.Clients.{ServesAt};
 ghost use Rattle.desk_runs.specs.Wires.{HaveFewCounts};
-ghost use Rattle.desk_commands.specs.declared.left.Left.TheVariants.{Nothing};
 ghost use Rattle.desk_commands.specs.Closed.{ClosesLeft, failed, whole};
-ghost use Rattle.tracedesk.specs.Program.{Bad, Done, Failed, Names, NamesFile, NoDesk, Refused, Unclosed};
+ghost use Rattle.tracedesk.specs.Program.{AsksForNoServing, ClosesAs, HaveRoom, LeavesAs, Names, NamesFile, ReadsAsked};
 ghost use Rattle.tracedesk.specs.Ways.{ways_when_closed, ways_when_open};
 
 use desk_commands::{
@@ -42,67 +36,16 @@ pub fn whole_run<T: Start, F: Folder, C: Clients, R: Read, W: Write, E: Write>(
     output: &mut Wire<W>,
     errors: &mut Wire<E>,
 ) -> (u8, Option<Files<FileFrom<T>>>)
-    requires reads { reads_of input.old < 2 ^ 63 }
-    requires read_failures { failures_of input.old < 2 ^ 63 }
-    requires write_failures { failures_of output.old < 2 ^ 63 }
-    requires error_failures { failures_of errors.old + 1 < 2 ^ 63 }
-    ensures status { result.0 ≤ 4 }
-    ensures done { result.0 ≡ 0
-        → Done (ways_when_closed whole T.Start ⟦<FileFrom<T> as Disk>⟧ result.1)
-        (F.holds folder.now)
-        (F.may_fail folder.now)
-        (ServesAt C.Saw clients.old clients.new) R.remaining W.contents E.contents
-        (map string_bytes words.now) input.old input.new output.old
-        output.new errors.old errors.new }
-    ensures refused { result.0 ≡ 1
-        → Refused (ways_when_closed whole T.Start ⟦<FileFrom<T> as Disk>⟧ result.1)
-        (F.holds folder.now)
-        (F.may_fail folder.now)
-        (ServesAt C.Saw clients.old clients.new) R.remaining W.contents E.contents
-        (map string_bytes words.now) input.old input.new output.old
-        output.new errors.old errors.new }
-    ensures bad { result.0 ≡ 2
-        → Bad (ways_when_closed whole T.Start ⟦<FileFrom<T> as Disk>⟧ result.1) (F.holds folder.now)
-        (F.may_fail folder.now)
-        (ServesAt C.Saw clients.old clients.new) R.remaining W.contents E.contents
-        (map string_bytes words.now) input.old input.new output.old
-        output.new errors.old errors.new }
-    ensures no_desk { result.0 ≡ 3
-        → NoDesk (ways_when_closed whole T.Start ⟦<FileFrom<T> as Disk>⟧ result.1)
-        (F.holds folder.now)
-        (F.may_fail folder.now)
-        (ServesAt C.Saw clients.old clients.new) R.remaining W.contents E.contents
-        (map string_bytes words.now) input.old input.new output.old output.new errors.old errors.new
-        ⊎ Unclosed (ways_when_closed failed T.Start ⟦<FileFrom<T> as Disk>⟧ result.1)
-        (F.holds folder.now)
-        (F.may_fail folder.now)
-        (ServesAt C.Saw clients.old clients.new) R.remaining W.contents E.contents
-        (map string_bytes words.now) input.old input.new output.old
-        output.new errors.old errors.new }
-    ensures failed { result.0 ≡ 4
-        → Failed (ways_when_closed whole T.Start ⟦<FileFrom<T> as Disk>⟧ result.1)
-        (F.holds folder.now)
-        (F.may_fail folder.now)
-        (ServesAt C.Saw clients.old clients.new) R.remaining W.contents E.contents
-        (map string_bytes words.now) input.old input.new output.old
-        output.new errors.old errors.new }
-    ensures unopened { result.0 ≡ 2 → result.1 ≡ None }
+    requires room { HaveRoom input.old output.old errors.old }
+    ensures runs { ClosesAs (λ how. ways_when_closed how T.Start ⟦<FileFrom<T> as Disk>⟧ result.1)
+        (F.holds folder.now) (F.may_fail folder.now) (ServesAt C.Saw clients.old clients.new)
+        R.remaining W.contents E.contents (map string_bytes words.now)
+        input.old input.new output.old output.new errors.old errors.new result.0 }
     ensures opened { OnSome result.1 (NamesFile (map string_bytes words.now)) }
-    ensures untouched { result.0 ≡ 2 → (input.new ≡ input.old) × (output.new ≡ output.old) }
-    ensures unasked { result.0 ≡ 2 → clients.new ≡ clients.old }
-    ensures end { (result.0 ≡ 0) ⊎ (result.0 ≡ 1) → (file : _) (greatest : ℕ)
-        → AsksForFeed (map string_bytes words.now) file greatest
-        → IsAtEnd (R.remaining (inner_of input.new)) }
-    ensures kept { (result.0 ≡ 0) ⊎ (result.0 ≡ 1)
-        → FailsNever input.old input.new output.old output.new }
-    ensures few_reads { reads_of input.new ≤ reads_of input.old + MOST_READS }
-    ensures unread { ((file : _) (greatest : ℕ)
-        → AsksForFeed (map string_bytes words.now) file greatest → ⊥)
-        → input.new ≡ input.old }
-    ensures unserved { ((file : _) (port connections greatest : ℕ)
-        → AsksForServing (map string_bytes words.now) file port connections greatest → ⊥)
+    ensures reads { ReadsAsked R.remaining (map string_bytes words.now)
+        input.old input.new result.0 }
+    ensures unserved { (result.0 ≡ 2) ⊎ AsksForNoServing (map string_bytes words.now)
         → clients.new ≡ clients.old }
-    ensures quiet { (result.0 ≡ 0) ⊎ (result.0 ≡ 1) → errors.new ≡ errors.old }
 {
     let (status, left) = open_run(rt, words, start, folder, clients, input, output, errors);
     match close_run(left) {
@@ -150,55 +93,15 @@ fn open_run<T: Start, F: Folder, C: Clients, R: Read, W: Write, E: Write>(
     errors: &mut Wire<E>,
 ) -> (u8, Left<FileFrom<T>>)
     requires few { HaveFewCounts input.old output.old errors.old }
-    ensures status { result.0 ≤ 4 }
-    ensures done { result.0 ≡ 0
-        → Done (ways_when_open T.Start result.1) (F.holds folder.now)
-        (F.may_fail folder.now)
-        (ServesAt C.Saw clients.old clients.new) R.remaining W.contents E.contents
-        (map string_bytes words.now) input.old input.new output.old
-        output.new errors.old errors.new }
-    ensures refused { result.0 ≡ 1
-        → Refused (ways_when_open T.Start result.1) (F.holds folder.now)
-        (F.may_fail folder.now)
-        (ServesAt C.Saw clients.old clients.new) R.remaining W.contents E.contents
-        (map string_bytes words.now) input.old input.new output.old
-        output.new errors.old errors.new }
-    ensures bad { result.0 ≡ 2
-        → Bad (ways_when_open T.Start result.1) (F.holds folder.now)
-        (F.may_fail folder.now)
-        (ServesAt C.Saw clients.old clients.new) R.remaining W.contents E.contents
-        (map string_bytes words.now) input.old input.new output.old
-        output.new errors.old errors.new }
-    ensures no_desk { result.0 ≡ 3
-        → NoDesk (ways_when_open T.Start result.1) (F.holds folder.now)
-        (F.may_fail folder.now)
-        (ServesAt C.Saw clients.old clients.new) R.remaining W.contents E.contents
-        (map string_bytes words.now) input.old input.new output.old
-        output.new errors.old errors.new }
-    ensures failed { result.0 ≡ 4
-        → Failed (ways_when_open T.Start result.1) (F.holds folder.now)
-        (F.may_fail folder.now)
-        (ServesAt C.Saw clients.old clients.new) R.remaining W.contents E.contents
-        (map string_bytes words.now) input.old input.new output.old
-        output.new errors.old errors.new }
-    ensures unopened { result.0 ≡ 2 → result.1 ≡ Nothing }
+    ensures runs { LeavesAs (ways_when_open T.Start result.1)
+        (F.holds folder.now) (F.may_fail folder.now) (ServesAt C.Saw clients.old clients.new)
+        R.remaining W.contents E.contents (map string_bytes words.now)
+        input.old input.new output.old output.new errors.old errors.new result.0 }
     ensures named { Names (map string_bytes words.now) result.1 }
-    ensures untouched { (result.0 ≡ 2) ⊎ (result.0 ≡ 3)
-        → (input.new ≡ input.old) × (output.new ≡ output.old) }
-    ensures unasked { (result.0 ≡ 2) ⊎ (result.0 ≡ 3) → clients.new ≡ clients.old }
-    ensures end { (result.0 ≡ 0) ⊎ (result.0 ≡ 1) → (file : _) (greatest : ℕ)
-        → AsksForFeed (map string_bytes words.now) file greatest
-        → IsAtEnd (R.remaining (inner_of input.new)) }
-    ensures kept { (result.0 ≡ 0) ⊎ (result.0 ≡ 1)
-        → FailsNever input.old input.new output.old output.new }
-    ensures few_reads { reads_of input.new ≤ reads_of input.old + MOST_READS }
-    ensures unread { ((file : _) (greatest : ℕ)
-        → AsksForFeed (map string_bytes words.now) file greatest → ⊥)
-        → input.new ≡ input.old }
-    ensures unserved { ((file : _) (port connections greatest : ℕ)
-        → AsksForServing (map string_bytes words.now) file port connections greatest → ⊥)
-        → clients.new ≡ clients.old }
-    ensures quiet { (result.0 ≡ 0) ⊎ (result.0 ≡ 1) → errors.new ≡ errors.old }
+    ensures reads { ReadsAsked R.remaining (map string_bytes words.now)
+        input.old input.new result.0 }
+    ensures unserved { (result.0 ≡ 2) ⊎ (result.0 ≡ 3)
+        ⊎ AsksForNoServing (map string_bytes words.now) → clients.new ≡ clients.old }
 {
     match read_words(rt.alloc(), words) {
         Ok(Asked::Feed { file, greatest }) => match file {

@@ -1,15 +1,13 @@
 //! A run on the system's files and ports.
 
-ghost use Rattle.std.specs.Prelude.{◌≡◌, ◌≢◌, ◌⊎◌, ◌+◌, ◌^◌, ◌<◌, ◌≤◌, map, string_bytes, codes, ℕ};
-ghost use Rattle.std.specs.Io.KnownBytes.{IsAtEnd};
+ghost use Rattle.std.specs.Prelude.{◌≡◌, ◌≢◌, ◌⊎◌, ◌^◌, ◌<◌, ◌≤◌, map, string_bytes, codes};
 ghost use Rattle.std.specs.IoError.{error_kind};
-ghost use Rattle.desk_types.specs.declared.limits.TheConstants.{MOST_READS};
-ghost use Rattle.desk_types.specs.Wire.{inner_of, reads_of, failures_of};
+ghost use Rattle.desk_types.specs.Wire.{failures_of};
 ghost use Rattle.line_schema.specs.declared.fault.OpenFault.TheVariants.{Unavailable};
 ghost use Rattle.served.specs.Shown.{FailsNever};
-ghost use Rattle.desk_words.specs.CommandLine.{AsksForFeed};
 ghost use Rattle.desk_runs.specs.Told.{TellsLine};
 ghost use Rattle.desk_commands.specs.Runs.{refusal_line};
+ghost use Rattle.tracedesk.specs.Program.{HaveRoom, ReadsAsked};
 
 use crate::program::whole_run;
 use crate::system::{SystemClients, SystemFiles};
@@ -28,21 +26,12 @@ pub fn program<R: Read, W: Write, E: Write>(
     output: &mut Wire<W>,
     errors: &mut Wire<E>,
 ) -> u8
-    requires reads { reads_of input.old < 2 ^ 63 }
-    requires read_failures { failures_of input.old < 2 ^ 63 }
-    requires write_failures { failures_of output.old < 2 ^ 63 }
-    requires error_failures { failures_of errors.old + 1 < 2 ^ 63 }
+    requires room { HaveRoom input.old output.old errors.old }
     ensures status { result ≤ 4 }
     ensures untouched { result ≡ 2 → (input.new ≡ input.old) × (output.new ≡ output.old) }
-    ensures end { (result ≡ 0) ⊎ (result ≡ 1) → (file : _) (greatest : ℕ)
-        → AsksForFeed (map string_bytes words.now) file greatest
-        → IsAtEnd (R.remaining (inner_of input.new)) }
+    ensures reads { ReadsAsked R.remaining (map string_bytes words.now) input.old input.new result }
     ensures kept { (result ≡ 0) ⊎ (result ≡ 1)
         → FailsNever input.old input.new output.old output.new }
-    ensures few_reads { reads_of input.new ≤ reads_of input.old + MOST_READS }
-    ensures unread { ((file : _) (greatest : ℕ)
-        → AsksForFeed (map string_bytes words.now) file greatest → ⊥)
-        → input.new ≡ input.old }
     ensures quiet { (result ≡ 0) ⊎ (result ≡ 1) → errors.new ≡ errors.old }
 {
     let (status, _files) = whole_run(
