@@ -59,7 +59,7 @@ fn refused_memory_is_made_good(rt: HostRuntime) -> Result<(), Fail> {
     let alloc = rt.alloc();
     let conn = new_files(alloc)?;
     let Sent {
-        began: _,
+        began: created,
         told,
         mut conn,
     } = send_over(&rt, alloc, conn, FIRST_RUN);
@@ -72,8 +72,9 @@ fn refused_memory_is_made_good(rt: HostRuntime) -> Result<(), Fail> {
         conn,
     } = send_over(&rt, alloc, conn, FIRST_RUN);
     close(conn);
-    made?;
     let (told, again) = (told?, again?);
+    let _ = created.ok_or(AllocError)?;
+    made?;
     if told.made_again > 0 {
         eprintln!(rt; "the desk was made again")?;
     }
