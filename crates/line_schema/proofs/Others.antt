@@ -19,15 +19,12 @@ let_be s = record { was_open = λ clean is. is; rows = λ clean is. others_stay 
 kept_rows : (old new : Database) → new ≡ old → KeepsOthers old new
 kept_rows old new same = subst (KeepsOthers old) (sym same) (others_stay old)
 
-pub let_be_read : (old new : State) → (HasCleanDisk new → KeepsCommit old new) → Survives old new (λ _. ⊥) → LetsOthersBe old new
-let_be_read old new kept survives = record {
-  was_open = λ clean is. (kept clean).was_open is;
-  rows = λ clean is. kept_rows old.committed new.committed ((kept clean).committed is);
-  crash = λ clean trees may. elim (survives.crash clean trees may) [ inl was ↦ inl was | inr none ↦ absurd none ];
-}
-
 pub let_be_reads : {S : Type 0} (g : Ghosts S) (old new : Held S) → ReadsOnly g old new → LetsOthersBe (state g old) (state g new)
-let_be_reads g old new reads = let_be_read (state g old) (state g new) reads.kept reads.survives
+let_be_reads g old new reads = record {
+  was_open = λ clean is. (reads.kept clean).was_open is;
+  rows = λ clean is. kept_rows (state g old).committed (state g new).committed ((reads.kept clean).committed is);
+  crash = λ clean trees may. elim (reads.survives.crash clean trees may) [ inl was ↦ inl was | inr none ↦ absurd none ];
+}
 
 pub let_be_then : (old mid new : State) → (HasCleanDisk new → HasCleanDisk mid) → LetsOthersBe old mid → LetsOthersBe mid new → LetsOthersBe old new
 let_be_then old mid new early one two = record {
@@ -79,9 +76,6 @@ file_then old mid new survives others after = record {
   survives = survives_then old mid new (λ _. ⊥) (λ _. ⊤) (λ _. ⊤) (λ clean trees none. tt) (λ clean trees left. tt) survives after.survives;
   others = let_be_then old mid new after.clean others after.others;
 }
-
-pub file_of : (old new : State) → Survives old new (λ _. ⊥) → LetsOthersBe old new → LeavesFile old new (λ _. ⊤)
-file_of old new survives others = file_then old new new survives others (file_stays new)
 
 pub file_edited : {E : Type 0} (old new : State) (edits : List Edit) (r : Result ⊤ E) → Survives old new (LeavesEdited edits old) → (HasCleanDisk new → OnOk r (KeepsOthers old.committed new.committed)) → (HasCleanDisk new → OnOk r (IsTrue old.is_open × IsTrue new.is_open))
     → (HasCleanDisk new → OnErr r (KeepsCommit old new)) → LeavesFile old new (λ _. ⊤)

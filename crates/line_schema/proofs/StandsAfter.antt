@@ -86,10 +86,6 @@ module _ {old new : State} (P : Trees → Type 0) (survives : Survives old new P
     | inr failed ↦ inr (omega (arith, survives.counts, failed))
   ]
 
-pub err_still : {A E : Type 0} {P : Type 0} (r : Result A E) → P → OnErr r P
-err_still (Ok a) p = tt
-err_still (Err e) p = p
-
 -- The call failed, and the store still represents the history.
 pub fails : {S D : Type 0} (g : Ghosts S) (F : D → History → Type 0) (K : D → Rules) (R : D → KeptRows) (old new : LineStore S D) (L : Kept) (r : Result Answer Fault) (told : Answer) (next : History) (e : Fault)
     → r ≡ Err e → Stands g F K new L → (HasRows R old L.history → HasRows R new L.history) → AnswersOrFails g F K R old new L r told next

@@ -1,6 +1,5 @@
 -- The tables that a crash may leave after commands that were answered Unavailable.
-use Rattle.std.proofs.Common.{◌≡◌, ◌⊎◌, inl, inr, IsTrue, List, [], ◌∷◌, Bool, true, false, Option, Some, is_some, MatchBool, ◌||◌, if◌then◌else◌, refl, sym, ap, subst}
-use Rattle.std.specs.List.{Contains}
+use Rattle.std.proofs.Common.{◌≡◌, ◌⊎◌, inl, inr, IsTrue, List, [], ◌∷◌, Bool, true, false, Some, is_some, MatchBool, ◌||◌, if◌then◌else◌, sym, ap, subst}
 use Rattle.std.proofs.lemmas.List.Elements.{Contains-append_left, Contains-append_right, Contains-push}
 use Rattle.sqlite_trees.specs.declared.store.Store.{Ghosts}
 use Rattle.sqlite_trees.specs.Tree.{Trees}
@@ -13,11 +12,9 @@ use Rattle.desk_types.specs.History.{History, accept, entry_of}
 use Rattle.desk_types.specs.Outcome.{after_command}
 use Rattle.desk_answers.specs.declared.answer.Answer.TheVariants.{Unavailable}
 use Rattle.desk_answers.specs.Commands.{answer_under, command_after, earlier_answer, is_full}
-use Rattle.line_tables.specs.Rows.{HoldsAt}
-use Rattle.line_rows.specs.Rows.{ledger_tables}
 use Rattle.line_schema.specs.declared.store.LineStore.{LineStore}
-use Rattle.line_schema.specs.Stands.{IsAcceptable, Kept, Stands, state_of}
-use Rattle.line_schema.specs.Unanswered.{GoUnanswered, HoldsOneMore, HoldsWithAtMostOne, Tries}
+use Rattle.line_schema.specs.Stands.{Kept, Stands, state_of}
+use Rattle.line_schema.specs.Unanswered.{GoUnanswered, HoldsOneMore}
 
 pub again : (greatest : _) (H : History) (s : Stamped) → command_after Two greatest (accept H s) s ≡ accept H s
 again greatest H s =

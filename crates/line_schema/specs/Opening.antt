@@ -82,9 +82,6 @@ IsToldBy rules old (NotLawful n) = IsNamedBy rules old
 IsToldBy rules old (TableDiffers table) = IsNamedBy rules old
 IsToldBy rules old _ = ⊤
 
-abbrev pub IsToldOf : State → OpenFault → Type 0
-IsToldOf = IsToldBy Two
-
 -- The history is lawful and its rows are present. This is the first of the other tables, in their
 -- order, whose rows are not the history's.
 pub record IsTableFault (rules : Rules) (old : State) (table : StateTable) : Type 0 where
@@ -105,9 +102,6 @@ IsFaultBy rules old (NotLawful n) = (greatest : ℕ)
 IsFaultBy rules old (TableDiffers table) = IsTableFault rules old table
 IsFaultBy rules old NotBlank = ⊥
 IsFaultBy rules old Unavailable = ⊤
-
-abbrev pub IsFaultOf : State → OpenFault → Type 0
-IsFaultOf = IsFaultBy Two
 
 -- The reported fault is in the committed contents, if the disk is honest, and it is never NotBlank.
 pub record IsReported (rules : Rules) (old new : State) (fault : OpenFault) : Type 0 where

@@ -9,8 +9,8 @@ use Rattle.desk_types.specs.History.{History, accept}
 use Rattle.desk_types.specs.Tables.{tables_of}
 use Rattle.state_rows.specs.Kept.{unnumbered}
 
--- There is room for the change, which is judged for the desk's history. The edits lead to the tables
--- of the history with the change, apart from the numbers of mounts.
+-- There is room for the change, which is judged for the desk's history. The edits lead to the
+-- tables of the history with the change, apart from the numbers of mounts.
 pub record CanSettle {D : Type 0} (StandsFor : D → History → Type 0) (kept_rules : D → Rules)
     (change : Change) (edits : List RowEdit) (desk : D) : Type 0 where
   pub room : HasRoom StandsFor desk 1

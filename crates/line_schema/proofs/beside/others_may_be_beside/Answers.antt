@@ -1,6 +1,6 @@
 use Rattle.std.proofs.Common.{◌≡◌, ◌&&◌, ◌||◌, ◌∷◌, [], Bool, true, false, refl}
 use Rattle.sqlite_schema.specs.Names.{same_name}
-use Rattle.line_tables.specs.Line.{are_quiet, is_ours}
+use Rattle.line_tables.specs.Line.{are_quiet}
 use Rattle.line_tables.specs.Line.Layout.{Plain}
 use Rattle.line_tables.proofs.Ours.{is_ours_of}
 use Rattle.line_schema.specs.Samples.{note, note_on_reel, by_source, with_others}
