@@ -43,7 +43,7 @@ no-some None is = refl
 no-some (Some x) is = cc
 
 -- A board that was not started has no product,
-unstarted-product : (H : History) (board : Name) → is_started H board ≡ false → product_of H board ≡ None
+pub unstarted-product : (H : History) (board : Name) → is_started H board ≡ false → product_of H board ≡ None
 unstarted-product [] board new = refl
 unstarted-product (e ∷ H) board new =
     let neither = or-neither (is_some (start_by board e.stamped.command)) (is_started H board) new in
@@ -61,7 +61,7 @@ start-selected H e board machine (WorkStarted m b) next is starts =
     ap (λ x. is_some (selected_on H x)) (sym (if-is (same b board) m machine starts)) ∙ work-selected H e m b next is
 start-selected H e board machine _ next is starts = cc
 
-started-product : (H : History) (board : Name) → IsJudged Two H → is_started H board ≡ true → is_some (product_of H board) ≡ true
+pub started-product : (H : History) (board : Name) → IsJudged Two H → is_started H board ≡ true → is_some (product_of H board) ≡ true
 started-product [] board judged started = cc
 started-product (e ∷ H) board (next, judged) started = by (start_by board e.stamped.command) (product_of H board) refl refl started (started-product H board judged)
   where

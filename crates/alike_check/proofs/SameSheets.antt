@@ -1,25 +1,23 @@
 -- Sheets of a history, by the rows of the table.
-use Rattle.std.proofs.Common.{◌≡◌, ℕ, Bool, true, false, is_some, Option, Some, None, List, [], ◌∷◌, length, unwrap_or, refl, sym, ap, subst, ◌∙◌, arith}
-use Rattle.std.specs.Prelude.{if◌then◌else◌, ◌&&◌, ◌==◌}
+use Rattle.std.proofs.Common.{◌≡◌, ℕ, Bool, true, false, is_some, Option, Some, None, List, [], ◌∷◌, length, refl, sym, ap, ◌∙◌, arith}
+use Rattle.std.specs.Prelude.{◌&&◌, ◌==◌}
 use Rattle.std.specs.List.{AllByRecursion}
-use Rattle.std.specs.Option.{option_and_then, option_or}
+use Rattle.std.specs.Option.{option_and_then}
 use Rattle.std.specs.Ordering.{is_eq}
 use Rattle.std.proofs.lemmas.Bool.{eqb-true}
 use Rattle.std.proofs.lemmas.Map.Lookups.{CmpEqualImpliesEq}
-use Rattle.desk_types.specs.declared.command.Command.{Command}
-use Rattle.desk_types.specs.declared.command.Command.TheVariants.{SheetDefined}
 use Rattle.desk_types.specs.declared.rules.Rules.TheVariants.{Two}
 use Rattle.desk_types.specs.declared.sheet.SheetRow.{SheetRow}
 use Rattle.desk_types.specs.Bounds.{IsListLength}
-use Rattle.desk_types.specs.Command.{IsCommand}
 use Rattle.desk_types.specs.Id.{Name, same}
 use Rattle.desk_types.specs.History.{History}
-use Rattle.desk_types.specs.Setup.{sheet_by, sheet_of}
+use Rattle.desk_types.specs.Setup.{sheet_of}
 use Rattle.desk_types.specs.Tables.{Tables, at_place, sheet_row, tables_of}
 use Rattle.desk_types.specs.Judged.{IsJudged}
 use Rattle.desk_types.proofs.Keys.{same-true}
 use Rattle.state_rows.specs.Kept.{KeptRows, tables_in, unnumbered, by_sheet_place, Lists}
 use Rattle.state_rows.proofs.RowLists.{is_at-by_sheet_place}
+use Rattle.feeder_state.proofs.RestoredSheets.{sheet-range}
 use Rattle.alike_check.proofs.Covered.{covered-rows}
 
 -- A sheet whose first row has this key is the same in both histories.
@@ -36,23 +34,6 @@ exact : CmpEqualImpliesEq by_sheet_place
 exact a b is =
     let at = three (same a.0 b.0) (same a.1 b.1) (a.2 == b.2) (sym (is_at-by_sheet_place a b) ∙ ap is_eq is) in
     λ j. (same-true a.0 b.0 at.0 j, same-true a.1 b.1 at.1 j, eqb-true a.2 b.2 at.2 j)
-
-sheet-range : (H : History) (product machine : Name) (rows : List SheetRow) → IsJudged Two H → sheet_of H product machine ≡ Some rows → IsListLength (length rows)
-sheet-range [] product machine rows judged is = cc
-sheet-range (e ∷ H) product machine rows (next, judged) is = by (sheet_by product machine e.stamped.command) refl is (sheet-range H product machine rows judged)
-  where
-    given : (b : Bool) (rs : List SheetRow) → IsListLength (length rs) → (if b then Some rs else None) ≡ Some rows → IsListLength (length rows)
-    given true rs few one = subst (λ xs. IsListLength (length xs)) (ap (λ o. unwrap_or o rs) one) few
-    given false rs few one = cc
-
-    named : (command : Command) → IsCommand command → sheet_by product machine command ≡ Some rows → IsListLength (length rows)
-    named (SheetDefined p m rs) range one = given (same p product && same m machine) rs range.2.count one
-    named _ range one = cc
-
-    by : (said : Option (List SheetRow)) → sheet_by product machine e.stamped.command ≡ said → option_or said (sheet_of H product machine) ≡ Some rows
-        → (sheet_of H product machine ≡ Some rows → IsListLength (length rows)) → IsListLength (length rows)
-    by None says is before = before is
-    by (Some rs) says is before = named e.stamped.command next.in_range.stamped.command (says ∙ is)
 
 first-row : (H : History) (product machine : Name) → IsJudged Two H → is_some (sheet_of H product machine) ≡ true → is_some (sheet_row H product machine 1) ≡ true
 first-row H product machine judged some = by (sheet_of H product machine) refl some

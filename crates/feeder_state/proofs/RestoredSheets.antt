@@ -171,7 +171,8 @@ from-place n (r ∷ rs) (x ∷ xs) (above, up) agree =
 
 -- ---- all of a sheet's rows
 
-sheet-range : (H : History) (product machine : Name) (rows : List SheetRow) → IsJudged Two H → sheet_of H product machine ≡ Some rows → IsListLength (length rows)
+-- An accepted sheet has as many rows as a list may have.
+pub sheet-range : (H : History) (product machine : Name) (rows : List SheetRow) → IsJudged Two H → sheet_of H product machine ≡ Some rows → IsListLength (length rows)
 sheet-range [] product machine rows judged is = cc
 sheet-range (e ∷ H) product machine rows (next, judged) is = by (sheet_by product machine e.stamped.command) refl is (sheet-range H product machine rows judged)
   where
