@@ -3,7 +3,7 @@
 use desk_types::{Id, Left, Minute};
 
 /// The first way in which a new desk doesn't carry on the old desk that it follows.
-#[derive(Clone, Copy, Debug, PartialEq, Eq)]
+#[derive(Clone, Copy, PartialEq, Eq)]
 pub enum Difference {
     /// The desk minutes.
     Minute {

@@ -5,7 +5,7 @@ use std::alloc::AllocError;
 
 /// Why a message can't be read: the first of these that applies. The body's first member that is
 /// bad or over its limit decides between those two.
-#[derive(Clone, Copy, Debug, PartialEq, Eq)]
+#[derive(Clone, Copy, PartialEq, Eq)]
 pub enum MessageFault {
     /// The bytes aren't JSON in UTF-8, nest deeper than 127 levels, or have a number or escape
     /// without a value.

@@ -4,7 +4,7 @@ ghost use Rattle.std.specs.Prelude.{◌≡◌};
 ghost use Rattle.cfx_profile.specs.Member.{member_text};
 
 /// A member of an envelope, of a body or of a row in a body.
-#[derive(Clone, Copy, Debug, PartialEq, Eq)]
+#[derive(Clone, Copy, PartialEq, Eq)]
 pub enum Member {
     /// Envelope: the kind of message.
     MessageName,

@@ -19,7 +19,7 @@ use std::alloc::Global;
 use stored_texts::Word;
 
 /// The content of a message.
-#[derive(Debug, PartialEq, Eq, Drop)]
+#[derive(PartialEq, Eq, Drop)]
 pub enum Said {
     /// A message with another name. Nothing else is read in it.
     Ignored(Text),

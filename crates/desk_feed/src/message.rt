@@ -11,7 +11,7 @@ use desk_types::{Stamped, Text};
 use std::alloc::{AllocError, Global};
 
 /// The text of an answer, and whether it counts as refused: all except Accepted and Ignored do.
-#[derive(Debug, PartialEq, Eq, Drop)]
+#[derive(PartialEq, Eq, Drop)]
 pub struct Told {
     pub text: Text,
     pub refused: bool,

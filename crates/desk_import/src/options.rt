@@ -30,7 +30,7 @@ pub struct Import {
 }
 
 /// The first bad option.
-#[derive(Clone, Copy, Debug, PartialEq, Eq)]
+#[derive(Clone, Copy, PartialEq, Eq)]
 pub enum BadOption {
     Id,
     Source,

@@ -30,7 +30,7 @@ pub trait Folder {
 }
 
 /// Why a file can't be read.
-#[derive(Clone, Copy, Debug, PartialEq, Eq)]
+#[derive(Clone, Copy, PartialEq, Eq)]
 pub enum Unread {
     /// Opening or reading failed.
     Failed,

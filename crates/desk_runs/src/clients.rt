@@ -32,5 +32,5 @@ pub trait Clients {
 }
 
 /// The port can't be opened, or no further client accepted.
-#[derive(Clone, Copy, Debug, PartialEq, Eq, Drop)]
+#[derive(Clone, Copy, PartialEq, Eq, Drop)]
 pub struct NoClient;

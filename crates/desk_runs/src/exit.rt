@@ -10,7 +10,7 @@ use served::{ServeFault, send, send_line};
 use std::io::Write;
 
 /// The end of a run.
-#[derive(Clone, Copy, Debug, PartialEq, Eq)]
+#[derive(Clone, Copy, PartialEq, Eq)]
 pub enum Exit {
     /// All went well.
     Done = 0,

@@ -6,7 +6,7 @@ use std::alloc::AllocError;
 
 /// Why a command is refused, with the name at fault: a part, reel, product, machine, slot, board or
 /// designator.
-#[derive(Clone, Copy, Debug, PartialEq, Eq)]
+#[derive(Clone, Copy, PartialEq, Eq)]
 pub enum Refusal {
     /// The command's minute is more than 20,160 minutes after the desk minute.
     TooFarAhead,
@@ -63,7 +63,7 @@ pub enum Refusal {
 }
 
 /// The details in the reply to an accepted command.
-#[derive(Debug, PartialEq, Eq, Drop)]
+#[derive(PartialEq, Eq, Drop)]
 pub enum Detail {
     /// No details.
     Plain,
@@ -91,7 +91,7 @@ impl Clone for Detail {
 }
 
 /// The reply to one command.
-#[derive(Debug, PartialEq, Eq, Drop)]
+#[derive(PartialEq, Eq, Drop)]
 pub enum Reply {
     Accepted(Detail),
     Refused(Refusal),

@@ -7,7 +7,7 @@ use crate::limits::MOST_BOARDS;
 use std::marker::Model;
 
 /// 1 to 100,000 boards.
-#[derive(Clone, Copy, Debug, PartialEq, Eq, PartialOrd, Ord)]
+#[derive(Clone, Copy, PartialEq, Eq, PartialOrd, Ord)]
 pub struct Boards(u32);
 
 impl Model for Boards {

@@ -12,7 +12,7 @@ use crate::take::Take;
 pub type Takes = Listing<Take>;
 
 /// The effect of a command that isn't refused. Settling the change accepts the command.
-#[derive(Debug, PartialEq, Eq, Drop)]
+#[derive(PartialEq, Eq, Drop)]
 pub struct Change {
     pub stamped: Stamped,
     pub minute: Minute,

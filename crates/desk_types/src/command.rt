@@ -9,7 +9,7 @@ use std::alloc::AllocError;
 
 /// The request in a message. The message kinds are this project's own profile; the envelope follows
 /// IPC-CFX.
-#[derive(Debug, PartialEq, Eq, Drop)]
+#[derive(PartialEq, Eq, Drop)]
 pub enum Command {
     /// Defines a part, so that it can be received and appear on sheets.
     PartDefined {
@@ -197,7 +197,7 @@ impl Clone for Command {
 }
 
 /// A command with its message: the source, the UniqueID and the minute of the source's clock.
-#[derive(Debug, PartialEq, Eq, Drop)]
+#[derive(PartialEq, Eq, Drop)]
 pub struct Stamped {
     pub uid: Id,
     pub source: Id,
@@ -221,7 +221,7 @@ impl Clone for Stamped {
 }
 
 /// An accepted command, with its number in the history (from 1) and its effective minute.
-#[derive(Debug, PartialEq, Eq, Drop)]
+#[derive(PartialEq, Eq, Drop)]
 pub struct Entry {
     pub number: u64,
     pub stamped: Stamped,
@@ -229,7 +229,7 @@ pub struct Entry {
 }
 
 /// A reel's receipt and the minute at which it took effect.
-#[derive(Clone, Copy, Debug, PartialEq, Eq)]
+#[derive(Clone, Copy, PartialEq, Eq)]
 pub struct Receipt {
     pub part: Id,
     pub lot: Id,

@@ -8,7 +8,7 @@ use crate::number::CountedQuantity;
 pub type Counts = Bounded<CountRow>;
 
 /// A reel and the number of pieces counted on it.
-#[derive(Clone, Copy, Debug, PartialEq, Eq)]
+#[derive(Clone, Copy, PartialEq, Eq)]
 pub struct CountRow {
     pub reel: Id,
     pub quantity: CountedQuantity,

@@ -18,7 +18,7 @@ use crate::view::{Mounts, ReelView, ReelViews};
 use std::alloc::{AllocError, Global};
 
 /// Why judging a command produced no change.
-#[derive(Clone, Copy, Debug, PartialEq, Eq)]
+#[derive(Clone, Copy, PartialEq, Eq)]
 pub enum JudgeFault {
     /// The rules refuse the command.
     Refused(Refusal),

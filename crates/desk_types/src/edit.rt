@@ -6,7 +6,7 @@ use crate::row::{BoardRow, MountRow, PlacementRow, ReelRow};
 use crate::sheet::SheetRow;
 
 /// Removes one row, or puts one and replaces the row with the same key.
-#[derive(Debug, Drop)]
+#[derive(Drop)]
 pub enum RowEdit {
     TakeSheetRow {
         product: Id,

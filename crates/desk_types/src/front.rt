@@ -4,7 +4,7 @@ use crate::id::Id;
 use crate::list::Listing;
 
 /// How long a reel may still feed its slot.
-#[derive(Clone, Copy, Debug, PartialEq, Eq)]
+#[derive(Clone, Copy, PartialEq, Eq)]
 pub enum Life {
     /// Its level has no limit.
     Unlimited,
@@ -16,7 +16,7 @@ pub enum Life {
 }
 
 /// A slot's front reel with its part.
-#[derive(Clone, Copy, Debug, PartialEq, Eq)]
+#[derive(Clone, Copy, PartialEq, Eq)]
 pub struct FrontReel {
     pub reel: Id,
     pub part: Id,
@@ -24,7 +24,7 @@ pub struct FrontReel {
 }
 
 /// A slot and its front reel, or none if no reel is live there.
-#[derive(Clone, Copy, Debug, PartialEq, Eq)]
+#[derive(Clone, Copy, PartialEq, Eq)]
 pub struct Front {
     pub slot: Id,
     pub reel: Option<FrontReel>,

@@ -9,7 +9,7 @@ use std::marker::Model;
 
 /// A moisture sensitivity level, after the idea of J-STD-033. The limits are this project's own
 /// profile.
-#[derive(Clone, Copy, Debug, PartialEq, Eq)]
+#[derive(Clone, Copy, PartialEq, Eq)]
 pub enum Level {
     /// `1`: no limit.
     One,
@@ -81,7 +81,7 @@ impl Level {
 }
 
 /// A level with the minutes on its label, which are 0 except at level 6.
-#[derive(Clone, Copy, Debug, PartialEq, Eq)]
+#[derive(Clone, Copy, PartialEq, Eq)]
 pub struct Moisture {
     level: Level,
     label: u64,

@@ -9,7 +9,7 @@ use std::alloc::AllocError;
 use std::marker::Model;
 
 /// A list of any length.
-#[derive(Debug, Drop)]
+#[derive(Drop)]
 pub struct Listing<T> {
     items: Vec<T>,
 }
@@ -82,7 +82,7 @@ impl<T: Eq> Eq for Listing<T> {
 }
 
 /// A list of 1 to 5,000 elements.
-#[derive(Debug, Drop)]
+#[derive(Drop)]
 pub struct Bounded<T> {
     items: Vec<T>,
 }

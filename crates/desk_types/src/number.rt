@@ -7,7 +7,7 @@ use crate::limits::{GREATEST_MINUTE, GREATEST_QUANTITY};
 use std::marker::Model;
 
 /// Whole minutes since 1970-01-01T00:00Z, up to the end of the year 9999.
-#[derive(Clone, Copy, Debug, PartialEq, Eq, PartialOrd, Ord)]
+#[derive(Clone, Copy, PartialEq, Eq, PartialOrd, Ord)]
 pub struct Minute(u64);
 
 impl Model for Minute {
@@ -44,7 +44,7 @@ impl Minute {
 }
 
 /// 1 to 10,000,000 pieces.
-#[derive(Clone, Copy, Debug, PartialEq, Eq, PartialOrd, Ord)]
+#[derive(Clone, Copy, PartialEq, Eq, PartialOrd, Ord)]
 pub struct Quantity(u32);
 
 impl Model for Quantity {
@@ -81,7 +81,7 @@ impl Quantity {
 }
 
 /// 0 to 10,000,000 pieces, counted on a reel.
-#[derive(Clone, Copy, Debug, PartialEq, Eq, PartialOrd, Ord)]
+#[derive(Clone, Copy, PartialEq, Eq, PartialOrd, Ord)]
 pub struct CountedQuantity(u32);
 
 impl Model for CountedQuantity {

@@ -6,7 +6,7 @@ use crate::number::Minute;
 
 /// A piece placed on a board by the entry with this number, at this place in its message. Both
 /// count from 1. The reel's receipt has its part and lot.
-#[derive(Clone, Copy, Debug, PartialEq, Eq)]
+#[derive(Clone, Copy, PartialEq, Eq)]
 pub struct Placement {
     pub number: u64,
     pub place: u64,

@@ -9,7 +9,7 @@ use crate::level::{Level, Moisture};
 use crate::number::{Minute, Quantity};
 
 /// A row of the table `reel`.
-#[derive(Clone, Copy, Debug, PartialEq, Eq)]
+#[derive(Clone, Copy, PartialEq, Eq)]
 pub struct ReelRow {
     pub reel: Id,
     pub part: Id,
@@ -104,7 +104,7 @@ impl ReelRow {
 }
 
 /// A row of the table `mount`: a live reel, and the number of its load or splice.
-#[derive(Clone, Copy, Debug, PartialEq, Eq)]
+#[derive(Clone, Copy, PartialEq, Eq)]
 pub struct MountRow {
     pub since: u64,
     pub machine: Id,
@@ -113,7 +113,7 @@ pub struct MountRow {
 }
 
 /// A row of the table `board`: its product and the machine where it is in work.
-#[derive(Clone, Copy, Debug, PartialEq, Eq)]
+#[derive(Clone, Copy, PartialEq, Eq)]
 pub struct BoardRow {
     pub board: Id,
     pub product: Id,
@@ -121,7 +121,7 @@ pub struct BoardRow {
 }
 
 /// A row of the table `placement`.
-#[derive(Clone, Copy, Debug, PartialEq, Eq)]
+#[derive(Clone, Copy, PartialEq, Eq)]
 pub struct PlacementRow {
     pub number: u64,
     pub place: u64,

@@ -1,7 +1,7 @@
 //! Versions of the rules.
 
 /// The version of the rules. The versions differ only in the counts that they refuse.
-#[derive(Clone, Copy, Debug, PartialEq, Eq)]
+#[derive(Clone, Copy, PartialEq, Eq)]
 pub enum Rules {
     /// A count must not exceed the remaining pieces.
     One,

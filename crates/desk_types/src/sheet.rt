@@ -12,7 +12,7 @@ pub type Designators = Bounded<Designator>;
 pub type SheetRows = Bounded<SheetRow>;
 
 /// A slot, the part that it feeds, and the designators where its pieces go.
-#[derive(Debug, PartialEq, Eq, Drop)]
+#[derive(PartialEq, Eq, Drop)]
 pub struct SheetRow {
     pub slot: Id,
     pub part: Id,

@@ -7,7 +7,7 @@ use crate::designator::Designator;
 use crate::id::Id;
 
 /// Why a piece was taken.
-#[derive(Clone, Copy, Debug, PartialEq, Eq)]
+#[derive(Clone, Copy, PartialEq, Eq)]
 pub enum Purpose {
     /// It was placed on a board from a slot.
     Placed {
@@ -35,7 +35,7 @@ impl Purpose {
 }
 
 /// Pieces from one reel and their purpose, before the reel's part and lot are known.
-#[derive(Clone, Copy, Debug, PartialEq, Eq)]
+#[derive(Clone, Copy, PartialEq, Eq)]
 pub struct Pick {
     pub reel: Id,
     pub quantity: u64,
@@ -43,7 +43,7 @@ pub struct Pick {
 }
 
 /// A pick with its reel's part and lot. It is overdue if it places a piece from an expired reel.
-#[derive(Clone, Copy, Debug, PartialEq, Eq)]
+#[derive(Clone, Copy, PartialEq, Eq)]
 pub struct Take {
     pub reel: Id,
     pub part: Id,

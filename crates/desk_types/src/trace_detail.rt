@@ -4,7 +4,7 @@ ghost use Rattle.std.specs.Prelude.{◌≡◌};
 ghost use Rattle.desk_types.specs.TraceDetail.{trace_detail_of};
 
 /// How much a trace reports about a piece.
-#[derive(Clone, Copy, Debug, PartialEq, Eq)]
+#[derive(Clone, Copy, PartialEq, Eq)]
 pub enum TraceDetail {
     /// The parts of a board, or the boards of a lot.
     One,

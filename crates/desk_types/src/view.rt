@@ -7,7 +7,7 @@ use crate::number::Minute;
 
 /// The remaining floor life of a reel, ordered from fewer minutes to unlimited to waiting for a
 /// bake.
-#[derive(Clone, Copy, Debug, PartialEq, Eq, PartialOrd, Ord)]
+#[derive(Clone, Copy, PartialEq, Eq, PartialOrd, Ord)]
 pub enum Left {
     /// The minutes left at the desk minute, 0 if expired.
     Minutes(u64),
@@ -20,7 +20,7 @@ pub enum Left {
 /// A received reel at the desk minute. Received pieces are placed, scrapped or remaining. Each
 /// `Minute` counts from 1970-01-01T00:00Z; `used` is a duration in minutes. The idea of floor life
 /// comes from J-STD-033; the limits are this project's own profile.
-#[derive(Clone, Copy, Debug, PartialEq, Eq)]
+#[derive(Clone, Copy, PartialEq, Eq)]
 pub struct ReelView {
     pub reel: Id,
     pub part: Id,
@@ -54,7 +54,7 @@ pub struct ReelView {
 pub type ReelViews = Listing<ReelView>;
 
 /// A live reel on a slot. Pieces are taken from the front, the reel in position 1.
-#[derive(Clone, Copy, Debug, PartialEq, Eq)]
+#[derive(Clone, Copy, PartialEq, Eq)]
 pub struct Mount {
     pub slot: Id,
     pub position: u64,

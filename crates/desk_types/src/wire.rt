@@ -12,7 +12,7 @@ use std::io::{Read, Write};
 ///
 /// A failure is an error, or a write of a non-empty piece that takes nothing. Counts start at 0 and
 /// stay at the greatest `u64`. Bytes pass through unchanged.
-#[derive(Debug, Drop)]
+#[derive(Drop)]
 pub struct Wire<T> {
     inner: T,
     reads: u64,

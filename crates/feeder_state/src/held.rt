@@ -15,7 +15,7 @@ use reels::Reel;
 use state_rows::RowSet;
 
 /// A received reel at the desk minute, and whether it is live on a slot: a spent reel has no row of `mount`.
-#[derive(Clone, Copy, Debug, PartialEq, Eq)]
+#[derive(Clone, Copy, PartialEq, Eq)]
 pub struct Held {
     pub reel: Reel,
     pub on_slot: bool,

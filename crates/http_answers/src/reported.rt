@@ -7,7 +7,7 @@ use std::alloc::{AllocError, Global};
 
 /// Out of memory, or the storage failed. The history is unchanged, and the request can be sent
 /// again.
-#[derive(Clone, Copy, Debug, PartialEq, Eq)]
+#[derive(Clone, Copy, PartialEq, Eq)]
 pub struct Unavailable;
 
 impl From<AllocError> for Unavailable {

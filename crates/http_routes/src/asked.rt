@@ -18,7 +18,7 @@ use std::alloc::Global;
 use std::borrow::CowStr;
 
 /// The data of an import's command that a message has in its envelope.
-#[derive(Clone, Copy, Debug, PartialEq, Eq)]
+#[derive(Clone, Copy, PartialEq, Eq)]
 pub struct Stamp {
     pub uid: Id,
     pub source: Id,
@@ -27,7 +27,7 @@ pub struct Stamp {
 }
 
 /// The content of a request, with its parameters.
-#[derive(Clone, Copy, Debug, PartialEq, Eq)]
+#[derive(Clone, Copy, PartialEq, Eq)]
 pub enum Asked {
     /// `POST /messages`: the body is a message.
     Message,
@@ -45,7 +45,7 @@ pub enum Asked {
 }
 
 /// A report with its parameters, one variant for each route.
-#[derive(Clone, Copy, Debug, PartialEq, Eq)]
+#[derive(Clone, Copy, PartialEq, Eq)]
 pub enum Report {
     /// `GET /trace/board`: the pieces on a board.
     BoardTrace {

@@ -5,7 +5,7 @@ use crate::routes::Method;
 use std::alloc::AllocError;
 
 /// Why a request can't be read: the first of these that applies.
-#[derive(Clone, Copy, Debug, PartialEq, Eq)]
+#[derive(Clone, Copy, PartialEq, Eq)]
 pub enum AskFault {
     /// No route has the path.
     NoPath,

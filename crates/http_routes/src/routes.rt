@@ -7,7 +7,7 @@ use matchit::{InsertError, Router};
 use std::alloc::{AllocError, Global};
 
 /// A method of a route.
-#[derive(Clone, Copy, Debug, PartialEq, Eq)]
+#[derive(Clone, Copy, PartialEq, Eq)]
 pub enum Method {
     Get,
     Post,
@@ -25,7 +25,7 @@ impl Method {
     }
 }
 
-#[derive(Clone, Copy, Debug, PartialEq, Eq)]
+#[derive(Clone, Copy, PartialEq, Eq)]
 pub enum Route {
     Messages,
     ImportSetup,

@@ -6,7 +6,7 @@ ghost use Rattle.http_stream.specs.Answers.{code_of, is_refused, status_line, bo
 use desk_types::Text;
 
 /// The status of an answer.
-#[derive(Clone, Copy, Debug, PartialEq, Eq, Drop)]
+#[derive(Clone, Copy, PartialEq, Eq, Drop)]
 pub enum Status {
     Ok,
     Accepted,
@@ -23,14 +23,14 @@ pub enum Status {
 }
 
 /// The one method that a path allows.
-#[derive(Clone, Copy, Debug, PartialEq, Eq, Drop)]
+#[derive(Clone, Copy, PartialEq, Eq, Drop)]
 pub enum Allow {
     Get,
     Post,
 }
 
 /// The media type of a body.
-#[derive(Clone, Copy, Debug, PartialEq, Eq, Drop)]
+#[derive(Clone, Copy, PartialEq, Eq, Drop)]
 pub enum Kind {
     Json,
     Csv,

@@ -4,7 +4,7 @@ use std::alloc::AllocError;
 
 /// Why a file is rejected: its first fault. Lines are records, and the header is line 1; columns
 /// count from 1.
-#[derive(Clone, Copy, Debug, PartialEq, Eq)]
+#[derive(Clone, Copy, PartialEq, Eq)]
 pub enum ImportFault {
     /// The first record is not the header, or the file has no record.
     BadHeader,

@@ -24,7 +24,7 @@ use std::collections::{BTreeMap, BTreeSet};
 
 /// A slot's current reel before or during a message, the pieces left on it, and how many of the slot's reels
 /// come up to and including it.
-#[derive(Clone, Copy, Debug, PartialEq, Eq)]
+#[derive(Clone, Copy, PartialEq, Eq)]
 pub struct Feed {
     pub reel: Id,
     pub pieces: u64,
@@ -32,7 +32,7 @@ pub struct Feed {
 }
 
 /// A piece from the current reel or, without one, the number of the slot's reels already passed.
-#[derive(Clone, Copy, Debug, PartialEq, Eq)]
+#[derive(Clone, Copy, PartialEq, Eq)]
 enum Given {
     Reel(Id),
     Nothing(usize),
@@ -183,7 +183,7 @@ fn has_placed<F: Facts>(
 }
 
 /// A slot and the reel that its piece comes from.
-#[derive(Clone, Copy, Debug, PartialEq, Eq)]
+#[derive(Clone, Copy, PartialEq, Eq)]
 struct Feeder {
     slot: Id,
     reel: Id,

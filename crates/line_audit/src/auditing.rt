@@ -19,7 +19,7 @@ use state_rows::RowSet;
 use std::alloc::Global;
 
 /// The result of looking up the expected placements.
-#[derive(Clone, Copy, Debug)]
+#[derive(Clone, Copy)]
 pub struct Placed {
     /// Whether each was found.
     pub all: bool,

@@ -3,7 +3,7 @@
 use std::fmt;
 
 /// A state table. Variants are in the order of an audit.
-#[derive(Clone, Copy, Debug, PartialEq, Eq)]
+#[derive(Clone, Copy, PartialEq, Eq)]
 pub enum StateTable {
     Part,
     Alternate,

@@ -3,7 +3,7 @@
 use std::alloc::AllocError;
 
 /// Why a replay fails.
-#[derive(Clone, Copy, Debug, PartialEq, Eq)]
+#[derive(Clone, Copy, PartialEq, Eq)]
 pub enum ReplayFault {
     /// The first place, from 1, where the rows do not continue the history.
     NotLawful(u32),

@@ -3,7 +3,7 @@
 use std::alloc::AllocError;
 
 /// Why a row is not made: memory was refused, or a text is not UTF-8. Each text of a command and of an answer is UTF-8.
-#[derive(Clone, Copy, Debug, PartialEq, Eq)]
+#[derive(Clone, Copy, PartialEq, Eq)]
 pub struct NoRow;
 
 impl From<AllocError> for NoRow {
@@ -17,7 +17,7 @@ impl From<AllocError> for NoRow {
 }
 
 /// Why a row is not accepted.
-#[derive(Clone, Copy, Debug, PartialEq, Eq)]
+#[derive(Clone, Copy, PartialEq, Eq)]
 pub enum RowFault {
     /// The row does not continue the history.
     NotLawful,

@@ -6,7 +6,7 @@ use std::fmt;
 
 /// Why no store is made or opened: the first of these that applies. Unavailable may replace any
 /// other.
-#[derive(Clone, Copy, Debug, PartialEq, Eq)]
+#[derive(Clone, Copy, PartialEq, Eq)]
 pub enum OpenFault {
     /// `version` or one of its columns is missing, or it does not have a single row of three whole
     /// numbers, the first 1 and the last from 1 to 1,000,000,000; or, if the version is ours,

@@ -5,7 +5,7 @@ use std::alloc::AllocError;
 
 /// Memory was refused, or the database failed. The history is unchanged, and the call may be
 /// repeated. After a failed commit, a crash may still leave the command.
-#[derive(Clone, Copy, Debug, PartialEq, Eq)]
+#[derive(Clone, Copy, PartialEq, Eq)]
 pub struct Unavailable;
 
 impl From<AllocError> for Unavailable {

@@ -1,7 +1,7 @@
 //! The row of an accepted command.
 
 /// A row of `accepted`.
-#[derive(Debug, Drop)]
+#[derive(Drop)]
 pub struct Accepted {
     /// From 1.
     pub number: u32,

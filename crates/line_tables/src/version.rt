@@ -14,7 +14,7 @@ use sqlite::types::ValueRef;
 use sqlite::{Alter, Connection, Error, Row};
 
 /// The whole numbers of the row of `version`.
-#[derive(Debug, Drop)]
+#[derive(Drop)]
 pub struct Version {
     /// The version of the tables.
     pub number: i64,

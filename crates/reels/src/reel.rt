@@ -5,7 +5,7 @@ ghost use Rattle.reels.specs.Fitting.{IsFitting};
 use desk_types::{Id, Level, Minute, Moisture, Quantity, ReelRow};
 
 /// Why pieces left a reel.
-#[derive(Clone, Copy, Debug, PartialEq, Eq)]
+#[derive(Clone, Copy, PartialEq, Eq)]
 pub enum Usage {
     /// They were placed on boards.
     Placed,
@@ -22,7 +22,7 @@ pub enum Usage {
 ///
 /// The idea of floor life comes from J-STD-033; the limits are this project's own profile. A label
 /// is bounded so that adding the minutes left to a minute can't overflow.
-#[derive(Clone, Copy, Debug, PartialEq, Eq)]
+#[derive(Clone, Copy, PartialEq, Eq)]
 pub struct Reel {
     pub row: ReelRow,
     pub found: u64,

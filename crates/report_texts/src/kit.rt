@@ -16,7 +16,7 @@ use std::alloc::{AllocError, Global};
 use std::collections::BTreeSet;
 
 /// A row of a kit list: a sheet row's need, and one of its supplies.
-#[derive(Clone, Copy, Debug, PartialEq, Eq)]
+#[derive(Clone, Copy, PartialEq, Eq)]
 pub struct KitRow {
     pub slot: Id,
     /// The sheet's part. The reel may have an alternate.
@@ -27,7 +27,7 @@ pub struct KitRow {
 }
 
 /// A reel to bring, or missing pieces.
-#[derive(Clone, Copy, Debug, PartialEq, Eq)]
+#[derive(Clone, Copy, PartialEq, Eq)]
 pub enum Supply {
     /// The whole reel, with its remaining pieces.
     Reel { reel: Id, pieces: u64, left: Left },

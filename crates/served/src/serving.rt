@@ -4,7 +4,7 @@ ghost use Rattle.std.specs.Prelude.{◌≡◌, ◌+◌, if◌then◌else◌};
 ghost use Rattle.served.specs.Counts.{CanCountOne};
 
 /// The number of answers sent, and how many of them are refusals.
-#[derive(Clone, Copy, Debug, PartialEq, Eq)]
+#[derive(Clone, Copy, PartialEq, Eq)]
 pub struct Served {
     pub answered: u64,
     pub refused: u64,
@@ -26,7 +26,7 @@ impl Served {
 }
 
 /// Why serving stopped, with the number of whole answers sent.
-#[derive(Clone, Copy, Debug, PartialEq, Eq)]
+#[derive(Clone, Copy, PartialEq, Eq)]
 pub enum ServeFault {
     /// A read failed.
     Read(Served),

@@ -12,7 +12,7 @@ use std::alloc::{AllocError, Global};
 use std::collections::BTreeSet;
 
 /// Why a sheet is invalid.
-#[derive(Clone, Copy, Debug, PartialEq, Eq)]
+#[derive(Clone, Copy, PartialEq, Eq)]
 pub enum SheetFault {
     /// `SlotTwice`, `DesignatorTwice` or `UnknownPart`, with the name at fault.
     Refused(Refusal),

@@ -10,7 +10,7 @@ use std::marker::Model;
 pub const TAB: u8 = b'\t';
 
 /// Why a value could not be read.
-#[derive(Clone, Copy, Debug, PartialEq, Eq)]
+#[derive(Clone, Copy, PartialEq, Eq)]
 pub enum Unread {
     /// There was too little memory.
     NoMemory,

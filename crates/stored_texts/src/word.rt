@@ -5,7 +5,7 @@ ghost use Rattle.desk_types.specs.Id.{same};
 ghost use Rattle.stored_texts.specs.StoredText.{word_text};
 
 /// The kind of command, in a stored text or a message.
-#[derive(Clone, Copy, Debug, PartialEq, Eq)]
+#[derive(Clone, Copy, PartialEq, Eq)]
 pub enum Word {
     PartDefined,
     AlternateAllowed,

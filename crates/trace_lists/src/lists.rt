@@ -13,14 +13,14 @@ use std::alloc::{AllocError, Global};
 use std::collections::BTreeMap;
 
 /// A placed piece's key: its entry's number and its place in the message, both from 1.
-#[derive(Clone, Copy, Debug, PartialEq, Eq)]
+#[derive(Clone, Copy, PartialEq, Eq)]
 pub struct PieceKey {
     pub number: u32,
     pub place: u32,
 }
 
 /// An install on a board: its entry's number and how many pieces it placed, in places from 1.
-#[derive(Clone, Copy, Debug, PartialEq, Eq)]
+#[derive(Clone, Copy, PartialEq, Eq)]
 pub struct Install {
     pub number: u32,
     pub pieces: u32,

@@ -10,7 +10,7 @@ use report_texts::{Kind, not_found_text};
 use std::alloc::{AllocError, Global};
 
 /// Why there is no report.
-#[derive(Clone, Copy, Debug, PartialEq, Eq)]
+#[derive(Clone, Copy, PartialEq, Eq)]
 pub enum ReportFault {
     /// The history has nothing of this kind and name.
     NotFound(Kind),

@@ -233,7 +233,7 @@ fn send_none<S: Alter>(
     fault: OpenFault,
     conn: Connection<S>,
 ) -> Sent<S> {
-    assert_eq!(rt; fault, OpenFault::Unavailable);
+    assert!(rt; fault == OpenFault::Unavailable);
     Sent {
         began: None,
         told: Ok(Told::new(alloc)),
