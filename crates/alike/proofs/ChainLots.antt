@@ -1,6 +1,6 @@
 -- The lots and boards over a chain of desk files.
 use Rattle.std.proofs.Math.Bool.{and_comm}
-use Rattle.std.proofs.Common.{◌≡◌, ◌↔◌, ℕ, ◌≤◌, ◌<◌, All, Bool, true, false, Contains, Option, Some, None, List, [], ◌∷◌, ◌++◌, filter, map, refl, sym, ap, ◌∙◌, arith}
+use Rattle.std.proofs.Common.{◌≡◌, ◌↔◌, ℕ, ◌≤◌, ◌<◌, All, Bool, true, false, Contains, Option, Some, None, List, [], ◌∷◌, ◌++◌, map, refl, sym, ap, ◌∙◌, arith}
 use Rattle.std.specs.Prelude.{Any, is_some, if◌then◌else◌, ◌||◌, ◌&&◌, slice_index_or}
 use Rattle.std.specs.Option.{option_map, option_map_or, option_or}
 use Rattle.std.specs.Cmp.Lexicographic.{nat_list_eq_equiv}
@@ -26,7 +26,7 @@ use Rattle.desk_laws.specs.Verified.{IsRightlyPlaced}
 use Rattle.desk_laws.proofs.InstalledPieces.{rightly-placed}
 use Rattle.desk_laws.proofs.Judgements.{judged-prefix}
 use Rattle.desk_laws.proofs.Mounts.{has}
-use Rattle.desk_laws.proofs.NameSets.{has-set, traces-converse}
+use Rattle.desk_laws.proofs.NameSets.{has-read, has-set, traces-converse}
 use Rattle.desk_laws.proofs.ReelsLater.{receipt-prefix}
 use Rattle.alike.specs.Chain.{DeskFile, Carries, IsChain, origin, receipt_over, lot_over, pieces_over, lots_over, boards_over}
 
@@ -133,15 +133,6 @@ any-over test (file ∷ older) chain =
     (lot-of-origin (receipt_over (file ∷ older) (slice_index_or (placements_of file.whole) k d).reel) _ _ (pieces-origin file older chain k d lt))) in
     let rest = any-over test older chain.3 in
     list_any-append test (map (λ (p : Placement). (p.board, lot_over (file ∷ older) p.reel)) (placements_of file.whole)) (pieces_over older) ∙ (λ j. own j || rest j)
-
-has-read : {X : Type 0} (read : X → Name) (test : X → Bool) (xs : List X) (name : Name) → has (map read (filter test xs)) name ≡ list_any (λ x. test x && same name (read x)) xs
-has-read read test [] name = refl
-has-read read test (x ∷ xs) name = by (test x) (has-read read test xs name)
-  where
-    by : (b : Bool) → has (map read (filter test xs)) name ≡ list_any (λ y. test y && same name (read y)) xs
-        → has (map read (if b then x ∷ filter test xs else filter test xs)) name ≡ ((b && same name (read x)) || list_any (λ y. test y && same name (read y)) xs)
-    by true rest = ap (λ b. same name (read x) || b) rest
-    by false rest = rest
 
 has-boards : (files : List DeskFile) (lot board : Name) → IsChain files → has (boards_over files lot) board ≡ list_any (λ (f : DeskFile). has (boards_of f.whole lot) board) files
 has-boards files lot board chain =

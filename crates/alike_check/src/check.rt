@@ -70,8 +70,8 @@ fn find(old: &StateDesk, new: &StateDesk) -> Option<Difference>
     None
 }
 
-/// Returns the first way in which the new desk isn't alike to the old one, or received other pieces of a reel than were left.
-/// Returns `None` if there is none.
+/// Returns the first difference between the desks, or `None` if the new one carries on the old one.
+/// A reel of which the new desk received other pieces than were left counts as one.
 pub fn first_difference(old: &StateDesk, new: &StateDesk) -> Option<Difference>
     ensures carries { (H H' : History) → IsState H old.now → IsState H' new.now
         → IfNone result (Carries H H') }

@@ -1,9 +1,9 @@
-//! What tells two desks apart.
+//! The differences between an old desk and a new one.
 
 use desk_types::{Id, Left, Minute};
 
-/// The first way in which a new desk doesn't carry on the old desk that it follows.
-#[derive(Clone, Copy, PartialEq, Eq)]
+/// A difference that keeps a new desk from carrying on the old one.
+#[derive(Clone, Copy)]
 pub enum Difference {
     /// The desk minutes.
     Minute {
@@ -78,7 +78,7 @@ pub enum Difference {
         old: bool,
         new: bool,
     },
-    /// The floor life that the reel has left at the desk minute.
+    /// The reel's remaining floor life at the desk minute.
     Life {
         reel: Id,
         old: Left,

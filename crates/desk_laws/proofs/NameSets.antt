@@ -39,7 +39,8 @@ has-set (x ∷ xs) other = has-insert (set_of xs) x other ∙ ap (λ b. same oth
 
 -- ---- traces
 
-has-read : {X : Type 0} (read : X → Name) (test : X → Bool) (xs : List X) (name : Name)
+-- A name is among those read of the elements that pass a test.
+pub has-read : {X : Type 0} (read : X → Name) (test : X → Bool) (xs : List X) (name : Name)
     → has (map read (filter test xs)) name ≡ list_any (λ x. test x && same name (read x)) xs
 has-read read test [] name = refl
 has-read read test (x ∷ xs) name = by (test x) (has-read read test xs name)

@@ -1,6 +1,6 @@
 -- The ends of the table of placements.
-use Rattle.std.proofs.Common.{◌≡◌, ◌∙◌, ◌⊎◌, ◌+◌, inl, inr, ℕ, ℤ, pos, Bool, true, false, Option, Some, None, List, [], ◌∷◌, codes, length, map, filter, if◌then◌else◌, refl, sym, ap, subst, arith}
-use Rattle.std.specs.Ordering.{is_ge, is_gt}
+use Rattle.std.proofs.Common.{◌≡◌, ◌∙◌, ◌⊎◌, inl, inr, ℕ, ℤ, pos, Bool, true, Option, Some, None, List, [], ◌∷◌, codes, length, map, filter, if◌then◌else◌, refl, sym, ap, subst, arith}
+use Rattle.std.specs.Ordering.{is_ge}
 use Rattle.std.specs.List.{AllByRecursion}
 use Rattle.std.specs.List.Sorted.{IsPermutation}
 use Rattle.std.proofs.lemmas.List.{length-map}
@@ -14,7 +14,7 @@ use Rattle.sqlite_trees.specs.Tree.{rowid}
 use Rattle.sqlite.specs.Collation.TheVariants.{Binary}
 use Rattle.sqlite_sql.specs.declared.ops.BinaryOp.TheVariants.{Compare}
 use Rattle.sqlite_sql.specs.declared.ops.CompareOp.TheVariants.{Ge}
-use Rattle.sqlite.specs.Term.{Term, col, lit, op2}
+use Rattle.sqlite.specs.Term.{col, lit, op2}
 use Rattle.sqlite.specs.Query.{Query, IsAnswer, output, Output}
 use Rattle.sqlite.specs.Listing.{understood}
 use Rattle.sqlite_tied.specs.Compute.{everything}

@@ -16,7 +16,6 @@ ghost use Rattle.line_rows.specs.Judging.{GoesOn};
 ghost use Rattle.line_replay.specs.declared.fault.ReplayFault.TheVariants.{NotLawful, Unavailable};
 ghost use Rattle.line_replay.specs.Expected.{kept_with};
 ghost use Rattle.line_replay.specs.Replay.{IsFaultOf, IsNumbered, IsStuck, StandsListed, IsFresh, Accepts, Goes, TakesAll, IsStop};
-ghost use Rattle.trace_lists.specs.Lists.{IsListed};
 
 use crate::fault::ReplayFault;
 use crate::placed::look_up;

@@ -8,7 +8,7 @@ use Rattle.report_texts.specs.Sets.{Fields}
 use Rattle.trace_reports.specs.Reports.{rows_below}
 
 pub found-rows : (found : Bool) (text : List Placement → List ℕ) (header : Fields) (rows : List Placement → List Fields)
-    → ((pieces : List Placement) → records default_config (text pieces) ≡ header ∷ rows pieces) → (ps : List Placement) (paper : List ℕ)
-    → option_map text (if found then Some ps else None) ≡ Some paper → rows_below paper ≡ rows ps
-found-rows true text header rows back ps paper given = let it : text ps ≡ paper = cc in ap rows_below (sym it) ∙ ap (drop 1) (back ps)
-found-rows false text header rows back ps paper given = cc
+    → ((pieces : List Placement) → records default_config (text pieces) ≡ header ∷ rows pieces) → (ps : List Placement) (printed : List ℕ)
+    → option_map text (if found then Some ps else None) ≡ Some printed → rows_below printed ≡ rows ps
+found-rows true text header rows back ps printed given = let it : text ps ≡ printed = cc in ap rows_below (sym it) ∙ ap (drop 1) (back ps)
+found-rows false text header rows back ps printed given = cc

@@ -1,4 +1,4 @@
-use Rattle.std.proofs.Common.{◌≤◌, rules, arith}
+use Rattle.std.proofs.Common.{◌≤◌, rules}
 use Rattle.std.proofs.lemmas.Result.{IfOk-weaker}
 use Rattle.line_audit.proofs.PlacementsFound.{run_range}
 use Rattle.line_audit.proofs.placements.are_in_a_row.Goals as goal

@@ -14,16 +14,16 @@ use Rattle.trace_reports.proofs.laws.reports_are_converse.Goals as goal
 
 -- The records read from a board's trace, if its texts can be read back.
 on-board : ((detail : TraceDetail) (pieces : List Placement) → records default_config (board_text detail pieces) ≡ project (board_columns detail) board_header ∷ board_rows detail pieces)
-    → (detail : TraceDetail) (H : History) (board : Name) (paper : List ℕ) → board_trace detail H board ≡ Some paper
-    → rows_below paper ≡ board_rows detail (pieces_on board (placements_of H))
-on-board back detail H board paper found =
-    found-rows (traced.is_board H board) (board_text detail) (project (board_columns detail) board_header) (board_rows detail) (back detail) (traced.pieces_on H board) paper found
+    → (detail : TraceDetail) (H : History) (board : Name) (printed : List ℕ) → board_trace detail H board ≡ Some printed
+    → rows_below printed ≡ board_rows detail (pieces_on board (placements_of H))
+on-board back detail H board printed found =
+    found-rows (traced.is_board H board) (board_text detail) (project (board_columns detail) board_header) (board_rows detail) (back detail) (traced.pieces_on H board) printed found
 
 of-lot : ((detail : TraceDetail) (pieces : List Placement) → records default_config (lot_text detail pieces) ≡ project (lot_columns detail) lot_header ∷ lot_rows detail pieces)
-    → (detail : TraceDetail) (H : History) (lot : Name) (paper : List ℕ) → lot_trace detail H lot ≡ Some paper
-    → rows_below paper ≡ lot_rows detail (pieces_of_lot lot (placements_of H))
-of-lot back detail H lot paper found =
-    found-rows (traced.is_lot H lot) (lot_text detail) (project (lot_columns detail) lot_header) (lot_rows detail) (back detail) (traced.pieces_of_lot H lot) paper found
+    → (detail : TraceDetail) (H : History) (lot : Name) (printed : List ℕ) → lot_trace detail H lot ≡ Some printed
+    → rows_below printed ≡ lot_rows detail (pieces_of_lot lot (placements_of H))
+of-lot back detail H lot printed found =
+    found-rows (traced.is_lot H lot) (lot_text detail) (project (lot_columns detail) lot_header) (lot_rows detail) (back detail) (traced.pieces_of_lot H lot) printed found
 
 pub returns-clause-lots : goal.returns-clause-lots
 returns-clause-lots c = λ H board lot on of found known.
