@@ -1,8 +1,10 @@
 //! The plain desk by itself, and both desks side by side.
 
 mod answers;
+mod counts;
 mod desks;
 mod rows;
+mod usable;
 
 use desk_types::Id;
 use std::test::Fail;

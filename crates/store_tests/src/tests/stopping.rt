@@ -5,7 +5,7 @@ ghost use Rattle.std.specs.Prelude.{IsTrue};
 
 use super::sending::{FIRST_RUN, MOVED, SPLICE, Sent, Told, send_over};
 use super::{VERSION_ONE, migrated};
-use sqlite::{Connection, Files, Options};
+use sqlite::{Alter, Connection, Files, Options};
 use sqlite_disk::{Crash, Disk, Fuse, Memory};
 use std::alloc::{AllocError, Global};
 use std::process::Abort;
@@ -22,19 +22,44 @@ pub fn files(alloc: Global, log: u64, db: u64) -> Files<Fuse<Memory>>
     }
 }
 
-/// What came of commands that were sent to files: the version of the tables and their number of commands before, if
-/// there were tables; the answers; whether a migration was reported; and the files, and whether they were closed.
-struct Session<D: Disk> {
+/// What came of commands that were sent over a connection: the version of the tables and their number of commands
+/// before, if there were tables; the answers; and whether a migration was reported.
+struct Session {
     version: Option<i64>,
     began: Option<u32>,
     told: Result<Told, AllocError>,
     is_migrated: bool,
-    files: Files<D>,
-    is_whole: bool,
 }
 
-/// Sends commands to the desk in files, which are migrated first if they are of version 1. With `migrates` the tables
-/// are then turned into version 1, and migrated. Last, the files are closed.
+/// Sends commands to the desk behind a connection, whose tables are migrated first if they are of version 1. With
+/// `migrates` they are then turned into version 1, and migrated.
+fn session_over<S: Alter>(
+    rt: &impl Abort,
+    alloc: Global,
+    conn: Connection<S>,
+    row: &str,
+    migrates: bool,
+) -> (Session, Connection<S>) {
+    let mut conn = conn;
+    let version = migrated(alloc, &mut conn);
+    let Sent {
+        began,
+        told,
+        mut conn,
+    } = send_over(rt, alloc, conn, row);
+    let is_migrated = migrates
+        && conn.execute_batch(VERSION_ONE).is_ok()
+        && migrated(alloc, &mut conn) == Some(1);
+    let session = Session {
+        version,
+        began,
+        told,
+        is_migrated,
+    };
+    (session, conn)
+}
+
+/// The same over files, which are closed again. Returns them too, and whether they were closed whole.
 fn work<D: Disk + Drop>(
     rt: &impl Abort,
     alloc: Global,
@@ -42,42 +67,27 @@ fn work<D: Disk + Drop>(
     seed: u64,
     row: &str,
     migrates: bool,
-) -> Session<D>
+) -> (Session, Files<D>, bool)
     requires log { IsTrue (D.Disk.is_usable files.log) }
     requires db { IsTrue (D.Disk.is_usable files.db) }
 {
-    let mut conn = match Connection::open_files(alloc, files, Options::new(seed)) {
-        Ok(conn) => conn,
+    match Connection::open_files(alloc, files, Options::new(seed)) {
+        Ok(conn) => {
+            let (session, conn) = session_over(rt, alloc, conn, row, migrates);
+            match conn.close_files() {
+                Ok(files) => (session, files, true),
+                Err((_error, store)) => (session, store.close(), false),
+            }
+        }
         Err((_error, left)) => {
-            return Session {
+            let session = Session {
                 version: None,
                 began: None,
                 told: Ok(Told::new(alloc)),
                 is_migrated: false,
-                files: left.into_files(),
-                is_whole: false,
             };
+            (session, left.into_files(), false)
         }
-    };
-    let version = migrated(alloc, &mut conn);
-    let Sent {
-        began,
-        told,
-        mut conn,
-    } = send_over(rt, alloc, conn, row);
-    let is_migrated = conn.execute_batch(VERSION_ONE).is_ok()
-        && migrated(alloc, &mut conn) == Some(1);
-    let (files, is_whole) = match conn.close_files() {
-        Ok(files) => (files, true),
-        Err((_error, store)) => (store.close(), false),
-    };
-    Session {
-        version,
-        began,
-        told,
-        is_migrated,
-        files,
-        is_whole,
     }
 }
 
@@ -90,25 +100,23 @@ fn stop_after(
     (log, db): (u64, u64),
     row: &str,
 ) -> Result<(Told, bool), Fail> {
+    let (first, files, is_whole) = work(rt, alloc, files(alloc, log, db), 1, row, true);
+    let Files { mut log, mut db } = files;
+    log.crash();
+    db.crash();
+    let (second, _files, _) = work(rt, alloc, Files { log, db }, 2, row, false);
     let Session {
         version: _,
         began: _,
         told,
         is_migrated,
-        files,
-        is_whole,
-    } = work(rt, alloc, files(alloc, log, db), 1, row, true);
-    let Files { mut log, mut db } = files;
-    log.crash();
-    db.crash();
+    } = first;
     let Session {
         version,
         began,
         told: again,
         is_migrated: _,
-        files: _files,
-        is_whole: _,
-    } = work(rt, alloc, Files { log, db }, 2, row, false);
+    } = second;
     let (told, again) = (told?, again?);
     let more = began.unwrap_or(u32::MAX).saturating_sub(told.count);
     assert!(rt; began >= Some(told.count) && more <= 1);
