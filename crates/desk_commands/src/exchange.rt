@@ -42,7 +42,8 @@ pub fn feed_in_memory<R: Read, W: Write, E: Write>(
         Ok(store) => {
             let mut store = store;
             let status = feed_lines(alloc, input, output, errors, &mut store);
-            let _conn = store.into_connection();
+            // Closed, since a drop would prove again how each part of the store is dropped.
+            let _ = store.into_connection().close();
             status
         }
         Err(_) => unavailable(errors),

@@ -12,18 +12,18 @@ use Rattle.served.specs.Counts.{none_served}
 use Rattle.served.specs.Sent.{SendsFront}
 use Rattle.desk_import.specs.declared.options.Import.{Import}
 use Rattle.desk_words.specs.CommandLine.{AsksForAudit, AsksForFeed, AsksForImport, AsksForMigration, AsksForReport, AsksForServing}
-use Rattle.http_answers.specs.Requests.{request_rule}
 use Rattle.http_stream.specs.Answers.{Told, code_of}
+use Rattle.http_stream.specs.Stream.{RuleBy}
 use Rattle.gateway_http.specs.Reports.{report_of}
 use Rattle.desk_runs.specs.Clients.{Exchange, ends_of}
-use Rattle.desk_runs.specs.Connections.{TellsConnections}
+use Rattle.desk_runs.specs.Connections.{AnswersEach, TellsConnections}
 use Rattle.desk_runs.specs.Ends.{FeedEnds, ImportEnds, PrintEnds, ReportEnds, ServingEnds}
 use Rattle.desk_runs.specs.Runs.{AnswersAll, AnswersImport, AnswersReport, AnswersUpTo, CutsImport, StaysSame}
 use Rattle.desk_runs.specs.Told.{lawful_line, report_output, unavailable_line, version_line, TellsLine}
 use Rattle.desk_commands.specs.declared.left.Left.{Left}
 use Rattle.desk_commands.specs.declared.left.Left.TheVariants as left
 use Rattle.desk_commands.specs.Runs.{HasNoDesk, LeavesDesk, LeavesFile, RunsInMemory, ServesEach}
-use Rattle.tracedesk.specs.Program.{Bad, LeavesAs, Names, NamesDesk, NamesMigrated, RefusesNamed, RunsAsked, RunsImport, RunsReport, RunsServing}
+use Rattle.tracedesk.specs.Program.{Bad, LeavesAs, Names, NamesDesk, NamesMigrated, RefusesNamed, RunsAs, RunsAsked, RunsImport, RunsReport, RunsServing}
 use Rattle.tracedesk.specs.Ways.{Ways}
 
 pub runs_import : (ways : Ways) (words : List (List ℕ)) (Fact : Import → List ℕ → Ledger → History → Type 0) (file : List ℕ) (import : Import) (from path : List ℕ)
@@ -36,13 +36,13 @@ pub runs_report : (ways : Ways) (words : List (List ℕ)) (Shown : Told → Type
 runs_report ways words Shown file target path answer asks is shown runs =
     (file, target, asks, answer, shown, subst (λ (at : List ℕ). ways.Runs None (AnswersReport report_of at answer)) is runs)
 
-pub runs_serving : {W : Type 0} (ways : Ways) (words : List (List ℕ)) (serves : ℕ → List Exchange → Type 0) (contents : W → Option (List ℕ)) (output output' : Wire W)
+pub runs_serving : {W : Type 0} (ways : Ways) (words : List (List ℕ)) (serves : ℕ → List Exchange → Type 0) (contents : W → Option (List ℕ)) (output output' : Wire W) (rule : RuleBy)
     (file : List ℕ) (port connections greatest status told : ℕ) → AsksForServing words file port connections greatest → status ≡ told
-    → (exchanges : List Exchange) × TellsConnections connections (ends_of exchanges) status (contents (inner_of output)) (contents (inner_of output')) (failures_of output) (failures_of output') × serves port exchanges × ways.Runs (Some greatest) (ServesEach exchanges)
-    → RunsServing ways words serves contents output output' told
-runs_serving ways words serves contents output output' file port connections greatest status told asks is served =
-    let all = subst (λ (n : ℕ). (exchanges : List Exchange) × TellsConnections connections (ends_of exchanges) n (contents (inner_of output)) (contents (inner_of output')) (failures_of output) (failures_of output') × serves port exchanges × ways.Runs (Some greatest) (ServesEach exchanges)) is served in
-    (file, port, connections, greatest, asks, all.0, all.1, all.2, all.3)
+    → (exchanges : List Exchange) × TellsConnections connections (ends_of exchanges) status (contents (inner_of output)) (contents (inner_of output')) (failures_of output) (failures_of output') × serves port exchanges × ways.Runs (Some greatest) (AnswersEach rule exchanges)
+    → ((exchanges : List Exchange) → ways.Runs (Some greatest) (AnswersEach rule exchanges) → ways.Runs (Some greatest) (ServesEach exchanges)) → RunsServing ways words serves contents output output' told
+runs_serving ways words serves contents output output' rule file port connections greatest status told asks is served to =
+    let all = subst (λ (n : ℕ). (exchanges : List Exchange) × TellsConnections connections (ends_of exchanges) n (contents (inner_of output)) (contents (inner_of output')) (failures_of output) (failures_of output') × serves port exchanges × ways.Runs (Some greatest) (AnswersEach rule exchanges)) is served in
+    (file, port, connections, greatest, asks, all.0, all.1, all.2, to all.0 all.3)
 
 pub has_none : (IsRefused IsRefused' : OpenFault → Type 0) (IsLeft IsLeft' : Type 0) (Told : List ℕ → Type 0) → ((fault : OpenFault) → IsRefused fault → IsRefused' fault) → (IsLeft → IsLeft')
     → HasNoDesk IsRefused IsLeft Told → HasNoDesk IsRefused' IsLeft' Told
@@ -104,23 +104,35 @@ module _ {R W E : Type 0} (ways : Ways) {holds : List ℕ → Option (List ℕ)}
     quiet = λ is. absurd (omega (arith, at, is));
   }
 
+  pub ends_none : {Refusal : Type 0} → exit ≡ 3 → Refusal → RunsAs ways holds may_fail serves reads writes tells words input input' output output' errors errors' Refusal exit
+  ends_none at refusal = record {
+    status = omega (arith, at);
+    done = λ is. absurd (omega (arith, at, is));
+    refused = λ is. absurd (omega (arith, at, is));
+    bad = λ is. absurd (omega (arith, at, is));
+    no_desk = λ _. refusal;
+    failed = λ is. absurd (omega (arith, at, is));
+    kept = λ is. absurd (omega (arith, at, is));
+    quiet = λ is. absurd (omega (arith, at, is));
+  }
+
 module _ {R W E : Type 0} (ways : Ways) {holds : List ℕ → Option (List ℕ)} {may_fail : List ℕ → Type 0} {serves : ℕ → List Exchange → Type 0} {reads : R → Option (List ℕ)} {writes : W → Option (List ℕ)} {tells : E → Option (List ℕ)}
     {words : List (List ℕ)} {input : Wire R} {output output' : Wire W} {errors errors' : Wire E} {exit : ℕ} where
-  pub serves_asked : (file : List ℕ) (port connections greatest : ℕ) (Unasked : Type 0) → AsksForServing words file port connections greatest
-      → ServingEnds writes tells output output' errors errors' connections (request_rule report_of) (serves port) (ways.Runs (Some greatest)) (HasNoDesk (ways.Refuses (Some greatest)) ways.OpensNone (TellsLine tells errors errors') × Unasked) exit
-      → LeavesAs ways holds may_fail serves reads writes tells words input input output output' errors errors' exit
-  serves_asked file port connections greatest Unasked asks run =
+  pub serves_asked : (file : List ℕ) (port connections greatest : ℕ) {rule : RuleBy} {Unasked : Type 0} → AsksForServing words file port connections greatest
+      → ServingEnds writes tells output output' errors errors' connections rule (serves port) (ways.Runs (Some greatest)) (HasNoDesk (ways.Refuses (Some greatest)) ways.OpensNone (TellsLine tells errors errors') × Unasked) exit
+      → ((exchanges : List Exchange) → ways.Runs (Some greatest) (AnswersEach rule exchanges) → ways.Runs (Some greatest) (ServesEach exchanges)) → LeavesAs ways holds may_fail serves reads writes tells words input input output output' errors errors' exit
+  serves_asked file port connections greatest {rule = rule} asks run to =
       let at = run.status in record {
         status = omega (arith, at);
-        done = λ is. inr (inr (inr (inr (inr (inl (runs_serving ways words serves writes output output' file port connections greatest exit 0 asks is (run.served (inl is))))))));
-        refused = λ is. inr (inr (inl (runs_serving ways words serves writes output output' file port connections greatest exit 1 asks is (run.served (inr (inl is))))));
+        done = λ is. inr (inr (inr (inr (inr (inl (runs_serving ways words serves writes output output' rule file port connections greatest exit 0 asks is (run.served (inl is)) to))))));
+        refused = λ is. inr (inr (inl (runs_serving ways words serves writes output output' rule file port connections greatest exit 1 asks is (run.served (inr (inl is))) to)));
         bad = λ is. absurd (omega (arith, at, is));
         no_desk = λ is. (
           (refl, run.untouched is),
           has_none (ways.Refuses (Some greatest)) (RefusesNamed ways words) ways.OpensNone (ways.OpensNone ⊎ ways.Runs None StaysSame) (TellsLine tells errors errors')
               (λ fault refuses. inr (inl (file, port, connections, greatest, asks, refuses))) (λ none. inl none) (run.no_desk is).0,
         );
-        failed = λ is. inr (inr (refl, run.failed is, runs_serving ways words serves writes output output' file port connections greatest exit 4 asks is (run.served (inr (inr is)))));
+        failed = λ is. inr (inr (refl, run.failed is, runs_serving ways words serves writes output output' rule file port connections greatest exit 4 asks is (run.served (inr (inr is))) to));
         kept = λ is. (refl, (run.well is).kept);
         quiet = λ is. (run.well is).quiet;
       }

@@ -23,7 +23,7 @@ use Rattle.desk_commands.specs.Closed.{Close, ClosesLeft}
 use Rattle.desk_commands.proofs.ClosedFiles.{audits_to, migrates_to, refuses_to, refuses_to_migrate, runs_to}
 use Rattle.tracedesk.specs.Program.{Bad, Done, Failed, ImportUnread, LeavesAs, Names, NamesFile, NoDesk, Refused, RefusesNamed, RunsAs, RunsAsked, RunsImport, RunsReport, RunsServing, Unclosed}
 use Rattle.tracedesk.specs.Ways.{Ways, ways_when_closed, ways_when_open}
-use Rattle.tracedesk.proofs.AskedRuns.{has_none}
+use Rattle.tracedesk.proofs.AskedRuns.{ends_none, has_none}
 
 -- A fact about the first is a fact about the second.
 pub record Follows (ways ways' : Ways) : Type 1 where
@@ -60,20 +60,6 @@ one_of_five (suc (suc zero)) most = inr (inr (inl refl))
 one_of_five (suc (suc (suc zero))) most = inr (inr (inr (inl refl)))
 one_of_five (suc (suc (suc (suc zero)))) most = inr (inr (inr (inr refl)))
 one_of_five (suc (suc (suc (suc (suc n))))) most = absurd (omega (arith, most))
-
--- A run that ended with status 3.
-ends_none : {R W E : Type 0} (ways : Ways) (holds : List ℕ → Option (List ℕ)) (may_fail : List ℕ → Type 0) (serves : ℕ → List Exchange → Type 0) (reads : R → Option (List ℕ)) (writes : W → Option (List ℕ)) (tells : E → Option (List ℕ))
-    (words : List (List ℕ)) (input input' : Wire R) (output output' : Wire W) (errors errors' : Wire E) (Refusal : Type 0) {exit : ℕ} → exit ≡ 3 → Refusal → RunsAs ways holds may_fail serves reads writes tells words input input' output output' errors errors' Refusal exit
-ends_none ways holds may_fail serves reads writes tells words input input' output output' errors errors' Refusal at refusal = record {
-  status = omega (arith, at);
-  done = λ is. absurd (omega (arith, at, is));
-  refused = λ is. absurd (omega (arith, at, is));
-  bad = λ is. absurd (omega (arith, at, is));
-  no_desk = λ _. refusal;
-  failed = λ is. absurd (omega (arith, at, is));
-  kept = λ is. absurd (omega (arith, at, is));
-  quiet = λ is. absurd (omega (arith, at, is));
-}
 
 module _ {R W E : Type 0} (ways ways' : Ways) (to : Follows ways ways') (holds : List ℕ → Option (List ℕ)) (may_fail : List ℕ → Type 0) (serves : ℕ → List Exchange → Type 0) (reads : R → Option (List ℕ)) (writes : W → Option (List ℕ)) (tells : E → Option (List ℕ))
     (words : List (List ℕ)) (input input' : Wire R) (output output' : Wire W) (errors errors' : Wire E) where
@@ -156,13 +142,13 @@ module _ {R W E : Type 0} {ways ways' : Ways} (to : Follows ways ways') {holds :
 
   -- A close failed, and a fault was printed with status 3 before.
   pub unclosed : {exit : ℕ} (other : Ways) (Other : Type 0) → exit ≡ 3 → LeavesAs ways holds may_fail serves reads writes tells words input input' output output' errors errors' exit → RunsAs other holds may_fail serves reads writes tells words input input' output output' errors errors' (Other ⊎ Unclosed ways' holds may_fail serves reads writes tells words input input' output output' errors errors') exit
-  unclosed other Other at run = ends_none other holds may_fail serves reads writes tells words input input' output output' errors errors' (Other ⊎ Unclosed ways' holds may_fail serves reads writes tells words input input' output output' errors errors') at (inr (inl (no_desk ways ways' to holds may_fail serves reads writes tells words input input' output output' errors errors' (run.no_desk at))))
+  unclosed other Other at run = ends_none other at (inr (inl (no_desk ways ways' to holds may_fail serves reads writes tells words input input' output output' errors errors' (run.no_desk at))))
 
   -- A close failed, and Unavailable was printed.
-  pub unclosed_told : {exit left : ℕ} {told : Wire E} (other : Ways) (Other : Type 0) → exit ≡ 3 → TellsLine tells errors' told unavailable_line → LeavesAs ways holds may_fail serves reads writes tells words input input' output output' errors errors' left
+  pub unclosed_told : {exit left : ℕ} {told : Wire E} (other : Ways) (Other : Type 0) → exit ≡ 3 → LeavesAs ways holds may_fail serves reads writes tells words input input' output output' errors errors' left → TellsLine tells errors' told unavailable_line
       → RunsAs other holds may_fail serves reads writes tells words input input' output output' errors told (Other ⊎ Unclosed ways' holds may_fail serves reads writes tells words input input' output output' errors told) exit
-  unclosed_told {left = left} {told = told} other Other at line run =
-      ends_none other holds may_fail serves reads writes tells words input input' output output' errors told (Other ⊎ Unclosed ways' holds may_fail serves reads writes tells words input input' output output' errors told) at
+  unclosed_told {left = left} other Other at run line =
+      ends_none other at
       (inr (inr (left, errors', goes_on ways ways' to holds may_fail serves reads writes tells words input input' output output' errors errors' (NoDesk ways holds may_fail serves reads writes tells words input input' output output' errors errors') (NoDesk ways' holds may_fail serves reads writes tells words input input' output output' errors errors') left (no_desk ways ways' to holds may_fail serves reads writes tells words input input' output output' errors errors') run, line)))
 
 -- ---- printed texts

@@ -1,14 +1,15 @@
-use Rattle.std.proofs.Common.{rules, refl, inl}
+use Rattle.std.proofs.Common.{refl, inl, inr, arith}
 use Rattle.desk_runs.proofs.EndsOfRuns.{print_refused}
 use Rattle.desk_commands.proofs.looks.migrate_file.Goals as goal
 
 pub returns-in-Ok-clause-ends : goal.returns-in-Ok-clause-ends
 returns-in-Ok-clause-ends g c =
-    let sent = c.send_text-status.ensures in record {
-      status = search rules;
+    let sent = c.send_text-status.ensures in
+    let at = sent.status in record {
+      status = elim at [ inl done ↦ inl done | inr failed ↦ inr (inr failed) ];
       done = sent.done;
-      no_desk = search rules;
-      untouched = search rules;
+      no_desk = λ is. absurd (omega (arith, at, is));
+      untouched = λ is. absurd (omega (arith, at, is));
       failed = sent.failed;
       front = sent.front;
       well = sent.well;

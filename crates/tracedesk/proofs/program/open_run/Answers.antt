@@ -1,9 +1,9 @@
 use Rattle.std.proofs.Common.{rules, None, Some, map, string_bytes, refl, inl, inr, arith}
-use Rattle.desk_words.specs.CommandLine.{AsksForAudit, AsksForFeed, AsksForImport, AsksForMigration, AsksForReport, AsksForServing, AsksForText}
+use Rattle.desk_words.specs.CommandLine.{AsksForAudit, AsksForFeed, AsksForImport, AsksForMigration, AsksForNothing, AsksForReport, AsksForServing, AsksForText, HasBadOption}
 use Rattle.served.specs.declared.serving.ServeFault.TheVariants.{Write}
 use Rattle.served.specs.Counts.{none_served}
 use Rattle.tracedesk.specs.Ways.{ways_when_open}
-use Rattle.tracedesk.proofs.AskedRuns.{audits_asked, feeds_asked, feeds_in_memory, imports_asked, migrates_asked, names_desk, names_migrated, reports_asked, serves_asked}
+use Rattle.tracedesk.proofs.AskedRuns.{audits_asked, ends_bad, ends_none, feeds_asked, feeds_in_memory, imports_asked, migrates_asked, names_desk, names_migrated, reports_asked, serves_asked}
 use Rattle.tracedesk.proofs.program.open_run.Goals as goal
 
 pub returns-in-Some-clause-runs : goal.returns-in-Some-clause-runs
@@ -20,7 +20,7 @@ pub returns-in-Ok-Serve-clause-runs : goal.returns-in-Ok-Serve-clause-runs
 returns-in-Ok-Serve-clause-runs g c =
     let asked = c.in-Ok-Serve in
     let asks : AsksForServing (map string_bytes c.args.words.now) (string_bytes c.in-Ok-Serve.file) c.in-Ok-Serve.port c.in-Ok-Serve.connections c.in-Ok-Serve.greatest = search rules in
-    serves_asked (ways_when_open g.T.Start c.serve_in_file.result.1) (string_bytes asked.file) asked.port asked.connections asked.greatest _ asks c.serve_in_file.ensures.ends
+    serves_asked (ways_when_open g.T.Start c.serve_in_file.result.1) (string_bytes asked.file) asked.port asked.connections asked.greatest asks c.serve_in_file.ensures.ends (λ exchanges runs. runs)
 
 pub returns-in-Ok-Report-clause-runs : goal.returns-in-Ok-Report-clause-runs
 returns-in-Ok-Report-clause-runs g c =
@@ -51,16 +51,30 @@ pub returns-in-Ok-Text-clause-runs : goal.returns-in-Ok-Text-clause-runs
 returns-in-Ok-Text-clause-runs g c =
     let asks : AsksForText (map string_bytes c.args.words.now) = search rules in
     let text = c.as_str-in-Ok-Text.result.now in
-    let sent = c.send_text.ensures in record {
-      status = search rules;
+    let sent = c.send_text.ensures in
+    let at = sent.status in record {
+      status = omega (arith, at);
       done = λ is. inr (inr (inr (inr (inl (asks, text, sent.done is)))));
-      refused = search rules;
-      bad = search rules;
-      no_desk = search rules;
+      refused = λ is. absurd (omega (arith, at, is));
+      bad = λ is. absurd (omega (arith, at, is));
+      no_desk = λ is. absurd (omega (arith, at, is));
       failed = λ is. inl (Write none_served, ((sent.failed is).0, refl), (sent.failed is).1, inr (inr (inr (inr (inl (asks, text, sent.front is))))));
-      kept = search rules;
-      quiet = search rules;
+      kept = λ is. (refl, (sent.well (omega (arith, at, is))).kept);
+      quiet = λ is. (sent.well (omega (arith, at, is))).quiet;
     }
+
+pub returns-in-Ok-BadOption-clause-runs : goal.returns-in-Ok-BadOption-clause-runs
+returns-in-Ok-BadOption-clause-runs g c =
+    let asks : HasBadOption (map string_bytes c.args.words.now) c.in-Ok-BadOption.option = search rules in
+    ends_bad (ways_when_open g.T.Start _) c.bad_option.ensures.status (refl, (refl, refl), inr (c.in-Ok-BadOption.option, asks, c.bad_option.ensures.told))
+
+pub returns-in-Ok-Bad-clause-runs : goal.returns-in-Ok-Bad-clause-runs
+returns-in-Ok-Bad-clause-runs g c =
+    let asks : AsksForNothing (map string_bytes c.args.words.now) = search rules in
+    ends_bad (ways_when_open g.T.Start _) refl (refl, (refl, refl), inl (asks, c.as_str-in-Ok-Bad.result.now, c.tell.ensures))
+
+pub returns-in-Err-clause-runs : goal.returns-in-Err-clause-runs
+returns-in-Err-clause-runs g c = ends_none (ways_when_open g.T.Start _) c.unavailable.ensures.status ((refl, refl), inr (inl refl, c.unavailable.ensures.told))
 
 pub returns-in-Some-clause-named : goal.returns-in-Some-clause-named
 returns-in-Some-clause-named g c =

@@ -1,5 +1,4 @@
 use Rattle.std.proofs.Common.{rules, ◌≡◌, map, string_bytes, arith}
-use Rattle.desk_types.specs.Wire.{failures_of}
 use Rattle.desk_commands.specs.Closed.{failed, whole}
 use Rattle.tracedesk.proofs.WaysOfRuns.{closed, few, follows, names_file, unclosed, unclosed_told}
 use Rattle.tracedesk.proofs.program.whole_run.Goals as goal
@@ -23,7 +22,7 @@ returns-in-Err-clause-runs g c =
 pub returns-in-Err-2-clause-runs : goal.returns-in-Err-2-clause-runs
 returns-in-Err-2-clause-runs g c =
     let to = follows failed g.T.Start c.open_run-status.result.1 c.in-Err.files c.in-Err.ensures.err in
-    unclosed_told to _ _ c.unavailable.ensures.status c.unavailable.ensures.told c.open_run-status.ensures.runs
+    unclosed_told to _ _ c.unavailable.ensures.status c.open_run-status.ensures.runs c.unavailable.ensures.told
 
 pub returns-in-Ok-clause-opened : goal.returns-in-Ok-clause-opened
 returns-in-Ok-clause-opened g c = names_file whole (map string_bytes c.args.words.now) c.open_run-status.result.1 c.in-Ok.files c.in-Ok.ensures.ok c.open_run-status.ensures.named
