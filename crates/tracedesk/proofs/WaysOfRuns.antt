@@ -145,11 +145,11 @@ module _ {R W E : Type 0} {ways ways' : Ways} (to : Follows ways ways') {holds :
   unclosed other Other at run = ends_none other at (inr (inl (no_desk ways ways' to holds may_fail serves reads writes tells words input input' output output' errors errors' (run.no_desk at))))
 
   -- A close failed, and Unavailable was printed.
-  pub unclosed_told : {exit left : ℕ} {told : Wire E} (other : Ways) (Other : Type 0) → exit ≡ 3 → LeavesAs ways holds may_fail serves reads writes tells words input input' output output' errors errors' left → TellsLine tells errors' told unavailable_line
+  pub unclosed_told : {exit left : ℕ} {told : Wire E} (other : Ways) (Other : Type 0) → exit ≡ 3 → left ≢ 3 → (ways'.OpensNone → ⊥) → LeavesAs ways holds may_fail serves reads writes tells words input input' output output' errors errors' left → TellsLine tells errors' told unavailable_line
       → RunsAs other holds may_fail serves reads writes tells words input input' output output' errors told (Other ⊎ Unclosed ways' holds may_fail serves reads writes tells words input input' output output' errors told) exit
-  unclosed_told {left = left} other Other at run line =
+  unclosed_told {left = left} other Other at desk opened run line =
       ends_none other at
-      (inr (inr (left, errors', goes_on ways ways' to holds may_fail serves reads writes tells words input input' output output' errors errors' (NoDesk ways holds may_fail serves reads writes tells words input input' output output' errors errors') (NoDesk ways' holds may_fail serves reads writes tells words input input' output output' errors errors') left (no_desk ways ways' to holds may_fail serves reads writes tells words input input' output output' errors errors') run, line)))
+      (inr (inr (left, desk, opened, errors', goes_on ways ways' to holds may_fail serves reads writes tells words input input' output output' errors errors' (NoDesk ways holds may_fail serves reads writes tells words input input' output output' errors errors') (NoDesk ways' holds may_fail serves reads writes tells words input input' output output' errors errors') left (no_desk ways ways' to holds may_fail serves reads writes tells words input input' output output' errors errors') run, line)))
 
 -- ---- printed texts
 

@@ -205,8 +205,8 @@ module _ {R W E : Type 0} (ways : Ways) (holds : List ℕ → Option (List ℕ))
   abbrev pub LeavesAs : ℕ → Type 0
   LeavesAs exit = RunsAs NoDesk exit
 
--- The files could not be closed, and the status is 3: there was no desk; or Unavailable was printed after the run's own
--- texts, and its effects remain.
+-- The files could not be closed, and the status is 3. Either there was no desk. Or a run with another status had opened
+-- files, its effects remain, and Unavailable was printed after its own texts.
 abbrev pub Unclosed : {R W E : Type 0} → Ways → (List ℕ → Option (List ℕ)) → (List ℕ → Type 0)
     → (ℕ → List Exchange → Type 0)
     → (R → Option (List ℕ)) → (W → Option (List ℕ)) → (E → Option (List ℕ)) → List (List ℕ)
@@ -215,7 +215,7 @@ Unclosed {E = E} ways holds may_fail serves reads writes tells words
     input input' output output' errors errors' =
     NoDesk ways holds may_fail serves reads writes tells words
     input input' output output' errors errors'
-    ⊎ ((exit : ℕ) × (told : Wire E)
+    ⊎ ((exit : ℕ) × (exit ≢ 3) × (ways.OpensNone → ⊥) × (told : Wire E)
     × LeavesAs ways holds may_fail serves reads writes tells words
     input input' output output' errors told exit
     × TellsLine tells told errors' unavailable_line)

@@ -1,6 +1,6 @@
 //! A whole run of the program, over any files, folder, clients, input and output.
 
-ghost use Rattle.std.specs.Prelude.{◌≡◌, ◌⊎◌, map, string_bytes, IfOk, IfErr, OnSome};
+ghost use Rattle.std.specs.Prelude.{◌≡◌, ◌⊎◌, true, is_some, map, string_bytes, IfOk, IfErr, OnSome};
 ghost use Rattle.desk_runs.specs.Clients.{ServesAt};
 ghost use Rattle.desk_runs.specs.Wires.{HaveFewCounts};
 ghost use Rattle.desk_commands.specs.Closed.{ClosesLeft, failed, whole};
@@ -59,7 +59,7 @@ fn close_run<T: Start>(
     left: Left<FileFrom<T>>,
 ) -> Result<Option<Files<FileFrom<T>>>, Option<Files<FileFrom<T>>>>
     ensures ok { IfOk result (ClosesLeft whole left) }
-    ensures err { IfErr result (ClosesLeft failed left) }
+    ensures err { IfErr result (λ files. ClosesLeft failed left files × (is_some files ≡ true)) }
 {
     match left {
         Left::Nothing => Ok(None),
