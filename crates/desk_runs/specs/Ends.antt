@@ -69,7 +69,8 @@ pub record ImportEnds {W E : Type 0} (writes : W → Option (List ℕ)) (tells :
       × Runs StaysSame)
   pub well : (exit ≡ 0) ⊎ (exit ≡ 1) → GoesWell output output' errors errors'
 
--- This number of connections, each by the rule. `Serves` says which connections the port had.
+-- Connections up to this number, each by the rule; fewer only with status 4. `Serves` says which connections the port
+-- had.
 pub record ServingEnds {W E : Type 0} (writes : W → Option (List ℕ)) (tells : E → Option (List ℕ))
     (output output' : Wire W) (errors errors' : Wire E)
     (connections : ℕ) (rule : RuleBy) (Serves : List Exchange → Type 0)

@@ -201,7 +201,7 @@ module _ {R W E : Type 0} (ways : Ways) (holds : List ℕ → Option (List ℕ))
     pub kept : (exit ≡ 0) ⊎ (exit ≡ 1) → FailsNever input input' output output'
     pub quiet : (exit ≡ 0) ⊎ (exit ≡ 1) → errors' ≡ errors
 
-  -- The effect of a run that left its desk or file open.
+  -- The effect of a run that has not closed what it opened, if it opened anything.
   abbrev pub LeavesAs : ℕ → Type 0
   LeavesAs exit = RunsAs NoDesk exit
 
@@ -246,7 +246,7 @@ AsksForNoServing words =
     (file : List ℕ) (port connections greatest : ℕ)
     → AsksForServing words file port connections greatest → ⊥
 
--- The input is read only to answer its lines: to its end, unless that fails.
+-- The input is read only to answer its lines, and with status 0 or 1 to its end.
 pub record ReadsAsked {R : Type 0} (reads : R → Option (List ℕ)) (words : List (List ℕ))
     (input input' : Wire R) (exit : ℕ) : Type 0 where
   pub few : reads_of input' ≤ reads_of input + MOST_READS
