@@ -28,9 +28,9 @@ returns-in-Err-2-clause-runs g c =
 
 pub returns-in-Err-2-clause-unserved : goal.returns-in-Err-2-clause-unserved
 returns-in-Err-2-clause-unserved g c = λ which. elim which [
-    | inl is ↦ let told = c.unavailable.ensures.status in absurd (omega (arith, is, told))
-    | inr asks ↦ c.open_run-status.ensures.unserved (inr (inr asks))
-  ]
+  | inl is ↦ let told = c.unavailable.ensures.status in absurd (omega (arith, is, told))
+  | inr asks ↦ c.open_run-status.ensures.unserved (inr (inr asks))
+]
 
 pub returns-in-Ok-clause-opened : goal.returns-in-Ok-clause-opened
 returns-in-Ok-clause-opened g c = names_file whole (map string_bytes c.args.words.now) c.open_run-status.result.1 c.in-Ok.files c.in-Ok.ensures.ok c.open_run-status.ensures.named
