@@ -1,6 +1,6 @@
 //! A whole run of the program, over any files and output.
 
-ghost use Rattle.std.specs.Prelude.{◌≡◌, ◌≤◌, map, string_bytes};
+ghost use Rattle.std.specs.Prelude.{◌≡◌, ◌⊎◌, ◌≤◌, map, string_bytes};
 ghost use Rattle.desk_runs.specs.Told.{TellsUnwritten};
 ghost use Rattle.desk_runs.specs.Wires.{HaveFewFailures};
 ghost use Rattle.tracedesk_alike.specs.Program.{Bad, Compares, Differing, Done, NoDesk};
@@ -26,10 +26,12 @@ pub fn whole_run<T: Start, U: Start, W: Write, E: Write>(
     errors: &mut Wire<E>,
 ) -> (u8, Option<Files<FileFrom<T>>>, Option<Files<FileFrom<U>>>)
     requires few { HaveFewFailures output.old errors.old }
-    ensures status { result.0 ≤ 4 }
+    ensures status { (result.0 ≤ 3)
+        ⊎ ((result.0 ≡ 4)
+        × TellsUnwritten E.contents output.old output.new errors.old errors.new) }
     ensures done { result.0 ≡ 0
-        → Done (Compares T.Start U.Start ⟦<FileFrom<T> as Disk>⟧
-        ⟦<FileFrom<U> as Disk>⟧ result.1 result.2
+        → Done
+        (Compares T.Start U.Start ⟦<FileFrom<T> as Disk>⟧ ⟦<FileFrom<U> as Disk>⟧ result.1 result.2
         (map string_bytes words.now))
         (map string_bytes words.now) W.contents output.old output.new }
     ensures differs { result.0 ≡ 1
@@ -42,8 +44,6 @@ pub fn whole_run<T: Start, U: Start, W: Write, E: Write>(
         → NoDesk
         (Compares T.Start U.Start ⟦<FileFrom<T> as Disk>⟧ ⟦<FileFrom<U> as Disk>⟧ result.1 result.2
         (map string_bytes words.now)) E.contents output.old output.new errors.old errors.new }
-    ensures failed { result.0 ≡ 4
-        → TellsUnwritten E.contents output.old output.new errors.old errors.new }
 {
     match read_words(rt.alloc(), words) {
         Ok(Asked::Compare { old, new }) => {

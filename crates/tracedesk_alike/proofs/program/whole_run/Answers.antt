@@ -1,6 +1,16 @@
-use Rattle.std.proofs.Common.{rules, ◌∙◌, refl, map, string_bytes, inl, inr}
+use Rattle.std.proofs.Common.{rules, ◌∙◌, refl, map, string_bytes, inl, inr, arith}
 use Rattle.tracedesk_alike.specs.CommandLine.{AsksForNothing, AsksForText, AsksToCompare}
 use Rattle.tracedesk_alike.proofs.program.whole_run.Goals as goal
+
+pub returns-in-Ok-Compare-clause-status : goal.returns-in-Ok-Compare-clause-status
+returns-in-Ok-Compare-clause-status g c =
+    let told = c.tell_found-status.ensures in
+    elim told.status [
+      | inl is ↦ inl (omega (arith, is))
+      | inr (inl is) ↦ inl (omega (arith, is))
+      | inr (inr (inl is)) ↦ inl (omega (arith, is))
+      | inr (inr (inr is)) ↦ inr (is, told.failed is)
+    ]
 
 pub returns-in-Ok-Compare-clause-done : goal.returns-in-Ok-Compare-clause-done
 returns-in-Ok-Compare-clause-done g c = λ is.
@@ -27,6 +37,14 @@ returns-in-Ok-Compare-clause-no_desk g c = λ is.
         | inr shown ↦ inr (c.compare_files-found.result.0, shown.0, ((string_bytes asked.old, string_bytes asked.new, asks), c.compare_files-found.ensures), shown.1)
       ],
     )
+
+pub returns-in-Ok-Text-clause-status : goal.returns-in-Ok-Text-clause-status
+returns-in-Ok-Text-clause-status g c =
+    let sent = c.send_text.ensures in
+    elim sent.status [
+      | inl is ↦ inl (omega (arith, is))
+      | inr is ↦ inr (is, sent.failed is)
+    ]
 
 pub returns-in-Ok-Text-clause-done : goal.returns-in-Ok-Text-clause-done
 returns-in-Ok-Text-clause-done g c = λ is.
