@@ -1,5 +1,5 @@
 -- A comparison of two files, once they are open and once they are closed.
-use Rattle.std.proofs.Common.{◌≡◌, ◌⊎◌, Bool, true, false, Option, None, refl, inl, inr}
+use Rattle.std.proofs.Common.{Bool, true, false, Option, None, refl, inl, inr}
 use Rattle.sqlite_disk.specs.declared.Disk as disk
 use Rattle.sqlite_disk.specs.declared.Files.{Files}
 use Rattle.sqlite_disk.specs.declared.start.Start as start
