@@ -52,7 +52,8 @@ fn commands(rt: HostRuntime) -> Result<(), Fail> {
         &mut Wire::new(PART.as_bytes()),
         &mut output,
         &mut owner,
-    )?;
+    );
+    let served = served.ok().ok_or("a fault")?;
     assert_eq!(rt; (served.answered, served.refused), (1, 1));
     let told = "{\"Answer\":\"Refused\",\"Refusal\":\"DeskFull\",\"UniqueID\":\"u1\"}\n";
     assert_eq!(rt; output.into_inner().as_slice(), told.as_bytes());
@@ -103,7 +104,7 @@ fn reports(rt: HostRuntime) -> Result<(), Fail> {
     );
     let told = ask(rt.alloc(), &mut gateway, b"/reel?reel=K1");
     let _owner = gateway.into_owner();
-    let served = served?;
+    let served = served.ok().ok_or("a fault")?;
     assert_eq!(rt; (served.answered, served.refused), (1, 1));
     assert_eq!(rt; told.status.code(), 404);
     assert!(rt;

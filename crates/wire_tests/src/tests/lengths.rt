@@ -82,7 +82,7 @@ fn reads_take_blocks(rt: HostRuntime) -> Result<(), Fail> {
         text.extend_from_slice(five.as_slice())?;
     }
     let run = run_feed(rt.alloc(), text.as_slice(), Counted { calls: 0, bytes: 0 });
-    let answered = run.ended?.answered;
+    let answered = run.ended.ok().ok_or("a fault")?.answered;
     assert_eq!(rt; (answered, run.output.calls), (5_000, 5_000));
     assert_eq!(rt; run.reads, (text.len() / 65_536) as u64 + 2);
     Ok(())
