@@ -6,7 +6,7 @@ use line_schema::OpenFault;
 use std::fmt;
 
 /// One of the two files.
-#[derive(Clone, Copy, PartialEq, Eq)]
+#[derive(Clone, Copy)]
 pub enum Side {
     /// The file that was closed.
     Old,
@@ -15,7 +15,7 @@ pub enum Side {
 }
 
 /// The result of a comparison of the desks in two files.
-#[derive(Clone, Copy, PartialEq, Eq)]
+#[derive(Clone, Copy)]
 pub enum Compared {
     /// The desks are alike, and the new one received the pieces that were left. It has this many reels, and so many of
     /// them are mounted.
