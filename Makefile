@@ -11,9 +11,9 @@ help:
 	@$(call row,[a-z-]*)
 
 #: run
-demo:          ## the answers to five messages: at once where a program is there, else by a run before its proof | 5 min | rt
+demo:          ## the answers to five messages: at once where a program is there, else by a run before its proof | 3 min | rt
 	@dev/demo
-build:         ## proves and builds the program, and prints its path | 40 min, then at once | rt
+build:         ## proves and builds the program, and prints its path | 35 min, then at once | rt
 	@dev/build
 day:           ## feeds a made-up shift to a desk, and prints what is asked of it: docs/day.md | 10 s
 	@examples/day
