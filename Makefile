@@ -29,11 +29,12 @@ test:          ## the tests: proves everything from nothing, tries wrong bodies,
 wrong-bodies:  ## tries all wrong bodies, those outside the tests too, and the wrong programs: each has to be refused | 1 h, and up to 40 min for each of the programs | rt
 	$(say)
 	@dev/wrong-bodies
-faults:        ## fails each call of the program, refuses its memory, cuts the power, kills it, fills its disk, damages its file | 22 min | gcc libc6-dev strace
+faults:        ## fails each call of the program, refuses its memory, cuts the power, kills it, fills its disk, damages its file, and makes it large | 25 min | gcc libc6-dev strace
 	$(say)
 	@dev/faults/run calls
 	@dev/faults/run calls --planted
 	@dev/faults/run reads
+	@dev/faults/run large
 	@dev/faults/run kills
 	@dev/faults/run kills --planted --kills 20
 	@dev/faults/run damage
