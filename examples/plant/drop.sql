@@ -4,18 +4,22 @@
 \set ON_ERROR_STOP on
 \set QUIET on
 SET search_path TO plant;
-BEGIN;
+CREATE TEMPORARY TABLE going (id integer, line text, name text);
 \if :{?before}
-    CREATE TEMPORARY TABLE going ON COMMIT DROP AS SELECT id, line, name FROM file
-    WHERE NOT dropped AND taken = '' AND last_minute * 60 < extract(epoch FROM :'before'::timestamp);
+    INSERT INTO going SELECT id, line, name FROM file WHERE NOT dropped AND taken = '' AND last_minute * 60 < extract(epoch FROM :'before'::timestamp);
 \else
-    CREATE TEMPORARY TABLE going ON COMMIT DROP AS SELECT id, line, name FROM file WHERE NOT dropped AND line = :'line' AND name = :'name';
+    INSERT INTO going SELECT id, line, name FROM file WHERE NOT dropped AND line = :'line' AND name = :'name';
     DELETE FROM missing WHERE line = :'line' AND name = :'name';
 \endif
-SELECT format('DROP TABLE placement_%s', id) FROM going ORDER BY id \gexec
-DELETE FROM reel WHERE file IN (SELECT id FROM going);
-DELETE FROM start WHERE file IN (SELECT id FROM going);
-DELETE FROM command WHERE file IN (SELECT id FROM going);
-UPDATE file SET dropped = true WHERE id IN (SELECT id FROM going);
+-- one transaction a file: all in one would take a lock for each of their tables
+DO $$ DECLARE it record; BEGIN
+    FOR it IN SELECT * FROM going ORDER BY id LOOP
+        EXECUTE format('DROP TABLE placement_%s', it.id);
+        DELETE FROM reel WHERE file = it.id;
+        DELETE FROM start WHERE file = it.id;
+        DELETE FROM command WHERE file = it.id;
+        UPDATE file SET dropped = true WHERE id = it.id;
+        COMMIT;
+    END LOOP;
+END $$;
 SELECT line, name AS dropped FROM going ORDER BY line, name;
-COMMIT;

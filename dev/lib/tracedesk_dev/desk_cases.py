@@ -7,14 +7,11 @@ import re
 ROOT = pathlib.Path(__file__).resolve().parent.parent.parent.parent
 FILE = ROOT / "crates/desk_tests/src/tests/cases.rt"
 MOST = 400  # messages of a case: the test runs each beginning of it
-HEAD = '''//! The messages of the cases, made by `dev/rows --desks`. A line has a minute and the stored text of a command.
+HEAD = '''//! The messages of the cases, made by `dev/rows --desks`.
 
-/// A case's products, its other names, and its messages.
-pub type Case = (&'static str, &'static str, &'static str);
-
-pub const CASES: &[Case] = &['''
-
-
+/// Each case has a line of its products, one of its other names, and its messages: a minute and the stored text of a
+/// command. An empty line ends it. One literal for all is cheap to prove; a list of them is not.
+pub const CASES: &str = "'''
 LISTS = {"Rows": ("Slot", "PartNumber", "Designators"), "Counts": ("Reel", "Counted")}  # an element's members; a count may be 0
 NUMBERS = {"Quantity": (1, 10_000_000), "Counted": (0, 10_000_000), "LabelMinutes": (1, 525_600)}
 FORMS = {"Designator": r"[A-Za-z0-9_.-]{1,16}", "Level": "1|2a?|3|4|5a?|6"}
@@ -60,15 +57,14 @@ def text():
     for folder in sorted(it for it in (ROOT / "rows").iterdir() if it.is_dir()):
         lines = [made for file in sorted(folder.glob("*.jsonl")) for line in file.read_bytes().decode("utf-8", "replace").split("\n") if (made := line_of(line, kinds))]
         if 1 < len(lines) <= MOST:
-            cases.setdefault("\n".join(lines), folder.name)
+            cases.setdefault("\n".join(lines))
     rows = []
-    for messages, name in cases.items():
+    for messages in cases:
         fields = [line.split("\t")[1:] for line in messages.split("\n")]
         products = sorted({it[{"SheetDefined": 1, "ProductSelected": 2}[it[0]]] for it in fields if it[0] in ("SheetDefined", "ProductSelected")})
         names = sorted({part for it in fields for part in it[1:] if len(part) <= 64} - set(products))
-        literals = ",\n".join('        "' + "\\t".join(it).replace("\t", "\\t") + '"' for it in (products or ["X"], names or ["X"], [messages]))
-        rows.append(f"    // {name}\n    (\n{literals},\n    ),")
-    return HEAD + "\n" + "\n".join(rows) + "\n];\n"
+        rows.append("\n".join(["\t".join(products or ["X"]), "\t".join(names or ["X"]), messages]))
+    return HEAD + "\n\n".join(rows).replace("\t", "\\t") + '";\n'
 
 
 def is_current():

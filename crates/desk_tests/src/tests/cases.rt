@@ -1,14 +1,10 @@
-//! The messages of the cases, made by `dev/rows --desks`. A line has a minute and the stored text of a command.
+//! The messages of the cases, made by `dev/rows --desks`.
 
-/// A case's products, its other names, and its messages.
-pub type Case = (&'static str, &'static str, &'static str);
-
-pub const CASES: &[Case] = &[
-    // a_board_of_two_reels
-    (
-        "PR",
-        "0\t1\t2\t5\t50\tB1\tK1\tK2\tL1\tM\tP\tQ\tR1\tR2\tR3\tR4\tR5",
-        "0\tPartDefined\tP
+/// Each case has a line of its products, one of its other names, and its messages: a minute and the stored text of a
+/// command. An empty line ends it. One literal for all is cheap to prove; a list of them is not.
+pub const CASES: &str = "PR
+0\t1\t2\t5\t50\tB1\tK1\tK2\tL1\tM\tP\tQ\tR1\tR2\tR3\tR4\tR5
+0\tPartDefined\tP
 0\tPartDefined\tQ
 0\tSheetDefined\tPR\tM\t1\t1\tP\t5\tR1\tR2\tR3\tR4\tR5
 0\tProductSelected\tM\tPR
@@ -17,13 +13,11 @@ pub const CASES: &[Case] = &[
 0\tMaterialsLoaded\tM\t1\tK1
 0\tMaterialsSpliced\tM\t1\tK2
 0\tWorkStarted\tM\tB1
-0\tMaterialsInstalled\tM\tB1\t5\tR1\tR2\tR3\tR4\tR5",
-    ),
-    // a_check_names_the_row
-    (
-        "PR",
-        "0\t1\t10\t12\t2\tB1\tK1\tL1\tM\tP\tQ\tR1\tR2",
-        "0\tPartDefined\tP
+0\tMaterialsInstalled\tM\tB1\t5\tR1\tR2\tR3\tR4\tR5
+
+PR
+0\t1\t10\t12\t2\tB1\tK1\tL1\tM\tP\tQ\tR1\tR2
+0\tPartDefined\tP
 0\tPartDefined\tQ
 0\tAlternateAllowed\tP\tQ
 0\tSheetDefined\tPR\tM\t1\t1\tP\t2\tR1\tR2
@@ -32,50 +26,42 @@ pub const CASES: &[Case] = &[
 0\tCountsTaken\t1\tK1\t12
 0\tMaterialsLoaded\tM\t1\tK1
 0\tWorkStarted\tM\tB1
-0\tMaterialsInstalled\tM\tB1\t2\tR1\tR2",
-    ),
-    // a_copy_takes_the_desks_place
-    (
-        "PR",
-        "0\t1\t10\t2\tB1\tK1\tL1\tM\tP\tR1\tR2",
-        "0\tPartDefined\tP
+0\tMaterialsInstalled\tM\tB1\t2\tR1\tR2
+
+PR
+0\t1\t10\t2\tB1\tK1\tL1\tM\tP\tR1\tR2
+0\tPartDefined\tP
 0\tSheetDefined\tPR\tM\t1\t1\tP\t2\tR1\tR2
 0\tProductSelected\tM\tPR
 0\tReelReceived\tK1\tP\tL1\t1\t10\t0
 0\tMaterialsLoaded\tM\t1\tK1
 60\tWorkStarted\tM\tB1
 60\tMaterialsInstalled\tM\tB1\t2\tR1\tR2
-60\tWorkCompleted\tM\tB1",
-    ),
-    // a_count_file_is_all_or_nothing
-    (
-        "PR",
-        "0\t1\t10\t5\tK1\tK3\tK4\tL1\tM\tP\tQ\tR1\tR2\tR3\tR4\tR5",
-        "0\tPartDefined\tP
+60\tWorkCompleted\tM\tB1
+
+PR
+0\t1\t10\t5\tK1\tK3\tK4\tL1\tM\tP\tQ\tR1\tR2\tR3\tR4\tR5
+0\tPartDefined\tP
 0\tPartDefined\tQ
 0\tSheetDefined\tPR\tM\t1\t1\tP\t5\tR1\tR2\tR3\tR4\tR5
 0\tProductSelected\tM\tPR
 0\tReelReceived\tK1\tP\tL1\t1\t10\t0
 0\tReelReceived\tK3\tP\tL1\t1\t10\t0
 0\tReelReceived\tK4\tP\tL1\t1\t10\t0
-0\tMaterialsLoaded\tM\t1\tK1",
-    ),
-    // a_count_file_may_rise
-    (
-        "PR",
-        "0\t1\t10\t5\tK3\tK4\tL1\tM\tP\tQ\tR1\tR2\tR3\tR4\tR5",
-        "0\tPartDefined\tP
+0\tMaterialsLoaded\tM\t1\tK1
+
+PR
+0\t1\t10\t5\tK3\tK4\tL1\tM\tP\tQ\tR1\tR2\tR3\tR4\tR5
+0\tPartDefined\tP
 0\tPartDefined\tQ
 0\tSheetDefined\tPR\tM\t1\t1\tP\t5\tR1\tR2\tR3\tR4\tR5
 0\tProductSelected\tM\tPR
 0\tReelReceived\tK3\tP\tL1\t1\t10\t0
-0\tReelReceived\tK4\tP\tL1\t1\t10\t0",
-    ),
-    // a_desk_beside_other_tables
-    (
-        "PR",
-        "0\t1\t10\t5\t5a\tB1\tB2\tK1\tK2\tL1\tL2\tM\tP\tQ\tR1\tR2\tR3\tR4\tR5",
-        "0\tPartDefined\tP
+0\tReelReceived\tK4\tP\tL1\t1\t10\t0
+
+PR
+0\t1\t10\t5\t5a\tB1\tB2\tK1\tK2\tL1\tL2\tM\tP\tQ\tR1\tR2\tR3\tR4\tR5
+0\tPartDefined\tP
 0\tPartDefined\tQ
 0\tSheetDefined\tPR\tM\t1\t1\tP\t5\tR1\tR2\tR3\tR4\tR5
 0\tProductSelected\tM\tPR
@@ -92,34 +78,28 @@ pub const CASES: &[Case] = &[
 1440\tMaterialsInstalled\tM\tB1\t1\tR1
 0\tWorkCompleted\tM\tB1
 1440\tWorkStarted\tM\tB2
-1440\tReelReceived\tK2\tP\tL2\t1\t10\t0",
-    ),
-    // a_desk_for_three_commands
-    (
-        "PR",
-        "0\t1\t100\t5\tK1\tL1\tM\tP\tR1\tR2\tR3\tR4\tR5",
-        "0\tPartDefined\tP
+1440\tReelReceived\tK2\tP\tL2\t1\t10\t0
+
+PR
+0\t1\t100\t5\tK1\tL1\tM\tP\tR1\tR2\tR3\tR4\tR5
+0\tPartDefined\tP
 0\tSheetDefined\tPR\tM\t1\t1\tP\t5\tR1\tR2\tR3\tR4\tR5
 0\tProductSelected\tM\tPR
 0\tReelReceived\tK1\tP\tL1\t1\t100\t0
 0\tMaterialsLoaded\tM\t1\tK1
-0\tProductSelected\tM\tPR",
-    ),
-    // a_desk_kept_in_a_file
-    (
-        "PR",
-        "0\t1\t100\t5\tK1\tL1\tM\tP\tR1\tR2\tR3\tR4\tR5",
-        "0\tPartDefined\tP
+0\tProductSelected\tM\tPR
+
+PR
+0\t1\t100\t5\tK1\tL1\tM\tP\tR1\tR2\tR3\tR4\tR5
+0\tPartDefined\tP
 0\tSheetDefined\tPR\tM\t1\t1\tP\t5\tR1\tR2\tR3\tR4\tR5
 0\tProductSelected\tM\tPR
 0\tReelReceived\tK1\tP\tL1\t1\t100\t0
-0\tMaterialsLoaded\tM\t1\tK1",
-    ),
-    // a_desk_with_two_indexes
-    (
-        "PR",
-        "0\t1\t10\t5\t5a\tB1\tB2\tK1\tL1\tM\tP\tQ\tR1\tR2\tR3\tR4\tR5",
-        "0\tPartDefined\tP
+0\tMaterialsLoaded\tM\t1\tK1
+
+PR
+0\t1\t10\t5\t5a\tB1\tB2\tK1\tL1\tM\tP\tQ\tR1\tR2\tR3\tR4\tR5
+0\tPartDefined\tP
 0\tPartDefined\tQ
 0\tSheetDefined\tPR\tM\t1\t1\tP\t5\tR1\tR2\tR3\tR4\tR5
 0\tProductSelected\tM\tPR
@@ -135,30 +115,24 @@ pub const CASES: &[Case] = &[
 1439\tWorkStarted\tM\tB1
 1440\tMaterialsInstalled\tM\tB1\t1\tR1
 0\tWorkCompleted\tM\tB1
-1440\tWorkStarted\tM\tB2",
-    ),
-    // a_file_of_version_1_is_migrated
-    (
-        "X",
-        "1\t12\tK1\tM",
-        "0\tMaterialsLoaded\tM\t1\tK1
-0\tCountsTaken\t1\tK1\t12",
-    ),
-    // a_full_desk
-    (
-        "PR",
-        "1\t5\tM\tP\tR1\tR2\tR3\tR4\tR5",
-        "0\tPartDefined\tP
+1440\tWorkStarted\tM\tB2
+
+X
+1\t12\tK1\tM
+0\tMaterialsLoaded\tM\t1\tK1
+0\tCountsTaken\t1\tK1\t12
+
+PR
+1\t5\tM\tP\tR1\tR2\tR3\tR4\tR5
+0\tPartDefined\tP
 0\tSheetDefined\tPR\tM\t1\t1\tP\t5\tR1\tR2\tR3\tR4\tR5
 0\tProductSelected\tM\tPR
 0\tSheetDefined\tPR\tM\t1\t1\tP\t5\tR1\tR2\tR3\tR4\tR5
-0\tPartDefined\tP",
-    ),
-    // a_kit_shares_reels_between_rows
-    (
-        "PR",
-        "0\t1\t2\t3\t4\t5\t5a\t6\t60\t7\t8\t9\tC1\tD1\tK1\tK2\tK3\tK4\tK5\tK6\tK7\tL\tM\tP\tQ\tR1\tR2",
-        "0\tPartDefined\tP
+0\tPartDefined\tP
+
+PR
+0\t1\t2\t3\t4\t5\t5a\t6\t60\t7\t8\t9\tC1\tD1\tK1\tK2\tK3\tK4\tK5\tK6\tK7\tL\tM\tP\tQ\tR1\tR2
+0\tPartDefined\tP
 0\tPartDefined\tQ
 0\tAlternateAllowed\tP\tQ
 0\tSheetDefined\tPR\tM\t3\t1\tP\t2\tR1\tR2\t2\tQ\t1\tC1\t3\tP\t1\tD1
@@ -174,24 +148,20 @@ pub const CASES: &[Case] = &[
 0\tReelOpened\tK5
 0\tMaterialsLoaded\tM\t1\tK7
 1000\tReelOpened\tK3
-1440\tClockSet",
-    ),
-    // a_line_sent_twice
-    (
-        "PR",
-        "0\t1\t100\t5\tK1\tL1\tM\tP\tR1\tR2\tR3\tR4\tR5",
-        "0\tPartDefined\tP
+1440\tClockSet
+
+PR
+0\t1\t100\t5\tK1\tL1\tM\tP\tR1\tR2\tR3\tR4\tR5
+0\tPartDefined\tP
 0\tSheetDefined\tPR\tM\t1\t1\tP\t5\tR1\tR2\tR3\tR4\tR5
 0\tProductSelected\tM\tPR
 0\tReelReceived\tK1\tP\tL1\t1\t100\t0
 0\tMaterialsLoaded\tM\t1\tK1
-0\tMaterialsLoaded\tM\t1\tK1",
-    ),
-    // a_machine_in_work
-    (
-        "PR\tPS",
-        "0\t1\t10\t5\tB1\tB2\tK1\tL1\tM\tP\tQ\tR1\tR2\tR3\tR4\tR5",
-        "0\tPartDefined\tP
+0\tMaterialsLoaded\tM\t1\tK1
+
+PR\tPS
+0\t1\t10\t5\tB1\tB2\tK1\tL1\tM\tP\tQ\tR1\tR2\tR3\tR4\tR5
+0\tPartDefined\tP
 0\tPartDefined\tQ
 0\tSheetDefined\tPR\tM\t1\t1\tP\t5\tR1\tR2\tR3\tR4\tR5
 0\tProductSelected\tM\tPR
@@ -204,13 +174,11 @@ pub const CASES: &[Case] = &[
 0\tWorkCompleted\tM\tB1
 0\tSheetDefined\tPS\tM\t1\t1\tP\t1\tR1
 0\tProductSelected\tM\tPS
-0\tWorkStarted\tM\tB1",
-    ),
-    // a_recall_over_two_boards
-    (
-        "CTRL-A",
-        "0\t1\t5\tC1\tC2\tC3\tC4\tC5\tCAP-100N\tK-01\tK-02\tK-03\tL-77\tL-90\tM1\tSN-117\tSN-118",
-        "29540520\tPartDefined\tCAP-100N
+0\tWorkStarted\tM\tB1
+
+CTRL-A
+0\t1\t5\tC1\tC2\tC3\tC4\tC5\tCAP-100N\tK-01\tK-02\tK-03\tL-77\tL-90\tM1\tSN-117\tSN-118
+29540520\tPartDefined\tCAP-100N
 29540520\tSheetDefined\tCTRL-A\tM1\t1\t1\tCAP-100N\t5\tC1\tC2\tC3\tC4\tC5
 29540520\tProductSelected\tM1\tCTRL-A
 29540520\tReelReceived\tK-01\tCAP-100N\tL-77\t1\t5\t0
@@ -222,13 +190,11 @@ pub const CASES: &[Case] = &[
 29540520\tMaterialsInstalled\tM1\tSN-117\t5\tC1\tC2\tC3\tC4\tC5
 29540520\tWorkCompleted\tM1\tSN-117
 29540520\tWorkStarted\tM1\tSN-118
-29540520\tMaterialsInstalled\tM1\tSN-118\t1\tC1",
-    ),
-    // a_reel_changes_lines
-    (
-        "PR",
-        "0\t1\t40\t5a\t7\tK1\tK2\tL1\tL2\tM\tP\tR1",
-        "110\tPartDefined\tP
+29540520\tMaterialsInstalled\tM1\tSN-118\t1\tC1
+
+PR
+0\t1\t40\t5a\t7\tK1\tK2\tL1\tL2\tM\tP\tR1
+110\tPartDefined\tP
 110\tReelReceived\tK1\tP\tL1\t5a\t40\t0
 110\tReelOpened\tK1
 200\tReelSealed\tK1
@@ -242,13 +208,11 @@ pub const CASES: &[Case] = &[
 150\tReelSealed\tK1
 200\tMaterialsLoaded\tM\t1\tK2
 100\tClockSet
-111\tClockSet",
-    ),
-    // a_reel_moved_to_another_slot
-    (
-        "PR",
-        "0\t1\t10\t2\t20\t5\tB1\tC1\tK1\tK2\tK3\tL1\tM\tP\tR1",
-        "0\tPartDefined\tP
+111\tClockSet
+
+PR
+0\t1\t10\t2\t20\t5\tB1\tC1\tK1\tK2\tK3\tL1\tM\tP\tR1
+0\tPartDefined\tP
 0\tSheetDefined\tPR\tM\t2\t1\tP\t1\tR1\t2\tP\t1\tC1
 0\tProductSelected\tM\tPR
 0\tReelReceived\tK1\tP\tL1\t1\t10\t0
@@ -262,21 +226,17 @@ pub const CASES: &[Case] = &[
 0\tWorkCompleted\tM\tB1
 0\tMaterialsUnloaded\tM\t1
 0\tMaterialsUnloaded\tM\t2
-0\tMaterialsLoaded\tM\t2\tK2",
-    ),
-    // a_sender_that_loses_nothing
-    (
-        "X",
-        "0\t1\t5\tK1\tL1\tP",
-        "0\tPartDefined\tP
+0\tMaterialsLoaded\tM\t2\tK2
+
+X
+0\t1\t5\tK1\tL1\tP
+0\tPartDefined\tP
 1\tReelOpened\tK1
-4\tReelReceived\tK1\tP\tL1\t1\t5\t0",
-    ),
-    // a_setup_file_is_one_sheet
-    (
-        "PR",
-        "0\t1\t10\t2\t3\t5\tA 10\tB1\tK1\tK2\tK3\tL1\tM\tP\tQ\tR1\tR2\tR3\tR4\tR5\tR9\t_",
-        "0\tPartDefined\tP
+4\tReelReceived\tK1\tP\tL1\t1\t5\t0
+
+PR
+0\t1\t10\t2\t3\t5\tA 10\tB1\tK1\tK2\tK3\tL1\tM\tP\tQ\tR1\tR2\tR3\tR4\tR5\tR9\t_
+0\tPartDefined\tP
 0\tPartDefined\tQ
 0\tSheetDefined\tPR\tM\t1\t1\tP\t5\tR1\tR2\tR3\tR4\tR5
 0\tProductSelected\tM\tPR
@@ -288,21 +248,17 @@ pub const CASES: &[Case] = &[
 0\tMaterialsLoaded\tM\tA 10\tK3
 0\tWorkStarted\tM\tB1
 0\tMaterialsInstalled\tM\tB1\t3\t_\tR9\tR2
-0\tClockSet",
-    ),
-    // a_sheet_saved_by_libreoffice
-    (
-        "X",
-        "CAP-100N\tLED-RED\tRES,10K",
-        "0\tPartDefined\tCAP-100N
+0\tClockSet
+
+X
+CAP-100N\tLED-RED\tRES,10K
+0\tPartDefined\tCAP-100N
 0\tPartDefined\tRES,10K
-0\tPartDefined\tLED-RED",
-    ),
-    // a_spent_reel_stays_spent
-    (
-        "PR",
-        "0\t1\t2\t40\t5\t50\tB1\tK1\tK2\tL1\tM\tP\tQ\tR1\tR2\tR3\tR4\tR5",
-        "0\tPartDefined\tP
+0\tPartDefined\tLED-RED
+
+PR
+0\t1\t2\t40\t5\t50\tB1\tK1\tK2\tL1\tM\tP\tQ\tR1\tR2\tR3\tR4\tR5
+0\tPartDefined\tP
 0\tPartDefined\tQ
 0\tSheetDefined\tPR\tM\t1\t1\tP\t5\tR1\tR2\tR3\tR4\tR5
 0\tProductSelected\tM\tPR
@@ -314,24 +270,20 @@ pub const CASES: &[Case] = &[
 0\tMaterialsInstalled\tM\tB1\t5\tR1\tR2\tR3\tR4\tR5
 0\tCountsTaken\t1\tK1\t1
 0\tCountsTaken\t1\tK1\t0
-0\tCountsTaken\t1\tK2\t40",
-    ),
-    // a_unique_id_used_twice
-    (
-        "PR",
-        "0\t1\t100\t2\t5\tK1\tL1\tM\tP\tR1\tR2\tR3\tR4\tR5",
-        "0\tPartDefined\tP
+0\tCountsTaken\t1\tK2\t40
+
+PR
+0\t1\t100\t2\t5\tK1\tL1\tM\tP\tR1\tR2\tR3\tR4\tR5
+0\tPartDefined\tP
 0\tSheetDefined\tPR\tM\t1\t1\tP\t5\tR1\tR2\tR3\tR4\tR5
 0\tProductSelected\tM\tPR
 0\tReelReceived\tK1\tP\tL1\t1\t100\t0
 0\tMaterialsLoaded\tM\t1\tK1
-0\tMaterialsLoaded\tM\t2\tK1",
-    ),
-    // a_watch_of_a_desk
-    (
-        "PR",
-        "0\t1\t2\t40\t5a\t6\t60\t9\tB1\tK1\tK2\tL1\tM\tP\tR1\tR2\tR3",
-        "0\tPartDefined\tP
+0\tMaterialsLoaded\tM\t2\tK1
+
+PR
+0\t1\t2\t40\t5a\t6\t60\t9\tB1\tK1\tK2\tL1\tM\tP\tR1\tR2\tR3
+0\tPartDefined\tP
 0\tSheetDefined\tPR\tM\t2\t1\tP\t2\tR1\tR2\t2\tP\t1\tR3
 0\tProductSelected\tM\tPR
 0\tReelReceived\tK1\tP\tL1\t6\t9\t60
@@ -342,13 +294,11 @@ pub const CASES: &[Case] = &[
 59\tWorkStarted\tM\tB1
 60\tMaterialsInstalled\tM\tB1\t1\tR1
 60\tMaterialsInstalled\tM\tB1\t1\tR3
-61\tWorkCompleted\tM\tB1",
-    ),
-    // alternate_in_one_direction
-    (
-        "PR\tPS",
-        "0\t1\t100\t5\tK1\tK2\tL1\tM\tN\tP\tQ\tR1\tR2\tR3\tR4\tR5",
-        "0\tPartDefined\tP
+61\tWorkCompleted\tM\tB1
+
+PR\tPS
+0\t1\t100\t5\tK1\tK2\tL1\tM\tN\tP\tQ\tR1\tR2\tR3\tR4\tR5
+0\tPartDefined\tP
 0\tPartDefined\tQ
 0\tSheetDefined\tPR\tM\t1\t1\tP\t5\tR1\tR2\tR3\tR4\tR5
 0\tProductSelected\tM\tPR
@@ -359,13 +309,11 @@ pub const CASES: &[Case] = &[
 0\tSheetDefined\tPS\tN\t1\t1\tQ\t1\tR1
 0\tProductSelected\tN\tPS
 0\tReelReceived\tK2\tP\tL1\t1\t100\t0
-0\tMaterialsLoaded\tN\t1\tK2",
-    ),
-    // an_import_is_a_message
-    (
-        "PR\tPX",
-        "0\t1\t10\t2\t4\t5\tK1\tK3\tK4\tL1\tM\tN\tP\tQ\tR1\tR2\tR3\tR4\tR5",
-        "0\tPartDefined\tP
+0\tMaterialsLoaded\tN\t1\tK2
+
+PR\tPX
+0\t1\t10\t2\t4\t5\tK1\tK3\tK4\tL1\tM\tN\tP\tQ\tR1\tR2\tR3\tR4\tR5
+0\tPartDefined\tP
 0\tPartDefined\tQ
 0\tSheetDefined\tPR\tM\t1\t1\tP\t5\tR1\tR2\tR3\tR4\tR5
 0\tProductSelected\tM\tPR
@@ -375,22 +323,18 @@ pub const CASES: &[Case] = &[
 0\tMaterialsLoaded\tM\t1\tK1
 0\tCountsTaken\t2\tK3\t5\tK4\t5
 0\tSheetDefined\tPX\tN\t1\t1\tQ\t2\tR1\tR2
-0\tCountsTaken\t1\tK3\t4",
-    ),
-    // an_import_takes_effect_at_its_time
-    (
-        "PR",
-        "1\t5\tM\tP\tQ\tR1\tR2\tR3\tR4\tR5",
-        "0\tPartDefined\tP
+0\tCountsTaken\t1\tK3\t4
+
+PR
+1\t5\tM\tP\tQ\tR1\tR2\tR3\tR4\tR5
+0\tPartDefined\tP
 0\tPartDefined\tQ
 0\tSheetDefined\tPR\tM\t1\t1\tP\t5\tR1\tR2\tR3\tR4\tR5
-0\tProductSelected\tM\tPR",
-    ),
-    // an_install_is_judged_designator_by_designator
-    (
-        "PR",
-        "0\t1\t2\t3\t5\tB1\tC1\tK1\tK2\tK3\tL1\tM\tN\tP\tR1\tR2\tR3\tR4\tR9",
-        "0\tPartDefined\tP
+0\tProductSelected\tM\tPR
+
+PR
+0\t1\t2\t3\t5\tB1\tC1\tK1\tK2\tK3\tL1\tM\tN\tP\tR1\tR2\tR3\tR4\tR9
+0\tPartDefined\tP
 0\tSheetDefined\tPR\tM\t2\t1\tP\t3\tR1\tR2\tR3\t2\tP\t1\tC1
 0\tSheetDefined\tPR\tN\t1\t1\tP\t2\tR1\tR4
 0\tProductSelected\tM\tPR
@@ -411,13 +355,11 @@ pub const CASES: &[Case] = &[
 0\tWorkCompleted\tM\tB1
 0\tWorkStarted\tN\tB1
 0\tMaterialsInstalled\tN\tB1\t2\tR4\tR1
-0\tMaterialsInstalled\tN\tB1\t1\tR4",
-    ),
-    // an_install_past_floor_life
-    (
-        "PR",
-        "0\t1\t10\t5\t5a\tB1\tB2\tK1\tL1\tM\tP\tQ\tR1\tR2\tR3\tR4\tR5",
-        "0\tPartDefined\tP
+0\tMaterialsInstalled\tN\tB1\t1\tR4
+
+PR
+0\t1\t10\t5\t5a\tB1\tB2\tK1\tL1\tM\tP\tQ\tR1\tR2\tR3\tR4\tR5
+0\tPartDefined\tP
 0\tPartDefined\tQ
 0\tSheetDefined\tPR\tM\t1\t1\tP\t5\tR1\tR2\tR3\tR4\tR5
 0\tProductSelected\tM\tPR
@@ -426,34 +368,28 @@ pub const CASES: &[Case] = &[
 1439\tWorkStarted\tM\tB1
 1440\tMaterialsInstalled\tM\tB1\t1\tR1
 0\tWorkCompleted\tM\tB1
-1440\tWorkStarted\tM\tB2",
-    ),
-    // another_vocabulary_is_bridged
-    (
-        "PR",
-        "0\t1\t3\t5\tK1\tL1\tM1\tP\tR1\tR2\tR3",
-        "0\tPartDefined\tP
+1440\tWorkStarted\tM\tB2
+
+PR
+0\t1\t3\t5\tK1\tL1\tM1\tP\tR1\tR2\tR3
+0\tPartDefined\tP
 0\tSheetDefined\tPR\tM1\t1\t1\tP\t3\tR1\tR2\tR3
 0\tProductSelected\tM1\tPR
 0\tReelReceived\tK1\tP\tL1\t1\t5\t0
-0\tMaterialsLoaded\tM1\t1\tK1",
-    ),
-    // answers_come_before_the_next_line
-    (
-        "PR",
-        "0\t1\t100\t2\tK1\tK9\tL1\tM\tP\tR1\tR2",
-        "0\tPartDefined\tP
+0\tMaterialsLoaded\tM1\t1\tK1
+
+PR
+0\t1\t100\t2\tK1\tK9\tL1\tM\tP\tR1\tR2
+0\tPartDefined\tP
 0\tSheetDefined\tPR\tM\t1\t1\tP\t2\tR1\tR2
 0\tProductSelected\tM\tPR
 0\tReelReceived\tK1\tP\tL1\t1\t100\t0
 0\tMaterialsLoaded\tM\t1\tK9
-0\tMaterialsLoaded\tM\t1\tK1",
-    ),
-    // bake_and_load_again
-    (
-        "PR",
-        "0\t1\t10\t5\t5a\tK1\tL1\tM\tP\tQ\tR1\tR2\tR3\tR4\tR5",
-        "0\tPartDefined\tP
+0\tMaterialsLoaded\tM\t1\tK1
+
+PR
+0\t1\t10\t5\t5a\tK1\tL1\tM\tP\tQ\tR1\tR2\tR3\tR4\tR5
+0\tPartDefined\tP
 0\tPartDefined\tQ
 0\tSheetDefined\tPR\tM\t1\t1\tP\t5\tR1\tR2\tR3\tR4\tR5
 0\tProductSelected\tM\tPR
@@ -461,13 +397,11 @@ pub const CASES: &[Case] = &[
 0\tReelOpened\tK1
 1440\tMaterialsLoaded\tM\t1\tK1
 1441\tReelBaked\tK1
-1440\tMaterialsLoaded\tM\t1\tK1",
-    ),
-    // counts_are_all_or_nothing
-    (
-        "PR",
-        "0\t1\t10\t2\t3\t5\tK1\tK3\tK4\tL1\tM\tP\tQ\tR1\tR2\tR3\tR4\tR5",
-        "0\tPartDefined\tP
+1440\tMaterialsLoaded\tM\t1\tK1
+
+PR
+0\t1\t10\t2\t3\t5\tK1\tK3\tK4\tL1\tM\tP\tQ\tR1\tR2\tR3\tR4\tR5
+0\tPartDefined\tP
 0\tPartDefined\tQ
 0\tSheetDefined\tPR\tM\t1\t1\tP\t5\tR1\tR2\tR3\tR4\tR5
 0\tProductSelected\tM\tPR
@@ -477,22 +411,18 @@ pub const CASES: &[Case] = &[
 0\tMaterialsLoaded\tM\t1\tK1
 0\tCountsTaken\t3\tK3\t5\tK4\t5\tK1\t5
 0\tCountsTaken\t2\tK3\t5\tK4\t5
-0\tCountsTaken\t2\tK3\t5\tK4\t5",
-    ),
-    // counts_saved_by_libreoffice
-    (
-        "X",
-        "0\t1\t2000\t5\t7\tK-01\tK-02\tK-03\tL1\tP",
-        "0\tPartDefined\tP
+0\tCountsTaken\t2\tK3\t5\tK4\t5
+
+X
+0\t1\t2000\t5\t7\tK-01\tK-02\tK-03\tL1\tP
+0\tPartDefined\tP
 0\tReelReceived\tK-01\tP\tL1\t1\t5\t0
 0\tReelReceived\tK-02\tP\tL1\t1\t2000\t0
-0\tReelReceived\tK-03\tP\tL1\t1\t7\t0",
-    ),
-    // counts_that_rise
-    (
-        "PR",
-        "0\t1\t10\t12\t15\t5\tK1\tL1\tM\tP\tQ\tR1\tR2\tR3\tR4\tR5",
-        "0\tPartDefined\tP
+0\tReelReceived\tK-03\tP\tL1\t1\t7\t0
+
+PR
+0\t1\t10\t12\t15\t5\tK1\tL1\tM\tP\tQ\tR1\tR2\tR3\tR4\tR5
+0\tPartDefined\tP
 0\tPartDefined\tQ
 0\tSheetDefined\tPR\tM\t1\t1\tP\t5\tR1\tR2\tR3\tR4\tR5
 0\tProductSelected\tM\tPR
@@ -500,13 +430,11 @@ pub const CASES: &[Case] = &[
 0\tCountsTaken\t1\tK1\t15
 0\tCountsTaken\t1\tK1\t12
 0\tCountsTaken\t1\tK1\t0
-0\tCountsTaken\t1\tK1\t1",
-    ),
-    // expired_at_the_minute
-    (
-        "PR",
-        "0\t1\t100\t3\t5\tK1\tL1\tM\tP\tQ\tR1\tR2\tR3\tR4\tR5",
-        "0\tPartDefined\tP
+0\tCountsTaken\t1\tK1\t1
+
+PR
+0\t1\t100\t3\t5\tK1\tL1\tM\tP\tQ\tR1\tR2\tR3\tR4\tR5
+0\tPartDefined\tP
 0\tPartDefined\tQ
 0\tSheetDefined\tPR\tM\t1\t1\tP\t5\tR1\tR2\tR3\tR4\tR5
 0\tProductSelected\tM\tPR
@@ -519,35 +447,29 @@ pub const CASES: &[Case] = &[
 0\tProductSelected\tM\tPR
 0\tReelReceived\tK1\tP\tL1\t3\t100\t0
 0\tReelOpened\tK1
-10079\tMaterialsLoaded\tM\t1\tK1",
-    ),
-    // faults_of_the_body
-    (
-        "PR",
-        "0\t1\t10000000\t525600\t6\tK1\tK2\tL1\tM\tPPPPPPPPPPPPPPPPPPPPPPPPPPPPPPPPPPPPPPPPPPPPPPPPPPPPPPPPPPPPPPPP\tRRRRRRRRRRRRRRRR",
-        "0\tPartDefined\tPPPPPPPPPPPPPPPPPPPPPPPPPPPPPPPPPPPPPPPPPPPPPPPPPPPPPPPPPPPPPPPP
+10079\tMaterialsLoaded\tM\t1\tK1
+
+PR
+0\t1\t10000000\t525600\t6\tK1\tK2\tL1\tM\tPPPPPPPPPPPPPPPPPPPPPPPPPPPPPPPPPPPPPPPPPPPPPPPPPPPPPPPPPPPPPPPP\tRRRRRRRRRRRRRRRR
+0\tPartDefined\tPPPPPPPPPPPPPPPPPPPPPPPPPPPPPPPPPPPPPPPPPPPPPPPPPPPPPPPPPPPPPPPP
 0\tSheetDefined\tPR\tM\t1\t1\tPPPPPPPPPPPPPPPPPPPPPPPPPPPPPPPPPPPPPPPPPPPPPPPPPPPPPPPPPPPPPPPP\t1\tRRRRRRRRRRRRRRRR
 0\tReelReceived\tK1\tPPPPPPPPPPPPPPPPPPPPPPPPPPPPPPPPPPPPPPPPPPPPPPPPPPPPPPPPPPPPPPPP\tL1\t6\t10000000\t525600
 0\tCountsTaken\t1\tK1\t10000000
 0\tCountsTaken\t1\tK1\t0
-0\tReelReceived\tK2\tPPPPPPPPPPPPPPPPPPPPPPPPPPPPPPPPPPPPPPPPPPPPPPPPPPPPPPPPPPPPPPPP\tL1\t1\t1\t0",
-    ),
-    // faults_of_the_envelope
-    (
-        "X",
-        "P",
-        "0\tPartDefined\tP
+0\tReelReceived\tK2\tPPPPPPPPPPPPPPPPPPPPPPPPPPPPPPPPPPPPPPPPPPPPPPPPPPPPPPPPPPPPPPPP\tL1\t1\t1\t0
+
+X
+P
 0\tPartDefined\tP
 0\tPartDefined\tP
 0\tPartDefined\tP
 0\tPartDefined\tP
-0\tPartDefined\tP",
-    ),
-    // floor_life_expires_at_its_limit
-    (
-        "PR",
-        "0\t1\t100\t3\t5\tK1\tK2\tL1\tM\tP\tQ\tR1\tR2\tR3\tR4\tR5",
-        "0\tPartDefined\tP
+0\tPartDefined\tP
+0\tPartDefined\tP
+
+PR
+0\t1\t100\t3\t5\tK1\tK2\tL1\tM\tP\tQ\tR1\tR2\tR3\tR4\tR5
+0\tPartDefined\tP
 0\tPartDefined\tQ
 0\tSheetDefined\tPR\tM\t1\t1\tP\t5\tR1\tR2\tR3\tR4\tR5
 0\tProductSelected\tM\tPR
@@ -557,13 +479,11 @@ pub const CASES: &[Case] = &[
 0\tReelOpened\tK2
 10079\tMaterialsLoaded\tM\t1\tK1
 10079\tMaterialsUnloaded\tM\t1
-10080\tMaterialsLoaded\tM\t1\tK2",
-    ),
-    // floor_lives_of_all_levels
-    (
-        "PR",
-        "0\t1\t2\t2a\t3\t4\t5\t525600\t5a\t6\t7\t8\tK1\tK2\tK2a\tK3\tK4\tK5\tK5a\tK6\tL1\tM\tP\tR1\tR2\tR3\tR4\tR5\tR6\tR7\tR8",
-        "0\tPartDefined\tP
+10080\tMaterialsLoaded\tM\t1\tK2
+
+PR
+0\t1\t2\t2a\t3\t4\t5\t525600\t5a\t6\t7\t8\tK1\tK2\tK2a\tK3\tK4\tK5\tK5a\tK6\tL1\tM\tP\tR1\tR2\tR3\tR4\tR5\tR6\tR7\tR8
+0\tPartDefined\tP
 0\tSheetDefined\tPR\tM\t8\t1\tP\t1\tR1\t2\tP\t1\tR2\t3\tP\t1\tR3\t4\tP\t1\tR4\t5\tP\t1\tR5\t6\tP\t1\tR6\t7\tP\t1\tR7\t8\tP\t1\tR8
 0\tProductSelected\tM\tPR
 0\tReelReceived\tK1\tP\tL1\t1\t1\t0
@@ -582,13 +502,11 @@ pub const CASES: &[Case] = &[
 0\tMaterialsLoaded\tM\t7\tK5a
 0\tReelReceived\tK6\tP\tL1\t6\t1\t525600
 0\tReelBaked\tK6
-0\tMaterialsLoaded\tM\t8\tK6",
-    ),
-    // found_pieces_are_placed
-    (
-        "PR",
-        "0\t1\t10\t2\t3\t4\t5\t6\t7\t8\tB1\tK1\tK2\tL1\tM\tP\tQ\tR1\tR2\tR3\tR4\tR5",
-        "0\tPartDefined\tP
+0\tMaterialsLoaded\tM\t8\tK6
+
+PR
+0\t1\t10\t2\t3\t4\t5\t6\t7\t8\tB1\tK1\tK2\tL1\tM\tP\tQ\tR1\tR2\tR3\tR4\tR5
+0\tPartDefined\tP
 0\tPartDefined\tQ
 0\tSheetDefined\tPR\tM\t1\t1\tP\t5\tR1\tR2\tR3\tR4\tR5
 0\tProductSelected\tM\tPR
@@ -604,26 +522,22 @@ pub const CASES: &[Case] = &[
 0\tCountsTaken\t2\tK2\t7\tK1\t0
 0\tMaterialsLoaded\tM\t1\tK2
 0\tMaterialsScrapped\tM\t1\t8
-0\tMaterialsScrapped\tM\t1\t7",
-    ),
-    // json_as_rfc_8259_has_it
-    (
-        "X",
-        "AB",
-        "0\tClockSet
+0\tMaterialsScrapped\tM\t1\t7
+
+X
+AB
+0\tClockSet
 0\tClockSet
 0\tClockSet
 0\tClockSet
 0\tClockSet
 0\tClockSet
 0\tPartDefined\tAB
-0\tPartDefined\tAB",
-    ),
-    // level_six_needs_a_bake
-    (
-        "PR",
-        "1\t10\t5\t6\t60\tK1\tL1\tM\tP\tQ\tR1\tR2\tR3\tR4\tR5",
-        "0\tPartDefined\tP
+0\tPartDefined\tAB
+
+PR
+1\t10\t5\t6\t60\tK1\tL1\tM\tP\tQ\tR1\tR2\tR3\tR4\tR5
+0\tPartDefined\tP
 0\tPartDefined\tQ
 0\tSheetDefined\tPR\tM\t1\t1\tP\t5\tR1\tR2\tR3\tR4\tR5
 0\tProductSelected\tM\tPR
@@ -631,13 +545,11 @@ pub const CASES: &[Case] = &[
 0\tMaterialsLoaded\tM\t1\tK1
 10\tReelBaked\tK1
 10\tReelOpened\tK1
-69\tMaterialsLoaded\tM\t1\tK1",
-    ),
-    // names_in_reports_and_targets
-    (
-        "PR",
-        "0\t1\t10\t2\t2a\t3\t4\t5\tB 1\tK 10*?\tK&1\tK3\tL & 1/2 %41\tL+1\tL2\tM 1\tP,1\tR 0603, 1%\tR1\tR10\tR2\ta\tb",
-        "0\tPartDefined\tR 0603, 1%
+69\tMaterialsLoaded\tM\t1\tK1
+
+PR
+0\t1\t10\t2\t2a\t3\t4\t5\tB 1\tK 10*?\tK&1\tK3\tL & 1/2 %41\tL+1\tL2\tM 1\tP,1\tR 0603, 1%\tR1\tR10\tR2\ta\tb
+0\tPartDefined\tR 0603, 1%
 0\tReelReceived\tK 10*?\tR 0603, 1%\tL & 1/2 %41\t2a\t5\t0
 40320\tClockSet
 0\tPartDefined\tP,1
@@ -648,24 +560,20 @@ pub const CASES: &[Case] = &[
 0\tMaterialsLoaded\tM 1\tb\tK&1
 0\tMaterialsLoaded\tM 1\ta\tK3
 0\tWorkStarted\tM 1\tB 1
-0\tMaterialsInstalled\tM 1\tB 1\t3\tR2\tR1\tR10",
-    ),
-    // one_refusal_decides_the_exit_status
-    (
-        "X",
-        "P\tQ",
-        "0\tPartDefined\tP
+0\tMaterialsInstalled\tM 1\tB 1\t3\tR2\tR1\tR10
+
+X
+P\tQ
+0\tPartDefined\tP
 0\tPartDefined\tP
 0\tPartDefined\tP
 0\tPartDefined\tP
 0\tPartDefined\tQ
-0\tPartDefined\tP",
-    ),
-    // other_things_in_a_file
-    (
-        "CTRL-A",
-        "0\t1\t5\tC1\tC2\tC3\tC4\tC5\tCAP-100N\tK-01\tK-02\tK-03\tL-77\tL-90\tM1\tRES-10K\tSN-117\tSN-118\tres-10k",
-        "29540520\tPartDefined\tres-10k
+0\tPartDefined\tP
+
+CTRL-A
+0\t1\t5\tC1\tC2\tC3\tC4\tC5\tCAP-100N\tK-01\tK-02\tK-03\tL-77\tL-90\tM1\tRES-10K\tSN-117\tSN-118\tres-10k
+29540520\tPartDefined\tres-10k
 29540520\tPartDefined\tCAP-100N
 29540520\tSheetDefined\tCTRL-A\tM1\t1\t1\tCAP-100N\t5\tC1\tC2\tC3\tC4\tC5
 29540520\tProductSelected\tM1\tCTRL-A
@@ -679,43 +587,35 @@ pub const CASES: &[Case] = &[
 29540520\tWorkCompleted\tM1\tSN-117
 29540520\tWorkStarted\tM1\tSN-118
 29540520\tMaterialsInstalled\tM1\tSN-118\t1\tC1
-29540520\tPartDefined\tRES-10K",
-    ),
-    // pages_of_a_desk
-    (
-        "X",
-        "P\tQ",
-        "29540520\tPartDefined\tP
-29540520\tPartDefined\tQ",
-    ),
-    // pieces_past_32_bits
-    (
-        "X",
-        "1\t10000000\tB1\tK1\tM\tR1",
-        "0\tMaterialsLoaded\tM\t1\tK1
+29540520\tPartDefined\tRES-10K
+
+X
+P\tQ
+29540520\tPartDefined\tP
+29540520\tPartDefined\tQ
+
+X
+1\t10000000\tB1\tK1\tM\tR1
+0\tMaterialsLoaded\tM\t1\tK1
 0\tWorkStarted\tM\tB1
 0\tMaterialsInstalled\tM\tB1\t1\tR1
 0\tWorkCompleted\tM\tB1
 0\tMaterialsUnloaded\tM\t1
-0\tCountsTaken\t1\tK1\t10000000",
-    ),
-    // reels_for_a_kit
-    (
-        "PR",
-        "0\t1\t100\t3\t30\t5\tK1\tK2\tL1\tM\tP\tQ\tR1\tR2\tR3\tR4\tR5",
-        "0\tPartDefined\tP
+0\tCountsTaken\t1\tK1\t10000000
+
+PR
+0\t1\t100\t3\t30\t5\tK1\tK2\tL1\tM\tP\tQ\tR1\tR2\tR3\tR4\tR5
+0\tPartDefined\tP
 0\tPartDefined\tQ
 0\tSheetDefined\tPR\tM\t1\t1\tP\t5\tR1\tR2\tR3\tR4\tR5
 0\tProductSelected\tM\tPR
 0\tReelReceived\tK2\tP\tL1\t3\t30\t0
 0\tReelOpened\tK2
-60\tReelReceived\tK1\tP\tL1\t1\t100\t0",
-    ),
-    // refusals_of_a_count
-    (
-        "PR",
-        "0\t1\t10\t11\t2\t3\t4\t5\t7\tK1\tK2\tK3\tK9\tL1\tM\tP\tR1",
-        "0\tCountsTaken\t2\tK9\t1\tK9\t1
+60\tReelReceived\tK1\tP\tL1\t1\t100\t0
+
+PR
+0\t1\t10\t11\t2\t3\t4\t5\t7\tK1\tK2\tK3\tK9\tL1\tM\tP\tR1
+0\tCountsTaken\t2\tK9\t1\tK9\t1
 0\tPartDefined\tP
 0\tSheetDefined\tPR\tM\t1\t1\tP\t1\tR1
 0\tProductSelected\tM\tPR
@@ -729,13 +629,11 @@ pub const CASES: &[Case] = &[
 0\tCountsTaken\t2\tK2\t11\tK9\t1
 0\tCountsTaken\t2\tK2\t7\tK3\t0
 0\tCountsTaken\t2\tK2\t7\tK3\t0
-0\tCountsTaken\t3\tK2\t7\tK3\t1\tK9\t1",
-    ),
-    // refusals_of_a_load
-    (
-        "PR",
-        "0\t1\t2\t5\t5a\t6\t60\t9\tK1\tK2\tK3\tK4\tK5\tK9\tL1\tM\tP\tQ\tR1\tR2\tR3",
-        "0\tMaterialsLoaded\tM\t1\tK1
+0\tCountsTaken\t3\tK2\t7\tK3\t1\tK9\t1
+
+PR
+0\t1\t2\t5\t5a\t6\t60\t9\tK1\tK2\tK3\tK4\tK5\tK9\tL1\tM\tP\tQ\tR1\tR2\tR3
+0\tMaterialsLoaded\tM\t1\tK1
 0\tPartDefined\tP
 0\tPartDefined\tQ
 0\tSheetDefined\tPR\tM\t2\t1\tP\t2\tR1\tR2\t2\tP\t1\tR3
@@ -758,13 +656,11 @@ pub const CASES: &[Case] = &[
 0\tReelReceived\tK5\tP\tL1\t5a\t5\t0
 0\tReelOpened\tK5
 1440\tMaterialsLoaded\tM\t2\tK5
-1439\tMaterialsLoaded\tM\t2\tK5",
-    ),
-    // refusals_of_a_selection
-    (
-        "PR\tPX",
-        "0\t1\t5\tB1\tK1\tL1\tM\tN\tP\tR1",
-        "0\tProductSelected\tM\tPR
+1439\tMaterialsLoaded\tM\t2\tK5
+
+PR\tPX
+0\t1\t5\tB1\tK1\tL1\tM\tN\tP\tR1
+0\tProductSelected\tM\tPR
 0\tPartDefined\tP
 0\tSheetDefined\tPR\tN\t1\t1\tP\t1\tR1
 0\tProductSelected\tM\tPR
@@ -776,13 +672,11 @@ pub const CASES: &[Case] = &[
 0\tProductSelected\tM\tPX
 0\tProductSelected\tM\tPR
 0\tWorkCompleted\tM\tB1
-0\tProductSelected\tM\tPR",
-    ),
-    // refusals_of_a_sheet
-    (
-        "PR\tPS",
-        "0\t1\t2\t3\t5\tB1\tK1\tK2\tL1\tM\tN\tP\tR1\tR2\tR3\tX\tY",
-        "0\tPartDefined\tP
+0\tProductSelected\tM\tPR
+
+PR\tPS
+0\t1\t2\t3\t5\tB1\tK1\tK2\tL1\tM\tN\tP\tR1\tR2\tR3\tX\tY
+0\tPartDefined\tP
 0\tSheetDefined\tPR\tM\t3\t1\tP\t1\tR1\t2\tX\t1\tR1\t1\tY\t1\tR2
 0\tSheetDefined\tPR\tM\t2\t1\tX\t2\tR1\tR2\t2\tP\t3\tR3\tR2\tR1
 0\tSheetDefined\tPR\tM\t1\t1\tP\t2\tR1\tR1
@@ -799,13 +693,11 @@ pub const CASES: &[Case] = &[
 0\tWorkCompleted\tM\tB1
 0\tSheetDefined\tPR\tM\t1\t1\tP\t1\tR1
 0\tMaterialsUnloaded\tM\t2
-0\tMaterialsLoaded\tM\t2\tK2",
-    ),
-    // refusals_of_a_splice
-    (
-        "PR",
-        "0\t1\t2\t5\t5a\t6\t60\t9\tK1\tK2\tK3\tK4\tK5\tK9\tL1\tM\tP\tQ\tR1\tR2\tR3",
-        "0\tMaterialsSpliced\tM\t1\tK1
+0\tMaterialsLoaded\tM\t2\tK2
+
+PR
+0\t1\t2\t5\t5a\t6\t60\t9\tK1\tK2\tK3\tK4\tK5\tK9\tL1\tM\tP\tQ\tR1\tR2\tR3
+0\tMaterialsSpliced\tM\t1\tK1
 0\tPartDefined\tP
 0\tPartDefined\tQ
 0\tSheetDefined\tPR\tM\t2\t1\tP\t2\tR1\tR2\t2\tP\t1\tR3
@@ -827,13 +719,11 @@ pub const CASES: &[Case] = &[
 0\tReelOpened\tK5
 1440\tMaterialsSpliced\tM\t1\tK5
 1439\tMaterialsSpliced\tM\t1\tK5
-0\tMaterialsSpliced\tM\t2\tK5",
-    ),
-    // refusals_of_a_start_and_a_completion
-    (
-        "PR\tPS\tPT",
-        "0\t1\t10\t2\t5a\tB1\tB2\tB3\tB9\tK1\tK2\tK3\tL1\tM\tN\tP\tQ\tR1\tR2",
-        "0\tWorkStarted\tM\tB1
+0\tMaterialsSpliced\tM\t2\tK5
+
+PR\tPS\tPT
+0\t1\t10\t2\t5a\tB1\tB2\tB3\tB9\tK1\tK2\tK3\tL1\tM\tN\tP\tQ\tR1\tR2
+0\tWorkStarted\tM\tB1
 0\tPartDefined\tP
 0\tPartDefined\tQ
 0\tSheetDefined\tPR\tM\t2\t1\tP\t1\tR1\t2\tP\t1\tR2
@@ -867,13 +757,11 @@ pub const CASES: &[Case] = &[
 0\tProductSelected\tM\tPS
 0\tWorkStarted\tM\tB3
 0\tAlternateAllowed\tQ\tP
-0\tWorkStarted\tM\tB3",
-    ),
-    // refusals_of_an_install
-    (
-        "PR",
-        "0\t1\t2\t3\t5\tB1\tB2\tK1\tL1\tM\tP\tQ\tR1\tR2\tR3\tR4\tR5\tR9",
-        "0\tPartDefined\tP
+0\tWorkStarted\tM\tB3
+
+PR
+0\t1\t2\t3\t5\tB1\tB2\tK1\tL1\tM\tP\tQ\tR1\tR2\tR3\tR4\tR5\tR9
+0\tPartDefined\tP
 0\tPartDefined\tQ
 0\tSheetDefined\tPR\tM\t1\t1\tP\t5\tR1\tR2\tR3\tR4\tR5
 0\tProductSelected\tM\tPR
@@ -887,13 +775,11 @@ pub const CASES: &[Case] = &[
 0\tMaterialsScrapped\tM\t1\t3
 0\tMaterialsInstalled\tM\tB1\t2\tR1\tR2
 0\tMaterialsInstalled\tM\tB1\t1\tR3
-0\tMaterialsScrapped\tM\t1\t1",
-    ),
-    // refusals_of_an_unload_and_a_scrap
-    (
-        "PR",
-        "0\t1\t2\t3\t4\t6\tK1\tK2\tL1\tM\tP\tR1\tR2",
-        "0\tMaterialsUnloaded\tM\t1
+0\tMaterialsScrapped\tM\t1\t1
+
+PR
+0\t1\t2\t3\t4\t6\tK1\tK2\tL1\tM\tP\tR1\tR2
+0\tMaterialsUnloaded\tM\t1
 0\tMaterialsScrapped\tM\t1\t1
 0\tPartDefined\tP
 0\tSheetDefined\tPR\tM\t1\t1\tP\t2\tR1\tR2
@@ -911,13 +797,11 @@ pub const CASES: &[Case] = &[
 0\tMaterialsScrapped\tM\t1\t2
 0\tMaterialsScrapped\tM\t1\t1
 0\tMaterialsScrapped\tM\t1\t1
-0\tMaterialsUnloaded\tM\t1",
-    ),
-    // refusals_of_parts_and_alternates
-    (
-        "X",
-        "P\tQ",
-        "0\tAlternateAllowed\tP\tQ
+0\tMaterialsUnloaded\tM\t1
+
+X
+P\tQ
+0\tAlternateAllowed\tP\tQ
 0\tPartDefined\tP
 0\tPartDefined\tP
 0\tAlternateAllowed\tP\tQ
@@ -925,13 +809,11 @@ pub const CASES: &[Case] = &[
 0\tPartDefined\tQ
 0\tAlternateAllowed\tP\tQ
 0\tAlternateAllowed\tP\tQ
-0\tAlternateAllowed\tP\tP",
-    ),
-    // refusals_of_receipts_openings_seals_and_bakes
-    (
-        "PR",
-        "0\t1\t5\tK1\tK9\tL1\tM\tP\tR1\tX",
-        "0\tReelReceived\tK1\tP\tL1\t1\t5\t0
+0\tAlternateAllowed\tP\tP
+
+PR
+0\t1\t5\tK1\tK9\tL1\tM\tP\tR1\tX
+0\tReelReceived\tK1\tP\tL1\t1\t5\t0
 0\tPartDefined\tP
 0\tReelReceived\tK1\tP\tL1\t1\t5\t0
 0\tReelReceived\tK1\tX\tL1\t1\t5\t0
@@ -951,25 +833,21 @@ pub const CASES: &[Case] = &[
 0\tReelBaked\tK1
 0\tReelOpened\tK1
 0\tMaterialsUnloaded\tM\t1
-0\tReelSealed\tK1",
-    ),
-    // repeat_after_an_unload_loads_nothing
-    (
-        "PR",
-        "0\t1\t100\t5\tK1\tL1\tM\tP\tR1\tR2\tR3\tR4\tR5",
-        "0\tPartDefined\tP
+0\tReelSealed\tK1
+
+PR
+0\t1\t100\t5\tK1\tL1\tM\tP\tR1\tR2\tR3\tR4\tR5
+0\tPartDefined\tP
 0\tSheetDefined\tPR\tM\t1\t1\tP\t5\tR1\tR2\tR3\tR4\tR5
 0\tProductSelected\tM\tPR
 0\tReelReceived\tK1\tP\tL1\t1\t100\t0
 0\tMaterialsLoaded\tM\t1\tK1
 0\tMaterialsUnloaded\tM\t1
-0\tMaterialsLoaded\tM\t1\tK1",
-    ),
-    // rows_with_other_rowids
-    (
-        "PR\tPS",
-        "0\t1\t10\t11\t12\t13\t2\t3\t4\tB1\tB2\tB3\tK1\tK2\tK3\tK4\tK5\tL1\tL2\tL3\tL4\tL5\tM\tM1\tM2\tM3\tN\tN1\tN2\tN3\tP\tQ\tR\tT",
-        "0\tPartDefined\tT
+0\tMaterialsLoaded\tM\t1\tK1
+
+PR\tPS
+0\t1\t10\t11\t12\t13\t2\t3\t4\tB1\tB2\tB3\tK1\tK2\tK3\tK4\tK5\tL1\tL2\tL3\tL4\tL5\tM\tM1\tM2\tM3\tN\tN1\tN2\tN3\tP\tQ\tR\tT
+0\tPartDefined\tT
 0\tAlternateAllowed\tQ\tT
 0\tSheetDefined\tPS\tM\t1\t1\tP\t1\tM1
 0\tReelReceived\tK5\tT\tL5\t1\t1\t0
@@ -997,13 +875,11 @@ pub const CASES: &[Case] = &[
 0\tWorkCompleted\tM\tB1
 0\tWorkStarted\tM\tB2
 0\tMaterialsInstalled\tM\tB2\t3\tM1\tM2\tM3
-0\tWorkCompleted\tM\tB2",
-    ),
-    // scrap_what_is_left
-    (
-        "PR",
-        "0\t1\t2\t47\t5\t50\tB1\tK1\tK2\tL1\tM\tP\tQ\tR1\tR2\tR3\tR4\tR5",
-        "0\tPartDefined\tP
+0\tWorkCompleted\tM\tB2
+
+PR
+0\t1\t2\t47\t5\t50\tB1\tK1\tK2\tL1\tM\tP\tQ\tR1\tR2\tR3\tR4\tR5
+0\tPartDefined\tP
 0\tPartDefined\tQ
 0\tSheetDefined\tPR\tM\t1\t1\tP\t5\tR1\tR2\tR3\tR4\tR5
 0\tProductSelected\tM\tPR
@@ -1015,52 +891,43 @@ pub const CASES: &[Case] = &[
 0\tMaterialsInstalled\tM\tB1\t5\tR1\tR2\tR3\tR4\tR5
 0\tMaterialsScrapped\tM\t1\t47
 0\tMaterialsUnloaded\tM\t1
-0\tMaterialsInstalled\tM\tB1\t1\tR1",
-    ),
-    // sealed_time_is_not_counted
-    (
-        "PR",
-        "0\t1\t10\t5\t5a\tK1\tL1\tM\tP\tQ\tR1\tR2\tR3\tR4\tR5",
-        "0\tPartDefined\tP
+0\tMaterialsInstalled\tM\tB1\t1\tR1
+
+PR
+0\t1\t10\t5\t5a\tK1\tL1\tM\tP\tQ\tR1\tR2\tR3\tR4\tR5
+0\tPartDefined\tP
 0\tPartDefined\tQ
 0\tSheetDefined\tPR\tM\t1\t1\tP\t5\tR1\tR2\tR3\tR4\tR5
 0\tProductSelected\tM\tPR
 0\tReelReceived\tK1\tP\tL1\t5a\t10\t0
 50\tReelOpened\tK1
 150\tReelSealed\tK1
-1000\tMaterialsLoaded\tM\t1\tK1",
-    ),
-    // the_desk_clock
-    (
-        "PR",
-        "1\t5\tM\tP\tQ\tR1\tR2\tR3\tR4\tR5\tY\tZ",
-        "0\tPartDefined\tP
+1000\tMaterialsLoaded\tM\t1\tK1
+
+PR
+1\t5\tM\tP\tQ\tR1\tR2\tR3\tR4\tR5\tY\tZ
+0\tPartDefined\tP
 0\tPartDefined\tQ
 0\tSheetDefined\tPR\tM\t1\t1\tP\t5\tR1\tR2\tR3\tR4\tR5
 0\tProductSelected\tM\tPR
 20161\tPartDefined\tZ
 20160\tPartDefined\tZ
 20100\tPartDefined\tY
-100000\tClockSet",
-    ),
-    // the_first_command_sets_the_clock
-    (
-        "X",
-        "A\tB\tC\tP\tQ",
-        "1000000\tPartDefined\tP
+100000\tClockSet
+
+X
+A\tB\tC\tP\tQ
+1000000\tPartDefined\tP
 0\tPartDefined\tQ
 1020161\tPartDefined\tA
 1020161\tPartDefined\tP
 1020160\tPartDefined\tA
 2000000\tClockSet
 2020160\tPartDefined\tB
-2040321\tPartDefined\tC",
-    ),
-    // time_stamps_are_utc_minutes
-    (
-        "X",
-        "P",
-        "1440\tPartDefined\tP
+2040321\tPartDefined\tC
+
+X
+P
 1440\tPartDefined\tP
 1440\tPartDefined\tP
 1440\tPartDefined\tP
@@ -1069,13 +936,12 @@ pub const CASES: &[Case] = &[
 1440\tPartDefined\tP
 1440\tPartDefined\tP
 1440\tPartDefined\tP
-1441\tPartDefined\tP",
-    ),
-    // time_stamps_of_rfc_3339
-    (
-        "X",
-        "X",
-        "5\tClockSet
+1440\tPartDefined\tP
+1441\tPartDefined\tP
+
+X
+X
+5\tClockSet
 5\tClockSet
 5\tClockSet
 8036600\tClockSet
@@ -1088,13 +954,11 @@ pub const CASES: &[Case] = &[
 4223371679\tClockSet
 4223371679\tClockSet
 4223371679\tClockSet
-4223371679\tClockSet",
-    ),
-    // two_boards_from_one_lot
-    (
-        "PR",
-        "0\t1\t5\tB1\tB2\tK1\tK2\tK3\tL\tL2\tM\tP\tQ\tR1\tR2\tR3\tR4\tR5",
-        "0\tPartDefined\tP
+4223371679\tClockSet
+
+PR
+0\t1\t5\tB1\tB2\tK1\tK2\tK3\tL\tL2\tM\tP\tQ\tR1\tR2\tR3\tR4\tR5
+0\tPartDefined\tP
 0\tPartDefined\tQ
 0\tSheetDefined\tPR\tM\t1\t1\tP\t5\tR1\tR2\tR3\tR4\tR5
 0\tProductSelected\tM\tPR
@@ -1107,13 +971,11 @@ pub const CASES: &[Case] = &[
 0\tMaterialsInstalled\tM\tB1\t5\tR1\tR2\tR3\tR4\tR5
 0\tWorkCompleted\tM\tB1
 0\tWorkStarted\tM\tB2
-0\tMaterialsInstalled\tM\tB2\t1\tR1",
-    ),
-    // what_makes_a_repeat
-    (
-        "X",
-        "P\tQ",
-        "10\tPartDefined\tP
+0\tMaterialsInstalled\tM\tB2\t1\tR1
+
+X
+P\tQ
+10\tPartDefined\tP
 10\tPartDefined\tP
 10\tPartDefined\tP
 10\tPartDefined\tQ
@@ -1123,27 +985,21 @@ pub const CASES: &[Case] = &[
 10\tPartDefined\tP
 20\tPartDefined\tQ
 10\tPartDefined\tP
-10\tPartDefined\tP",
-    ),
-    // work_needs_loaded_slots
-    (
-        "PR",
-        "1\t5\tB1\tM\tP\tQ\tR1\tR2\tR3\tR4\tR5",
-        "0\tPartDefined\tP
+10\tPartDefined\tP
+
+PR
+1\t5\tB1\tM\tP\tQ\tR1\tR2\tR3\tR4\tR5
+0\tPartDefined\tP
 0\tPartDefined\tQ
 0\tSheetDefined\tPR\tM\t1\t1\tP\t5\tR1\tR2\tR3\tR4\tR5
 0\tProductSelected\tM\tPR
-0\tWorkStarted\tM\tB1",
-    ),
-    // wrong_part_is_refused
-    (
-        "PR",
-        "0\t1\t100\t5\tK1\tL1\tM\tP\tQ\tR1\tR2\tR3\tR4\tR5",
-        "0\tPartDefined\tP
+0\tWorkStarted\tM\tB1
+
+PR
+0\t1\t100\t5\tK1\tL1\tM\tP\tQ\tR1\tR2\tR3\tR4\tR5
+0\tPartDefined\tP
 0\tPartDefined\tQ
 0\tSheetDefined\tPR\tM\t1\t1\tP\t5\tR1\tR2\tR3\tR4\tR5
 0\tProductSelected\tM\tPR
 0\tReelReceived\tK1\tQ\tL1\t1\t100\t0
-0\tMaterialsLoaded\tM\t1\tK1",
-    ),
-];
+0\tMaterialsLoaded\tM\t1\tK1";

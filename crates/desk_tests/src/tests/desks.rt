@@ -7,7 +7,7 @@ ghost use Rattle.desk_types.specs.Desk.{HasRoom};
 ghost use Rattle.feeder_state.specs.State.{IsState, rules_of};
 ghost use Rattle.desk_tests.specs.Beside.{AreOfOneList};
 
-use super::cases::{CASES, Case};
+use super::cases::CASES;
 use super::id;
 use super::rows::{COUNTS, EACH_WORD, MOVED, TWO_BOARDS, message, messages};
 use desk_types::{Desk, Id, JudgeFault, Replies, Rules, Stamped, run};
@@ -119,23 +119,31 @@ fn same_under(
     alloc: Global,
     rules: Rules,
     messages: &[Stamped],
-    case: &Case,
+    products: &str,
+    names: &str,
 ) -> Result<(), Fail> {
     let plain = run_new::<PlainDesk>(alloc, rules, messages)?;
     let state = run_new::<StateDesk>(alloc, rules, messages)?;
     assert!(rt; plain.told == state.told);
-    same_views(rt, &plain.desk, &state.desk, case.0, case.1)
+    same_views(rt, &plain.desk, &state.desk, products, names)
 }
 
-/// Both desks do the same at each message of each case.
+/// Both desks do the same at each message of a case.
+fn same_at_each(rt: &impl Abort, alloc: Global, case: &str) -> Result<(), Fail> {
+    let (products, rest) = case.split_once('\n').ok_or("no products")?;
+    let (names, lines) = rest.split_once('\n').ok_or("no names")?;
+    let messages = messages(alloc, lines)?;
+    for count in 1..=messages.len() {
+        same_under(rt, alloc, Rules::One, &messages[..count], products, names)?;
+        same_under(rt, alloc, Rules::Two, &messages[..count], products, names)?;
+    }
+    Ok(())
+}
+
 #[test]
 fn both_desks_tell_the_same(rt: HostRuntime) -> Result<(), Fail> {
-    for case in CASES {
-        let messages = messages(rt.alloc(), case.2)?;
-        for count in 1..=messages.len() {
-            same_under(&rt, rt.alloc(), Rules::One, &messages[..count], case)?;
-            same_under(&rt, rt.alloc(), Rules::Two, &messages[..count], case)?;
-        }
+    for case in CASES.split("\n\n") {
+        same_at_each(&rt, rt.alloc(), case)?;
     }
     Ok(())
 }
