@@ -80,7 +80,7 @@ $$ SELECT to_char(to_timestamp(minute * 60) AT TIME ZONE 'UTC', 'YYYY-MM-DD"T"HH
 -- The pieces of a lot or a reel, or on a board. Two small tables name the files that have some, and only their parts are read: a
 -- statement over all parts would lock and plan each of them. A file that the snapshot has, and that was taken out since, is an error:
 -- ask again. kind is 'lot', 'reel' or 'board'.
-DROP VIEW IF EXISTS piece, board_piece;
+DROP VIEW IF EXISTS board_piece;
 CREATE OR REPLACE FUNCTION pieces_of(kind text, wanted text)
 RETURNS TABLE (board text, designator text, part text, lot text, reel text, machine text, slot text, overdue text, minute bigint, line text, file text, as_of bigint, id integer)
 LANGUAGE plpgsql STABLE SET search_path FROM CURRENT SET jit = off AS $$
@@ -101,6 +101,12 @@ BEGIN
             it.id, CASE kind WHEN 'board' THEN 'p' ELSE 'r' END, kind) USING wanted, it.line, it.name, it.last_minute, it.id;
     END LOOP;
 END $$;
+
+-- The same rows for queries of your own: a statement over it locks and plans all parts, so with thousands of files it is slow or fails.
+CREATE OR REPLACE VIEW piece AS
+SELECT p.board, p.designator, r.part, r.lot, r.reel, p.machine, p.slot, CASE WHEN p.overdue THEN 'yes' ELSE 'no' END AS overdue,
+       p.minute, f.line, f.name AS file, f.last_minute AS as_of, f.id
+FROM placement p JOIN reel r ON r.file = p.file AND r.reel = p.reel JOIN file f ON f.id = p.file;
 
 -- What a company asks of a plant, in one snapshot: each piece, or what keeps the answer from being whole. The last row has neither: it
 -- says that the plant answered, whether it knows the name, and when a running desk of it was last copied.
