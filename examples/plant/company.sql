@@ -1,7 +1,7 @@
 -- A company's server: it holds no piece, and asks the PostgreSQL of each plant, by PL/Proxy (Debian's postgresql-15-plproxy).
 -- usage: psql -f company.sql, and then a line for each plant, in both:
 --   INSERT INTO company.plant VALUES ('Augsburg'), ('Brno');
---   CREATE SERVER plants FOREIGN DATA WRAPPER plproxy OPTIONS (p0 'host=.. dbname=.. user=recall', p1 'host=.. ..', query_timeout '600');
+--   CREATE SERVER plants FOREIGN DATA WRAPPER plproxy OPTIONS (p0 'host=.. dbname=.. user=recall', p1 'host=.. ..', query_timeout '600', modular_mapping '1');
 --   CREATE USER MAPPING FOR PUBLIC SERVER plants OPTIONS (user 'recall');
 \set ON_ERROR_STOP on
 SET client_min_messages = warning;

@@ -114,7 +114,7 @@ CREATE TABLE IF NOT EXISTS own_name (name text PRIMARY KEY);  -- of the plant, b
 CREATE OR REPLACE FUNCTION answer(kind text, wanted text, schema_wanted integer)
 RETURNS TABLE (plant text, fault text, known boolean, copied timestamptz, board text, designator text, part text, lot text, reel text, machine text, slot text,
                overdue text, minute bigint, line text, file text, as_of bigint)
-LANGUAGE plpgsql STABLE SET search_path FROM CURRENT AS $$
+LANGUAGE plpgsql STABLE SECURITY DEFINER SET search_path = plant, pg_temp AS $$
 #variable_conflict use_column
 DECLARE
     own text := (SELECT CASE count(*) WHEN 1 THEN max(name) END FROM own_name);
@@ -133,4 +133,5 @@ BEGIN
         ELSE EXISTS (SELECT FROM reel WHERE reel = wanted) END, (SELECT to_timestamp(nullif(max(taken), ''), 'YYYY-MM-DD"T"HH24MISS') FROM file), NULL, NULL, NULL, NULL, NULL, NULL,
         NULL, NULL, NULL::bigint, NULL, NULL, NULL::bigint;
 END $$;
+REVOKE EXECUTE ON FUNCTION answer FROM PUBLIC;  -- a role that may only ask gets this one, and no table
 RESET client_min_messages;
