@@ -275,6 +275,16 @@ def names_of(given):
     return given
 
 
+def once(pairs):
+    """An object, each name of which is there once."""
+    found = {}
+    for name, value in pairs:
+        if name in found:
+            raise BadTable(f"{name!r:.100} is there twice in one object")
+        found[name] = value
+    return found
+
+
 class Table:
     """A table that was looked at: it makes messages of a message."""
 
@@ -295,7 +305,7 @@ class Table:
     @classmethod
     def read(cls, text):
         try:
-            given = json.loads(text)
+            given = json.loads(text, object_pairs_hook=once)
         except (ValueError, RecursionError) as fault:
             raise BadTable(f"it is no JSON: {fault}") from None
         return cls(given)
