@@ -1,5 +1,6 @@
--- Takes out the pieces of archives whose last command is from before a day, or of one file; their rows of file stay, as dropped.
--- One file that is named is taken off the table missing too: as where it is known that it won't come.
+-- Takes out the pieces of archives whose last command is from before a day; their rows of file stay, as dropped, and each recall says so.
+-- Or takes out one file, that was loaded by mistake or put aside by a restore: it is missing until the same bytes are loaded by another
+-- name, or tracedesk-plant-load loads a catalogue of its line without it. What was missing by that name is taken off the table missing.
 -- usage: psql -v before=2027-01-01 -f drop.sql      or -v line=L1 -v name=L1-20260302T0600Z-20260302T0712Z-12
 \set ON_ERROR_STOP on
 \set QUIET on
@@ -11,11 +12,17 @@ BEGIN;
 \else
     CREATE TEMPORARY TABLE going ON COMMIT DROP AS SELECT id, line, name FROM file WHERE NOT dropped AND line = :'line' AND name = :'name';
     DELETE FROM missing WHERE line = :'line' AND name = :'name';
+    INSERT INTO missing SELECT line, name, 'it was taken out, of ' || sha256 || ', ' || CASE taken WHEN '' THEN 'an archive' ELSE 'a running desk' END FROM file JOIN going USING (id, line, name)
+    WHERE NOT EXISTS (SELECT FROM file other WHERE other.sha256 = file.sha256 AND other.id <> file.id AND NOT other.dropped);
 \endif
 SELECT format('DROP TABLE placement_%s', id) FROM going ORDER BY id \gexec
 DELETE FROM reel WHERE file IN (SELECT id FROM going);
 DELETE FROM start WHERE file IN (SELECT id FROM going);
 DELETE FROM command WHERE file IN (SELECT id FROM going);
-UPDATE file SET dropped = true WHERE id IN (SELECT id FROM going);
+\if :{?before}
+    UPDATE file SET dropped = true WHERE id IN (SELECT id FROM going);
+\else
+    DELETE FROM file WHERE id IN (SELECT id FROM going) OR dropped AND line = :'line' AND name = :'name';
+\endif
 SELECT line, name AS dropped FROM going ORDER BY line, name;
 COMMIT;
