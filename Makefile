@@ -30,11 +30,12 @@ wrong-bodies:  ## tries all wrong bodies, those outside the tests too, and the w
 	$(say)
 	@dev/wrong-bodies
 	@dev/api-test --all
-faults:        ## fails each call of the program, refuses its memory, cuts the power, kills it, fills its disk, damages its file | 22 min | gcc libc6-dev strace
+faults:        ## fails each call of the program, refuses its memory, cuts the power, kills it, fills its disk, damages its file, and makes it large | 25 min | gcc libc6-dev strace
 	$(say)
 	@dev/faults/run calls
 	@dev/faults/run calls --planted
 	@dev/faults/run reads
+	@dev/faults/run large
 	@dev/faults/run kills
 	@dev/faults/run kills --planted --kills 20
 	@dev/faults/run damage
