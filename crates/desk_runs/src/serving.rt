@@ -1,11 +1,12 @@
 //! Connections, one after another.
 
-ghost use Rattle.std.specs.Prelude.{◌≡◌, ◌⊎◌, ◌≤◌, ◌<◌, ◌+◌, ◌^◌, List, [], None, flat_map, IfSome, OnOk, OnErr};
+ghost use Rattle.std.specs.Prelude.{◌≡◌, ◌<◌, ◌+◌, ◌^◌, [], ◌∷◌, None, IfSome, OnOk, OnErr};
 ghost use Rattle.std.specs.Io.KnownBytes.{Appends};
 ghost use Rattle.desk_types.specs.Wire.{inner_of, failures_of};
 ghost use Rattle.served.specs.Sent.{SendsFront};
 ghost use Rattle.desk_answers.specs.Ledger.{ForLists};
-ghost use Rattle.desk_runs.specs.Clients.{Exchange, Sees, ends_of, events_in};
+ghost use Rattle.desk_runs.specs.Clients.{Exchange, Sees, Serving, ServesOn, ends_of, events_in};
+ghost use Rattle.desk_runs.specs.Clients.Event.{none_came};
 ghost use Rattle.desk_runs.specs.Connections.{AnswersEach, Connected, TellsConnections, connection_line, fault_word, is_faulty, served_of};
 
 use crate::clients::Clients;
@@ -33,11 +34,12 @@ pub fn serve_listener<A: Handler, C: Clients, W: Write>(
     requires ready { A.Ready handler.old }
     ensures ready { A.Ready handler.new }
     ensures trusts { A.Trusts handler.new → A.Trusts handler.old }
-    ensures told { (exchanges : List Exchange)
-        × TellsConnections connections (ends_of exchanges) result (W.contents (inner_of output.old))
-        (W.contents (inner_of output.new)) (failures_of output.old) (failures_of output.new)
-        × Sees C.Saw clients.old clients.new (flat_map events_in exchanges)
-        × ForLists A.Stands A.Trusts handler.old handler.new (AnswersEach A.rule exchanges) }
+    ensures told { (serving : Serving)
+        × TellsConnections connections (ends_of serving.exchanges) serving.stop result
+        (W.contents (inner_of output.old)) (W.contents (inner_of output.new))
+        (failures_of output.old) (failures_of output.new)
+        × ServesOn C.Saw clients.old clients.new serving
+        × ForLists A.Stands A.Trusts handler.old handler.new (AnswersEach A.rule serving.exchanges) }
 {
     let mut faulty = false;
     for k in 0..connections {
@@ -62,7 +64,7 @@ fn serve_next<A: Handler, C: Clients>(
     ensures ready { A.Ready handler.new }
     ensures trusts { A.Trusts handler.new → A.Trusts handler.old }
     ensures none { result ≡ None
-        → (handler.new ≡ handler.old) × Sees C.Saw clients.old clients.new [] }
+        → (handler.new ≡ handler.old) × Sees C.Saw clients.old clients.new (none_came ∷ []) }
     ensures served { IfSome result (λ ended. (exchange : Exchange) × (exchange.ended ≡ ended)
         × Sees C.Saw clients.old clients.new (events_in exchange)
         × ForLists A.Stands A.Trusts handler.old handler.new

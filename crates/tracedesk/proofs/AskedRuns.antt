@@ -15,7 +15,7 @@ use Rattle.desk_words.specs.CommandLine.{AsksForAudit, AsksForFeed, AsksForImpor
 use Rattle.http_stream.specs.Answers.{Told, code_of}
 use Rattle.http_stream.specs.Stream.{RuleBy}
 use Rattle.gateway_http.specs.Reports.{report_of}
-use Rattle.desk_runs.specs.Clients.{Exchange, ends_of}
+use Rattle.desk_runs.specs.Clients.{Exchange, Serving, ends_of}
 use Rattle.desk_runs.specs.Connections.{AnswersEach, TellsConnections}
 use Rattle.desk_runs.specs.Ends.{FeedEnds, ImportEnds, PrintEnds, ReportEnds, ServingEnds}
 use Rattle.desk_runs.specs.Runs.{AnswersAll, AnswersImport, AnswersReport, AnswersUpTo, CutsImport, StaysSame}
@@ -36,13 +36,13 @@ pub runs_report : (ways : Ways) (words : List (List ℕ)) (Shown : Told → Type
 runs_report ways words Shown file target path answer asks is shown runs =
     (file, target, asks, answer, shown, subst (λ (at : List ℕ). ways.Runs None (AnswersReport report_of at answer)) is runs)
 
-pub runs_serving : {W : Type 0} (ways : Ways) (words : List (List ℕ)) (serves : ℕ → List Exchange → Type 0) (contents : W → Option (List ℕ)) (output output' : Wire W) (rule : RuleBy)
+pub runs_serving : {W : Type 0} (ways : Ways) (words : List (List ℕ)) (serves : ℕ → Serving → Type 0) (contents : W → Option (List ℕ)) (output output' : Wire W) (rule : RuleBy)
     (file : List ℕ) (port connections greatest status told : ℕ) → AsksForServing words file port connections greatest → status ≡ told
-    → (exchanges : List Exchange) × TellsConnections connections (ends_of exchanges) status (contents (inner_of output)) (contents (inner_of output')) (failures_of output) (failures_of output') × serves port exchanges × ways.Runs (Some greatest) (AnswersEach rule exchanges)
+    → (serving : Serving) × TellsConnections connections (ends_of serving.exchanges) serving.stop status (contents (inner_of output)) (contents (inner_of output')) (failures_of output) (failures_of output') × serves port serving × ways.Runs (Some greatest) (AnswersEach rule serving.exchanges)
     → ((exchanges : List Exchange) → ways.Runs (Some greatest) (AnswersEach rule exchanges) → ways.Runs (Some greatest) (ServesEach exchanges)) → RunsServing ways words serves contents output output' told
 runs_serving ways words serves contents output output' rule file port connections greatest status told asks is served to =
-    let all = subst (λ (n : ℕ). (exchanges : List Exchange) × TellsConnections connections (ends_of exchanges) n (contents (inner_of output)) (contents (inner_of output')) (failures_of output) (failures_of output') × serves port exchanges × ways.Runs (Some greatest) (AnswersEach rule exchanges)) is served in
-    (file, port, connections, greatest, asks, all.0, all.1, all.2, to all.0 all.3)
+    let all = subst (λ (n : ℕ). (serving : Serving) × TellsConnections connections (ends_of serving.exchanges) serving.stop n (contents (inner_of output)) (contents (inner_of output')) (failures_of output) (failures_of output') × serves port serving × ways.Runs (Some greatest) (AnswersEach rule serving.exchanges)) is served in
+    (file, port, connections, greatest, asks, all.0, all.1, all.2, to all.0.exchanges all.3)
 
 pub has_none : (IsRefused IsRefused' : OpenFault → Type 0) (IsLeft IsLeft' : Type 0) (Told : List ℕ → Type 0) → ((fault : OpenFault) → IsRefused fault → IsRefused' fault) → (IsLeft → IsLeft')
     → HasNoDesk IsRefused IsLeft Told → HasNoDesk IsRefused' IsLeft' Told
@@ -63,7 +63,7 @@ names_migrated words (left.Refused r) leaves names = inr names
 
 -- ---- the end of such a run
 
-module _ {R W E : Type 0} (ways : Ways) {holds : List ℕ → Option (List ℕ)} {may_fail : List ℕ → Type 0} {serves : ℕ → List Exchange → Type 0} {reads : R → Option (List ℕ)} {writes : W → Option (List ℕ)} {tells : E → Option (List ℕ)}
+module _ {R W E : Type 0} (ways : Ways) {holds : List ℕ → Option (List ℕ)} {may_fail : List ℕ → Type 0} {serves : ℕ → Serving → Type 0} {reads : R → Option (List ℕ)} {writes : W → Option (List ℕ)} {tells : E → Option (List ℕ)}
     {words : List (List ℕ)} {input input' : Wire R} {output output' : Wire W} {errors errors' : Wire E} {exit : ℕ} where
   feeds : (Runs : (Ledger → History → Type 0) → Type 0) (Why : Type 0) → ((Fact : Ledger → History → Type 0) → Runs Fact → RunsAsked ways words Fact)
       → (Why → HasNoDesk (RefusesNamed ways words) (ways.OpensNone ⊎ ways.Runs None StaysSame) (TellsLine tells errors errors'))
@@ -116,7 +116,7 @@ module _ {R W E : Type 0} (ways : Ways) {holds : List ℕ → Option (List ℕ)}
     quiet = λ is. absurd (omega (arith, at, is));
   }
 
-module _ {R W E : Type 0} (ways : Ways) {holds : List ℕ → Option (List ℕ)} {may_fail : List ℕ → Type 0} {serves : ℕ → List Exchange → Type 0} {reads : R → Option (List ℕ)} {writes : W → Option (List ℕ)} {tells : E → Option (List ℕ)}
+module _ {R W E : Type 0} (ways : Ways) {holds : List ℕ → Option (List ℕ)} {may_fail : List ℕ → Type 0} {serves : ℕ → Serving → Type 0} {reads : R → Option (List ℕ)} {writes : W → Option (List ℕ)} {tells : E → Option (List ℕ)}
     {words : List (List ℕ)} {input : Wire R} {output output' : Wire W} {errors errors' : Wire E} {exit : ℕ} where
   pub serves_asked : (file : List ℕ) (port connections greatest : ℕ) {rule : RuleBy} {Unasked : Type 0} → AsksForServing words file port connections greatest
       → ServingEnds writes tells output output' errors errors' connections rule (serves port) (ways.Runs (Some greatest)) (HasNoDesk (ways.Refuses (Some greatest)) ways.OpensNone (TellsLine tells errors errors') × Unasked) exit

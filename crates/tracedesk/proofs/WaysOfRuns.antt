@@ -13,7 +13,7 @@ use Rattle.desk_import.specs.declared.options.Import.{Import}
 use Rattle.http_stream.specs.Answers.{Told, code_of}
 use Rattle.served.specs.Sent.{SendsFront}
 use Rattle.gateway_http.specs.Reports.{report_of}
-use Rattle.desk_runs.specs.Clients.{Exchange}
+use Rattle.desk_runs.specs.Clients.{Serving}
 use Rattle.desk_runs.specs.Runs.{AnswersAll, AnswersImport, AnswersUpTo, CutsImport, StaysSame, AnswersReport}
 use Rattle.desk_runs.specs.Told.{report_output, unavailable_line, TellsEnd, TellsLine}
 use Rattle.desk_commands.specs.declared.left.Left.{Left}
@@ -61,7 +61,7 @@ one_of_five (suc (suc (suc zero))) most = inr (inr (inr (inl refl)))
 one_of_five (suc (suc (suc (suc zero)))) most = inr (inr (inr (inr refl)))
 one_of_five (suc (suc (suc (suc (suc n))))) most = absurd (omega (arith, most))
 
-module _ {R W E : Type 0} (ways ways' : Ways) (to : Follows ways ways') (holds : List ℕ → Option (List ℕ)) (may_fail : List ℕ → Type 0) (serves : ℕ → List Exchange → Type 0) (reads : R → Option (List ℕ)) (writes : W → Option (List ℕ)) (tells : E → Option (List ℕ))
+module _ {R W E : Type 0} (ways ways' : Ways) (to : Follows ways ways') (holds : List ℕ → Option (List ℕ)) (may_fail : List ℕ → Type 0) (serves : ℕ → Serving → Type 0) (reads : R → Option (List ℕ)) (writes : W → Option (List ℕ)) (tells : E → Option (List ℕ))
     (words : List (List ℕ)) (input input' : Wire R) (output output' : Wire W) (errors errors' : Wire E) where
   asked : (Fact : Ledger → History → Type 0) → RunsAsked ways words Fact → RunsAsked ways' words Fact
   asked Fact (inl memory) = inl memory
@@ -71,7 +71,7 @@ module _ {R W E : Type 0} (ways ways' : Ways) (to : Follows ways ways') (holds :
   imported Fact (file, import, from, asks, runs) = (file, import, from, asks, to.runs None (Fact import from) runs)
 
   served : (status : ℕ) → RunsServing ways words serves writes output output' status → RunsServing ways' words serves writes output output' status
-  served status (file, port, connections, greatest, asks, exchanges, lines, are, runs) = (file, port, connections, greatest, asks, exchanges, lines, are, to.runs (Some greatest) (ServesEach exchanges) runs)
+  served status (file, port, connections, greatest, asks, serving, lines, are, runs) = (file, port, connections, greatest, asks, serving, lines, are, to.runs (Some greatest) (ServesEach serving.exchanges) runs)
 
   reported : (Shown : Told → Type 0) → RunsReport ways words Shown → RunsReport ways' words Shown
   reported Shown (file, target, asks, answer, shown, runs) = (file, target, asks, answer, shown, to.runs None (AnswersReport report_of target answer) runs)
@@ -134,7 +134,7 @@ module _ {R W E : Type 0} (ways ways' : Ways) (to : Follows ways ways') (holds :
     quiet = run.quiet;
   }
 
-module _ {R W E : Type 0} {ways ways' : Ways} (to : Follows ways ways') {holds : List ℕ → Option (List ℕ)} {may_fail : List ℕ → Type 0} {serves : ℕ → List Exchange → Type 0} {reads : R → Option (List ℕ)} {writes : W → Option (List ℕ)} {tells : E → Option (List ℕ)}
+module _ {R W E : Type 0} {ways ways' : Ways} (to : Follows ways ways') {holds : List ℕ → Option (List ℕ)} {may_fail : List ℕ → Type 0} {serves : ℕ → Serving → Type 0} {reads : R → Option (List ℕ)} {writes : W → Option (List ℕ)} {tells : E → Option (List ℕ)}
     {words : List (List ℕ)} {input input' : Wire R} {output output' : Wire W} {errors errors' : Wire E} where
   -- The run's files were closed completely.
   pub closed : {exit : ℕ} (Other : Type 0) → LeavesAs ways holds may_fail serves reads writes tells words input input' output output' errors errors' exit → RunsAs ways' holds may_fail serves reads writes tells words input input' output output' errors errors' (NoDesk ways' holds may_fail serves reads writes tells words input input' output output' errors errors' ⊎ Other) exit
@@ -157,7 +157,7 @@ one_more : {A B : Type 0} (before after : ℕ) → ((after ≡ before) × A) ⊎
 one_more before after (inl all) = let same = all.0 in omega (arith, same)
 one_more before after (inr front) = let one = front.0 in omega (arith, one)
 
-module _ {R W E : Type 0} (ways : Ways) (holds : List ℕ → Option (List ℕ)) (may_fail : List ℕ → Type 0) (serves : ℕ → List Exchange → Type 0) (reads : R → Option (List ℕ)) (writes : W → Option (List ℕ)) (tells : E → Option (List ℕ))
+module _ {R W E : Type 0} (ways : Ways) (holds : List ℕ → Option (List ℕ)) (may_fail : List ℕ → Type 0) (serves : ℕ → Serving → Type 0) (reads : R → Option (List ℕ)) (writes : W → Option (List ℕ)) (tells : E → Option (List ℕ))
     (words : List (List ℕ)) (input input' : Wire R) (output output' : Wire W) (errors errors' : Wire E) where
   bad_few : Bad ways holds may_fail serves reads writes tells words input input' output output' errors errors' → failures_of errors' ≤ failures_of errors + 1
   bad_few (opens, same, inl bad) = one_more (failures_of errors) (failures_of errors') bad.2
@@ -177,7 +177,7 @@ module _ {R W E : Type 0} (ways : Ways) (holds : List ℕ → Option (List ℕ))
   failed_few (inr (inl unread)) = one_more (failures_of errors) (failures_of errors') unread.2
   failed_few (inr (inr serves)) = end_few serves.1
 
-module _ {R W E : Type 0} {ways : Ways} {holds : List ℕ → Option (List ℕ)} {may_fail : List ℕ → Type 0} {serves : ℕ → List Exchange → Type 0} {reads : R → Option (List ℕ)} {writes : W → Option (List ℕ)} {tells : E → Option (List ℕ)}
+module _ {R W E : Type 0} {ways : Ways} {holds : List ℕ → Option (List ℕ)} {may_fail : List ℕ → Type 0} {serves : ℕ → Serving → Type 0} {reads : R → Option (List ℕ)} {writes : W → Option (List ℕ)} {tells : E → Option (List ℕ)}
     {words : List (List ℕ)} {input input' : Wire R} {output output' : Wire W} {errors errors' : Wire E} where
   pub few : {exit : ℕ} → LeavesAs ways holds may_fail serves reads writes tells words input input' output output' errors errors' exit → failures_of errors' ≤ failures_of errors + 1
   few {exit = exit} run = elim (one_of_five exit run.status) [

@@ -20,7 +20,7 @@ use Rattle.served.specs.declared.serving.ServeFault.TheVariants.{Read as ReadFau
 use Rattle.served.specs.Counts.{none_served}
 use Rattle.served.specs.Sent.{SendsFront}
 use Rattle.served.specs.Shown.{FailsNever, IsShown}
-use Rattle.desk_runs.specs.Clients.{Exchange, ends_of}
+use Rattle.desk_runs.specs.Clients.{Serving, ends_of}
 use Rattle.desk_runs.specs.Connections.{TellsConnections}
 use Rattle.desk_runs.specs.Runs.{AnswersAll, AnswersImport, AnswersUpTo, CutsImport, StaysSame, AnswersReport}
 use Rattle.desk_runs.specs.Told.{fault_line, lawful_line, option_line, report_output, unavailable_line, version_line, TellsEnd, TellsLine}
@@ -47,15 +47,16 @@ RunsImport ways words Fact =
 
 -- The arguments ask to serve connections at a port. These were served there on the desk of the file that the arguments
 -- name, with this exit status and a line for each on the output.
-abbrev pub RunsServing : {W : Type 0} → Ways → List (List ℕ) → (ℕ → List Exchange → Type 0)
+abbrev pub RunsServing : {W : Type 0} → Ways → List (List ℕ) → (ℕ → Serving → Type 0)
     → (W → Option (List ℕ)) → Wire W → Wire W → ℕ → Type 0
 RunsServing ways words serves contents output output' status =
     (file : List ℕ) × (port : ℕ) × (connections : ℕ) × (greatest : ℕ)
     × AsksForServing words file port connections greatest
-    × (exchanges : List Exchange)
-    × TellsConnections connections (ends_of exchanges) status (contents (inner_of output))
-    (contents (inner_of output')) (failures_of output) (failures_of output')
-    × serves port exchanges × ways.Runs (Some greatest) (ServesEach exchanges)
+    × (serving : Serving)
+    × TellsConnections connections (ends_of serving.exchanges) serving.stop status
+    (contents (inner_of output)) (contents (inner_of output')) (failures_of output)
+    (failures_of output')
+    × serves port serving × ways.Runs (Some greatest) (ServesEach serving.exchanges)
 
 -- The arguments ask for a report, and it was answered in this way by the history of the desk of the file that they
 -- name.
@@ -117,7 +118,7 @@ RefusesNamed ways words fault =
 -- contents of an import's file, and `may_fail` whether reading it may fail. `serves` gives the connections on a port.
 -- `reads` is the rest of a reader and `writes` the bytes sent to a writer, as far as they are known.
 module _ {R W E : Type 0} (ways : Ways) (holds : List ℕ → Option (List ℕ))
-    (may_fail : List ℕ → Type 0) (serves : ℕ → List Exchange → Type 0) (reads : R → Option (List ℕ))
+    (may_fail : List ℕ → Type 0) (serves : ℕ → Serving → Type 0) (reads : R → Option (List ℕ))
     (writes : W → Option (List ℕ)) (tells : E → Option (List ℕ))
     (words : List (List ℕ)) (input input' : Wire R) (output output' : Wire W)
     (errors errors' : Wire E) where
@@ -208,7 +209,7 @@ module _ {R W E : Type 0} (ways : Ways) (holds : List ℕ → Option (List ℕ))
 -- The files could not be closed, and the status is 3. Either there was no desk. Or a run with another status had opened
 -- files, its effects remain, and Unavailable was printed after its own texts.
 abbrev pub Unclosed : {R W E : Type 0} → Ways → (List ℕ → Option (List ℕ)) → (List ℕ → Type 0)
-    → (ℕ → List Exchange → Type 0)
+    → (ℕ → Serving → Type 0)
     → (R → Option (List ℕ)) → (W → Option (List ℕ)) → (E → Option (List ℕ)) → List (List ℕ)
     → Wire R → Wire R → Wire W → Wire W → Wire E → Wire E → Type 0
 Unclosed {E = E} ways holds may_fail serves reads writes tells words
@@ -222,7 +223,7 @@ Unclosed {E = E} ways holds may_fail serves reads writes tells words
 
 -- The effect of a run that closed its files: completely, or a close failed.
 abbrev pub ClosesAs : {R W E : Type 0} → (Close → Ways) → (List ℕ → Option (List ℕ))
-    → (List ℕ → Type 0) → (ℕ → List Exchange → Type 0)
+    → (List ℕ → Type 0) → (ℕ → Serving → Type 0)
     → (R → Option (List ℕ)) → (W → Option (List ℕ)) → (E → Option (List ℕ)) → List (List ℕ)
     → Wire R → Wire R → Wire W → Wire W → Wire E → Wire E → ℕ → Type 0
 ClosesAs ways holds may_fail serves reads writes tells words
