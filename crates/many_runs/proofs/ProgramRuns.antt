@@ -14,8 +14,6 @@ use Rattle.desk_runs.specs.Clients.{Ended, Exchange}
 use Rattle.desk_runs.specs.Connections.{ConnectedSo}
 use Rattle.served.specs.declared.serving.ServeFault.TheVariants.{Read, Write, TooManyReads}
 use Rattle.gateway_http.specs.Reports.{report_of}
-use Rattle.gateway_http.specs.Stores.{store_of}
-use Rattle.gateway_http.specs.declared.store.ReportedStore.{ReportedStore}
 use Rattle.headline.specs.Calls.{AnswersByTheList, Call, Calls, Feeds, Imports, Serves}
 use Rattle.headline.specs.Calls.Call.{asked, fed, imported}
 use Rattle.desk_commands.specs.declared.left.Left.TheVariants.{Desk}
@@ -126,12 +124,6 @@ module _ {T D : Type 0} {g : disk.Ghosts D} (first : start.Ghosts T) (make : Opt
       let (greatest, H, begins, lawful, H₁, stands, same) = runs was_clean alone in
       let (H', after, answers) = goes_on report_of StandsForList (λ d. HasCleanDisk (state_of over_files d)) calls opened last made (by_two greatest H₁) (refl, stands) clean in
       (greatest, H, begins, lawful, H', after.1, subst (λ (it : History). AnswersByTheList report_of (by_two greatest it) calls H') same answers)
-
--- Calls on a store with its reports are calls on the store.
-pub reported_calls : {D : Type 0} {g : disk.Ghosts D} (calls : List Call) (opened last : ReportedStore (FileStore D g) StateDesk)
-    → Calls report_of (λ r. StandsForList (store_of r)) (λ r. HasCleanDisk (state_of over_files (store_of r))) opened calls last → MakesCalls (store_of opened) calls (store_of last)
-reported_calls [] opened last same = ap store_of same
-reported_calls (call ∷ calls) opened last (mid, one, rest) = (store_of mid, one, reported_calls calls mid last rest)
 
 abbrev pub FindsTables : Type 0
 FindsTables = (image : Image) (trees : Trees) (greatest : ℕ) (H : History) → ∥ HoldsDatabase image trees ∥₁ → HoldsAt (ledger_tables greatest H) trees

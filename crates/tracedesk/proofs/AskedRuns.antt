@@ -119,7 +119,7 @@ module _ {R W E : Type 0} (ways : Ways) {holds : List ℕ → Option (List ℕ)}
 module _ {R W E : Type 0} (ways : Ways) {holds : List ℕ → Option (List ℕ)} {may_fail : List ℕ → Type 0} {serves : ℕ → Serving → Type 0} {reads : R → Option (List ℕ)} {writes : W → Option (List ℕ)} {tells : E → Option (List ℕ)}
     {words : List (List ℕ)} {input : Wire R} {output output' : Wire W} {errors errors' : Wire E} {exit : ℕ} where
   pub serves_asked : (file : List ℕ) (port connections greatest : ℕ) {rule : RuleBy} {Unasked : Type 0} → AsksForServing words file port connections greatest
-      → ServingEnds writes tells output output' errors errors' connections rule (serves port) (ways.Runs (Some greatest)) (HasNoDesk (ways.Refuses (Some greatest)) ways.OpensNone (TellsLine tells errors errors') × Unasked) exit
+      → ServingEnds writes tells output output' errors errors' connections rule (serves port) (ways.Runs (Some greatest)) (HasNoDesk (ways.Refuses (Some greatest)) ⊥ (TellsLine tells errors errors') × Unasked) exit
       → ((exchanges : List Exchange) → ways.Runs (Some greatest) (AnswersEach rule exchanges) → ways.Runs (Some greatest) (ServesEach exchanges)) → LeavesAs ways holds may_fail serves reads writes tells words input input output output' errors errors' exit
   serves_asked file port connections greatest {rule = rule} asks run to =
       let at = run.status in record {
@@ -129,8 +129,8 @@ module _ {R W E : Type 0} (ways : Ways) {holds : List ℕ → Option (List ℕ)}
         bad = λ is. absurd (omega (arith, at, is));
         no_desk = λ is. (
           (refl, run.untouched is),
-          has_none (ways.Refuses (Some greatest)) (RefusesNamed ways words) ways.OpensNone (ways.OpensNone ⊎ ways.Runs None StaysSame) (TellsLine tells errors errors')
-              (λ fault refuses. inr (inl (file, port, connections, greatest, asks, refuses))) (λ none. inl none) (run.no_desk is).0,
+          has_none (ways.Refuses (Some greatest)) (RefusesNamed ways words) ⊥ (ways.OpensNone ⊎ ways.Runs None StaysSame) (TellsLine tells errors errors')
+              (λ fault refuses. inr (inl (file, port, connections, greatest, asks, refuses))) (λ none. absurd none) (run.no_desk is).0,
         );
         failed = λ is. inr (inr (refl, run.failed is, runs_serving ways words serves writes output output' rule file port connections greatest exit 4 asks is (run.served (inr (inr is))) to));
         kept = λ is. (refl, (run.well is).kept);
@@ -160,7 +160,7 @@ module _ {R W E : Type 0} (ways : Ways) {holds : List ℕ → Option (List ℕ)}
       }
 
   pub reports_asked : (file target path : List ℕ) → AsksForReport words file target → path ≡ target
-      → ReportEnds writes tells output output' errors errors' (λ answer. ways.Runs None (AnswersReport report_of path answer)) (HasNoDesk (ways.Refuses None) ways.OpensNone (TellsLine tells errors errors')) exit
+      → ReportEnds writes tells output output' errors errors' (λ answer. ways.Runs None (AnswersReport report_of path answer)) (HasNoDesk (ways.Refuses None) ⊥ (TellsLine tells errors errors')) exit
       → LeavesAs ways holds may_fail serves reads writes tells words input input output output' errors errors' exit
   reports_asked file target path asks same told =
       let out = writes (inner_of output) in
@@ -172,8 +172,8 @@ module _ {R W E : Type 0} (ways : Ways) {holds : List ℕ → Option (List ℕ)}
         bad = λ is. absurd (omega (arith, at, is));
         no_desk = λ is. (
           (refl, told.untouched is),
-          has_none (ways.Refuses None) (RefusesNamed ways words) ways.OpensNone (ways.OpensNone ⊎ ways.Runs None StaysSame) (TellsLine tells errors errors')
-              (λ fault refuses. inr (inr (inr (inl (file, target, asks, refuses))))) (λ none. inl none) (told.no_desk is),
+          has_none (ways.Refuses None) (RefusesNamed ways words) ⊥ (ways.OpensNone ⊎ ways.Runs None StaysSame) (TellsLine tells errors errors')
+              (λ fault refuses. inr (inr (inr (inl (file, target, asks, refuses))))) (λ none. absurd none) (told.no_desk is),
         );
         failed = λ is. let cut = told.failed is in inl (Write none_served, (cut.0.0, refl), cut.0.1, inr (inr (inr (inr (inr (runs_report ways words (λ answer. SendsFront out out' (report_output answer)) file target path cut.1 asks same cut.2 cut.3))))));
         kept = λ is. (refl, (told.well is).kept);

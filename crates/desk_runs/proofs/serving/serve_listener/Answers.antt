@@ -5,6 +5,7 @@ use Rattle.std.specs.Io.KnownBytes.{Appends}
 use Rattle.std.proofs.KnownBytes.{Appends-trans}
 use Rattle.desk_types.specs.Wire.{inner_of}
 use Rattle.served.specs.Sent.{SendsFront}
+use Rattle.http_answers.specs.Requests.{request_rule}
 use Rattle.desk_runs.specs.Clients.{Exchange, served_all, no_client, no_line, ends_of, events_in}
 use Rattle.desk_runs.specs.Clients.Event.{none_came}
 use Rattle.desk_runs.specs.Connections.{connection_line, is_faulty, lines_from}
@@ -23,7 +24,7 @@ returns-in_default-clause-told g c =
       record { exchanges = inv.exchanges; stop = no_client },
       (omega (arith, count, below), refl, inv.lines, inv.failures),
       (sees_more g.C.Clients.Saw c.args.clients.now c.loop-k.clients c.serve_next.new.clients (flat_map events_in inv.exchanges) (none_came ∷ []) inv.seen seen, client_no_port),
-      subst (Serves g.A.Handler.rule g.A.Handler.Stands g.A.Handler.Trusts c.args.handler.now inv.exchanges) (sym same) inv.served,
+      subst (Serves (request_rule g.L.ReportedOwner.reports) g.L.Owner.Stands g.L.Owner.Trusts c.args.owner.now inv.exchanges) (sym same) inv.served,
     )
 
 pub returns-clause-told : goal.returns-clause-told
@@ -58,7 +59,7 @@ returns-in-Err-clause-told g c =
       record { exchanges = exchanges; stop = no_line },
       (omega (arith, count, long, below), refl, omega (arith, failed, before), ends_of inv.exchanges, c.in-Some.ended, mid, ends, inv.lines, line),
       (sees_all g.C.Clients.Saw c.args.clients.now c.serve_next.new.clients (flat_map events_in exchanges) (sees_one_more g.C.Clients.Saw c.args.clients.now c.loop-k.clients c.serve_next.new.clients inv.exchanges e inv.seen seen), line_no_port),
-      serves_more g.A.Handler.rule g.A.Handler.Stands g.A.Handler.Trusts c.args.handler.now c.loop-k.handler c.serve_next.new.handler inv.exchanges e
+      serves_more (request_rule g.L.ReportedOwner.reports) g.L.Owner.Stands g.L.Owner.Trusts c.args.owner.now c.loop-k.owner c.serve_next.new.owner inv.exchanges e
           c.serve_next.ensures.trusts inv.served served,
     )
 
@@ -83,6 +84,6 @@ loop-k-preserved g c =
       ready = c.serve_next.ensures.ready;
       trusts = λ trusts. inv.trusts (c.serve_next.ensures.trusts trusts);
       seen = sees_one_more g.C.Clients.Saw c.args.clients.now c.loop-k.clients c.serve_next.new.clients inv.exchanges e inv.seen seen;
-      served = serves_more g.A.Handler.rule g.A.Handler.Stands g.A.Handler.Trusts c.args.handler.now c.loop-k.handler c.serve_next.new.handler inv.exchanges e
+      served = serves_more (request_rule g.L.ReportedOwner.reports) g.L.Owner.Stands g.L.Owner.Trusts c.args.owner.now c.loop-k.owner c.serve_next.new.owner inv.exchanges e
           c.serve_next.ensures.trusts inv.served served;
     }

@@ -2,23 +2,9 @@
 
 use desk_answers::Owner;
 use desk_types::Text;
+use http_answers::Unavailable;
 use http_routes::Report;
-use std::alloc::{AllocError, Global};
-
-/// Out of memory, or the storage failed. The history is unchanged, and the request can be sent
-/// again.
-#[derive(Clone, Copy, PartialEq, Eq)]
-pub struct Unavailable;
-
-impl From<AllocError> for Unavailable {
-    ghost use Rattle.std.specs.Prelude.{⊤};
-
-    ghost from_gives = { λ _ _. ⊤ };
-
-    fn from(_: AllocError) -> Unavailable {
-        Unavailable
-    }
-}
+use std::alloc::Global;
 
 /// Answers commands and returns reports of those accepted.
 pub trait ReportedOwner: Owner {
