@@ -15,9 +15,6 @@ use Rattle.line_schema.specs.declared.store.LineStore.{LineStore}
 use Rattle.line_schema.specs.Stands.{Kept, Stands, state_of}
 use Rattle.desk_file.specs.Files.{Begins, HasOursFirst}
 use Rattle.desk_runs.specs.Runs.{StaysSame}
-use Rattle.http_answers.specs.declared.gateway.Gateway.{Gateway}
-use Rattle.gateway_http.specs.declared.store.ReportedStore.{ReportedStore}
-use Rattle.gateway_http.specs.Stores.{store_in}
 use Rattle.desk_commands.specs.declared.left.Left.TheVariants.{Desk}
 use Rattle.desk_commands.specs.Runs.{Audits, RunsOn}
 
@@ -54,18 +51,3 @@ audits first store count stands begins counts = (
       let b = begins clean alone in
       (b.0, b.1, b.2, b.3.lawful clean refl, b.1, b.3, (refl, counts (record { greatest = b.0; history = b.1; own = true }) b.3)),
 )
-
-pub stands_behind : {D : Type 0} {g : disk.Ghosts D} (store : LineStore (FileStore D g) StateDesk) (gateway : Gateway (ReportedStore (FileStore D g) StateDesk)) → store_in gateway ≡ store
-    → (L : Kept) × Stands over_files state.Stands state.kept_rules store L → (L : Kept) × Stands over_files state.Stands state.kept_rules (store_in gateway) L
-stands_behind store gateway same stands = (stands.0, subst (λ (d : LineStore (FileStore _ _) StateDesk). Stands over_files state.Stands state.kept_rules d stands.0) (sym same) stands.1)
-
-pub runs_behind : {T D : Type 0} {g : disk.Ghosts D} (first : start.Ghosts T) (make : Option ℕ) (store last : LineStore (FileStore D g) StateDesk) (old new : Gateway (ReportedStore (FileStore D g) StateDesk))
-    (Fact : Ledger → History → Type 0) → store_in old ≡ store → last ≡ store_in new
-    → (HasCleanDisk (state_of over_files (store_in new)) → HasCleanDisk (state_of over_files (store_in old)))
-    → (HasCleanDisk (state_of over_files store) → HasOursFirst (image_at first) → (greatest : ℕ) × (H : History) × Begins (image_at first) make greatest H
-    × Stands over_files state.Stands state.kept_rules store (record { greatest = greatest; history = H; own = true }))
-    → ForLists IsKept (λ store. HasCleanDisk (state_of over_files store)) (store_in old) (store_in new) Fact → RunsOn first make (Desk last) Fact
-runs_behind first make store last old new Fact before after trusts begins goes =
-    let begun = subst (λ (d : LineStore (FileStore _ _) StateDesk). HasCleanDisk (state_of over_files d) → HasOursFirst (image_at first) → (greatest : ℕ) × (H : History) × Begins (image_at first) make greatest H
-    × Stands over_files state.Stands state.kept_rules d (record { greatest = greatest; history = H; own = true })) (sym before) begins in
-    subst (λ (d : LineStore (FileStore _ _) StateDesk). RunsOn first make (Desk d) Fact) (sym after) (runs_on first make (store_in old) (store_in new) Fact trusts begun goes)

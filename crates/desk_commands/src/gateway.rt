@@ -9,18 +9,14 @@ ghost use Rattle.desk_runs.specs.Ends.{ReportEnds, ServingEnds};
 ghost use Rattle.desk_runs.specs.Runs.{AnswersReport};
 ghost use Rattle.desk_runs.specs.Told.{TellsLine};
 ghost use Rattle.desk_runs.specs.Wires.{HaveFewFailures};
-ghost use Rattle.desk_commands.specs.declared.left.Left.TheVariants.{Nothing};
 ghost use Rattle.desk_commands.specs.Runs.{HasNoDesk, LeavesDesk, Refuses, RunsOn};
 
 use crate::left::Left;
 use crate::refusal::tell_refusal;
 use desk_file::open_desk;
-use desk_runs::{Clients, serve_port, tell_report, unavailable};
+use desk_runs::{Clients, serve_port, tell_report};
 use desk_types::Wire;
 use feeder_state::StateDesk;
-use gateway_http::ReportedStore;
-use http_answers::Gateway;
-use http_routes::RouteTable;
 use sqlite::{FileFrom, Start};
 use std::io::Write;
 
@@ -44,16 +40,13 @@ pub fn serve_in_file<T: Start, C: Clients, W: Write, E: Write>(
     ensures ends { ServingEnds W.contents E.contents output.old output.new errors.old errors.new
         connections (request_rule report_of) (ServesAt C.Saw clients.old clients.new port)
         (RunsOn T.Start (Some greatest) result.1)
-        (HasNoDesk (Refuses T.Start (Some greatest) result.1) (result.1 ≡ Nothing)
+        (HasNoDesk (Refuses T.Start (Some greatest) result.1) ⊥
         (TellsLine E.contents errors.old errors.new) × (clients.new ≡ clients.old)) result.0 }
     ensures left { LeavesDesk result.1 }
 {
-    let Ok(routes) = RouteTable::new(rt.alloc()) else {
-        return (unavailable(errors), Left::Nothing);
-    };
     match open_desk::<T, StateDesk>(rt, file, start, Some(greatest)) {
         Ok(store) => {
-            let mut gateway = Gateway::new(ReportedStore::new(store), routes);
+            let mut store = store;
             let status = serve_port(
                 rt.alloc(),
                 clients,
@@ -61,9 +54,9 @@ pub fn serve_in_file<T: Start, C: Clients, W: Write, E: Write>(
                 connections,
                 output,
                 errors,
-                &mut gateway,
+                &mut store,
             );
-            (status, Left::Desk(gateway.into_owner().into_store()))
+            (status, Left::Desk(store))
         }
         Err(refusal) => (
             tell_refusal(rt.alloc(), &refusal.fault, errors),
@@ -85,18 +78,15 @@ pub fn report_in_file<T: Start, W: Write, E: Write>(
     requires few { HaveFewFailures output.old errors.old }
     ensures ends { ReportEnds W.contents E.contents output.old output.new errors.old errors.new
         (λ answer. RunsOn T.Start None result.1 (AnswersReport report_of target.now answer))
-        (HasNoDesk (Refuses T.Start None result.1) (result.1 ≡ Nothing)
+        (HasNoDesk (Refuses T.Start None result.1) ⊥
         (TellsLine E.contents errors.old errors.new)) result.0 }
     ensures left { LeavesDesk result.1 }
 {
-    let Ok(routes) = RouteTable::new(rt.alloc()) else {
-        return (unavailable(errors), Left::Nothing);
-    };
     match open_desk::<T, StateDesk>(rt, file, start, None) {
         Ok(store) => {
-            let mut gateway = Gateway::new(ReportedStore::new(store), routes);
-            let status = tell_report(rt.alloc(), target, output, errors, &mut gateway);
-            (status, Left::Desk(gateway.into_owner().into_store()))
+            let mut store = store;
+            let status = tell_report(rt.alloc(), target, output, errors, &mut store);
+            (status, Left::Desk(store))
         }
         Err(refusal) => (
             tell_refusal(rt.alloc(), &refusal.fault, errors),

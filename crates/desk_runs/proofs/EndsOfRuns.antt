@@ -6,7 +6,7 @@ use Rattle.desk_answers.specs.Ledger.{Ledger}
 use Rattle.desk_import.specs.declared.options.Import.{Import}
 use Rattle.http_stream.specs.Answers.{Told}
 use Rattle.http_stream.specs.Stream.{RuleBy}
-use Rattle.desk_runs.specs.Clients.{Exchange}
+use Rattle.desk_runs.specs.Clients.{Serving}
 use Rattle.desk_runs.specs.Connections.{AnswersEach}
 use Rattle.desk_runs.specs.Ends.{FeedEnds, ImportEnds, PrintEnds, ReportEnds, ServingEnds}
 use Rattle.desk_runs.specs.Runs.{AnswersAll, AnswersImport, AnswersUpTo, CutsImport, StaysSame}
@@ -42,11 +42,11 @@ module _ {W E : Type 0} {writes : W → Option (List ℕ)} {tells : E → Option
     well = row.well;
   }
 
-  pub serving_follows : {connections : ℕ} {rule : RuleBy} {Serves : List Exchange → Type 0} {Runs Runs' : (Ledger → History → Type 0) → Type 0} → ServingEnds writes tells output output' errors errors' connections rule Serves Runs NoDesk exit
+  pub serving_follows : {connections : ℕ} {rule : RuleBy} {Serves : Serving → Type 0} {Runs Runs' : (Ledger → History → Type 0) → Type 0} → ServingEnds writes tells output output' errors errors' connections rule Serves Runs NoDesk exit
       → ((Fact : Ledger → History → Type 0) → Runs Fact → Runs' Fact) → (NoDesk → NoDesk') → ServingEnds writes tells output output' errors errors' connections rule Serves Runs' NoDesk' exit
   serving_follows {rule = rule} run to none = record {
     status = run.status;
-    served = λ is. let all = run.served is in (all.0, all.1, all.2, to (AnswersEach rule all.0) all.3);
+    served = λ is. let all = run.served is in (all.0, all.1, all.2, to (AnswersEach rule all.0.exchanges) all.3);
     no_desk = λ is. none (run.no_desk is);
     untouched = run.untouched;
     failed = run.failed;
@@ -103,7 +103,7 @@ module _ {W E : Type 0} {writes : W → Option (List ℕ)} {tells : E → Option
     well = λ at. absurd (omega (arith, is, at));
   }
 
-  pub serving_refused : {connections : ℕ} {rule : RuleBy} {Serves : List Exchange → Type 0} {Runs : (Ledger → History → Type 0) → Type 0} → exit ≡ 3 → NoDesk → ServingEnds writes tells output output errors errors' connections rule Serves Runs NoDesk exit
+  pub serving_refused : {connections : ℕ} {rule : RuleBy} {Serves : Serving → Type 0} {Runs : (Ledger → History → Type 0) → Type 0} → exit ≡ 3 → NoDesk → ServingEnds writes tells output output errors errors' connections rule Serves Runs NoDesk exit
   serving_refused is none = record {
     status = inr (inr (inl is));
     served = λ at. absurd (omega (arith, is, at));

@@ -1,5 +1,5 @@
 -- The effect of connections that are served one after another, and the lines printed for them.
-use Rattle.std.specs.Prelude.{◌≡◌, ◌⊎◌, ◌<◌, ◌≤◌, ℕ, ◌+◌, nat_lt, Bool, true, List, [], ◌∷◌, ◌++◌, length, Option, Ok, Err, codes, decimal, if◌then◌else◌}
+use Rattle.std.specs.Prelude.{◌≡◌, ◌<◌, ◌≤◌, ℕ, ◌+◌, nat_lt, Bool, true, List, [], ◌∷◌, ◌++◌, length, Option, Ok, Err, codes, decimal, if◌then◌else◌}
 use Rattle.std.specs.List.{list_any}
 use Rattle.std.specs.Io.KnownBytes.{Appends}
 use Rattle.desk_types.specs.History.{History}
@@ -8,7 +8,7 @@ use Rattle.served.specs.Sent.{SendsFront}
 use Rattle.served.specs.declared.serving.Served.{Served}
 use Rattle.served.specs.declared.serving.ServeFault.TheVariants.{Read, Write, TooManyReads}
 use Rattle.http_stream.specs.Stream.{Rule, RuleBy, AnsweredAll, AnsweredFront, AnsweredInto}
-use Rattle.desk_runs.specs.Clients.{Ended, Exchange}
+use Rattle.desk_runs.specs.Clients.{Ended, Exchange, Stop, served_all, no_port, no_client, no_line}
 
 -- ---- the history
 
@@ -76,7 +76,7 @@ TellsAll connections ends status out out' failures failures' =
     (length ends ≡ connections) × (status ≡ (if list_any is_faulty ends then 1 else 0))
     × Appends out out' (lines_from 1 ends) × (failures' ≡ failures)
 
--- The next one could not be accepted. The earlier ones have their lines.
+-- Fewer were served. They have their lines.
 abbrev pub TellsSome : ℕ → List Ended → ℕ → Option (List ℕ) → Option (List ℕ) → ℕ → ℕ → Type 0
 TellsSome connections ends status out out' failures failures' =
     (length ends < connections) × (status ≡ 4)
@@ -92,10 +92,14 @@ TellsFront connections ends status out out' failures failures' =
     × Appends out mid (lines_from 1 before)
     × SendsFront mid out' (connection_line (length before + 1) last)
 
--- The lines and the exit status of connections with these ends.
-abbrev pub TellsConnections : ℕ → List Ended → ℕ → Option (List ℕ) → Option (List ℕ) → ℕ → ℕ
+-- The lines and the exit status of connections with these ends, after which serving stopped for this reason.
+abbrev pub TellsConnections : ℕ → List Ended → Stop → ℕ → Option (List ℕ) → Option (List ℕ) → ℕ → ℕ
     → Type 0
-TellsConnections connections ends status out out' failures failures' =
+TellsConnections connections ends served_all status out out' failures failures' =
     TellsAll connections ends status out out' failures failures'
-    ⊎ TellsSome connections ends status out out' failures failures'
-    ⊎ TellsFront connections ends status out out' failures failures'
+TellsConnections connections ends no_port status out out' failures failures' =
+    (ends ≡ []) × TellsSome connections ends status out out' failures failures'
+TellsConnections connections ends no_client status out out' failures failures' =
+    TellsSome connections ends status out out' failures failures'
+TellsConnections connections ends no_line status out out' failures failures' =
+    TellsFront connections ends status out out' failures failures'

@@ -19,7 +19,7 @@ use Rattle.desk_feed.specs.Stream.{LeavesNone}
 use Rattle.desk_import.specs.declared.options.Import.{Import}
 use Rattle.http_stream.specs.Answers.{Told, code_of}
 use Rattle.http_stream.specs.Stream.{RuleBy}
-use Rattle.desk_runs.specs.Clients.{Exchange, ends_of}
+use Rattle.desk_runs.specs.Clients.{Serving, ends_of}
 use Rattle.desk_runs.specs.Connections.{AnswersEach, TellsConnections}
 use Rattle.desk_runs.specs.Runs.{AnswersAll, AnswersImport, AnswersUpTo, CutsImport, StaysSame}
 use Rattle.desk_runs.specs.Told.{fault_line, report_output, TellsEnd, TellsLine, TellsUnwritten}
@@ -70,17 +70,18 @@ pub record ImportEnds {W E : Type 0} (writes : W → Option (List ℕ)) (tells :
   pub well : (exit ≡ 0) ⊎ (exit ≡ 1) → GoesWell output output' errors errors'
 
 -- Connections up to this number, each by the rule; fewer only with status 4. `Serves` says which connections the port
--- had.
+-- had, and how it had no more.
 pub record ServingEnds {W E : Type 0} (writes : W → Option (List ℕ)) (tells : E → Option (List ℕ))
     (output output' : Wire W) (errors errors' : Wire E)
-    (connections : ℕ) (rule : RuleBy) (Serves : List Exchange → Type 0)
+    (connections : ℕ) (rule : RuleBy) (Serves : Serving → Type 0)
     (Runs : (Ledger → History → Type 0) → Type 0) (NoDesk : Type 0) (exit : ℕ) : Type 0 where
   pub status : (exit ≡ 0) ⊎ (exit ≡ 1) ⊎ (exit ≡ 3) ⊎ (exit ≡ 4)
   pub served : (exit ≡ 0) ⊎ (exit ≡ 1) ⊎ (exit ≡ 4)
-      → (exchanges : List Exchange)
-      × TellsConnections connections (ends_of exchanges) exit (writes (inner_of output))
-      (writes (inner_of output')) (failures_of output) (failures_of output')
-      × Serves exchanges × Runs (AnswersEach rule exchanges)
+      → (serving : Serving)
+      × TellsConnections connections (ends_of serving.exchanges) serving.stop exit
+      (writes (inner_of output)) (writes (inner_of output')) (failures_of output)
+      (failures_of output')
+      × Serves serving × Runs (AnswersEach rule serving.exchanges)
   pub no_desk : exit ≡ 3 → NoDesk
   pub untouched : exit ≡ 3 → output' ≡ output
   pub failed : exit ≡ 4 → TellsEnd tells output output' errors errors'

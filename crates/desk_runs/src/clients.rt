@@ -4,9 +4,9 @@ use std::io::{Read, Write};
 
 /// The clients of a port, who come one after another. Each has a reader and a writer.
 pub trait Clients {
-    ghost use Rattle.std.specs.Prelude.{List, [], ◌∷◌, IfOk, OnErr};
+    ghost use Rattle.std.specs.Prelude.{List, [], ◌∷◌, IfOk, OnOk, OnErr};
     ghost use Rattle.desk_runs.specs.Clients.{Event, Sees};
-    ghost use Rattle.desk_runs.specs.Clients.Event.{asked, came, left};
+    ghost use Rattle.desk_runs.specs.Clients.Event.{opened, unopened, came, none_came, left};
 
     type Reader: Read + Drop;
 
@@ -17,13 +17,14 @@ pub trait Clients {
 
     /// Opens a port of this machine.
     fn listen(&mut self, port: u16) -> Result<(), NoClient>
-        ensures { Sees Saw self.old self.new (asked port ∷ []) };
+        ensures ok { OnOk result (Sees Saw self.old self.new (opened port ∷ [])) }
+        ensures err { OnErr result (Sees Saw self.old self.new (unopened port ∷ [])) };
 
     /// Waits for the next client, and returns its reader and its writer.
     fn accept(&mut self) -> Result<(Self::Reader, Self::Writer), NoClient>
         ensures ok { IfOk result (λ pair. Sees Saw self.old self.new
             (came (Self.Reader.remaining pair.0) (Self.Writer.contents pair.1) ∷ [])) }
-        ensures err { OnErr result (Sees Saw self.old self.new []) };
+        ensures err { OnErr result (Sees Saw self.old self.new (none_came ∷ [])) };
 
     /// Closes a client's connection.
     fn leave(&mut self, reader: Self::Reader, writer: Self::Writer)

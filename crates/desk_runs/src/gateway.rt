@@ -6,7 +6,7 @@ ghost use Rattle.desk_types.specs.Wire.{inner_of, failures_of};
 ghost use Rattle.served.specs.declared.serving.ServeFault.TheVariants.{Read as ReadFault, Write as WriteFault};
 ghost use Rattle.served.specs.Counts.{none_served};
 ghost use Rattle.served.specs.Sent.{SendsFront};
-ghost use Rattle.http_answers.specs.Gateways.{owner_of};
+ghost use Rattle.http_answers.specs.Requests.{request_rule};
 ghost use Rattle.http_stream.specs.Answers.{response_told};
 ghost use Rattle.desk_answers.specs.Ledger.{ForLists};
 ghost use Rattle.desk_runs.specs.Clients.{ServesAt};
@@ -19,38 +19,37 @@ use crate::clients::{Clients, NoClient};
 use crate::exit::{Exit, tell_line};
 use crate::serving::serve_listener;
 use desk_types::Wire;
-use http_answers::{Gateway, ReportedOwner};
-use http_stream::{Handler, Kind, Response};
+use gateway_http::{Kind, ReportedOwner, Response, ask};
 use served::{WriteFailed, send, send_line};
 use std::alloc::Global;
 use std::io::Write;
 
 /// Serves this number of connections on a port of this machine, and prints a line for each. Returns the exit status. If
 /// the port can't be opened, no connection could be accepted.
-pub fn serve_port<A: Handler, C: Clients, W: Write, E: Write>(
+pub fn serve_port<L: ReportedOwner, C: Clients, W: Write, E: Write>(
     alloc: Global,
     clients: &mut C,
     port: u16,
     connections: u32,
     output: &mut Wire<W>,
     errors: &mut Wire<E>,
-    handler: &mut A,
+    owner: &mut L,
 ) -> u8
     requires some { 1 ≤ connections }
     requires few { HaveFewFailures output.old errors.old }
-    requires ready { A.Ready handler.old }
-    ensures ready { A.Ready handler.new }
-    ensures trusts { A.Trusts handler.new → A.Trusts handler.old }
+    requires ready { L.Ready owner.old }
+    ensures ready { L.Ready owner.new }
+    ensures trusts { L.Trusts owner.new → L.Trusts owner.old }
     ensures ends { ServingEnds W.contents E.contents output.old output.new errors.old errors.new
-        connections A.rule (ServesAt C.Saw clients.old clients.new port)
-        (ForLists A.Stands A.Trusts handler.old handler.new) ⊥ result }
+        connections (request_rule L.reports) (ServesAt C.Saw clients.old clients.new port)
+        (ForLists L.Stands L.Trusts owner.old owner.new) ⊥ result }
 {
     if let Err(NoClient) = clients.listen(port) {
         tell_line(errors, "tracedesk: Read");
         return Exit::Failed as u8;
     }
     let failures = output.failures();
-    let status = serve_listener(alloc, clients, connections, output, handler);
+    let status = serve_listener(alloc, clients, connections, output, owner);
     if status == 4 {
         tell_end(errors, output.failures() > failures);
     }
@@ -77,17 +76,17 @@ pub fn tell_report<L: ReportedOwner, W: Write, E: Write>(
     target: &str,
     output: &mut Wire<W>,
     errors: &mut Wire<E>,
-    gateway: &mut Gateway<L>,
+    owner: &mut L,
 ) -> u8
     requires few { HaveFewFailures output.old errors.old }
-    requires ready { L.Ready (owner_of gateway.old) }
-    ensures ready { L.Ready (owner_of gateway.new) }
-    ensures trusts { L.Trusts (owner_of gateway.new) → L.Trusts (owner_of gateway.old) }
+    requires ready { L.Ready owner.old }
+    ensures ready { L.Ready owner.new }
+    ensures trusts { L.Trusts owner.new → L.Trusts owner.old }
     ensures ends { ReportEnds W.contents E.contents output.old output.new errors.old errors.new
-        (λ answer. ForLists L.Stands L.Trusts (owner_of gateway.old) (owner_of gateway.new)
+        (λ answer. ForLists L.Stands L.Trusts owner.old owner.new
         (AnswersReport L.reports target.now answer)) ⊥ result }
 {
-    let response = gateway.ask(alloc, target.as_bytes());
+    let response = ask(alloc, target.as_bytes(), owner);
     match send_report(output, &response) {
         Ok(()) if response.status.code() == 200 => Exit::Done as u8,
         Ok(()) => Exit::Refused as u8,

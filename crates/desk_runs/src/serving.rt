@@ -1,16 +1,18 @@
 //! Connections, one after another.
 
-ghost use Rattle.std.specs.Prelude.{◌≡◌, ◌⊎◌, ◌≤◌, ◌<◌, ◌+◌, ◌^◌, List, [], None, flat_map, IfSome, OnOk, OnErr};
+ghost use Rattle.std.specs.Prelude.{◌≡◌, ◌<◌, ◌+◌, ◌^◌, [], ◌∷◌, None, IfSome, OnOk, OnErr};
 ghost use Rattle.std.specs.Io.KnownBytes.{Appends};
 ghost use Rattle.desk_types.specs.Wire.{inner_of, failures_of};
 ghost use Rattle.served.specs.Sent.{SendsFront};
 ghost use Rattle.desk_answers.specs.Ledger.{ForLists};
-ghost use Rattle.desk_runs.specs.Clients.{Exchange, Sees, ends_of, events_in};
+ghost use Rattle.http_answers.specs.Requests.{request_rule};
+ghost use Rattle.desk_runs.specs.Clients.{Exchange, Sees, Serving, ServesOn, ends_of, events_in};
+ghost use Rattle.desk_runs.specs.Clients.Event.{none_came};
 ghost use Rattle.desk_runs.specs.Connections.{AnswersEach, Connected, TellsConnections, connection_line, fault_word, is_faulty, served_of};
 
 use crate::clients::Clients;
 use desk_types::Wire;
-use http_stream::{Handler, serve};
+use gateway_http::{ReportedOwner, serve};
 use itoa::Buffer;
 use served::{ServeFault, Served, WriteFailed, send};
 use std::alloc::Global;
@@ -22,26 +24,28 @@ use std::io::Write;
 ///
 /// Returns the exit status: 0; 1 if a request was refused or a connection ended with a fault; 4 if no further
 /// connection could be accepted, or if a line could not be written, which a failure of `output` shows.
-pub fn serve_listener<A: Handler, C: Clients, W: Write>(
+pub fn serve_listener<L: ReportedOwner, C: Clients, W: Write>(
     alloc: Global,
     clients: &mut C,
     connections: u32,
     output: &mut Wire<W>,
-    handler: &mut A,
+    owner: &mut L,
 ) -> u8
     requires few_failures { failures_of output.old < 2 ^ 63 }
-    requires ready { A.Ready handler.old }
-    ensures ready { A.Ready handler.new }
-    ensures trusts { A.Trusts handler.new → A.Trusts handler.old }
-    ensures told { (exchanges : List Exchange)
-        × TellsConnections connections (ends_of exchanges) result (W.contents (inner_of output.old))
-        (W.contents (inner_of output.new)) (failures_of output.old) (failures_of output.new)
-        × Sees C.Saw clients.old clients.new (flat_map events_in exchanges)
-        × ForLists A.Stands A.Trusts handler.old handler.new (AnswersEach A.rule exchanges) }
+    requires ready { L.Ready owner.old }
+    ensures ready { L.Ready owner.new }
+    ensures trusts { L.Trusts owner.new → L.Trusts owner.old }
+    ensures told { (serving : Serving)
+        × TellsConnections connections (ends_of serving.exchanges) serving.stop result
+        (W.contents (inner_of output.old)) (W.contents (inner_of output.new))
+        (failures_of output.old) (failures_of output.new)
+        × ServesOn C.Saw clients.old clients.new serving
+        × ForLists L.Stands L.Trusts owner.old owner.new
+        (AnswersEach (request_rule L.reports) serving.exchanges) }
 {
     let mut faulty = false;
     for k in 0..connections {
-        let Some(ended) = serve_next(alloc, clients, handler) else {
+        let Some(ended) = serve_next(alloc, clients, owner) else {
             return 4;
         };
         faulty |= is_faulty(&ended);
@@ -53,27 +57,27 @@ pub fn serve_listener<A: Handler, C: Clients, W: Write>(
     u8::from(faulty)
 }
 
-fn serve_next<A: Handler, C: Clients>(
+fn serve_next<L: ReportedOwner, C: Clients>(
     alloc: Global,
     clients: &mut C,
-    handler: &mut A,
+    owner: &mut L,
 ) -> Option<Result<Served, ServeFault>>
-    requires ready { A.Ready handler.old }
-    ensures ready { A.Ready handler.new }
-    ensures trusts { A.Trusts handler.new → A.Trusts handler.old }
+    requires ready { L.Ready owner.old }
+    ensures ready { L.Ready owner.new }
+    ensures trusts { L.Trusts owner.new → L.Trusts owner.old }
     ensures none { result ≡ None
-        → (handler.new ≡ handler.old) × Sees C.Saw clients.old clients.new [] }
+        → (owner.new ≡ owner.old) × Sees C.Saw clients.old clients.new (none_came ∷ []) }
     ensures served { IfSome result (λ ended. (exchange : Exchange) × (exchange.ended ≡ ended)
         × Sees C.Saw clients.old clients.new (events_in exchange)
-        × ForLists A.Stands A.Trusts handler.old handler.new
-        (λ G H. Connected (A.rule G.rules G.greatest) G.history exchange H)) }
+        × ForLists L.Stands L.Trusts owner.old owner.new
+        (λ G H. Connected (request_rule L.reports G.rules G.greatest) G.history exchange H)) }
 {
     let Ok((reader, writer)) = clients.accept() else {
         return None;
     };
     let mut input = Wire::new(reader);
     let mut answers = Wire::new(writer);
-    let ended = serve(alloc, &mut input, &mut answers, handler);
+    let ended = serve(alloc, &mut input, &mut answers, owner);
     clients.leave(input.into_inner(), answers.into_inner());
     Some(ended)
 }

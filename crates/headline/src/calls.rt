@@ -5,14 +5,13 @@
 ghost use Rattle.std.specs.Prelude.{◌^◌, ◌<◌, Some};
 ghost use Rattle.desk_types.specs.Wire.{inner_of, reads_of, failures_of};
 ghost use Rattle.http_stream.specs.Answers.{response_told};
-ghost use Rattle.http_answers.specs.Gateways.{owner_of};
 ghost use Rattle.headline.specs.Calls.{CallsOnce};
 ghost use Rattle.headline.specs.Calls.Call.{fed, connected, commanded, asked, reported, imported};
 
 use desk_answers::Answer;
 use desk_import::Import;
 use desk_types::{Stamped, Text, Wire};
-use http_answers::{Gateway, ReportedOwner, Unavailable};
+use gateway_http::{ReportedOwner, Unavailable};
 use http_routes::Report;
 use http_stream::Response;
 use served::{ServeFault, Served, WriteFailed};
@@ -42,18 +41,18 @@ pub fn serve<R: Read, W: Write, L: ReportedOwner>(
     alloc: Global,
     input: &mut Wire<R>,
     output: &mut Wire<W>,
-    gateway: &mut Gateway<L>,
+    owner: &mut L,
 ) -> Result<Served, ServeFault>
     requires read_failures { failures_of input.old < 2 ^ 63 }
     requires reads { reads_of input.old < 2 ^ 63 }
     requires write_failures { failures_of output.old < 2 ^ 63 }
-    requires ready { L.Ready (owner_of gateway.old) }
-    ensures { CallsOnce L.reports L.Stands L.Trusts (owner_of gateway.old)
+    requires ready { L.Ready owner.old }
+    ensures { CallsOnce L.reports L.Stands L.Trusts owner.old
         (connected (R.remaining (inner_of input.old)) (R.remaining (inner_of input.new))
         (W.contents (inner_of output.old)) (W.contents (inner_of output.new)) result)
-        (owner_of gateway.new) }
+        owner.new }
 {
-    http_stream::serve(alloc, input, output, gateway)
+    gateway_http::serve(alloc, input, output, owner)
 }
 
 /// Calls `command`.
@@ -66,12 +65,12 @@ pub fn command<L: ReportedOwner>(owner: &mut L, stamped: &Stamped) -> Answer
 }
 
 /// Calls `ask`: a GET without a connection.
-pub fn ask<L: ReportedOwner>(alloc: Global, gateway: &mut Gateway<L>, target: &[u8]) -> Response
-    requires ready { L.Ready (owner_of gateway.old) }
-    ensures { CallsOnce L.reports L.Stands L.Trusts (owner_of gateway.old)
-        (asked target.now (response_told result)) (owner_of gateway.new) }
+pub fn ask<L: ReportedOwner>(alloc: Global, target: &[u8], owner: &mut L) -> Response
+    requires ready { L.Ready owner.old }
+    ensures { CallsOnce L.reports L.Stands L.Trusts owner.old
+        (asked target.now (response_told result)) owner.new }
 {
-    gateway.ask(alloc, target)
+    gateway_http::ask(alloc, target, owner)
 }
 
 /// Calls `report`.

@@ -17,7 +17,7 @@ ghost use Rattle.desk_laws.specs.Consistent.{IsConsistent};
 ghost use Rattle.headline.specs.Calls.{AnswersByTheList, Call, Calls};
 
 pub use calls::{ask, command, feed, import, report, serve};
-use http_answers::ReportedOwner;
+use gateway_http::ReportedOwner;
 
 /// A law: for every stream of requests, in whatever pieces and with repeats and refusals, the
 /// history of accepted commands alone determines every answer. That history is lawful and

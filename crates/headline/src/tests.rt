@@ -4,8 +4,8 @@ use crate::{ask, command, feed, headline, import, report, serve};
 use desk_answers::{Answer, Owner};
 use desk_import::counts_import;
 use desk_types::{Command, Id, Minute, Stamped, Text, Wire};
-use http_answers::{Gateway, ReportedOwner, Unavailable};
-use http_routes::{Report, RouteTable};
+use gateway_http::{ReportedOwner, Unavailable};
+use http_routes::Report;
 use std::alloc::Global;
 use std::test::Fail;
 
@@ -93,17 +93,16 @@ fn files(rt: HostRuntime) -> Result<(), Fail> {
 /// A connection with one request, and the same request without a connection.
 #[test]
 fn reports(rt: HostRuntime) -> Result<(), Fail> {
-    let mut gateway = Gateway::new(Full, RouteTable::new(rt.alloc())?);
+    let mut owner = Full;
     let mut output = Wire::new(Vec::new(rt.alloc()));
     let request = "GET /reel?reel=K1 HTTP/1.1\r\n\r\n";
     let served = serve(
         rt.alloc(),
         &mut Wire::new(request.as_bytes()),
         &mut output,
-        &mut gateway,
+        &mut owner,
     );
-    let told = ask(rt.alloc(), &mut gateway, b"/reel?reel=K1");
-    let _owner = gateway.into_owner();
+    let told = ask(rt.alloc(), b"/reel?reel=K1", &mut owner);
     let served = served.ok().ok_or("a fault")?;
     assert_eq!(rt; (served.answered, served.refused), (1, 1));
     assert_eq!(rt; told.status.code(), 404);

@@ -1,4 +1,4 @@
--- The effects of answers on an owner, and the owner behind a gateway.
+-- The effects of answers on an owner.
 use Rattle.std.specs.Prelude.{◌≡◌, ◌⊎◌, ℕ, List, Result, IfOk, OnErr}
 use Rattle.desk_answers.specs.Ledger.{Ledger}
 use Rattle.http_stream.specs.Answers.{Told, response_told, unavailable}
@@ -6,7 +6,6 @@ use Rattle.http_stream.specs.Stream.{Outcome}
 use Rattle.http_stream.specs.declared.response.Response.{Response}
 use Rattle.http_answers.specs.Repeats.{get_of}
 use Rattle.http_answers.specs.Requests.{Reports, outcome_of}
-use Rattle.http_answers.specs.declared.gateway.Gateway.{Gateway}
 
 -- If the storage has not lied, then for each ledger represented before: the response is that of the
 -- outcome, with its history; or there is no response, and the history is unchanged.
@@ -15,10 +14,6 @@ abbrev pub Meets : {S E : Type 0} → (S → Ledger → Type 0) → (S → Type 
 Meets Stands Trusts old new result outcome = (G : Ledger) → Stands old G → Trusts new →
     IfOk result (λ response. (response_told response ≡ (outcome G).told)
     × Stands new (record G { history = (outcome G).after })) × OnErr result (Stands new G)
-
--- The owner behind a gateway.
-abbrev pub owner_of : {L : Type 0} → Gateway L → L
-owner_of gateway = gateway.owner
 
 -- The answer to a GET with this target: the rule's, or Unavailable.
 abbrev pub AnswersGet : Reports → Ledger → List ℕ → Told → Type 0

@@ -1,15 +1,14 @@
-//! The answers of the gateway's routes, for any owner with reports.
+//! The answers of the gateway's routes, for any owner of a history. `gateway_http` adds the reports.
 //!
 //! `specs/Requests.antt` defines the answer to each request and the history after it. The proofs
 //! here use no table and no file.
 #![tactic(auto)]
 
 mod answers;
-mod gateway;
 mod law;
-mod reported;
 mod statuses;
+mod unavailable;
 
-pub use gateway::Gateway;
+pub use answers::{answer_counts, answer_fault, answer_message, answer_setup, json};
 pub use law::{questions_leave_the_list, repeats_leave_the_list};
-pub use reported::{ReportedOwner, Unavailable};
+pub use unavailable::Unavailable;

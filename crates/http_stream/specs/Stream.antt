@@ -2,6 +2,7 @@
 use Rattle.std.specs.Prelude.{◌≡◌, ℕ, ◌+◌, Bool, true, false, not, List, [], ◌∷◌, length, Option, Some, IfSome, Result, Ok, Err, IfOk, count_by}
 use Rattle.std.specs.List.{flat_map}
 use Rattle.std.specs.Io.KnownBytes.{Appends}
+use Rattle.std.specs.Borrow.{GName}
 use Rattle.desk_types.specs.History.{History}
 use Rattle.desk_types.specs.declared.wire.Wire.{Wire}
 use Rattle.desk_answers.specs.Ledger.{Ledger}
@@ -128,6 +129,14 @@ AnsweredUpTo rule input input' H out H' out' (Write served) =
 -- A handler's rule, from the rules and greatest number of its ledger.
 abbrev pub RuleBy : Type 0
 RuleBy = Rules → ℕ → Rule
+
+-- The handler is ready again and holds the same borrow, and if its storage has not lied now, it had
+-- not before.
+pub record StaysLent {A : Type 0} (Ready Trusts : A → Type 0) (held : A → GName)
+    (old new : A) : Type 0 where
+  pub ready : Ready new
+  pub trusts : Trusts new → Trusts old
+  pub borrow : held new ≡ held old
 
 -- The request has this answer, for some mark.
 abbrev pub AnswersRequest : Rule → Request → History → Told → History → Type 0

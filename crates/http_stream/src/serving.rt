@@ -4,12 +4,11 @@ ghost use Rattle.std.specs.Prelude.{◌≡◌, true};
 ghost use Rattle.desk_types.specs.Wire.{inner_of};
 ghost use Rattle.desk_answers.specs.Ledger.{ForLists};
 ghost use Rattle.served.specs.Counts.{CanCountAnswer};
-ghost use Rattle.served.specs.Owners.{StaysReady};
 ghost use Rattle.served.specs.Shown.{CanCountRun, CountsRun};
 ghost use Rattle.http_stream.specs.Answers.{reply_told};
 ghost use Rattle.http_stream.specs.Cut.{is_head, is_last};
 ghost use Rattle.http_stream.specs.Portions.{IsTaken, portion_of};
-ghost use Rattle.http_stream.specs.Stream.{AnswersConnection, AnswersPortion, SendsPortion, ShowsSent, has_body};
+ghost use Rattle.http_stream.specs.Stream.{AnswersConnection, AnswersPortion, SendsPortion, ShowsSent, StaysLent, has_body};
 
 use crate::answer::send_answer;
 use crate::portion::{Taken, method_of, take_portion, target_of};
@@ -23,6 +22,7 @@ use std::io::{Read, Write};
 /// Answers whole requests from a history that it stores.
 pub trait Handler {
     ghost use Rattle.std.specs.Prelude.{◌≡◌};
+    ghost use Rattle.std.specs.Borrow.{GName};
     ghost use Rattle.desk_answers.specs.Ledger.{Ledger, ForLists};
     ghost use Rattle.http_stream.specs.Answers.{response_told};
     ghost use Rattle.http_stream.specs.Stream.{RuleBy, AnswersRequest};
@@ -39,11 +39,15 @@ pub trait Handler {
     /// The handler's storage has not lied so far, like an honest disk.
     ghost Trusts: { Self → Type 0 };
 
+    /// The borrow that the handler holds, which each call keeps. So the lender knows the value that comes back.
+    ghost held: { Self → GName };
+
     /// Answers a request, possibly with Unavailable, which leaves the history unchanged.
     fn handle(&mut self, alloc: Global, method: &[u8], target: &[u8], body: &[u8]) -> Response
         requires ready { Ready self.old }
         ensures ready { Ready self.new }
         ensures trusts { Trusts self.new → Trusts self.old }
+        ensures held { held self.new ≡ held self.old }
         ensures told { ForLists Stands Trusts self.old self.new
             (λ G H. AnswersRequest (rule G.rules G.greatest)
             (record { method = method.now; target = target.now; body = body.now }) G.history
@@ -72,7 +76,7 @@ pub fn serve<R: Read, W: Write, A: Handler>(
 ) -> Result<Served, ServeFault>
     requires counts { CanCountRun input.old output.old }
     requires ready { A.Ready handler.old }
-    ensures stays { StaysReady A.Ready A.Trusts handler.old handler.new }
+    ensures stays { StaysLent A.Ready A.Trusts A.held handler.old handler.new }
     ensures answers { ForLists A.Stands A.Trusts handler.old handler.new
         (AnswersConnection A.rule (R.remaining (inner_of input.old))
         (R.remaining (inner_of input.new)) (W.contents (inner_of output.old))
@@ -113,7 +117,7 @@ fn serve_portion<W: Write, A: Handler>(
     requires taken { IsTaken block.now taken }
     requires counts { CanCountAnswer output.old served.old }
     requires ready { A.Ready handler.old }
-    ensures stays { StaysReady A.Ready A.Trusts handler.old handler.new }
+    ensures stays { StaysLent A.Ready A.Trusts A.held handler.old handler.new }
     ensures answers { ForLists A.Stands A.Trusts handler.old handler.new
         (SendsPortion A.rule (portion_of block.now taken) (W.contents (inner_of output.old))
         served.old (W.contents (inner_of output.new)) served.new result) }
@@ -129,7 +133,7 @@ fn serve_portion<W: Write, A: Handler>(
 fn answer_portion<A: Handler>(alloc: Global, handler: &mut A, block: &[u8], taken: Taken) -> Told
     requires taken { IsTaken block.now taken }
     requires ready { A.Ready handler.old }
-    ensures stays { StaysReady A.Ready A.Trusts handler.old handler.new }
+    ensures stays { StaysLent A.Ready A.Trusts A.held handler.old handler.new }
     ensures told { ForLists A.Stands A.Trusts handler.old handler.new
         (λ G. AnswersPortion (A.rule G.rules G.greatest) (portion_of block.now taken) G.history
         (reply_told result.reply)) }

@@ -14,8 +14,6 @@ use Rattle.desk_runs.specs.Clients.{Ended, Exchange}
 use Rattle.desk_runs.specs.Connections.{ConnectedSo}
 use Rattle.served.specs.declared.serving.ServeFault.TheVariants.{Read, Write, TooManyReads}
 use Rattle.gateway_http.specs.Reports.{report_of}
-use Rattle.gateway_http.specs.Stores.{store_of}
-use Rattle.gateway_http.specs.declared.store.ReportedStore.{ReportedStore}
 use Rattle.headline.specs.Calls.{AnswersByTheList, Call, Calls, Feeds, Imports, Serves}
 use Rattle.headline.specs.Calls.Call.{asked, fed, imported}
 use Rattle.desk_commands.specs.declared.left.Left.TheVariants.{Desk}
@@ -28,7 +26,7 @@ use Rattle.sqlite_wal.specs.Files.{image_at}
 use Rattle.sqlite_trees.specs.Tree.{Trees}
 use Rattle.sqlite.specs.Effect.{Database}
 use Rattle.sqlite.specs.Files.{HoldsDatabase, over_files}
-use Rattle.sqlite.specs.State.{HasCleanDisk}
+use Rattle.sqlite.specs.State.{State, HasCleanDisk}
 use Rattle.line_tables.specs.Rows.{Holds, HoldsAt}
 use Rattle.line_rows.specs.Rows.{ledger_tables}
 use Rattle.line_schema.specs.declared.fault.OpenFault.{OpenFault}
@@ -84,7 +82,7 @@ serves reports G sent unread before after (Err (Read served)) H connected = conn
 serves reports G sent unread before after (Err (TooManyReads served)) H connected = connected
 serves reports G sent unread before after (Err (Write served)) H connected = connected
 
-serves_each : (exchanges : List Exchange) (G : Ledger) (H : History) → ServesEach exchanges G H → AnswersByTheList report_of G (connections_of exchanges) H
+pub serves_each : (exchanges : List Exchange) (G : Ledger) (H : History) → ServesEach exchanges G H → AnswersByTheList report_of G (connections_of exchanges) H
 serves_each [] G H same = same
 serves_each (e ∷ es) G H (H₁, one, rest) = (H₁, serves report_of G e.sent e.unread e.before e.after e.ended H₁ one, serves_each es (record G { history = H₁ }) H rest)
 
@@ -127,21 +125,15 @@ module _ {T D : Type 0} {g : disk.Ghosts D} (first : start.Ghosts T) (make : Opt
       let (H', after, answers) = goes_on report_of StandsForList (λ d. HasCleanDisk (state_of over_files d)) calls opened last made (by_two greatest H₁) (refl, stands) clean in
       (greatest, H, begins, lawful, H', after.1, subst (λ (it : History). AnswersByTheList report_of (by_two greatest it) calls H') same answers)
 
--- Calls on a store with its reports are calls on the store.
-pub reported_calls : {D : Type 0} {g : disk.Ghosts D} (calls : List Call) (opened last : ReportedStore (FileStore D g) StateDesk)
-    → Calls report_of (λ r. StandsForList (store_of r)) (λ r. HasCleanDisk (state_of over_files (store_of r))) opened calls last → MakesCalls (store_of opened) calls (store_of last)
-reported_calls [] opened last same = ap store_of same
-reported_calls (call ∷ calls) opened last (mid, one, rest) = (store_of mid, one, reported_calls calls mid last rest)
-
 abbrev pub FindsTables : Type 0
 FindsTables = (image : Image) (trees : Trees) (greatest : ℕ) (H : History) → ∥ HoldsDatabase image trees ∥₁ → HoldsAt (ledger_tables greatest H) trees
     → (db : Database) → IsFoundIn image db → Holds db (ledger_tables greatest H)
 
 -- A run whose files were refused keeps their history.
 module _ {T D : Type 0} (finds : FindsTables) (g : disk.Ghosts D) (first : start.Ghosts T) (make : Option ℕ) (files : Files D) (image : Image) where
-  pub keeps : (StandsIn : OpenFault → Type 0) (MakesNone : Type 0) (fault : OpenFault) → IsRefusedTo whole first g (Some files) StandsIn MakesNone fault → ReadsClean g files image
-      → KeepsList (run_of first make [] image)
-  keeps StandsIn MakesNone fault refuses is = (
+  pub keeps : (StandsIn : OpenFault → Type 0) (Commits : State → Trees → Type 0) (MakesNone : Type 0) (fault : OpenFault) → IsRefusedTo whole first g (Some files) StandsIn Commits MakesNone fault
+      → ReadsClean g files image → KeepsList (run_of first make [] image)
+  keeps StandsIn Commits MakesNone fault refuses is = (
     refl,
     λ greatest H trees database holds.
         let (db, found, alone) = (refuses.0 is.clean).1 in

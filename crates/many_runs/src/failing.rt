@@ -10,7 +10,7 @@ ghost use Rattle.many_runs.specs.Runs.{by_two};
 
 use desk_answers::{Answer, Owner};
 use desk_types::{Stamped, Text};
-use http_answers::{ReportedOwner, Unavailable};
+use gateway_http::{ReportedOwner, Unavailable};
 use http_routes::Report;
 use line_schema::LineStore;
 use sqlite::Alter;

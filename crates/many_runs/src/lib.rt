@@ -5,6 +5,7 @@
 #![tactic(auto)]
 
 mod failing;
+mod whole;
 
 ghost use Rattle.std.specs.Prelude.{ℕ, List, [], Option, Some};
 ghost use Rattle.sqlite_wal.specs.Recovery.{Image};
@@ -18,18 +19,17 @@ ghost use Rattle.line_schema.specs.declared.fault.OpenFault.{OpenFault};
 ghost use Rattle.many_runs.specs.Closed.{GivesCalls, GivesClosedRun, GivesWholeRun, ReadsClean, run_of};
 ghost use Rattle.many_runs.specs.Runs.{AreRuns, IsRun, KeepsList, Run, as_one};
 ghost use Rattle.many_runs.specs.Crashed.{Crashes, CrashesTo, GivesKilledRun, MakesCalls, killed_run_of};
-ghost use Rattle.gateway_http.specs.Stores.{store_of};
 ghost use Rattle.headline.specs.Calls.{AnswersByTheList, Call, Calls};
 
 use desk_answers::Owner;
 use desk_file::{FileDesk, next_run_goes_on};
 pub use failing::{WatchedStore, failing_disks_leave_the_list};
 use feeder_state::StateDesk;
-use gateway_http::ReportedStore;
 use line_schema::LineStore;
 use sqlite::{FileFrom, FileStore, Files, Start};
 use sqlite_disk::Disk;
 use state_rows::KeepsRows;
+pub use whole::whole_run_goes_on;
 
 /// A law: runs one after another, each on the files that the previous one left, are equivalent to one run that makes
 /// all their calls. So every answer of every run is that of one list of accepted commands, which is lawful and
@@ -90,16 +90,16 @@ pub fn killed_runs_are_runs<T: Start>(
         → IsRun report_of (killed_run_of T.Start make calls image) }
 {}
 
-/// A law: calls on the store with its reports, as the program makes them, are calls on the store.
-/// `headline` shows each of them.
-pub fn reported_calls_are_calls<F: Disk + Drop>(
-    opened: &ReportedStore<FileStore<F>, StateDesk>,
-    last: &ReportedStore<FileStore<F>, StateDesk>,
+/// A law: calls on an owner, as `headline` shows each of them, are calls on the desk of a file if the owner is the
+/// program's store.
+pub fn store_calls_are_calls<F: Disk + Drop>(
+    opened: &LineStore<FileStore<F>, StateDesk>,
+    last: &LineStore<FileStore<F>, StateDesk>,
 )
     ensures { (calls : List Call)
-        → Calls report_of ⟦<ReportedStore<FileStore<F>, StateDesk> as Owner>⟧.Stands
-        ⟦<ReportedStore<FileStore<F>, StateDesk> as Owner>⟧.Trusts opened.now calls last.now
-        → MakesCalls (store_of opened.now) calls (store_of last.now) }
+        → Calls report_of ⟦<LineStore<FileStore<F>, StateDesk> as Owner>⟧.Stands
+        ⟦<LineStore<FileStore<F>, StateDesk> as Owner>⟧.Trusts opened.now calls last.now
+        → MakesCalls opened.now calls last.now }
 {}
 
 /// A law: a run that was killed while its desk was open is a run, with the calls that the command's contract

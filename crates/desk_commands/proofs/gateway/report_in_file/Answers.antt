@@ -1,21 +1,14 @@
-use Rattle.std.proofs.Common.{◌∙◌, ap, None, refl, inl, inr}
+use Rattle.std.proofs.Common.{None, refl, inl}
 use Rattle.gateway_http.specs.Reports.{report_of}
-use Rattle.gateway_http.specs.Stores.{store_of}
 use Rattle.desk_runs.specs.Runs.{AnswersReport}
 use Rattle.desk_runs.proofs.EndsOfRuns.{report_follows, report_refused}
-use Rattle.desk_commands.proofs.RunsOnFiles.{runs_behind, stands_behind}
+use Rattle.desk_commands.proofs.RunsOnFiles.{runs_on}
 use Rattle.desk_commands.proofs.gateway.report_in_file.Goals as goal
 
-pub returns-in-Ok-open_desk-clause-ends : goal.returns-in-Ok-open_desk-clause-ends
-returns-in-Ok-open_desk-clause-ends g c =
+pub returns-in-Ok-clause-ends : goal.returns-in-Ok-clause-ends
+returns-in-Ok-clause-ends g c =
     let run = c.tell_report-status in
-    report_follows run.ensures.ends (λ answer. runs_behind g.T.Start None c.in-Ok-open_desk.store c.into_store.result c.new-gateway.result run.new.gateway (AnswersReport report_of c.args.target.now answer) (ap store_of c.new-gateway.ensures ∙ c.new-in-Ok-open_desk.ensures) (c.into_store.ensures ∙ ap store_of c.into_owner.ensures) run.ensures.trusts c.in-Ok-open_desk.ensures.begins) (λ none. absurd none)
-
-pub tell_report-status-requires-clause-ready : goal.tell_report-status-requires-clause-ready
-tell_report-status-requires-clause-ready g c = stands_behind c.in-Ok-open_desk.store c.new-gateway.result (ap store_of c.new-gateway.ensures ∙ c.new-in-Ok-open_desk.ensures) c.in-Ok-open_desk.ensures.stands
+    report_follows run.ensures.ends (λ answer. runs_on g.T.Start None c.in-Ok.store run.new.owner (AnswersReport report_of c.args.target.now answer) run.ensures.trusts c.in-Ok.ensures.begins) (λ none. absurd none)
 
 pub returns-in-Err-clause-ends : goal.returns-in-Err-clause-ends
 returns-in-Err-clause-ends g c = report_refused c.tell_refusal.ensures.status (inl (c.in-Err.refusal.fault, (refl, c.in-Err.ensures.refused), c.tell_refusal.ensures.told))
-
-pub returns-in_default-clause-ends : goal.returns-in_default-clause-ends
-returns-in_default-clause-ends g c = report_refused c.unavailable.ensures.status (inr (refl, c.unavailable.ensures.told))

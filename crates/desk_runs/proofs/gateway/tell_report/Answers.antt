@@ -1,5 +1,4 @@
 use Rattle.std.proofs.Common.{rules, ◌≡◌, ◌≢◌, refl, inl, inr}
-use Rattle.http_answers.specs.Gateways.{owner_of}
 use Rattle.http_stream.specs.Answers.{code_of, response_told}
 use Rattle.desk_runs.proofs.Questions.{answers_report}
 use Rattle.desk_runs.proofs.gateway.tell_report.Goals as goal
@@ -8,7 +7,7 @@ pub returns-in-Ok-clause-ends : goal.returns-in-Ok-clause-ends
 returns-in-Ok-clause-ends g c =
     let asked = c.ask-response in
     let well : code_of asked.result.status ≡ 200 = search rules in
-    let list = answers_report g.L.Owner.Stands g.L.Owner.Trusts g.L.ReportedOwner.reports (owner_of c.args.gateway.now) (owner_of asked.new.self) c.args.target.now c.as_bytes.result.now (response_told asked.result) c.as_bytes.ensures.value asked.ensures.told asked.ensures.stands in record {
+    let list = answers_report g.L.Owner.Stands g.L.Owner.Trusts g.L.ReportedOwner.reports c.args.owner.now asked.new.owner c.args.target.now c.as_bytes.result.now (response_told asked.result) c.as_bytes.ensures.value asked.ensures.told asked.ensures.stands in record {
       status = inl refl;
       done = λ is. (response_told asked.result, well, c.in-Ok.ensures.ok, list);
       refused = search rules;
@@ -22,7 +21,7 @@ pub returns-in-Ok-2-clause-ends : goal.returns-in-Ok-2-clause-ends
 returns-in-Ok-2-clause-ends g c =
     let asked = c.ask-response in
     let ill : code_of asked.result.status ≢ 200 = search rules in
-    let list = answers_report g.L.Owner.Stands g.L.Owner.Trusts g.L.ReportedOwner.reports (owner_of c.args.gateway.now) (owner_of asked.new.self) c.args.target.now c.as_bytes.result.now (response_told asked.result) c.as_bytes.ensures.value asked.ensures.told asked.ensures.stands in record {
+    let list = answers_report g.L.Owner.Stands g.L.Owner.Trusts g.L.ReportedOwner.reports c.args.owner.now asked.new.owner c.args.target.now c.as_bytes.result.now (response_told asked.result) c.as_bytes.ensures.value asked.ensures.told asked.ensures.stands in record {
       status = inr (inl refl);
       done = search rules;
       refused = λ is. (response_told asked.result, ill, c.in-Ok-2.ensures.ok, list);
@@ -35,7 +34,7 @@ returns-in-Ok-2-clause-ends g c =
 pub returns-clause-ends : goal.returns-clause-ends
 returns-clause-ends g c =
     let asked = c.ask-response in
-    let list = answers_report g.L.Owner.Stands g.L.Owner.Trusts g.L.ReportedOwner.reports (owner_of c.args.gateway.now) (owner_of asked.new.self) c.args.target.now c.as_bytes.result.now (response_told asked.result) c.as_bytes.ensures.value asked.ensures.told asked.ensures.stands in record {
+    let list = answers_report g.L.Owner.Stands g.L.Owner.Trusts g.L.ReportedOwner.reports c.args.owner.now asked.new.owner c.args.target.now c.as_bytes.result.now (response_told asked.result) c.as_bytes.ensures.value asked.ensures.told asked.ensures.stands in record {
       status = inr (inr (inr refl));
       done = search rules;
       refused = search rules;

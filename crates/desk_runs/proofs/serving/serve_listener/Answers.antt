@@ -1,15 +1,44 @@
-use Rattle.std.proofs.Common.{◌≡◌, ◌+◌, ◌++◌, ◌∷◌, ◌∙◌, [], List, inr, refl, sym, ap, subst, length, length-append, arith}
+use Rattle.std.proofs.Common.{rules, ◌≡◌, ◌+◌, ◌++◌, ◌∷◌, ◌∙◌, [], List, None, refl, sym, ap, subst, length, length-append, arith}
+use Rattle.std.specs.Prelude.{flat_map}
 use Rattle.std.specs.List.{list_any}
 use Rattle.std.specs.Io.KnownBytes.{Appends}
 use Rattle.std.proofs.KnownBytes.{Appends-trans}
 use Rattle.desk_types.specs.Wire.{inner_of}
 use Rattle.served.specs.Sent.{SendsFront}
-use Rattle.desk_runs.specs.Clients.{Exchange, ends_of}
+use Rattle.http_answers.specs.Requests.{request_rule}
+use Rattle.desk_runs.specs.Clients.{Exchange, served_all, no_client, no_line, ends_of, events_in}
+use Rattle.desk_runs.specs.Clients.Event.{none_came}
 use Rattle.desk_runs.specs.Connections.{connection_line, is_faulty, lines_from}
-use Rattle.desk_runs.proofs.ClientsSeen.{sees_one_more}
+use Rattle.desk_runs.proofs.ClientsSeen.{all_no_port, client_no_port, line_no_port, sees_all, sees_more, sees_one_more}
 use Rattle.desk_runs.proofs.ConnectionLines.{lines_more}
-use Rattle.desk_runs.proofs.ListsAfter.{ends_more, faulty_more, serves_more}
+use Rattle.desk_runs.proofs.ListsAfter.{Serves, ends_more, faulty_more, serves_more}
 use Rattle.desk_runs.proofs.serving.serve_listener.Goals as goal
+
+pub returns-in_default-clause-told : goal.returns-in_default-clause-told
+returns-in_default-clause-told g c =
+    let inv = c.loop-k.invariant in
+    let is : c.serve_next.result ≡ None = search rules in
+    let (same, seen) = c.serve_next.ensures.none is in
+    let count = inv.count in
+    let below = c.loop-k-test.true in (
+      record { exchanges = inv.exchanges; stop = no_client },
+      (omega (arith, count, below), refl, inv.lines, inv.failures),
+      (sees_more g.C.Clients.Saw c.args.clients.now c.loop-k.clients c.serve_next.new.clients (flat_map events_in inv.exchanges) (none_came ∷ []) inv.seen seen, client_no_port),
+      subst (Serves (request_rule g.L.ReportedOwner.reports) g.L.Owner.Stands g.L.Owner.Trusts c.args.owner.now inv.exchanges) (sym same) inv.served,
+    )
+
+pub returns-clause-told : goal.returns-clause-told
+returns-clause-told g c =
+    let inv = c.loop-k.invariant in
+    let count = inv.count in
+    let last = c.loop-k.auto.k-end in
+    let past = c.loop-k-test.false in
+    let faulty = inv.faulty in (
+      record { exchanges = inv.exchanges; stop = served_all },
+      (omega (arith, count, last, past), search rules, inv.lines, inv.failures),
+      (sees_all g.C.Clients.Saw c.args.clients.now c.loop-k.clients (flat_map events_in inv.exchanges) inv.seen, all_no_port),
+      inv.served,
+    )
 
 pub returns-in-Err-clause-told : goal.returns-in-Err-clause-told
 returns-in-Err-clause-told g c =
@@ -27,10 +56,10 @@ returns-in-Err-clause-told g c =
     let before = inv.failures in
     let number : c.from.result + 1 ≡ length (ends_of inv.exchanges) + 1 = omega (arith, c.from.ensures, count) in
     let line : SendsFront mid out₂ (connection_line (length (ends_of inv.exchanges) + 1) c.in-Some.ended) = subst (λ n. SendsFront mid out₂ (connection_line n c.in-Some.ended)) number c.in-Err.ensures.front in (
-      exchanges,
-      inr (inr (omega (arith, count, long, below), refl, omega (arith, failed, before), ends_of inv.exchanges, c.in-Some.ended, mid, ends, inv.lines, line)),
-      sees_one_more g.C.Clients.Saw c.args.clients.now c.loop-k.clients c.serve_next.new.clients inv.exchanges e inv.seen seen,
-      serves_more g.A.Handler.rule g.A.Handler.Stands g.A.Handler.Trusts c.args.handler.now c.loop-k.handler c.serve_next.new.handler inv.exchanges e
+      record { exchanges = exchanges; stop = no_line },
+      (omega (arith, count, long, below), refl, omega (arith, failed, before), ends_of inv.exchanges, c.in-Some.ended, mid, ends, inv.lines, line),
+      (sees_all g.C.Clients.Saw c.args.clients.now c.serve_next.new.clients (flat_map events_in exchanges) (sees_one_more g.C.Clients.Saw c.args.clients.now c.loop-k.clients c.serve_next.new.clients inv.exchanges e inv.seen seen), line_no_port),
+      serves_more (request_rule g.L.ReportedOwner.reports) g.L.Owner.Stands g.L.Owner.Trusts c.args.owner.now c.loop-k.owner c.serve_next.new.owner inv.exchanges e
           c.serve_next.ensures.trusts inv.served served,
     )
 
@@ -55,6 +84,6 @@ loop-k-preserved g c =
       ready = c.serve_next.ensures.ready;
       trusts = λ trusts. inv.trusts (c.serve_next.ensures.trusts trusts);
       seen = sees_one_more g.C.Clients.Saw c.args.clients.now c.loop-k.clients c.serve_next.new.clients inv.exchanges e inv.seen seen;
-      served = serves_more g.A.Handler.rule g.A.Handler.Stands g.A.Handler.Trusts c.args.handler.now c.loop-k.handler c.serve_next.new.handler inv.exchanges e
+      served = serves_more (request_rule g.L.ReportedOwner.reports) g.L.Owner.Stands g.L.Owner.Trusts c.args.owner.now c.loop-k.owner c.serve_next.new.owner inv.exchanges e
           c.serve_next.ensures.trusts inv.served served;
     }

@@ -3,6 +3,7 @@ use Rattle.std.specs.Prelude.{flat_map}
 use Rattle.std.specs.List.{list_any}
 use Rattle.std.specs.Io.KnownBytes.{Appends}
 use Rattle.desk_types.specs.Wire.{inner_of, failures_of}
+use Rattle.http_answers.specs.Requests.{request_rule}
 use Rattle.desk_runs.specs.Clients.{Exchange, Sees, ends_of, events_in}
 use Rattle.desk_runs.specs.Connections.{is_faulty, lines_from}
 use Rattle.desk_runs.proofs.ListsAfter.{Serves}
@@ -15,8 +16,8 @@ invariant-loop-k g l = record {
   lines : Appends (g.W.Write.contents (inner_of l.fn.output)) (g.W.Write.contents (inner_of l.output)) (lines_from 1 (ends_of exchanges));
   failures : failures_of l.output ≡ failures_of l.fn.output;
   faulty : l.faulty ≡ list_any is_faulty (ends_of exchanges);
-  ready : g.A.Handler.Ready l.handler;
-  trusts : g.A.Handler.Trusts l.handler → g.A.Handler.Trusts l.fn.handler;
+  ready : g.L.Owner.Ready l.owner;
+  trusts : g.L.Owner.Trusts l.owner → g.L.Owner.Trusts l.fn.owner;
   seen : Sees g.C.Clients.Saw l.fn.clients l.clients (flat_map events_in exchanges);
-  served : Serves g.A.Handler.rule g.A.Handler.Stands g.A.Handler.Trusts l.fn.handler exchanges l.handler;
+  served : Serves (request_rule g.L.ReportedOwner.reports) g.L.Owner.Stands g.L.Owner.Trusts l.fn.owner exchanges l.owner;
 }

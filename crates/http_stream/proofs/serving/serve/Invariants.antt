@@ -17,6 +17,7 @@ invariant-portions g l = record {
   refused : l.served.refused ≤ l.served.answered;
   ready : g.A.Handler.Ready l.handler;
   trusts : g.A.Handler.Trusts l.handler → g.A.Handler.Trusts l.fn.handler;
+  held : g.A.Handler.held l.handler ≡ g.A.Handler.held l.fn.handler;
   portions : List Portion;
   gone : PortionsGone (g.R.Read.remaining (inner_of l.fn.input)) portions (source l.block (g.R.Read.remaining (inner_of l.input)));
   answered : Goes g.A.Handler.rule g.A.Handler.Stands g.A.Handler.Trusts portions l.fn.handler (g.W.Write.contents (inner_of l.fn.output)) none_served l.handler (g.W.Write.contents (inner_of l.output)) l.served;

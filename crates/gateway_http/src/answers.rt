@@ -1,0 +1,89 @@
+//! Answers to requests: those of `http_answers`, and reports.
+
+ghost use Rattle.std.specs.Prelude.{◌≡◌, IfOk};
+ghost use Rattle.http_routes.specs.Asked.{asked_of};
+ghost use Rattle.http_stream.specs.Answers.{response_told};
+ghost use Rattle.http_answers.specs.Gateways.{Meets};
+ghost use Rattle.http_answers.specs.Requests.{kind_of, none_told, report_told, outcome_leaving, asked_outcome};
+
+use crate::reported::ReportedOwner;
+use http_answers::{Unavailable, answer_counts, answer_fault, answer_message, answer_setup, json};
+use http_routes::{AskFault, Asked, Report, RouteTable};
+use http_stream::{Body, Kind, Response, Status};
+use report_texts::not_found_text;
+use std::alloc::Global;
+
+/// Answers a request, if there was memory for the routes.
+pub fn answer_request<L: ReportedOwner>(
+    alloc: Global,
+    owner: &mut L,
+    routes: Option<&RouteTable>,
+    method: &[u8],
+    target: &[u8],
+    body: &[u8],
+) -> Result<Response, Unavailable>
+    requires ready { L.Ready owner.old }
+    ensures ready { L.Ready owner.new }
+    ensures trusts { L.Trusts owner.new → L.Trusts owner.old }
+    ensures told { Meets L.Stands L.Trusts owner.old owner.new result
+        (λ G. asked_outcome L.reports G body.now (asked_of method.now target.now)) }
+{
+    let routes = routes.ok_or(Unavailable)?;
+    match routes.read_request(alloc, method, target) {
+        Ok(Asked::Message) => answer_message(alloc, owner, body),
+        Ok(
+            Asked::ImportSetup {
+                stamp,
+                product,
+                machine,
+            },
+        ) => answer_setup(alloc, owner, stamp, product, machine, body),
+        Ok(Asked::ImportCounts { stamp }) => answer_counts(alloc, owner, stamp, body),
+        Ok(Asked::Report(report)) => answer_report(alloc, owner, report),
+        Err(AskFault::NoMemory) => Err(Unavailable),
+        Err(fault) => answer_fault(alloc, fault),
+    }
+}
+
+fn answer_report<L: ReportedOwner>(
+    alloc: Global,
+    owner: &mut L,
+    report: Report,
+) -> Result<Response, Unavailable>
+    requires ready { L.Ready owner.old }
+    ensures ready { L.Ready owner.new }
+    ensures trusts { L.Trusts owner.new → L.Trusts owner.old }
+    ensures told { Meets L.Stands L.Trusts owner.old owner.new result
+        (λ G. outcome_leaving G (report_told report (L.reports report G.history))) }
+{
+    match owner.report(alloc, report)? {
+        Some(text) => Ok(Response {
+            status: Status::Ok,
+            kind: Kind::Csv,
+            body: Body::Made(text),
+        }),
+        None => Ok(answer_none(alloc, kind_of(report))?),
+    }
+}
+
+fn answer_none(alloc: Global, about: Option<report_texts::Kind>) -> Result<Response, Unavailable>
+    ensures { IfOk result (λ response. response_told response ≡ none_told about) }
+{
+    match about {
+        Some(kind) => Ok(json(Status::NotFound, not_found_text(alloc, kind)?)),
+        None => Err(Unavailable),
+    }
+}
+
+fn kind_of(report: Report) -> Option<report_texts::Kind>
+    ensures { result ≡ kind_of report }
+{
+    match report {
+        Report::BoardTrace { .. } => Some(report_texts::Kind::Board),
+        Report::LotTrace { .. } => Some(report_texts::Kind::Lot),
+        Report::ReelCard { .. } => Some(report_texts::Kind::Reel),
+        Report::SlotList { .. } => Some(report_texts::Kind::Machine),
+        Report::KitList { .. } => Some(report_texts::Kind::Sheet),
+        Report::OverdueList => None,
+    }
+}

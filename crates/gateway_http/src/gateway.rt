@@ -1,0 +1,113 @@
+//! The gateway: it serves connections and answers questions by an owner that it borrows.
+
+ghost use Rattle.std.specs.Prelude.{◌≡◌, true, is_some};
+ghost use Rattle.desk_types.specs.Wire.{inner_of};
+ghost use Rattle.desk_answers.specs.Ledger.{Ledger, ForLists};
+ghost use Rattle.served.specs.Owners.{StaysReady};
+ghost use Rattle.served.specs.Shown.{CanCountRun, CountsRun};
+ghost use Rattle.http_stream.specs.Answers.{response_told};
+ghost use Rattle.http_stream.specs.Stream.{AnswersConnection};
+ghost use Rattle.http_answers.specs.Gateways.{AnswersGet};
+ghost use Rattle.http_answers.specs.Requests.{request_rule};
+
+use crate::answers::answer_request;
+use crate::reported::ReportedOwner;
+use desk_types::Wire;
+use http_answers::Unavailable;
+use http_routes::RouteTable;
+use http_stream::{Handler, Response};
+use served::{ServeFault, Served};
+use std::alloc::Global;
+use std::io::{Read, Write};
+
+/// An owner with the routes of a connection, which its first request makes. If memory for them is refused, the next
+/// request tries again.
+struct Gateway<'a, L> {
+    owner: &'a mut L,
+    routes: &'a mut Option<RouteTable>,
+}
+
+/// It answers by the gateway's rule, with its owner's reports.
+impl<'a, L: ReportedOwner> Handler for Gateway<'a, L> {
+    ghost use Rattle.std.specs.Prelude.{◌≡◌};
+    ghost use Rattle.http_answers.specs.Requests.{request_rule};
+
+    ghost rule = { request_rule L.reports };
+
+    ghost Stands = { λ gateway G. L.Stands gateway.owner.now G };
+
+    ghost Ready = { λ gateway. L.Ready gateway.owner.now };
+
+    ghost Trusts = { λ gateway. L.Trusts gateway.owner.now };
+
+    ghost held = { λ gateway. gateway.owner.ghost_name };
+
+    fn handle(&mut self, alloc: Global, method: &[u8], target: &[u8], body: &[u8]) -> Response {
+        make_missing(alloc, self.routes);
+        match answer_request(
+            alloc,
+            self.owner,
+            self.routes.as_ref(),
+            method,
+            target,
+            body,
+        ) {
+            Ok(response) => response,
+            Err(Unavailable) => Response::unavailable(),
+        }
+    }
+}
+
+fn make_missing(alloc: Global, routes: &mut Option<RouteTable>)
+    ensures { is_some routes.old ≡ true → routes.new ≡ routes.old }
+{
+    if routes.is_none() {
+        *routes = RouteTable::new(alloc).ok();
+    }
+}
+
+/// Serves a connection by the owner, as `http_stream` does by a handler.
+pub fn serve<R: Read, W: Write, L: ReportedOwner>(
+    alloc: Global,
+    input: &mut Wire<R>,
+    output: &mut Wire<W>,
+    owner: &mut L,
+) -> Result<Served, ServeFault>
+    requires counts { CanCountRun input.old output.old }
+    requires ready { L.Ready owner.old }
+    ensures stays { StaysReady L.Ready L.Trusts owner.old owner.new }
+    ensures answers { ForLists L.Stands L.Trusts owner.old owner.new
+        (AnswersConnection (request_rule L.reports) (R.remaining (inner_of input.old))
+        (R.remaining (inner_of input.new)) (W.contents (inner_of output.old))
+        (W.contents (inner_of output.new)) result) }
+    ensures counts { CountsRun result input.old input.new output.old output.new }
+{
+    let mut routes = None;
+    let mut gateway = Gateway {
+        owner,
+        routes: &mut routes,
+    };
+    let ended = http_stream::serve(alloc, input, output, &mut gateway);
+    let Gateway {
+        owner: _,
+        routes: _,
+    } = gateway;
+    ended
+}
+
+/// Answers a GET of this target, possibly with Unavailable. The history is unchanged.
+pub fn ask<L: ReportedOwner>(alloc: Global, target: &[u8], owner: &mut L) -> Response
+    requires ready { L.Ready owner.old }
+    ensures ready { L.Ready owner.new }
+    ensures trusts { L.Trusts owner.new → L.Trusts owner.old }
+    ensures told { (G : Ledger) → L.Stands owner.old G → L.Trusts owner.new
+        → AnswersGet L.reports G target.now (response_told result) }
+    ensures stands { (G : Ledger) → L.Stands owner.old G → L.Trusts owner.new
+        → L.Stands owner.new G }
+{
+    let routes = RouteTable::new(alloc).ok();
+    match answer_request(alloc, owner, routes.as_ref(), b"GET", target, &[]) {
+        Ok(response) => response,
+        Err(Unavailable) => Response::unavailable(),
+    }
+}
