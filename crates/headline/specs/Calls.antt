@@ -18,7 +18,7 @@ use Rattle.http_stream.specs.Stream as requests
 use Rattle.http_stream.specs.Stream.{Rule}
 use Rattle.http_answers.specs.Gateways.{AnswersGet}
 use Rattle.http_answers.specs.Requests.{Reports, request_rule}
-use Rattle.http_answers.specs.declared.reported.Unavailable.{Unavailable}
+use Rattle.http_answers.specs.declared.unavailable.Unavailable.{Unavailable}
 
 -- The end of a feed or connection: the counts of answers, and the fault, if any.
 abbrev pub Ended : Type 0
