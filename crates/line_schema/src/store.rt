@@ -132,15 +132,23 @@ impl<S: Alter, D: KeepsRows + Drop> LineStore<S, D> {
     pub fn into_connection(self) -> Connection<S>
         ensures { result ≡ conn_of self }
     {
+        let (conn, _desk) = self.into_parts();
+        conn
+    }
+
+    /// Returns the connection, and the desk if it is loaded. Takes no memory.
+    pub fn into_parts(self) -> (Connection<S>, Option<D>)
+        ensures { result ≡ (conn_of self, desk_of self) }
+    {
         let LineStore {
             alloc: _,
             conn,
-            desk: _desk,
+            desk,
             lists: _lists,
             count: _,
             greatest: _,
         } = self;
-        conn
+        (conn, desk)
     }
 
     /// Returns the number of accepted commands. Takes no memory.

@@ -105,9 +105,14 @@ told-all : {X : Type 0} (b : Bool) (xs : List X) → (b ≡ false → xs ≡ [])
 told-all true xs none = refl
 told-all false xs none = sym (none refl)
 
+-- A lot that was not received is on no board.
+pub names-told : (H : History) (lot : Name) → IsJudged Two H → unwrap_or (lot_board_names H lot) [] ≡ boards_of H lot
+names-told H lot judged =
+    told-all (is_lot H lot) (boards_of H lot) (λ no. ap (λ ps. set_of (map (λ (p : Placement). p.board) ps)) (none-named H judged (λ p. p.lot) (is_lot H) (λ p right. (known H judged p right).1) lot no))
+
 pub told-converse : (H : History) (board lot : Name) → IsJudged Two H → AreConverse board (board_trace H board) lot (lot_board_names H lot)
 told-converse H board lot judged =
     rw (
       told-all (is_board H board) (pieces_on H board) (λ no. none-named H judged (λ p. p.board) (is_board H) (λ p right. (known H judged p right).0) board no),
-      told-all (is_lot H lot) (boards_of H lot) (λ no. ap (λ ps. set_of (map (λ (p : Placement). p.board) ps)) (none-named H judged (λ p. p.lot) (is_lot H) (λ p right. (known H judged p right).1) lot no)),
+      names-told H lot judged,
     ) (all-converse H board lot)

@@ -1,0 +1,45 @@
+//! The laws of a recall over a chain. They are for proofs, and do nothing when they run.
+
+ghost use Rattle.std.specs.Prelude.{◌≡◌, ◌↔◌, ◌+◌, ◌<◌, List, ◌∷◌, All, Contains, map};
+ghost use Rattle.desk_types.specs.Id.{Name};
+ghost use Rattle.desk_types.specs.History.{History, now_of, desk_minute};
+ghost use Rattle.desk_types.specs.Pieces.{left_of, found_of, placed_of, scrapped_of};
+ghost use Rattle.desk_types.specs.Placements.{boards_of};
+ghost use Rattle.alike.specs.Chain.{DeskFile, IsChain, Carries, boards_over, new_in};
+ghost use Rattle.chain_check.specs.declared.recall.Found.{Found};
+ghost use Rattle.chain_check.specs.Counted.{Moves};
+ghost use Rattle.chain_check.specs.Recalled.{found_over};
+
+/// What was found over a chain is the recall over it: a board is named by some file exactly if it is among the boards of
+/// the lot over all files. Any begins by which the same whole histories are a chain give the same recall, so no fault in
+/// where a begin is said to end can lose a board.
+pub fn recalls_find_all_boards()
+    ensures all { (files : List DeskFile) (lot board : Name) → IsChain files
+        → Contains (boards_over files lot) board
+        ↔ Contains (map (λ (f : Found). f.name) (found_over files (λ H. boards_of H lot))) board }
+    ensures any_begin { (files others : List DeskFile) (lot board : Name) → IsChain files
+        → IsChain others
+        → map (λ (f : DeskFile). f.whole) files ≡ map (λ (f : DeskFile). f.whole) others
+        → Contains (boards_over files lot) board ↔ Contains (boards_over others lot) board }
+{}
+
+/// Which files can't come before a file of a chain in place of the one that does. Two histories that the same begin
+/// carries on have the same minute and the same pieces left. So no older file can, if the clock of the file between moved
+/// on; nor the file itself, if its own did; nor a copy of the one before with an earlier minute. If a file can be left out,
+/// then all that it placed or scrapped of each reel was received or found in it: so none that placed a carried reel can.
+pub fn gaps_are_refused()
+    ensures same { (G G' B : History) → Carries G B → Carries G' B
+        → (desk_minute G ≡ desk_minute G')
+        × ((reel : Name) → left_of G reel ≡ left_of G' reel) }
+    ensures gap { (file before : DeskFile) (older : List DeskFile)
+        → IsChain (file ∷ before ∷ older) → Moves before
+        → All (λ (other : DeskFile). Carries other.whole file.begun → ⊥) older }
+    ensures twice { (file : DeskFile) → Moves file → Carries file.whole file.begun → ⊥ }
+    ensures stale { (file before : DeskFile) (older : List DeskFile) (copy : History)
+        → IsChain (file ∷ before ∷ older) → now_of copy < now_of before.whole
+        → Carries copy file.begun → ⊥ }
+    ensures used_up { (file between : DeskFile) (older : List DeskFile) (reel : Name)
+        → IsChain (file ∷ between ∷ older) → IsChain (file ∷ older)
+        → new_in between reel + found_of between.whole reel
+        ≡ placed_of between.whole reel + scrapped_of between.whole reel }
+{}

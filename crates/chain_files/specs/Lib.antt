@@ -1,0 +1,5 @@
+pub mod Answer
+pub mod Files
+pub mod Stops
+pub mod Whole
+pub mod Words

@@ -1,0 +1,78 @@
+-- The effect of a run of the program.
+use Rattle.std.specs.Prelude.{◌≡◌, ◌⊎◌, ℕ, Bool, Option, Some, None, List, [], ◌∷◌, ◌++◌, length, codes}
+use Rattle.std.specs.Io.KnownBytes.{Appends}
+use Rattle.sqlite_disk.specs.declared.Disk as disk
+use Rattle.sqlite_disk.specs.declared.Files.{Files}
+use Rattle.sqlite_wal.specs.Recovery.{Image}
+use Rattle.desk_types.specs.declared.wire.Wire.{Wire}
+use Rattle.desk_types.specs.Wire.{inner_of}
+use Rattle.desk_runs.specs.Told.{unavailable_line, TellsLine}
+use Rattle.line_prefix.specs.declared.looking.Question.{Question}
+use Rattle.alike.specs.Chain.{DeskFile, IsChain}
+use Rattle.chain_check.specs.declared.recall.Recall.{Recall}
+use Rattle.chain_files.specs.declared.chain.Fault.{Fault}
+use Rattle.chain_files.specs.Answer.{answer_over, rows_text}
+use Rattle.chain_files.specs.Files.{AreHonest, HoldEach, IsStop, oldest_first}
+use Rattle.chain_files.specs.Stops.{status_of, stop_line}
+use Rattle.chain_files.specs.Words.{question_words, middle_words}
+
+-- The text of a recall.
+abbrev pub recall_text : Question → List (List ℕ) → Option Recall → List ℕ
+recall_text question paths None = rows_text question paths [] []
+recall_text question paths (Some recall) =
+    rows_text question paths recall.files.items recall.found.items
+
+-- The files of these paths held, and still hold, lawful histories that are a chain, and this is the answer over them.
+pub record IsAnswer {D : Type 0} (g : disk.Ghosts D) (image : ℕ → Image) (closed : List (Files D))
+    (question : Question) (paths : List (List ℕ)) (text : List ℕ) : Type 0 where
+  pub files : List DeskFile
+  pub count : length files ≡ length paths
+  pub chain : IsChain files
+  pub newest_first : List (Files D)
+  pub order : closed ≡ oldest_first newest_first
+  pub held : HoldEach g image newest_first files
+  pub answer : text ≡ answer_over question paths files
+
+-- This text was written. If no disk lied, it is the answer.
+abbrev pub Answers : {D W : Type 0} → disk.Ghosts D → (ℕ → Image) → List (Files D) → Question
+    → List (List ℕ) → (W → Option (List ℕ)) → Wire W → Wire W → Type 0
+Answers g image closed question paths writes output output' = (text : List ℕ)
+    × Appends (writes (inner_of output)) (writes (inner_of output')) text
+    × (AreHonest g image closed → IsAnswer g image closed question paths text)
+
+-- The words ask this of these files.
+abbrev pub AsksOf : List (List ℕ) → Question → List (List ℕ) → Type 0
+AsksOf words question paths =
+    (m : Bool) × (words ≡ question_words question ++ middle_words m ++ paths)
+
+-- The words ask for help or the version.
+abbrev pub AsksForText : List (List ℕ) → Type 0
+AsksForText words = (rest : List (List ℕ))
+    × ((words ≡ codes "--help" ∷ rest) ⊎ (words ≡ codes "--version" ∷ rest))
+
+-- Status 0: the answer was written, or a text that was asked for.
+abbrev pub Done : {D W : Type 0} → disk.Ghosts D → (ℕ → Image) → List (Files D) → List (List ℕ)
+    → (W → Option (List ℕ)) → Wire W → Wire W → Type 0
+Done g image closed words writes output output' =
+    ((question : Question) × (paths : List (List ℕ)) × AsksOf words question paths
+    × Answers g image closed question paths writes output output')
+    ⊎ AsksForText words
+
+-- Status 1, 3 or 5: there is no answer.
+abbrev pub IsStopped : ℕ → Type 0
+IsStopped status = (status ≡ 1) ⊎ (status ≡ 3) ⊎ (status ≡ 5)
+
+-- Standard error names the first file at fault, and what is wrong with it. Or memory was refused.
+abbrev pub StopsAt : {D E : Type 0} → disk.Ghosts D → (ℕ → Image) → List (Files D) → Question
+    → List (List ℕ) → (E → Option (List ℕ)) → Wire E → ℕ → Type 0
+StopsAt {E = E} g image closed question paths writes errors' status =
+    (errors : Wire E) × (((place : ℕ) × (fault : Fault) × (status_of fault ≡ status)
+    × TellsLine writes errors errors' (stop_line paths place fault)
+    × (AreHonest g image closed → IsStop g image question place fault))
+    ⊎ ((status ≡ 3) × TellsLine writes errors errors' unavailable_line))
+
+abbrev pub Stops : {D E : Type 0} → disk.Ghosts D → (ℕ → Image) → List (Files D) → List (List ℕ)
+    → (E → Option (List ℕ)) → Wire E → ℕ → Type 0
+Stops g image closed words writes errors' status =
+    (question : Question) × (paths : List (List ℕ)) × AsksOf words question paths
+    × StopsAt g image closed question paths writes errors' status

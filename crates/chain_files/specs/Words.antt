@@ -1,0 +1,36 @@
+-- The meaning of a command line.
+use Rattle.std.specs.Prelude.{◌≡◌, ⊤, ℕ, Bool, true, false, List, [], ◌∷◌, ◌++◌, map, codes, string_bytes}
+use Rattle.line_prefix.specs.declared.looking.Question.{Question}
+use Rattle.line_prefix.specs.declared.looking.Question.TheVariants.{Chain, Lot}
+use Rattle.chain_files.specs.declared.words.Asked.{Asked}
+use Rattle.chain_files.specs.declared.words.Asked.TheVariants.{Recall, Help, Version, Bad}
+
+-- The words of a question.
+abbrev pub question_words : Question → List (List ℕ)
+question_words Chain = codes "check" ∷ []
+question_words (Lot lot) = codes "lot" ∷ lot ∷ []
+
+abbrev pub middle_words : Bool → List (List ℕ)
+middle_words true = codes "--from-middle" ∷ []
+middle_words false = []
+
+-- The words after a question: an option, and the files.
+abbrev pub AsksFiles : Question → List (List ℕ) → Asked → Type 0
+AsksFiles question words (Recall q from_middle files) =
+    (q ≡ question) × (words ≡ middle_words from_middle ++ map string_bytes files.now)
+AsksFiles question words Bad = ⊤
+AsksFiles question words _ = ⊥
+
+abbrev pub Recalls : Question → Bool → List (List ℕ) → Asked → Type 0
+Recalls question from_middle files (Recall q m fs) =
+    (q ≡ question) × (m ≡ from_middle) × (map string_bytes fs.now ≡ files)
+Recalls question from_middle files Bad = ⊤
+Recalls question from_middle files _ = ⊥
+
+-- The words ask to recall over these files. What is no question is bad.
+abbrev pub Asks : List (List ℕ) → Asked → Type 0
+Asks words (Recall question from_middle files) =
+    words ≡ question_words question ++ middle_words from_middle ++ map string_bytes files.now
+Asks words Help = (rest : List (List ℕ)) × (words ≡ codes "--help" ∷ rest)
+Asks words Version = (rest : List (List ℕ)) × (words ≡ codes "--version" ∷ rest)
+Asks words Bad = ⊤

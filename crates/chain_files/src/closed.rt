@@ -1,0 +1,38 @@
+//! The files that a run closed.
+
+ghost use Rattle.std.specs.Prelude.{◌≡◌, [], ◌∷◌, ◌++◌, OnOk};
+ghost use Rattle.chain_files.specs.Files.{files_in};
+
+use sqlite::Files;
+use sqlite_disk::Disk;
+use std::alloc::{AllocError, Global};
+
+/// Files that were closed, the oldest of the chain first. Clauses name them; a caller can only drop them.
+#[derive(Drop)]
+pub struct ClosedFiles<D: Disk + Drop> {
+    files: Vec<Files<D>>,
+}
+
+impl<D: Disk + Drop> ClosedFiles<D> {
+    /// None yet.
+    pub fn new(alloc: Global) -> ClosedFiles<D>
+        ensures { files_in result ≡ [] }
+    {
+        ClosedFiles {
+            files: Vec::new(alloc),
+        }
+    }
+}
+
+/// Adds the files of one place.
+pub fn add_closed<D: Disk + Drop>(
+    closed: &mut ClosedFiles<D>,
+    files: Files<D>,
+) -> Result<(), AllocError>
+    ensures { OnOk result (files_in closed.new ≡ files_in closed.old ++ files ∷ []) }
+{
+    match closed.files.push(files) {
+        Ok(()) => Ok(()),
+        Err(_) => Err(AllocError),
+    }
+}

@@ -1,0 +1,167 @@
+//! A whole run of the program, over any files and output.
+
+ghost use Rattle.std.specs.Prelude.{◌≡◌, ◌⊎◌, ◌≤◌, ◌^◌, ◌<◌, map, string_bytes};
+ghost use Rattle.std.specs.Io.KnownBytes.{Appends};
+ghost use Rattle.desk_types.specs.Wire.{inner_of, failures_of};
+ghost use Rattle.desk_runs.specs.Told.{unavailable_line, TellsLine};
+ghost use Rattle.desk_runs.specs.Wires.{HaveFewFailures};
+ghost use Rattle.chain_files.specs.Files.{all_at, files_in};
+ghost use Rattle.chain_files.specs.Stops.{status_of, stop_line};
+ghost use Rattle.chain_files.specs.Whole.{Answers, Done, IsStopped, Stops, StopsAt, recall_text};
+
+use crate::answer::{answer_text, path_at};
+use crate::chain::{Fault, Stopped, recall_files};
+use crate::closed::ClosedFiles;
+use crate::opener::Fresh;
+use crate::words::{Asked, HELP, VERSION, read_words};
+use chain_check::{Broken, Recall};
+use desk_runs::{Exit, send_text, tell, tell_line, unavailable};
+use desk_types::Wire;
+use line_prefix::Question;
+use served::send;
+use sqlite::FileFrom;
+use sqlite_disk::Disk;
+use std::alloc::Global;
+use std::io::Write;
+
+/// Runs the program with these arguments. Returns the exit status, and the files that it closed, which clauses name.
+pub fn program<T: Fresh, W: Write, E: Write>(
+    rt: &HostRuntime,
+    words: &[String],
+    output: &mut Wire<W>,
+    errors: &mut Wire<E>,
+) -> (u8, ClosedFiles<FileFrom<T>>)
+    requires few { HaveFewFailures output.old errors.old }
+    ensures status { result.0 ≤ 5 }
+    ensures done { result.0 ≡ 0
+        → Done ⟦<FileFrom<T> as Disk>⟧ (all_at T.Start) (files_in result.1)
+        (map string_bytes words.now) W.contents output.old output.new }
+    ensures stopped { IsStopped result.0
+        → (output.new ≡ output.old)
+        × Stops ⟦<FileFrom<T> as Disk>⟧ (all_at T.Start) (files_in result.1)
+        (map string_bytes words.now) E.contents errors.new result.0 }
+    ensures bad { result.0 ≡ 2 → output.new ≡ output.old }
+{
+    match read_words(words) {
+        Asked::Recall {
+            question,
+            from_middle,
+            files,
+        } => answer(rt, &question, from_middle, files, output, errors),
+        Asked::Help => (
+            send_text(HELP, output, errors),
+            ClosedFiles::new(rt.alloc()),
+        ),
+        Asked::Version => (
+            send_text(VERSION, output, errors),
+            ClosedFiles::new(rt.alloc()),
+        ),
+        Asked::Bad => {
+            tell(
+                errors,
+                "usage: tracedesk-chain check|lot NAME [--from-middle] FILE.., or --help\n",
+            );
+            (Exit::BadCommandLine as u8, ClosedFiles::new(rt.alloc()))
+        }
+    }
+}
+
+/// Recalls over the files, and prints the answer, or why there is none.
+fn answer<T: Fresh, W: Write, E: Write>(
+    rt: &HostRuntime,
+    question: &Question,
+    from_middle: bool,
+    paths: &[String],
+    output: &mut Wire<W>,
+    errors: &mut Wire<E>,
+) -> (u8, ClosedFiles<FileFrom<T>>)
+    requires few { HaveFewFailures output.old errors.old }
+    ensures status { (result.0 ≤ 1) ⊎ (3 ≤ result.0) × (result.0 ≤ 5) }
+    ensures done { result.0 ≡ 0
+        → Answers ⟦<FileFrom<T> as Disk>⟧ (all_at T.Start) (files_in result.1) question.now
+        (map string_bytes paths.now) W.contents output.old output.new }
+    ensures stopped { IsStopped result.0
+        → (output.new ≡ output.old)
+        × StopsAt ⟦<FileFrom<T> as Disk>⟧ (all_at T.Start) (files_in result.1) question.now
+        (map string_bytes paths.now) E.contents errors.new result.0 }
+{
+    let mut closed = ClosedFiles::new(rt.alloc());
+    match recall_files(rt, paths, question, from_middle, errors, &mut closed) {
+        Ok(recall) => {
+            let status = send_answer(rt.alloc(), question, paths, &recall, output, errors);
+            (status, closed)
+        }
+        Err(stopped) => {
+            let status = tell_stop(rt.alloc(), paths, &stopped, errors);
+            (status, closed)
+        }
+    }
+}
+
+/// Prints the answer.
+fn send_answer<W: Write, E: Write>(
+    alloc: Global,
+    question: &Question,
+    paths: &[String],
+    recall: &Option<Recall>,
+    output: &mut Wire<W>,
+    errors: &mut Wire<E>,
+) -> u8
+    requires few { HaveFewFailures output.old errors.old }
+    ensures status { (result ≡ 0) ⊎ (result ≡ 3) ⊎ (result ≡ 4) }
+    ensures done { result ≡ 0
+        → Appends (W.contents (inner_of output.old)) (W.contents (inner_of output.new))
+        (recall_text question.now (map string_bytes paths.now) recall.now) }
+    ensures untouched { result ≡ 3
+        → (output.new ≡ output.old)
+        × TellsLine E.contents errors.old errors.new unavailable_line }
+{
+    let text = match recall {
+        Some(recall) => answer_text(alloc, question, paths, recall.files(), recall.found()),
+        None => answer_text(alloc, question, paths, &[], &[]),
+    };
+    let Ok(text) = text else {
+        return unavailable(errors);
+    };
+    match send(output, text.as_slice()) {
+        Ok(()) => Exit::Done as u8,
+        Err(_) => {
+            tell_line(errors, "tracedesk: Write");
+            Exit::Failed as u8
+        }
+    }
+}
+
+/// Prints the first file at fault, and what is wrong with it. Returns the exit status.
+fn tell_stop<E: Write>(
+    alloc: Global,
+    paths: &[String],
+    stopped: &Stopped,
+    errors: &mut Wire<E>,
+) -> u8
+    requires error_failures { failures_of errors.old < 2 ^ 63 }
+    ensures { ((result ≡ status_of stopped.now.fault)
+        × TellsLine E.contents errors.old errors.new
+        (stop_line (map string_bytes paths.now) stopped.now.place stopped.now.fault))
+        ⊎ ((result ≡ 3) × TellsLine E.contents errors.old errors.new unavailable_line) }
+{
+    let path = path_at(paths, stopped.place);
+    match format!(in alloc; "tracedesk-chain: {path}: {}", stopped.fault) {
+        Ok(line) => {
+            tell_line(errors, line.as_str());
+            status_of(&stopped.fault)
+        }
+        Err(_) => unavailable(errors),
+    }
+}
+
+fn status_of(fault: &Fault) -> u8
+    ensures { result ≡ status_of fault.now }
+{
+    match fault {
+        Fault::Refused(_) => Exit::NoDesk as u8,
+        Fault::BegunFrom(_) => 5,
+        Fault::Broken(Broken::Differs(_)) => Exit::Refused as u8,
+        Fault::Broken(Broken::Unavailable) => Exit::NoDesk as u8,
+    }
+}
