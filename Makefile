@@ -1,7 +1,7 @@
 # `make` prints the rows of this file that have ##: each target, what it does, how long it takes on four cores, and what it
 # wants beside Python 3: rt is Rattle's kit, and the others are packages of Debian 12. A line of #: begins a group.
-# The program is that of PROGRAM=FILE, else crates/tracedesk/out/tracedesk as long as no source is newer; where neither is
-# there, it is proved and built first (dev/build).
+# The program is that of PROGRAM=FILE, else crates/tracedesk/out/tracedesk as long as no source is newer. Where neither is there,
+# make build and make test prove and build it, make demo runs it before its proof, and the others say so and end.
 .PHONY: help demo build day plant-recall test wrong-bodies faults send-test bridge-test station-test plant-test bench pictures dist
 row = sed -n 's/^\($(1)\):\( *\)\#\# /make \1\2/p; s/^\#: /\n/p' $(firstword $(MAKEFILE_LIST))
 say = @$(call row,$@) | grep make >&2

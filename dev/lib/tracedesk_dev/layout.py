@@ -75,6 +75,8 @@ def lay(base, program, alike, date, version):
             put(it, below / f"lib/{kind}.d/{it.stem}.conf")
     put(ROOT / "packaging/nginx.conf", base / "etc/nginx/sites-available/tracedesk")
     put(ROOT / "packaging/setup.json", base / "etc/tracedesk/station/setup.json")
+    (below / "lib/python3/dist-packages").mkdir(parents=True)
+    (below / "lib/python3/dist-packages/tracedesk.pth").write_text("/usr/bin/tracedesk-send\n")  # the package tracedesk is in that file
     documents(below / "share/doc/tracedesk")
     manual(below, date, version)
 

@@ -1,5 +1,5 @@
 """The program that the tools use: the file that PROGRAM in the environment names (so `make day PROGRAM=FILE`); without that,
-crates/tracedesk/out/tracedesk, where no file that it is built of is newer; else that is proved and built. Tools ask `to_use`.
+crates/tracedesk/out/tracedesk, where no file that it is built of is newer. Tools ask `to_use`, which proves nothing: dev/build does.
 """
 import os
 import pathlib
@@ -16,6 +16,8 @@ BUILT = CRATES / CRATE / "out" / CRATE
 # The second program, which compares two desk files.
 ALIKE = "tracedesk_alike"
 NAME = os.path.relpath(os.path.realpath(sys.argv[0]), ROOT)
+NONE = ("{}. `make build` proves and builds it, in some 35 minutes on four cores. To prove nothing, name a program that is there, as that of a "
+        "package: PROGRAM=/usr/bin/tracedesk; or call `make demo`, which runs it before its proof")
 NO_KIT = ("there is no rt, the command of Rattle's kit, which proves and builds. All but make build, test and wrong-bodies "
           "work without it on a program that is built: make day PROGRAM=FILE")
 # How long a line of code takes to be proved, on four cores: until this build has shown its own pace.
@@ -174,6 +176,9 @@ def to_use(named=None):
     """The path of the program: the named one, that of PROGRAM, or the repository's own."""
     named = named or os.environ.get("PROGRAM")
     if not named:
+        if not is_built():
+            there = BUILT.relative_to(ROOT)
+            stop(NONE.format(f"{there} is older than {newest().relative_to(ROOT)}" if can_run(BUILT) else f"there is no {there}"))
         return own()
     if not can_run(named):
         stop(f"{named} is {'not executable' if os.path.isfile(named) else 'not there'}: PROGRAM and --program name a program that is built")
@@ -182,7 +187,7 @@ def to_use(named=None):
 
 def offer(reader):
     """Adds --program to a tool's words; what is then asked for goes to `to_use`."""
-    reader.add_argument("--program", metavar="FILE", help="the program; else PROGRAM in the environment, else the repository's own, built where that is wanting")
+    reader.add_argument("--program", metavar="FILE", help="the program; else PROGRAM in the environment, else the repository's own, which make build proves and builds")
 
 
 class Ticks:
