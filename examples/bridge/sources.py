@@ -1,19 +1,30 @@
 """Where the messages of a bridge come from: a stream of lines, a file that may grow, or a broker."""
+import bz2
 import collections
 import contextlib
+import fnmatch
+import gzip
 import hashlib
 import json
+import lzma
 import os
+import re
+import shutil
+import stat
+import tempfile
 import time
 import zlib
 
-from tracedesk import console, spool as spools
+from tracedesk import SpoolError, console, spool as spools
 
 LOOK = 0.2  # seconds between two looks at what is followed
 PIECE = 1 << 16  # bytes that are read at a time, and more where a line is longer
 BEFORE = 4096  # bytes at the beginning of a file, and before a position, by which it is known again
 STAYS = 600.0  # seconds without a line more, after which nobody writes to a file that was moved away
-PACKED = (".gz", ".bz2", ".xz", ".zst")  # endings of files that are no lines any more
+PACKED = {".gz": gzip.open, ".bz2": bz2.open, ".xz": lzma.open, ".zst": None}  # endings of files that are no lines any more
+NOT_UNPACKED = OSError, EOFError, lzma.LZMAError
+KNOWN = 200  # rotated files that are remembered, besides those that are there
+SETTLES = 2.0  # seconds after a change of the folder, in which another one may have the same time
 UNFINISHED = 5.0  # seconds that the next file waits for the end of a line of such a file
 LONGEST = 1 << 26  # bytes of a message of a broker, once it is unpacked
 HEARTBEAT = 30  # seconds
@@ -39,21 +50,21 @@ class Opened:
     piece: other bytes there are other lines, which are read from the beginning."""
 
     def __init__(self, path, told=None):
-        self.file, self.at, self.head, self.last, self.rest, self.since = open(path, "rb", buffering=0), 0, b"", b"", b"", time.monotonic()
+        self.file, self.id = open_log(path)
+        self.at, self.head, self.last, self.rest, self.since = 0, b"", b"", b"", time.monotonic()
         self.taken = b""  # what was taken of a line that has no end
-        there = os.fstat(self.file.fileno())
-        self.id = there.st_dev, there.st_ino
+        self.packed = None  # by what the packed file is known again, once it is read
         if told:
             at = told["At"]
             self.at, self.head, self.last = at, os.pread(self.file.fileno(), min(at, BEFORE), 0), os.pread(self.file.fileno(), min(at, BEFORE), max(0, at - BEFORE))
 
     def told(self):
         """What is kept of it."""
-        return {"At": self.at, "Head": digest(self.head), "Before": digest(self.last), "Inode": self.id[1], "Time": os.fstat(self.file.fileno()).st_mtime_ns}
+        return {"At": self.at, "Head": digest(self.head), "Before": digest(self.last), "Inode": self.id[1]}
 
     def is_of(self, told):
         """Whether it is the file of which this was kept."""
-        return told["At"] > 0 and digest(self.last) == told["Before"] and digest(self.head) == told.get("Head", digest(self.head))
+        return told["At"] > 0 and digest(self.last) == told["Before"] and digest(self.head) == told["Head"]
 
     def next_lines(self):
         """The next whole lines, as bytes; they aren't counted as read yet."""
@@ -82,52 +93,145 @@ class Opened:
             self.at, self.last, self.since = self.at + len(lines), (self.last + lines)[-BEFORE:], time.monotonic()
 
 
-class Following:
-    """The file of a path, and those that were moved away from there and may still get lines, the oldest first."""
+def open_log(path):
+    """A file of lines, with the device and the inode of its path. What is packed is unpacked into a file without a name."""
+    file = open(path, "rb", buffering=0)
+    there = os.fstat(file.fileno())
+    if path.suffix in PACKED:
+        with file, contextlib.ExitStack() as kept:
+            lines = kept.enter_context(tempfile.TemporaryFile(buffering=0))
+            if PACKED[path.suffix] is None:
+                raise OSError(f"nothing here unpacks {path.suffix}")
+            shutil.copyfileobj(kept.enter_context(PACKED[path.suffix](file)), lines, 1 << 20)
+            kept.pop_all()
+        file = lines
+    return file, (there.st_dev, there.st_ino)
 
-    def __init__(self, bridge, path):
-        self.bridge, self.path, self.place, self.all = bridge, path, bridge.kept.spool.folder / ".position", {}
-        with contextlib.suppress(FileNotFoundError, ValueError):
-            self.all = json.loads(self.place.read_text())
-        told = self.all.get(str(path.absolute()), [])
-        told = told if isinstance(told, list) else [told]
-        self.files, self.time = [it for it in map(self.found, told) if it], max((it["Time"] for it in told if "Time" in it), default=None)
-        self.kept, self.is_told = None, False
+
+def head_of(path):
+    with open(path, "rb") as file:
+        return file.read(BEFORE)
+
+
+def identity(inode, head):
+    """By what a file is known again: its inode and its first bytes."""
+    return {"Head": digest(head), "Inode": inode, "Size": len(head)}
+
+
+def begins_so(head, known):
+    """Whether first bytes are those of a known file."""
+    return known["Size"] > 0 and known["Head"] == digest(head[: known["Size"]])
+
+
+def read_position(spool):
+    """How far the files of a spool were read, by their paths. Up to version 0.3.0 there was no list of known files."""
+    place = spool.folder / ".position"
+    try:
+        told = json.loads(place.read_text())
+        for mine in told.values():
+            files, known = (mine, []) if isinstance(mine, list) else (mine["Files"], mine["Known"])
+            if any(type(it[name]) is not kind for it in files for name, kind in (("At", int), ("Head", str), ("Before", str), ("Inode", int))) or \
+               any(type(it[name]) is not kind for it in known for name, kind in (("Head", str), ("Inode", int), ("Size", int))):
+                raise ValueError
+        return told
+    except FileNotFoundError:
+        return {}
+    except (ValueError, KeyError, TypeError, AttributeError):
+        raise SpoolError(f"{place} is damaged, and says no more how far files were read: give what wasn't read by standard input, and delete {place}. "
+                         "Then a file is read from its beginning, and rotated ones aren't read") from None
+
+
+class Following:
+    """The file of a path, and those that were moved away from there and may still get lines, the oldest first.
+
+    Each rotated file of its folder is known or new. A new one is read, whenever it came and whatever the clock says of it. At the first
+    run with a spool all that are there are known, and aren't read."""
+
+    def __init__(self, bridge, path, position, rotated=None, follows=False):
+        self.bridge, self.path, self.all, self.follows = bridge, path.absolute(), position, follows
+        self.rotated = re.compile(fnmatch.translate(rotated) if rotated else usual_names(path))
+        mine = position.get(str(self.path))
+        self.known = mine["Known"] if isinstance(mine, dict) else [
+            identity(there.st_ino, head_of(it)) for it, there in self.candidates() if mine is None or there.st_mtime_ns < max((file.get("Time", 0) for file in mine), default=0)]
+        self.files = [it for it in map(self.found, mine["Files"] if isinstance(mine, dict) else mine or ()) if it]
+        self.kept, self.is_told, self.folder, self.changed, self.unreadable = None, False, None, 0.0, {}
+        self.keep()
+
+    def gap(self, why):
+        self.bridge.counts["gaps"] += 1
+        console.tell(f"a gap: {why}")
+
+    def candidates(self):
+        """The rotated files of the folder that have something, with what the system says of them, the oldest first."""
+        found = []
+        for path in self.path.parent.iterdir():
+            with contextlib.suppress(FileNotFoundError):
+                there = path.stat()
+                if path.name != self.path.name and self.rotated.fullmatch(path.name) and stat.S_ISREG(there.st_mode) and there.st_size:
+                    found.append((path, there))
+        return sorted(found, key=lambda it: (it[1].st_mtime_ns, it[0].name))
 
     def found(self, told):
-        """The file of which this was kept: here, or under a new name in the same folder."""
-        there = [self.path, *sorted(it for it in self.path.absolute().parent.iterdir() if it.name != self.path.name)]
-        files = []
-        for path in there:
-            with contextlib.suppress(OSError):
-                if path.is_file() and path.stat().st_size >= told["At"]:
+        """The file of which this was kept: here, or under a new name in the same folder, and packed where it is there in no other way."""
+        files, there = [], [self.path, *sorted(it for it in self.path.parent.iterdir() if it != self.path)]
+        for path in sorted(there, key=lambda it: it.suffix in PACKED):
+            with contextlib.suppress(*NOT_UNPACKED):
+                if path.is_file() and not (files and path.suffix in PACKED) and (path.suffix in PACKED or path.stat().st_size >= told["At"]):
                     files.append(Opened(path, told))
-        files.sort(key=lambda it: it.id[1] != told.get("Inode"))
-        same = next((it for it in files if it.is_of(told) or told["At"] == 0 and it.id[1] == told.get("Inode")), None)
-        for it in files:
-            if it is not same:
-                it.file.close()
-        if same is None and told["At"]:
-            console.tell(f"{self.path}: the file that was read to byte {told['At']} is not there any more. What it had is given by its new name")
-        return same
+                    if not (files[-1].is_of(told) or told["At"] == 0 and files[-1].id[1] == told["Inode"]):
+                        files.pop().file.close()
+        files.sort(key=lambda it: it.id[1] != told["Inode"])
+        for it in files[1:]:
+            it.file.close()
+        if not files and told["At"]:
+            self.gap(f"{self.path}: the file that was read to byte {told['At']} is not there any more. What it had is given by its new name")
+        return files[0] if files else None
 
     def look_for_another(self):
         """Opens the file of the path, if that is another one than before, after those that came and were moved away meanwhile."""
-        there = os.stat(self.path)
-        if not self.files or (there.st_dev, there.st_ino) != self.files[-1].id:
+        there, folder = os.stat(self.path), os.stat(self.path.parent).st_mtime_ns
+        if folder != self.folder:
+            self.folder, self.changed = folder, time.monotonic()
+        is_same = bool(self.files) and (there.st_dev, there.st_ino) == self.files[-1].id
+        if not is_same or self.unreadable or time.monotonic() - self.changed < SETTLES:
             same = next((it for it in self.files if it.id == (there.st_dev, there.st_ino)), None)
-            self.files = [it for it in self.files if it is not same] + self.missed(there) + [same or Opened(self.path)]
+            self.files = [it for it in self.files if it is not same] + self.new_ones(there) + [same or Opened(self.path)]
 
-    def missed(self, newest):
-        """Files that were never seen under the path's own name: those of its folder that begin with that name, and have been written to
-        since the last one that was read."""
-        known, found = {it.id[1] for it in self.files} | {newest.st_ino}, []
-        for path in self.path.absolute().parent.iterdir() if self.time is not None else ():
-            with contextlib.suppress(OSError):
-                it = path.stat()
-                if path.name.startswith(self.path.name) and path.is_file() and path.suffix not in PACKED and it.st_ino not in known and it.st_mtime_ns >= self.time:
-                    found.append((it.st_mtime_ns, path))
-        return [Opened(path) for _, path in sorted(found)]
+    def new_ones(self, newest):
+        """The rotated files that aren't known, each opened."""
+        found, open_ones, candidates = [], {it.id[1] for it in self.files} | {newest.st_ino}, self.candidates()
+        for path, there in candidates:
+            try:
+                head = head_of(path)
+                if there.st_ino not in open_ones and not any(it["Inode"] == there.st_ino and begins_so(head, it) for it in self.known):
+                    new, mine = self.opened(path), identity(there.st_ino, head)
+                    if new:
+                        new.packed = mine if path.suffix in PACKED else None
+                        found.append(new)
+                    else:
+                        self.known.append(mine)
+            except NOT_UNPACKED as fault:
+                if self.follows and time.monotonic() - self.unreadable.setdefault(path, time.monotonic()) < UNFINISHED:
+                    continue
+                self.gap(f"{path} can't be read: {fault or repr(fault)}. What it had is given by its name, once it is mended")
+                self.known.append(identity(there.st_ino, head))
+            self.unreadable.pop(path, None)
+        del self.known[: -(KNOWN + 4 * len(candidates))]
+        return found
+
+    def opened(self, path):
+        """A new file, opened; from how far that was read where it is a copy of one that is being read, and none where it is one of a known one."""
+        for old in [it.told() for it in self.files]:
+            it = Opened(path, old)
+            if it.is_of(old):
+                return it
+            it.file.close()
+        it = Opened(path)
+        head, size = os.pread(it.file.fileno(), BEFORE, 0), os.fstat(it.file.fileno()).st_size
+        if any(begins_so(head, known) and known["Size"] in (BEFORE, size) for known in self.known):
+            it.file.close()
+            return None
+        return it
 
     def take_data(self, data):
         for line in data.split(b"\n"):
@@ -166,20 +270,31 @@ class Following:
         return any(pieces)
 
     def keep(self):
-        """Keeps how far the files were read."""
+        """Keeps how far the files were read, and which are known."""
         told = [it.told() for it in self.files]
         if told != self.kept:
-            self.all[str(self.path.absolute())] = told
-            spools.write_synced(self.place, json.dumps(self.all).encode())
-            spools.sync_folder(self.place.parent)
-            self.kept, self.time = told, max(it["Time"] for it in told)
+            heads = {it.id[1]: it.head for it in self.files if it.at}
+            self.known = [it for it in self.known if it["Inode"] not in heads or not begins_so(heads[it["Inode"]], it)] + [identity(*it) for it in heads.items()]
+            self.known += [it.packed for it in self.files if it.at and it.packed and it.packed not in self.known]
+            self.all[str(self.path)] = {"Files": told, "Known": self.known}
+            place = self.bridge.kept.spool.folder / ".position"
+            spools.write_synced(place, json.dumps(self.all).encode())
+            spools.sync_folder(place.parent)
+            self.kept = told
 
 
-def take_file(bridge, path, follows):
+def usual_names(path):
+    """Of rotated files: the name with more behind it, or with digits and signs of a time before it or before its ending."""
+    time_ = r"[\d._:TZ-]*"
+    return f"{re.escape(path.name)}.+|{time_}{re.escape(path.stem)}{time_}{re.escape(path.suffix)}(?:{'|'.join(map(re.escape, PACKED))})?"
+
+
+def take_file(bridge, path, follows, rotated=None):
     """Takes a file; one that is followed, and then those that take its place, without an end."""
     if not follows:
         path.stat()
-    following = console.patiently(lambda: Following(bridge, path))
+    position = read_position(bridge.kept.spool)
+    following = console.patiently(lambda: Following(bridge, path, position, rotated, follows))
     while True:
         if not console.patiently(following.look):
             if not follows:
@@ -209,11 +324,14 @@ def unpacked(message):
     if not isinstance(body, (str, bytes, memoryview, bytearray)):
         return json.dumps(plain(body)).encode()
     data = body.encode(errors="surrogatepass") if isinstance(body, str) else bytes(body)
-    if data[:2] == b"\x1f\x8b":
-        packed = zlib.decompressobj(31)
-        with contextlib.suppress(zlib.error):
-            text = packed.decompress(data, LONGEST)
-            return text if packed.eof else data
+    text, rest = b"", data
+    with contextlib.suppress(zlib.error):
+        while rest[:2] == b"\x1f\x8b" and len(text) < LONGEST:
+            packed = zlib.decompressobj(31)
+            text += packed.decompress(rest, LONGEST - len(text))
+            rest = packed.unused_data if packed.eof else rest[:1]  # one that isn't whole is none
+            if not rest.strip(b"\0"):
+                return text
     return data
 
 

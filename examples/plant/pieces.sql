@@ -4,17 +4,19 @@
 \set ON_ERROR_STOP on
 \set QUIET on
 SET search_path TO plant;
+BEGIN ISOLATION LEVEL REPEATABLE READ READ ONLY;
 \if :{?lot}
-    SELECT board, designator, part, lot, reel, machine, slot, overdue, spelled(minute) AS minute, line, file FROM piece
-    WHERE lot = :'lot' ORDER BY board COLLATE "C", line COLLATE "C", designator COLLATE "C", as_of;
+    SELECT board, designator, part, lot, reel, machine, slot, overdue, spelled(minute) AS minute, line, file FROM pieces_of('lot', :'lot')
+    ORDER BY board COLLATE "C", line COLLATE "C", designator COLLATE "C", as_of;
     SELECT EXISTS (SELECT FROM reel WHERE lot = :'lot') AS known \gset
 \elif :{?reel}
-    SELECT board, designator, part, lot, reel, machine, slot, overdue, spelled(minute) AS minute, line, file FROM piece
-    WHERE reel = :'reel' ORDER BY board COLLATE "C", line COLLATE "C", designator COLLATE "C", as_of;
+    SELECT board, designator, part, lot, reel, machine, slot, overdue, spelled(minute) AS minute, line, file FROM pieces_of('reel', :'reel')
+    ORDER BY board COLLATE "C", line COLLATE "C", designator COLLATE "C", as_of;
     SELECT EXISTS (SELECT FROM reel WHERE reel = :'reel') AS known \gset
 \else
-    SELECT board, designator, part, lot, reel, machine, slot, overdue, spelled(minute) AS minute, line, file FROM board_piece
-    WHERE board = :'board' ORDER BY line COLLATE "C", designator COLLATE "C", as_of;
+    SELECT board, designator, part, lot, reel, machine, slot, overdue, spelled(minute) AS minute, line, file FROM pieces_of('board', :'board')
+    ORDER BY line COLLATE "C", designator COLLATE "C", as_of;
     SELECT EXISTS (SELECT FROM start WHERE board = :'board') AS known \gset
 \endif
 \ir whole.sql
+COMMIT;

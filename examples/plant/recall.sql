@@ -4,9 +4,10 @@
 \set ON_ERROR_STOP on
 \set QUIET on
 SET search_path TO plant;
+BEGIN ISOLATION LEVEL REPEATABLE READ READ ONLY;
 WITH held AS (
     SELECT board, string_agg(DISTINCT line, ' ' ORDER BY line) AS lines, count(*) AS pieces, count(DISTINCT id) AS files, max(overdue) AS overdue
-    FROM piece WHERE lot = :'lot' GROUP BY board
+    FROM pieces_of('lot', :'lot') GROUP BY board
 ), last AS (
     SELECT DISTINCT ON (board) board, line, machine, minute
     FROM start JOIN held USING (board) JOIN file ON file.id = start.file ORDER BY board, minute DESC, line, number DESC
@@ -15,3 +16,4 @@ SELECT board, lines, files, pieces, overdue, line AS last_line, machine AS last_
 FROM held JOIN last USING (board) ORDER BY board COLLATE "C";
 SELECT EXISTS (SELECT FROM reel WHERE lot = :'lot') AS known \gset
 \ir whole.sql
+COMMIT;

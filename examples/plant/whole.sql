@@ -1,4 +1,4 @@
--- Tells of the queries before it, on standard error, what they could not ask; with status 3 where a file is missing or was dropped,
+-- Says, on standard error, what the queries of the same transaction could not ask; with status 3 where a file is missing or was dropped,
 -- or where no file knows the name.
 SELECT count(*) > 0 AS is_missing, string_agg(format('%s %s', line, name), ', ' ORDER BY line, name) AS missing FROM missing \gset
 SELECT count(*) > 0 AS is_dropped, count(*) AS dropped, spelled(max(last_minute)) AS upto FROM file WHERE dropped \gset

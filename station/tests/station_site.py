@@ -67,7 +67,7 @@ class Site:
         self.last_look = lambda operator: None  # what an operator looks at before the browser is closed
         self.agreed = 0
         self.drained = self.room / "drained"
-        for it in ("etc/station", "share", "log", "temporary"):
+        for it in ("etc/station", "share", "log", "temporary", "line/untraced", "line/status"):
             (self.room / it).mkdir(parents=True)
         (self.room / "share/station").symlink_to(ROOT / "station")
         self.set_up(SETUP)
@@ -99,7 +99,7 @@ class Site:
         self.sign("clients", "trace desk clients")
         for name in CERTIFICATES:
             self.sign(name, name, "clients")
-        (at / "certificates.conf").write_text("".join(f'"CN={name}" sender;\n' for name, may in CERTIFICATES.items() if may == "sender"))
+        (at / "certificates.conf").write_text("".join(f'"~^CN={name}$" sender;\n' for name, may in CERTIFICATES.items() if may == "sender"))
         lines = {name: f"{name}:{subprocess.run(['openssl', 'passwd', '-6', name], check=True, capture_output=True, text=True).stdout}" for name in PEOPLE}
         (at / "readers").write_text("".join(lines.values()))
         (at / "senders").write_text("".join(line for name, line in lines.items() if PEOPLE[name] == "senders"))
@@ -114,7 +114,7 @@ class Site:
     def write_proxy(self):
         """The packaged configuration, with the paths and the ports of this folder."""
         text = (ROOT / "packaging/nginx.conf").read_text(encoding="utf-8")
-        for old, new in (("/etc/tracedesk", self.room / "etc"), ("/usr/share/tracedesk", self.room / "share"), ("/var/lib/nginx/tracedesk-station", self.room / "cache"),
+        for old, new in (("/etc/tracedesk", self.room / "etc"), ("/usr/share/tracedesk", self.room / "share"), ("/var/lib/nginx/tracedesk-station", self.room / "cache"), ("/var/lib/tracedesk", self.room / "line"),
                          ("/run/tracedesk-drained", self.drained), ("/var/log/nginx", self.room / "log"),
                          ("listen 443 ssl", f"listen 127.0.0.1:{self.port} ssl"), ("127.0.0.1:8080", f"127.0.0.1:{self.desk_port}"), ("127.0.0.1:8081", f"127.0.0.1:{self.inner_port}")):
             if old not in text:

@@ -475,7 +475,7 @@ class Run:
         if self.log is None and not self.world.log.exists():
             return True
         with contextlib.suppress(OSError, ValueError, LookupError):
-            told = json.loads((self.world.room / "spool/.position").read_text())[str(self.world.log.absolute())]
+            told = json.loads((self.world.room / "spool/.position").read_text())[str(self.world.log.absolute())]["Files"]
             there = {it.stat().st_ino: it.read_bytes() for it in self.world.room.glob("said.log*")}
             return told[-1]["Inode"] == self.world.log.stat().st_ino and all((it["At"], it["Before"]) == (len(data := there[it["Inode"]]), hashlib.sha256(data[-4096:]).hexdigest()[:16]) for it in told)
         return False

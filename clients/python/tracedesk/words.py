@@ -259,6 +259,9 @@ MESSAGES: Tuple[Type[forms.Command], ...] = (
     ClockSet,
 )
 
+# Messages about what was done: after a refusal they are not sent again.
+REPORTS_OF_WORK: Tuple[str, ...] = ('TraceDesk.WorkStarted', 'TraceDesk.WorkCompleted', 'TraceDesk.MaterialsInstalled', 'TraceDesk.MaterialsScrapped')
+
 # What to do about a refusal, and about a fault.
 REFUSALS: Dict[str, str] = {
     'IdReused': 'programmer: give each message a UniqueID of its own. If the message was sent before a roll-over and got no answer, send one ClockSet with its UniqueID, Source and TimeStamp: Accepted means that the archive has the message',

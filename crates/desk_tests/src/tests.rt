@@ -1,6 +1,7 @@
 //! The plain desk by itself, and both desks side by side.
 
 mod answers;
+mod cases;
 mod counts;
 mod desks;
 mod rows;

@@ -1,5 +1,5 @@
 -- The history that a store represents after a call.
-use Rattle.std.proofs.Common.{◌≡◌, ◌∙◌, ◌+◌, ◌<◌, ◌≤◌, inl, inr, IsTrue, IfSome, IsSomeAnd, Option, Some, None, is_some, Result, Ok, Err, IfOk, OnOk, OnErr, List, [], map, length, false, true, true≢false, ◌||◌, if◌then◌else◌, sym, ap, subst, arith}
+use Rattle.std.proofs.Common.{◌≡◌, ◌∙◌, ◌+◌, ◌<◌, ◌≤◌, ◌⊎◌, Bool, inl, inr, refl, IsTrue, IfSome, IsSomeAnd, Option, Some, None, is_some, Result, Ok, Err, IfOk, OnOk, OnErr, List, [], map, length, false, true, true≢false, ◌||◌, if◌then◌else◌, sym, ap, subst, arith}
 use Rattle.std.specs.List.{IsDistinct}
 use Rattle.std.proofs.lemmas.Map.Keys.{IsDistinct-cons}
 use Rattle.sqlite_trees.specs.declared.store.Store.{Ghosts}
@@ -85,6 +85,12 @@ module _ {old new : State} (P : Trees → Type 0) (survives : Survives old new P
     | inl was_open ↦ elim (survives.closes clean was_open) [ inl still ↦ inl still | inr more ↦ inr (omega (arith, more)) ]
     | inr failed ↦ inr (omega (arith, survives.counts, failed))
   ]
+
+-- What holds of an open connection holds, unless it is shut.
+unless_shut : {Holds Failed : Type 0} (is_open : Bool) → (IsTrue is_open → Holds) → IsTrue is_open ⊎ Failed → Holds ⊎ (Failed × (is_open ≡ false))
+unless_shut true holds stays = inl (holds refl)
+unless_shut false holds (inl is_open) = absurd (cc)
+unless_shut false holds (inr failed) = inr (failed, refl)
 
 -- The call failed, and the store still represents the history.
 pub fails : {S D : Type 0} (g : Ghosts S) (F : D → History → Type 0) (K : D → Rules) (R : D → KeptRows) (old new : LineStore S D) (L : Kept) (r : Result Answer Fault) (told : Answer) (next : History) (e : Fault)
@@ -227,9 +233,9 @@ module _ {S D : Type 0} (g : Ghosts S) (F : D → History → Type 0) (K : D →
   pub stands_still : (store : LineStore S D) (L : Kept) (s : Stamped) → (is_some (earlier_answer L.history s) || is_full L.greatest L.history) ≡ true → Stands g F K store L → Stands g F K store (record L { history = command_after Two L.greatest L.history s })
   stands_still store L s settled stands = subst (λ H. Stands g F K store (record L { history = H })) (sym (ap (λ b. if b then L.history else after_command Two L.history s) settled)) stands
 
-  -- Every table is that of the history, or the disk has failed.
+  -- Every table is that of the history, unless the connection is shut.
   pub tables_there : (store : LineStore S D) (L : Kept) → Stands g F K store L → ShowsTables g store L
-  tables_there store L s clean own = elim (s.stays_open clean) [ inl is_open ↦ inl (s.tables clean own is_open) | inr failed ↦ inr failed ]
+  tables_there store L s clean own = unless_shut (state g store.conn).is_open (s.tables clean own) (s.stays_open clean)
 
   pub stands_either : (r : Result Answer Fault) (new : LineStore S D) (L M : Kept) → OnOk r (Stands g F K new M) → OnErr r (Stands g F K new L) → (N : Kept) × Stands g F K new N
   stands_either (Ok a) new L M ok err = (M, ok)

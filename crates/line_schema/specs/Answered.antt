@@ -19,7 +19,8 @@ use Rattle.line_schema.specs.Stands.{HasRows, Kept, Leaves, ShowsTables, Stands,
 module _ {S D : Type 0} (g : Ghosts S) (StandsFor : D → History → Type 0) (kept_rules : D → Rules)
     (kept_rows : D → KeptRows) (old new : LineStore S D) (L : Kept) where
   -- The answer is the history's, or Unavailable. The store represents the history afterwards. The
-  -- tables are those of that history unless the disk failed, and so are the rows of a loaded desk.
+  -- tables are those of that history unless the connection is shut, and so are the rows of a
+  -- loaded desk.
   -- A crash leaves the command whole or not at all, and an accepted command always.
   pub record Answers (s : Stamped) (answer : Answer) : Type 0 where
     pub is : IsAnswer (ledger L) s answer

@@ -62,12 +62,16 @@ pub record Stands {S D : Type 0} (g : Ghosts S) (StandsFor : D → History → T
       → IsTrue (state g store.conn).is_open
       → Holds (state g store.conn).committed (ledger_tables L.greatest L.history)
 
--- If the disk is honest and the tables are the store's own, every table is that of the history, or
--- the disk has failed or refused.
+-- The disk has failed or refused, and the connection is shut.
+abbrev pub IsShut : State → Type 0
+IsShut s = HasFailed s × (s.is_open ≡ false)
+
+-- If the disk is honest and the tables are the store's own, every table is that of the history,
+-- unless the connection is shut. A fault after which it is open excuses no table.
 abbrev pub ShowsTables : {S D : Type 0} → Ghosts S → LineStore S D → Kept → Type 0
 ShowsTables g store L = HasCleanDisk (state g store.conn) → IsTrue L.own
     → Holds (state g store.conn).committed (ledger_tables L.greatest L.history)
-    ⊎ HasFailed (state g store.conn)
+    ⊎ IsShut (state g store.conn)
 
 -- The store's connection, and its contents.
 abbrev pub conn_of : {S D : Type 0} → LineStore S D → Held S

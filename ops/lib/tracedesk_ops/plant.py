@@ -15,13 +15,16 @@ import subprocess
 import sys
 import time
 
-from tracedesk_ops import catalogue, copies
+from tracedesk_ops import catalogue, copies, identity
 
 NAME = pathlib.Path(sys.argv[0]).name
 DESK = pathlib.Path("/var/lib/tracedesk/desk")
 STOP, PORT = "systemctl stop tracedesk", 8080
 START = "systemctl reset-failed tracedesk; systemctl start tracedesk"  # it may have failed too often, on a desk that was not to be had
 PROXY_PORT = 8081  # packaging/nginx.conf
+COPIES = pathlib.Path("/var/backups/tracedesk")
+SET_UP = pathlib.Path(os.environ.get("TRACEDESK_SET_UP", "/etc/tracedesk"))  # a file LINE.conf for each line that this machine serves
+WORDS = ("line", "db", "archive", "copies", "port", "url", "stop", "start")  # of such a file
 DRAINED = pathlib.Path("/run/tracedesk-drained")  # packaging/nginx.conf looks for it
 SECONDS_A_MILLION = 19  # of a start, for a million placed pieces: docs/figures.md, "A file's start"
 QUIET = float(os.environ.get("TRACEDESK_QUIET", 1))  # seconds without a connection, after which nobody waits for an answer any more; ops/tests/evidence-faults is in a hurry
@@ -93,6 +96,43 @@ def alike_of(program):
     return next(filter(None, map(shutil.which, [named] if named else beside)), None)
 
 
+def set_ups():
+    """The lines that are set up on this machine: of each what its file LINE.conf says, as `db = /var/lib/tracedesk/desk`, and what follows from that."""
+    found = []
+    with contextlib.suppress(PermissionError):  # who may not read it names each thing
+        for file in sorted(SET_UP.glob("*.conf")):
+            rows = [it.partition("=") for it in file.read_text(encoding="utf-8").splitlines() if it.strip() and not it.lstrip().startswith("#")]
+            its = {name.strip(): value.strip() for name, _, value in rows}
+            if "line" not in its:
+                continue  # another one, as certificates.conf
+            if unknown := [name for name in its if name not in WORDS] + [name for name, value in its.items() if not value]:
+                raise Fault(f"{file}: {', '.join(unknown)} is none of {', '.join(WORDS)}, or has no value")
+            its = {"db": str(DESK), "port": str(PORT), "copies": str(COPIES), **its}
+            found.append({"archive": f"{pathlib.Path(its['db']).parent}/archive", "url": f"http://127.0.0.1:{its['port']}", **its})
+    if twice := {it["db"] for it in found if [other["db"] for other in found].count(it["db"]) > 1}:
+        raise Fault(f"two files of {SET_UP} have the desk {', '.join(twice)}")
+    return found
+
+
+def set_up(reader, **names):
+    """Takes the words of a tool from the line's set-up file, as far as the command line doesn't say them. `names` are those of words that the tool calls otherwise."""
+    given = argparse.ArgumentParser(add_help=False, allow_abbrev=False)
+    given.add_argument("--line")
+    given.add_argument("--db")
+    it = given.parse_known_args()[0]
+    try:
+        those = [its for its in set_ups() if it.db in (None, its["db"])]
+    except Fault as fault:
+        reader.error(str(fault))
+    own = [its for its in those if it.line in (None, its["line"])]
+    if len(own) > 1:
+        reader.error(f"the lines {', '.join(its['line'] for its in own)} are set up in {SET_UP}: say by --line which it is")
+    if those and not own:
+        reader.error(f"in {SET_UP} the lines {', '.join(its['line'] for its in those)} are set up, and not {it.line}: write {SET_UP}/{it.line}.conf, or name its desk by --db")
+    known = {action.dest for action in reader._actions}
+    reader.set_defaults(**{names.get(name, name): value for its in own for name, value in its.items() if names.get(name, name) in known})
+
+
 def offer(reader):
     """Adds the words of both tools."""
     reader.add_argument("--db", type=pathlib.Path, default=DESK, metavar="FILE", help=f"the desk's file ({DESK})")
@@ -104,6 +144,7 @@ def offer(reader):
     reader.add_argument("--drained", type=pathlib.Path, default=DRAINED, metavar="FILE", help=f"the proxy sends senders away while it is there ({DRAINED})")
     reader.add_argument("--drain-seconds", type=float, default=30, metavar="N", help="how long the last answers may take (30)")
     reader.add_argument("--proxy-port", type=int, default=PROXY_PORT, metavar="N", help=f"where the proxy counts its requests for this machine ({PROXY_PORT})")
+    set_up(reader, copies="to")
 
 
 def line_name(text):
@@ -115,10 +156,11 @@ def line_name(text):
 def understood(reader, wants_desk=True):
     """The words of the command line, with whole paths; it ends where they can't be followed."""
     asked = reader.parse_args()
-    asked.db = asked.db.absolute()
-    asked.archive = (asked.archive or asked.db.parent / "archive").absolute()
+    asked.archive = (asked.archive or asked.db.absolute().parent / "archive").absolute()
+    asked.db = asked.db.resolve() if asked.db.is_symlink() else asked.db.absolute()  # a link to it stays one
     find_program(reader, asked)
-    if wants_desk and not asked.db.is_file():
+    was_cut_off = (rolled_in(asked.db) / PLAN).exists() or (asked.db.parent / catalogue.ASIDE).exists()
+    if wants_desk and not asked.db.is_file() and not was_cut_off:
         reader.error(f"there is no file {asked.db}: name the desk's file by --db")
     if asked.archive == asked.db.parent:
         reader.error("the archived desks have a folder of their own")
@@ -146,18 +188,18 @@ def ends_by_exception():
 
 @contextlib.contextmanager
 def alone(db):
-    """Holds the desk's folder, once no other tool has it that changes a desk, its archive or its copies; no roll-over may be unfinished."""
+    """Holds the desk's folder, once no other tool has it that changes a desk, its archive or its copies."""
     with folder_lock(db) as take:
         wait_for_lock(take, LONGEST_OTHER, f"another roll-over or backup of {db} is running")
-        if (plan := rolled_in(db) / PLAN).exists():
-            raise Fault(f"{plan} is of a roll-over that was cut off, so that commands may be in two files: call tracedesk-rollover first")
         yield
 
 
-def want_restored(db):
-    """Stops where a restore was cut off: the desk is gone, or it has a second name, and no run opens such a file."""
+def want_settled(db):
+    """Stops where a roll-over or a restore was cut off: commands may be in two files; or the desk is gone, or it has a second name, and no run opens such a file."""
+    if (plan := rolled_in(db) / PLAN).exists():
+        raise Fault(f"{plan} is of a roll-over that was cut off, so that commands may be in two files: call tracedesk-rollover, or stop the service and call tracedesk-settle")
     if not db.exists() or db.stat().st_nlink > 1:
-        raise Fault(f"{db} is gone or has a second name, so a restore was cut off: call tracedesk-backup --restore again")
+        raise Fault(f"{db} is gone or has a second name, so a restore was cut off: call tracedesk-backup --restore again, or tracedesk-settle")
 
 
 @contextlib.contextmanager
@@ -285,7 +327,7 @@ class Program:
     also where that is killed: else it would have a file open that the next call of the tool wants."""
 
     def __init__(self, program, db):
-        self.program, owner = program, db.stat()
+        self.program, owner = program, (db if db.exists() else db.parent).stat()
         self.uid, self.gid = owner.st_uid, owner.st_gid
         own = os.geteuid() == self.uid or os.geteuid() != os.getuid()  # the second within `as_owner`
         self.how = {} if own else {"user": self.uid, "group": self.gid, "extra_groups": []}
@@ -318,6 +360,16 @@ class Program:
             said = " ".join((done.stdout + done.stderr).split())
             raise Fault(f"the audit of {file} ended with status {done.returncode}: {said}; docs/operations.md, 'What is said, and what to do'")
         return int(lawful[1])
+
+
+    def named(self, db, desk, name=""):
+        """Gives a desk that no run has open a name, where it has none; whether it got one."""
+        if not desk.commands or not (lines := identity.naming(desk, name)):  # without a command it has no minute, and nothing that could be lost
+            return False
+        done = self.run("feed", "--db", db, input="".join(f"{it}\n" for it in lines), capture_output=True, text=True)
+        if done.stdout.count('"Answer":"Accepted"') != len(lines):
+            raise Fault(f"{db} gets no name: {' '.join((done.stdout + done.stderr).split())}")
+        return True
 
 
 class Service:

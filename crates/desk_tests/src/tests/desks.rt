@@ -7,6 +7,7 @@ ghost use Rattle.desk_types.specs.Desk.{HasRoom};
 ghost use Rattle.feeder_state.specs.State.{IsState, rules_of};
 ghost use Rattle.desk_tests.specs.Beside.{AreOfOneList};
 
+use super::cases::CASES;
 use super::id;
 use super::rows::{COUNTS, EACH_WORD, MOVED, TWO_BOARDS, message, messages};
 use desk_types::{Desk, Id, JudgeFault, Replies, Rules, Stamped, run};
@@ -84,16 +85,29 @@ fn same_free<D: Desk, E: Desk>(one: &D, other: &E, name: &Id) -> Result<bool, Al
     Ok(one == other)
 }
 
-fn same_views<D: Desk, E: Desk>(rt: &impl Abort, one: &D, other: &E) -> Result<(), Fail> {
-    let product = id("PR")?;
+/// The product and the other names of the messages here.
+const PRODUCTS: &str = "PR";
+
+const NAMES: &str = "M\tN\tP\tQ\tPR\tK1\tK2\tK3\tK4\tB1\tX";
+
+/// Both desks give the same views of the names, and the same sheets of the products.
+fn same_views<D: Desk, E: Desk>(
+    rt: &impl Abort,
+    one: &D,
+    other: &E,
+    products: &str,
+    names: &str,
+) -> Result<(), Fail> {
     assert!(rt; same_minute(one, other));
-    for text in ["M", "N", "P", "Q", "PR", "K1", "K2", "K3", "K4", "B1", "X"] {
+    for text in names.split('\t') {
         let name = id(text)?;
         assert!(rt; same_selected(one, other, &name));
         assert!(rt; same_reel(one, other, &name));
         assert!(rt; same_fronts(one, other, &name)?);
         assert!(rt; same_slots(one, other, &name)?);
-        assert!(rt; same_sheet(one, other, &product, &name)?);
+        for product in products.split('\t') {
+            assert!(rt; same_sheet(one, other, &id(product)?, &name)?);
+        }
         assert!(rt; same_free(one, other, &name)?);
     }
     Ok(())
@@ -105,18 +119,33 @@ fn same_under(
     alloc: Global,
     rules: Rules,
     messages: &[Stamped],
+    products: &str,
+    names: &str,
 ) -> Result<(), Fail> {
     let plain = run_new::<PlainDesk>(alloc, rules, messages)?;
     let state = run_new::<StateDesk>(alloc, rules, messages)?;
     assert!(rt; plain.told == state.told);
-    same_views(rt, &plain.desk, &state.desk)
+    same_views(rt, &plain.desk, &state.desk, products, names)
+}
+
+/// Both desks do the same at each message of a case.
+fn same_at_each(rt: &impl Abort, alloc: Global, case: &str) -> Result<(), Fail> {
+    let (products, rest) = case.split_once('\n').ok_or("no products")?;
+    let (names, lines) = rest.split_once('\n').ok_or("no names")?;
+    let messages = messages(alloc, lines)?;
+    for count in 1..=messages.len() {
+        same_under(rt, alloc, Rules::One, &messages[..count], products, names)?;
+        same_under(rt, alloc, Rules::Two, &messages[..count], products, names)?;
+    }
+    Ok(())
 }
 
 #[test]
 fn both_desks_tell_the_same(rt: HostRuntime) -> Result<(), Fail> {
-    let messages = messages(rt.alloc(), EACH_WORD)?;
-    same_under(&rt, rt.alloc(), Rules::One, messages.as_slice())?;
-    same_under(&rt, rt.alloc(), Rules::Two, messages.as_slice())
+    for case in CASES.split("\n\n") {
+        same_at_each(&rt, rt.alloc(), case)?;
+    }
+    Ok(())
 }
 
 /// Sends a message to a desk of rules Two and, if it is accepted, applies its edits to the rows. Returns the number of
@@ -198,14 +227,14 @@ fn goes_on(
 ) -> Result<(), Fail>
     requires { HasRoom (λ desk H. IsState H desk) restored.old 1000 }
 {
-    same_views(rt, desk, &*restored)?;
+    same_views(rt, desk, &*restored, PRODUCTS, NAMES)?;
     let told = replies(alloc, restored, left)?;
     assert!(rt;
         plain.told.as_slice().ends_with(told.as_slice()),
         "with {} left",
         left.len()
     );
-    same_views(rt, &plain.desk, &*restored)
+    same_views(rt, &plain.desk, &*restored, PRODUCTS, NAMES)
 }
 
 fn each_goes_on(

@@ -124,3 +124,26 @@ pub fn messages(alloc: Global, row: &str) -> Result<Vec<Stamped>, Fail> {
     }
     Ok(messages)
 }
+
+/// A stored text is read only as it is written: not with a leading zero, a wrong length, or a member missing or too many.
+#[test]
+fn stored_texts_are_read_as_written(rt: HostRuntime) -> Result<(), Fail> {
+    for text in [
+        "MaterialsLoaded\tM\t1\tK1",
+        "MaterialsInstalled\tM\tB1\t2\tR1\tR2",
+    ] {
+        let read = Command::read_text(rt.alloc(), text.as_bytes())?;
+        let command = read.ok_or("not read")?;
+        assert!(rt; command.write_text(rt.alloc())?.as_slice() == text.as_bytes());
+    }
+    for text in [
+        "MaterialsScrapped\tM\t1\t05",
+        "MaterialsInstalled\tM\tB1\t3\tR1\tR2",
+        "MaterialsInstalled\tM\tB1\t1\tR1\tR2",
+        "MaterialsLoaded\tM\t1",
+        "MaterialsLoaded\tM\t1\tK1\t",
+    ] {
+        assert!(rt; Command::read_text(rt.alloc(), text.as_bytes())?.is_none());
+    }
+    Ok(())
+}
