@@ -1,7 +1,7 @@
 //! Pieces at the places that the trace indexes give. Each row is checked for its number and place; if one differs, the
 //! indexes are not used.
 
-ghost use Rattle.std.specs.Prelude.{◌≡◌, ◌+◌, ◌++◌, ◌<◌, ◌≤◌, ◌↔◌, pos, Some, IsTrue, IfOk, IfSome, OnOk, length, map};
+ghost use Rattle.std.specs.Prelude.{◌≡◌, ◌+◌, ◌++◌, ◌<◌, ◌≤◌, ◌↔◌, pos, Some, IsTrue, IfOk, IfSome, OnOk, length, map, slice_get, ◌-◌};
 ghost use Rattle.sqlite.specs.Effect.{Database};
 ghost use Rattle.sqlite.specs.State.{HasCleanDisk};
 ghost use Rattle.sqlite.specs.Held.{state};
@@ -147,7 +147,12 @@ fn add_rows<D: Desk>(
 }
 
 /// Returns the rowids that our files give the first and the last piece of a run.
-fn ends_of(run: &[PieceKey]) -> (i64, i64) {
+fn ends_of(run: &[PieceKey]) -> (i64, i64)
+    ensures first { IfSome (slice_get run.now 0)
+        (λ key. result.0 ≡ pos (placement_id key.number key.place)) }
+    ensures last { IfSome (slice_get run.now (length run.now - 1))
+        (λ key. result.1 ≡ pos (placement_id key.number key.place)) }
+{
     match (run.first(), run.last()) {
         (Some(first), Some(last)) => (rowid_of(*first), rowid_of(*last)),
         _ => (1, 0),
