@@ -104,6 +104,16 @@ class Untraced(test_send.Sending):
         self.assertEqual([(it["Became"], it["By"], it["Reason"]) for it in decided], [("sent again", "A. Person", "the splice was late")])
         self.assertTrue((self.inbox / f"{decided[0]['Of']}.json").exists())
 
+    def test_what_an_older_version_set_aside_is_recorded(self):
+        self.refuse()
+        for it in (self.spool / "untraced").iterdir():
+            it.unlink()
+        for it in (self.spool / "aside").glob("*.why"):
+            it.write_text("".join(it.read_text().splitlines(True)[:2]))
+        for _ in range(2):
+            self.assertEqual(self.send("--untraced", self.inbox).returncode, 0)
+            self.assertEqual(len(self.records()), 4)
+
     def test_records_go_to_the_proxy(self):
         url = f"http://127.0.0.1:{self.server.server_address[1]}/line/"
         self.refuse("--untraced", url + "untraced", "--status", url + "status/", "--name", "m1")
