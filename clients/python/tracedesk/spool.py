@@ -452,6 +452,7 @@ class Spool:
 
     def decide(self, name: str, by: str, reason: str) -> None:
         """Keeps who decided that a report of work is sent again, and why, before it is sent."""
+        self.record_old()
         made, text = records.record("decided", by, records.utc(), Became="sent again", Of=self.why(name)[2].get("Id"), Reason=reason)
         write_synced(self.untraced / f"{made}.json", text)
         sync_folder(self.untraced)
