@@ -11,7 +11,7 @@ examples:
   clients/python/tests/interlocked.py --refusals 100
   clients/python/tests/interlocked.py --kills 500 --refusals 1000
 
-Exit status: 0 each kill ended in stop; 1 one did not; 2 bad command line.
+A line every 20 rounds has the figures so far. Exit status: 0 each kill ended in stop; 1 one did not; 2 bad command line.
 """
 import argparse
 import http.server
@@ -140,15 +140,30 @@ class Plant:
         return bool(waits) or not any(state == "go" for at, state, _ in self.calls() if at > end + YOUNG)
 
 
-def run(kills, refusals, seed):
-    """How many kills ended in stop, and the seconds from refusals to stop."""
+def figures(kills, stopped, took):
+    took = sorted(took)
+    return {"kills": kills, "stopped": stopped, "refused": len(took), **({"median": took[len(took) // 2], "99th": took[len(took) * 99 // 100], "most": took[-1]} if took else {})}
+
+
+def shown(told):
+    return ", ".join(f"{name} {it:.3f} s" if isinstance(it, float) else f"{name} {it}" for name, it in told.items())
+
+
+def run(kills, refusals, seed, say=lambda line: None):
+    """How many kills ended in stop, and the seconds from refusals to stop. Kills come between the refusals; `say` takes the figures so far."""
     chance = random.Random(seed)
     with tempfile.TemporaryDirectory() as room:
         plant = Plant(pathlib.Path(room))
         plant.start()
         try:
-            took = sorted(plant.refusal() for _ in range(refusals))
-            stopped = sum(plant.killed(chance) for _ in range(kills))
+            took, done, stopped = [], 0, 0
+            for number in range(max(kills, refusals)):
+                while len(took) * max(kills, refusals) < refusals * (number + 1):
+                    took.append(plant.refusal())
+                if done * max(kills, refusals) < kills * (number + 1):
+                    done, stopped = done + 1, stopped + plant.killed(chance)
+                if number % 20 == 19:
+                    say(shown(figures(done, stopped, took)))
             plant.say("WorkStarted")
             plant.wait_for(plant.is_permitted)
             plant.sender.terminate()
@@ -160,7 +175,7 @@ def run(kills, refusals, seed):
             plant.server.server_close()
     if ended != ("stop", "the sender was ended"):
         raise AssertionError(f"after SIGTERM: {ended}")
-    return {"kills": kills, "stopped": stopped, "refused": len(took), **({"median": took[len(took) // 2], "99th": took[len(took) * 99 // 100], "most": took[-1]} if took else {})}
+    return figures(kills, stopped, took)
 
 
 def main():
@@ -168,8 +183,8 @@ def main():
     for name, default in (("kills", 20), ("refusals", 50), ("seed", 1)):
         reader.add_argument(f"--{name}", type=int, default=default, help=argparse.SUPPRESS)
     asked = reader.parse_args()
-    told = run(asked.kills, asked.refusals, asked.seed)
-    print(", ".join(f"{name} {it:.3f} s" if isinstance(it, float) else f"{name} {it}" for name, it in told.items()))
+    told = run(asked.kills, asked.refusals, asked.seed, lambda line: print(line, flush=True))
+    print(shown(told))
     return 0 if told["stopped"] == told["kills"] else 1
 
 

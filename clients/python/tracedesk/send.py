@@ -96,6 +96,7 @@ from . import __version__, answers, desk, interlock, records, sender, spool, unt
 from .console import NAME, ended, say, tell
 
 RATE = 40.0  # messages a second of one spool
+SHOWING = 20.0  # seconds of patience for what is shown before a decision
 TIME = re.compile(r"\d{4}-\d\d-\d\d[Tt]\d\d:\d\d.*")
 
 
@@ -332,7 +333,7 @@ def desk_of(asked: argparse.Namespace, url: Optional[str] = None, timeout: Optio
     if asked.user:
         password = pathlib.Path(asked.password_file).read_text().rstrip("\r\n") if asked.password_file else os.environ["TRACEDESK_PASSWORD"]
         log_in = asked.user, password
-    patience = asked.patience if asked.patience is not None else None if asked.spool else desk.PATIENCE
+    patience = asked.patience if asked.patience is not None else SHOWING if asked.again else None if asked.spool else desk.PATIENCE
     rate = asked.rate if asked.rate is not None else RATE if asked.spool else 0.0
     return desk.Desk(url or asked.url, trust, log_in, patience=patience, timeout=timeout or asked.timeout, rate=rate, waits=bool(asked.spool and not asked.again), tell=tell)
 

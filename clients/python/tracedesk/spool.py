@@ -246,6 +246,7 @@ class Spool:
             self.is_made_good = answer is not None and not answers.is_taken(answer) and (self.waiting / f"{spelled(number)}.json").exists()
             if answer is not None:
                 self.finish(spelled(number), answer, at)
+            self.record_old()
             tried = [int(it) for it in self.names()[:1] if self.state["Runs"]]
             self.write_state(Tried=max([self.state["Tried"], *tried]), Runs=True, Answers=None)
             self.is_unanswered = False
@@ -343,16 +344,29 @@ class Spool:
             why = f"{answers.why(answer)}\n{answer.text.decode()}\n"
             told = self.message(name) if size <= MOST_READ else {}
             if records.is_report(told):
-                at = at or records.utc()
-                made, text = records.record("refused", f"tracedesk-send {self.name}", at, Answer=answers.read_object(answer.text), Message=told)
-                write_synced(self.untraced / f"{made}.json", text)
-                sync_folder(self.untraced)
-                why += json.dumps({"At": at, "Id": made}) + "\n"
+                why += self.keep_record(told, answer, at or records.utc())
             write_synced(self.aside / f"{name}.why", why.encode())
             os.rename(place, self.aside / place.name)
             sync_folder(self.aside)
         sync_folder(self.waiting)
         self.drop_old(kept, size)
+
+    def keep_record(self, told: Dict[str, Any], answer: answers.Answer, at: str) -> str:
+        """Keeps a record of a report of work that was not taken: the line of it for the file .why."""
+        made, text = records.record("refused", f"tracedesk-send {self.name}", at, Answer=answers.read_object(answer.text), Message=told)
+        write_synced(self.untraced / f"{made}.json", text)
+        sync_folder(self.untraced)
+        return json.dumps({"At": at, "Id": made}) + "\n"
+
+    def record_old(self) -> None:
+        """Makes the records of reports of work that were set aside by a version that made none."""
+        for name in self.set_aside():
+            place = self.aside / f"{name}.why"
+            with contextlib.suppress(OSError, IndexError):
+                why, answer, told = self.why(name)
+                if not told and self.is_report(name):
+                    line = self.keep_record(self.message(name), answer, records.utc(place.stat().st_mtime))
+                    write_synced(place, f"{why}\n{answer.text.decode()}\n{line}".encode())
 
     # --- What was sent
 
@@ -438,6 +452,7 @@ class Spool:
 
     def decide(self, name: str, by: str, reason: str) -> None:
         """Keeps who decided that a report of work is sent again, and why, before it is sent."""
+        self.record_old()
         made, text = records.record("decided", by, records.utc(), Became="sent again", Of=self.why(name)[2].get("Id"), Reason=reason)
         write_synced(self.untraced / f"{made}.json", text)
         sync_folder(self.untraced)
