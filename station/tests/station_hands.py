@@ -1,12 +1,11 @@
 """The page as hands with gloves use it, and what goes wrong around it: clocks, disks, double touches, pauses, long names, small screens."""
-import hashlib
 import json
 import os
 import pathlib
 import time
 
 from station_flows import SETUP, type_label, whole
-from station_line import report, shown_rows, view
+from station_line import shown_rows, view
 from station_site import Difference, Operator, wait_for
 
 DAY = 86_400_000  # milliseconds
@@ -134,43 +133,6 @@ def what_is_held_is_forgotten(site):
 
 
 # --- The tablet's disk, the proxy
-
-
-def what_is_dropped_is_said(site):
-    """Without the desk the third of OPEN, SEAL, OPEN is kept, and a scan again isn't; a code read twice, a Tab, a reload."""
-    with Operator(site) as it:
-        it.ready()
-        site.kill_desk()
-        for codes in (("A/OPEN", "K-1"), ("A/SEAL", "K-1"), ("A/OPEN", "K-1"), ("S/M1/1", "K-3"), ("S/M1/1", "A/UNLOAD"), ("S/M1/1", "K-3")):
-            it.does(*codes, kind="asked")
-        it.does("S/M1/1", "K-3", kind="fault", holds=("DROPPED: load K-3 on slot 1", "scan it again"))
-        it.does("S/M1/1", "A/SCRAP", "5", kind="asked")
-        it.does("S/M1/1", "A/SCRAP", "5", kind="ask", holds=("meant a second time",))
-        it.does("A/ENTER", kind="asked")
-        site.start_desk()
-        whole(site, it, 8)
-        if report(site, "/reel?reel=K-3")[0]["remaining"] != "290":
-            raise Difference(f"5 pieces scrapped twice: {report(site, '/reel?reel=K-3')}")
-        it.seen()
-        it.keys("S/M1/2\t", "K-2\t")
-        it.does(holds=("LOADED", "K-2"))
-        it.keys("S/M1/2\n", "A/UNLOAD\n", "A/UNLOAD\n")
-        it.does(holds=("UNLOADED",))
-        if "read twice" not in it.text("held"):
-            raise Difference(f"an action read twice: {it.text('held')}")
-        it.does("S/M1/1", "A/SCRAP", "9000", kind="refused")
-        records = wait_for("the record of untraced work", lambda: list((site.room / "line/untraced").iterdir()))
-        told = records[0].read_bytes()
-        if len(records) != 1 or hashlib.sha256(told).hexdigest()[:32] != records[0].stem or json.dumps(json.loads(told), sort_keys=True, separators=(",", ":")).encode() + b"\n" != told:
-            raise Difference(f"a record: {records} {told}")
-        it.seen()
-        site.set_up({**SETUP, "badgeWanted": True})
-        it.load()
-        it.ready().does("A/OPEN", "K-8", kind="refused", holds=("NOT SENT",))
-        it.load()
-        it.does(kind="refused", holds=("NOT SENT", "K-8"))
-        it.seen()
-    return "8 scans without the desk, 1 dropped and said so; a code read twice is one; Tab ends a scan; 1 record of untraced work; NOT SENT outlives a reload"
 
 
 def untraced_work_is_red(site):
@@ -588,5 +550,5 @@ def each_size_of_a_screen(site):
     return f"{len(SIZES)} sizes, 20 verdicts and {touched} things to touch"
 
 
-FLOWS = [a_servers_clock_that_jumps, a_tablet_that_slept, what_is_held_is_forgotten, what_is_dropped_is_said, untraced_work_is_red, ambiguous_codes_are_reported, a_disk_that_fails_once, whether_it_may_send_is_asked_again, a_sheet_is_asked_for_again, a_refusal_stays, a_late_refusal_stays, a_mounted_reel_is_said_to_be_where_it_is,
+FLOWS = [a_servers_clock_that_jumps, a_tablet_that_slept, what_is_held_is_forgotten, untraced_work_is_red, ambiguous_codes_are_reported, a_disk_that_fails_once, whether_it_may_send_is_asked_again, a_sheet_is_asked_for_again, a_refusal_stays, a_late_refusal_stays, a_mounted_reel_is_said_to_be_where_it_is,
          a_name_is_no_number, typing_with_pauses_and_touches, two_slots_of_one_code, quiet_for_who_listens, each_size_of_a_screen]
