@@ -25,7 +25,8 @@ export class ChangeoverScreen {
     this.kits = el("div", { class: "machines" });
     this.form = el("form", { class: "changeover", on: { submit: (event) => this.show(event) } }, el("h2", null, texts.title),
       field("product", texts.product, { value: this.product, maxlength: "200" }), field("boards", texts.boards, { value: this.boards, inputmode: "numeric" }),
-      el("p", { class: "buttons" }, el("button", { type: "submit" }, texts.show), model.lines.map(({ machine }) => button(filled(texts.select, { machine }), () => this.select(machine)))), this.said);
+      el("p", { class: "buttons" }, el("button", { type: "submit" }, texts.show), model.lines.map(({ machine }) => button(filled(texts.select, { machine }), () => this.select(machine))),
+        model.lines.length > 1 ? button(texts.selectAll, () => this.selectAll()) : null), this.said);
     return [this.form, this.now, el("p", { class: "legend" }, texts.work), this.kits];
   }
 
@@ -47,6 +48,12 @@ export class ChangeoverScreen {
     const asked = this.asked();
     if (asked) {
       this.station.act("SELECT", { machine, product: asked.product });
+    }
+  }
+
+  async selectAll() {
+    for (const { machine } of this.asked() ? this.station.model.lines : []) {
+      await this.station.act("SELECT", { machine, product: this.product });
     }
   }
 

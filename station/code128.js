@@ -20,7 +20,9 @@ export function symbolsOf(text) {
   return [START_B, ...letters, check, STOP];
 }
 
-/** The bars of a text as a picture, with quiet zones. */
+const WIDE = 0.33, LEAST_WIDE = 85; // millimetres: of the narrowest bar of a long code, and of a code
+
+/** The bars of a text as a picture, with quiet zones, in a length that is read. */
 export function bars(text, height = 40) {
   const widths = symbolsOf(text).map((it) => WIDTHS[it]).join("");
   let x = QUIET;
@@ -31,5 +33,5 @@ export function bars(text, height = 40) {
     }
     x += Number(digit);
   });
-  return el("svg", { viewBox: `0 0 ${x + QUIET} ${height}`, class: "bars" }, rects);
+  return el("svg", { viewBox: `0 0 ${x + QUIET} ${height}`, class: "bars", width: `${Math.max(LEAST_WIDE, (x + QUIET) * WIDE)}mm`, preserveAspectRatio: "none" }, rects);
 }

@@ -32,13 +32,14 @@ function handOver() {
   let text = "";
   document.addEventListener("keydown", (event) => {
     const letter = letterOf(event);
-    if (isEnd(event) ? text !== "" || event.ctrlKey : event.ctrlKey && letter !== null) {
+    const isAnEnd = isEnd(event, text !== "");
+    if (isAnEnd ? text !== "" || event.ctrlKey : event.ctrlKey && letter !== null) {
       event.preventDefault(); // a browser opens something at some of them
     }
-    if (isEnd(event) && text !== "") {
+    if (isAnEnd && text !== "") {
       sessionStorage.setItem("scanned", text);
       location.assign("./");
-    } else if (!isEnd(event) && (event.key !== " " || text !== "")) {
+    } else if (!isAnEnd && (event.key !== " " || text !== "")) {
       text += letter ?? "";
     }
   }, true);

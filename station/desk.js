@@ -86,6 +86,22 @@ export async function maySend(seconds = GET_SECONDS) {
   return status === 200 ? true : status === 401 || status === 403 ? false : null;
 }
 
+/** Puts a record of untraced work into the line's inbox; false where it isn't there yet. */
+export async function putRecord({ id, text }) {
+  const { status } = await asked(`/line/untraced/${id}.json`, { method: "PUT", body: text, headers: { "Content-Type": "application/json" } }, POST_SECONDS);
+  return status === 200 || status === 201 || status === 204;
+}
+
+/** What a sender's or the collector's file of the line's status says, or null; `""` is the list of those files. */
+export async function lineStatus(name) {
+  const { status, text } = await asked(`/line/status/${name}`, {}, GET_SECONDS);
+  try {
+    return status === 200 ? JSON.parse(text) : null;
+  } catch {
+    return null;
+  }
+}
+
 /** Sends a message once. `answer` is the desk's, where there is one; `again` says that sending again may bring one. */
 export async function post(text, uid) {
   const { status, text: body, headers } = await asked("/station/messages", { method: "POST", body: text, headers: { "Content-Type": "application/json" } }, POST_SECONDS);

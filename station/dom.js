@@ -1,7 +1,7 @@
 // Elements with their texts. A text goes into the page as text alone, whatever it holds.
 
 const PLAIN = ["class", "id", "for", "type", "name", "value", "href", "download", "placeholder", "min", "max", "maxlength", "inputmode",
-  "list", "scope", "colspan", "role", "lang", "title", "tabindex", "viewBox", "x", "y", "width", "height", "aria-sort", "aria-pressed", "aria-current"];
+  "list", "scope", "colspan", "role", "lang", "title", "tabindex", "viewBox", "preserveAspectRatio", "aria-label", "x", "y", "width", "height", "aria-sort", "aria-pressed", "aria-current"];
 const SVG = ["svg", "rect"];
 
 /** An element with attributes and children, of which texts are texts. `on` names what it does for an event, `data` its data. */

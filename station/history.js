@@ -17,7 +17,7 @@ export class ScanScreen {
   parts() {
     this.list = el("div", { class: "history" });
     const codes = this.station.setup.codes.action, act = (name) => () => {
-      this.station.scan.take(codes.replace("{action}", name));
+      this.station.scan.take(codes.replace("{action}", name), true);
       document.getElementById("scan").focus();
     };
     const press = (name, attributes, repeats) => button(TEXTS.actions[name] ?? name, act(name), attributes, repeats);

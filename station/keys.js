@@ -1,6 +1,7 @@
 // What a wedge types leads to a scan, whatever has the focus: a button, a radio, a field that is filled. A field keeps what is meant
 // for it: names and numbers, while the station waits for neither a reel nor a number.
-import { isName, readCode, stripped } from "./names.js";
+import { TEXTS } from "./words.js";
+import { filled, isName, readCode, stripped } from "./names.js";
 
 const CONTROLS = { "]": "\x1d", "^": "\x1e", 6: "\x1e", d: "\x04" }; // what a wedge types for the separators of a label
 const ENDS = ["m", "j"]; // with Ctrl: carriage return and line feed of a wedge that types control characters; browsers open something at one
@@ -8,6 +9,8 @@ const TYPED = ["text", "search", "tel", "url", "email", "password"];
 const OF_THEIR_FORM = ["slot", "action", "badge", "label", "foreign"]; // codes that are told from a name by how they are written
 const PAUSE = 300; // milliseconds: keys that are further apart are of two scans
 const FORGOTTEN = 10_000; // milliseconds after which letters in the scan field are the rest of nothing
+const SILENT = 700, FAST = 60; // milliseconds: so long after letters that come so fast, one behind the other, a scanner that ends its codes with nothing is done
+const LEAST = 3; // letters of a code that ends with nothing
 
 /** Whether letters can be typed into an element. */
 function isField(it) {
@@ -20,9 +23,10 @@ export function letterOf(event) {
   return event.ctrlKey ? CONTROLS[event.key] ?? null : isPlain ? event.key : null;
 }
 
-/** Whether a key ends a scan. */
-export function isEnd(event) {
-  return event.key === "Enter" || (event.ctrlKey && !event.altKey && !event.metaKey && ENDS.includes(event.key.toLowerCase()));
+/** Whether a key ends a scan. A Tab does where `isTyped`; else it goes to the next field. */
+export function isEnd(event, isTyped) {
+  const isTab = event.key === "Tab" && !event.shiftKey && !event.ctrlKey && !event.altKey && isTyped;
+  return event.key === "Enter" || isTab || (event.ctrlKey && !event.altKey && !event.metaKey && ENDS.includes(event.key.toLowerCase()));
 }
 
 export class Keys {
@@ -32,6 +36,7 @@ export class Keys {
     this.field = field;
     this.clicked = null; // the field that got the focus last
     this.last = -Infinity; // when the last key came
+    this.isEnded = false; // whether a scanner here ends its codes with a key
     this.forget();
     document.addEventListener("keydown", (event) => this.key(event), true);
     document.addEventListener("focusin", ({ target }) => this.focused(target));
@@ -55,9 +60,23 @@ export class Keys {
 
   /** Empties the scan field of letters that nobody ended, but where a number is asked for: that stays to be seen. */
   tidy() {
-    if (this.field.value !== "" && !this.station.scan.asking && performance.now() - this.last > FORGOTTEN) {
+    const { value } = this.field;
+    if (value !== "" && !this.station.scan.asking && performance.now() - this.last > FORGOTTEN) {
       this.forget();
       this.field.value = "";
+      this.station.fault(filled(TEXTS.fault.unended, { text: value }));
+    }
+  }
+
+  /** Whether what is typed since the last pause came as a scanner types. */
+  isFast() {
+    return this.run !== null && this.run.count >= LEAST && this.last - this.run.since <= FAST * (this.run.count - 1);
+  }
+
+  /** Takes the code of a scanner that ends none with a key. */
+  silent() {
+    if (!this.isEnded && this.isFast() && this.run.into === this.field) {
+      this.station.scan.take(this.scanned());
     }
   }
 
@@ -80,11 +99,18 @@ export class Keys {
     const letter = letterOf(event);
     if (event.key === "Escape") {
       this.station.cancel();
-    } else if (isEnd(event)) {
+    } else if (isEnd(event, this.isTabEnd())) {
+      this.isEnded ||= this.isFast();
       this.enter(event);
     } else if (letter !== null) {
       this.letter(event, letter);
     }
+  }
+
+  /** Whether a Tab ends a scan: in the scan field behind letters, in another one behind a code of its own form. */
+  isTabEnd() {
+    const { activeElement } = document;
+    return activeElement === this.field ? this.field.value !== "" : isField(activeElement) && this.scanIn(activeElement) !== null;
   }
 
   letter(event, letter) {
@@ -96,10 +122,13 @@ export class Keys {
       into.focus();
     }
     if (this.run?.into !== into || event.timeStamp - this.last > PAUSE) {
-      this.run = { into, text: into.value, begin: into.selectionStart, end: into.selectionEnd };
+      this.run = { into, text: into.value, begin: into.selectionStart, end: into.selectionEnd, since: event.timeStamp, count: 0 };
       this.whole = this.whole?.into === into ? this.whole : this.run;
     }
     this.last = event.timeStamp;
+    this.run.count += 1;
+    clearTimeout(this.timer);
+    this.timer = setTimeout(() => this.silent(), SILENT);
     if (letter !== event.key) { // a separator of a label
       event.preventDefault();
       into.setRangeText(letter, into.selectionStart, into.selectionEnd, "end");
@@ -140,6 +169,7 @@ export class Keys {
   enter(event) {
     const { activeElement } = document, isCovered = this.station.isCovered(), isOwn = activeElement === this.field || (isCovered && activeElement.closest("#verdict"));
     const found = !isOwn && isField(activeElement) ? this.scanIn(activeElement) : null;
+    clearTimeout(this.timer);
     if (event.key !== "Enter" || found || (isCovered && !isOwn)) { // what lies beneath the verdict isn't seen
       event.preventDefault();
       event.stopPropagation();

@@ -6,6 +6,7 @@ import { lifeText, piecesText } from "./life.js";
 import { dayAnd, productText, sheetText } from "./known.js";
 import { shownRows } from "./model.js";
 import { layout } from "./fit.js";
+import { WORDS } from "./scan.js";
 
 const URGENT = ["EXPIRED", "EMPTY", "LOW", "EXPIRES"]; // a person has to come
 const COUNTED = [...URGENT, "OTHER", "OFF", "NOSHEET"];
@@ -37,16 +38,18 @@ export class LineScreen {
   parts() {
     this.alarms = el("p", { class: "alarms", role: "status" });
     this.orders = el("p", { class: "orders" });
+    this.first = el("ol", { class: "urgent first", role: "status" });
     this.urgent = el("ol", { class: "urgent" });
     this.machines = el("div", { class: "machines" });
     this.shown = null;
-    return [el("div", { class: "top" }, this.alarms, this.orders), this.urgent, this.machines, el("p", { class: "legend" }, filled(TEXTS.line.low, { boards: this.station.setup.boards, minutes: this.station.setup.expires }))];
+    return [el("div", { class: "top" }, this.alarms, this.orders), this.first, this.urgent, this.machines, el("p", { class: "legend" }, filled(TEXTS.line.low, { boards: this.station.setup.boards, minutes: this.station.setup.expires }))];
   }
 
   /** Shows what is known; without a change nothing is touched. */
   update(isResized = false) {
     const { model, setup } = this.station, lines = model.lines.map((line) => ({ line, rows: shownRows(line, setup).sort(SORTS[this.sort]), head: [...productText(model, line.machine), sheetText(line)], notes: this.notes(line) }));
-    const shown = JSON.stringify([this.sort, model.overdue, model.overdueHad, lines.map(({ line, rows, head, notes }) => [line.machine, Boolean(line.slots && line.kit), rows, head, notes])]);
+    put(this.first, ...this.firstTiles());
+    const shown = JSON.stringify([this.first.childElementCount, this.sort, model.overdue, model.overdueHad, lines.map(({ line, rows, head, notes }) => [line.machine, Boolean(line.slots && line.kit), rows, head, notes])]);
     if (shown !== this.shown || isResized) {
       this.shown = shown;
       this.counts(lines);
@@ -54,6 +57,13 @@ export class LineScreen {
       layout({ tiles: urgentOf(lines).map((it) => this.tile(it)), more: (count) => el("li", { class: "more" }, filled(TEXTS.line.more, { count })), urgent: this.urgent,
         machines: this.machines, lines, draw: (columns) => columns.map((pieces) => el("div", { class: "column" }, pieces.map((it) => this.machine(it)))) });
     }
+  }
+
+  /** What goes before all else: refused reports of work that nobody has decided about, and loads without an answer. */
+  firstTiles() {
+    const { model, waiting } = this.station, texts = TEXTS.line, of = (what, todo) => el("li", { class: "EMPTY" }, el("b", null, what), el("span", null, todo));
+    const words = ({ Machine: machine, MessageName, Board, Refusal, Place, At }) => filled(texts.untraced, { machine, message: MessageName?.replace("TraceDesk.", ""), board: Board || "", refusal: Refusal, place: Place ?? "", time: dayAnd(Date.parse(At)) });
+    return [...model.refused.map((it) => of(words(it), texts.untracedDo)), ...waiting.filter((it) => [WORDS.LOAD, WORDS.SPLICE].includes(it.word)).map(({ body }) => of(filled(texts.unverified, { machine: body.Machine, slot: body.Slot, reel: body.Reel }), texts.unverifiedDo))];
   }
 
   counts(lines) {
@@ -107,6 +117,7 @@ export class LineScreen {
     const { head } = TEXTS.line, columns = [[head.slot], [head.part], [head.reel], [head.left, "n"], [head.all, "n"], [head.boards, "n"], [head.behind], [head.life, "n"], [head.state]];
     const made = table(columns, rows.map((it) => this.cells(it)), (at) => rows[at].states[0] ?? "OK");
     made.dataset.machine = line.machine;
+    made.setAttribute("aria-label", line.machine);
     return made;
   }
 

@@ -34,6 +34,7 @@ export class Model {
     this.answers = new Map(); // of slots: what the last answer to a scan said, {isLive, at}
     this.selected = {}; // of each machine: what this station's accepted selection said
     this.state = { had: null, age: null, at: 0, old: false, ok: false, status: 0 };
+    this.refused = []; // reports of work that were refused and that nobody has decided about: {Id, Machine, MessageName, Board, Place, Refusal, At}
     this.kitTurn = null; // which of the server's periods the kits are of
   }
 
@@ -55,7 +56,7 @@ export class Model {
 
   /** The product of a machine, and where this page has it from. */
   product(machine) {
-    const said = this.selected[machine], configured = this.line(machine)?.configured;
+    const configured = this.line(machine)?.configured, chosen = this.selected[machine], said = configured && this.setup.since > chosen?.at ? null : chosen; // the later of the two
     return said ? { product: said.product, from: "station", number: said.number, at: said.at } : configured ? { product: configured, from: "setup", at: this.setup.since } : null;
   }
 
@@ -76,9 +77,25 @@ export class Model {
     for (const line of this.lines) {
       await this.slots(line);
     }
+    await this.untraced();
     if (this.kitTurn === null || this.kitTurn !== this.turn()) {
       await this.kits();
     }
+  }
+
+  /** Reads what the senders and the collector say of refused reports of work: of each machine the last one that nobody has decided about. */
+  async untraced() {
+    const files = await desk.lineStatus(""), told = Array.isArray(files) ? await Promise.all(files.filter((it) => it.type === "file" && it.name.endsWith(".json")).map((it) => desk.lineStatus(it.name))) : [];
+    const decided = new Set(told.flatMap((it) => it?.Decided ?? [])), found = new Map();
+    const last = told.flatMap((it) => Object.entries(it?.Machines ?? {}).filter(([, { LastRefused }]) => LastRefused).map(([Machine, { LastRefused: { Id, At, Answer, Message } }]) => ({
+      Id, At, Machine, MessageName: Message.MessageName, Board: Message.MessageBody?.Board, Place: Answer.At, Refusal: Answer.Refusal ?? Answer.Fault })));
+    for (const it of [...told.flatMap((file) => file?.Undecided ?? []), ...last]) {
+      if (!decided.has(it.Id) && !(found.get(it.Machine)?.At >= it.At)) {
+        found.set(it.Machine, it);
+      }
+    }
+    this.refused = [...found.values()];
+    this.changed();
   }
 
   /** The number of the server's period: it changes at the same moment at every station. */

@@ -3,9 +3,18 @@
 import * as clock from "./clock.js";
 import * as desk from "./desk.js";
 import * as store from "./store.js";
+import { recordOf } from "./untraced.js";
 
 const FIRST_PAUSE = 250, LONGEST_PAUSE = 5000; // milliseconds
 const ANSWERED_BETWEEN_TIDYINGS = 50;
+const TAB = crypto.randomUUID(), BEFORE = sessionStorage.getItem("page"); // while this page is there it holds a lock of this name; the one before it was loaded is gone
+sessionStorage.setItem("page", TAB);
+
+/** Whether the page that made a scan is still there. */
+async function isThere(tab) {
+  const { held } = await navigator.locks.query();
+  return held.some((it) => it.name === `tracedesk-tab ${tab}`);
+}
 
 /** Asks whether the desk's archive has this very message. Only after IdReused: any other desk would take it as a ClockSet. */
 function question(text) {
@@ -23,12 +32,24 @@ export class Outbox {
     this.answered = 0;
     this.waiting = [];
     this.problem = null;
+    this.mayHold = true; // whether there may be a record that isn't handed on
   }
 
   /** Begins to send; of several tabs one sends for all. */
   begin() {
+    navigator.locks.request(`tracedesk-tab ${TAB}`, () => new Promise(() => {}));
     navigator.locks.request("tracedesk-sender", () => this.sendAll());
     return this.count();
+  }
+
+  /** Whether an answer is for this page to show: its own scan's, or one's whose page is gone. */
+  async isOurs(scan) {
+    return scan.tab === TAB || scan.tab === BEFORE || !(await isThere(scan.tab));
+  }
+
+  /** Keeps a message that was wanted and not sent, until somebody has seen that. */
+  keepNotSent(scan) {
+    return store.keep({ ...scan, tab: TAB }, "notSent");
   }
 
   async hear(data) {
@@ -53,7 +74,7 @@ export class Outbox {
   async add(word, body, source, about) {
     const at = clock.now(), uid = crypto.randomUUID();
     const text = JSON.stringify({ MessageName: `TraceDesk.${word}`, UniqueID: uid, Source: source, TimeStamp: clock.stamp(at), MessageBody: body });
-    const scan = { uid, word, body, source, text, at, about };
+    const scan = { uid, word, body, source, text, at, about, tab: TAB };
     scan.seq = await store.keep(scan);
     this.channel.postMessage({ kept: uid });
     this.wake();
@@ -65,6 +86,7 @@ export class Outbox {
   async sendAll() {
     for (;;) {
       try {
+        await this.handOn();
         const [next] = await store.waiting();
         await (next ? this.send(next) : this.pause(60_000));
       } catch (fault) {
@@ -72,6 +94,20 @@ export class Outbox {
         this.count();
         await this.pause(LONGEST_PAUSE);
       }
+    }
+  }
+
+  /** Hands on the records of untraced work; what the line's inbox didn't take is tried again later. */
+  async handOn() {
+    if (this.mayHold) {
+      const areHad = [];
+      for (const { uid, record } of await store.unrecorded()) {
+        areHad.push(await desk.putRecord(record));
+        if (areHad.at(-1)) {
+          await store.recorded(uid);
+        }
+      }
+      this.mayHold = !areHad.every(Boolean);
     }
   }
 
@@ -103,7 +139,9 @@ export class Outbox {
         status = known.status;
       }
     }
-    await store.settle(scan, answer, status);
+    const record = await recordOf(scan, answer, clock.stamp(clock.now() ?? Date.now()));
+    await store.settle(scan, answer, status, record);
+    this.mayHold ||= record !== null;
     this.problem = null;
     this.channel.postMessage({ answered: scan.uid });
     this.tell({ answered: { ...scan, state: "answered", answer, status } });

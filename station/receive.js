@@ -14,7 +14,6 @@ const UNMEANT = 400; // milliseconds: an Enter so soon behind a scan is the scan
 export class ReceiveScreen {
   constructor(station) {
     this.station = station;
-    this.levels = new Map(); // the level that a part had the last time
     this.digits = null; // {name, text}: those that were scanned as codes, and their field
     this.isSent = false; // whether what the fields hold was sent
     this.moved = -Infinity; // when the focus went on by itself
@@ -78,8 +77,8 @@ export class ReceiveScreen {
 
   /** Fills the fields from a label. */
   take(found, receipt) {
-    const known = this.levels.get(receipt.part), read = filled(TEXTS.receive.read, { fields: Object.entries(found).map(([name, value]) => `${name} ${value}`).join(", ") });
-    this.fill(known ? { ...receipt, level: known } : receipt);
+    const read = filled(TEXTS.receive.read, { fields: Object.entries(found).map(([name, value]) => `${name} ${value}`).join(", ") });
+    this.fill(receipt); // the level is on each bag: another one of the part may have another level
     this.moveOn();
     this.say(`${read}. ${this.wanted()}`, false);
   }
@@ -165,7 +164,6 @@ export class ReceiveScreen {
       (wrong ? this.form.elements[wrong] : this.form.querySelector("input[type=radio]")).focus();
       return;
     }
-    this.levels.set(values.part, values.level);
     if (await this.station.act("RECEIVE", values)) {
       this.isSent = true;
       this.say(texts.sent, false);

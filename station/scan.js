@@ -14,6 +14,7 @@ export const WORDS = {
 const isOfReceive = (action) => OF_RECEIVE.includes(action) || /^[0-9]$/.test(action);
 const FRESH = 3_000; // milliseconds: what is known of a slot is asked for again when it is older
 const CARD_WAIT = 4_000; // milliseconds that a count waits for the reel's card
+const BOUNCE = 1_000; // milliseconds: the same action code within them is one that was read twice
 const RISE = { pieces: 100, part: 0.1 }; // a count may be so much above what the desk has of a reel without a question
 
 export class Scan {
@@ -24,6 +25,8 @@ export class Scan {
     this.touched = 0; // when the last one came, by the tablet's own clock: that goes on while it sleeps
     this.at = 0; // and when the one came that is taken now, by the page's
     this.isForgotten = false;
+    this.last = { text: "", at: -Infinity }; // the last code, and when it came
+    this.dropped = ""; // what became of it, where it wasn't taken
     this.clear();
   }
 
@@ -52,15 +55,15 @@ export class Scan {
     return Boolean(this.slot || this.action || this.asking);
   }
 
-  /** Takes what the scanner or the keyboard read, behind what came before. */
-  take(text) {
+  /** Takes what the scanner or the keyboard read, or a button, which `isPressed`, behind what came before. */
+  take(text, isPressed = false) {
     const at = performance.now(), { dataset } = document.body;
     dataset.untaken = Number(dataset.untaken ?? 0) + 1;
-    this.turn = this.turn.then(() => this.taken(text, at)).catch((fault) => this.station.fault(fault.message)).finally(() => { dataset.untaken -= 1; });
+    this.turn = this.turn.then(() => this.taken(text, at, isPressed)).catch((fault) => this.station.fault(fault.message)).finally(() => { dataset.untaken -= 1; });
     return this.turn;
   }
 
-  async taken(text, at) {
+  async taken(text, at, isPressed) {
     const { station } = this, read = stripped(text, station.setup.scanner);
     if (read === "") {
       return;
@@ -70,7 +73,15 @@ export class Scan {
     this.at = at;
     this.isForgotten = false;
     const code = readCode(read, station.setup), isNumber = this.asking && code.kind !== "action" && code.kind !== "badge";
+    const isBounce = !isPressed && code.kind === "action" && read === this.last.text && at - this.last.at < BOUNCE;
+    this.last = isBounce ? this.last : { text: read, at };
+    this.dropped = isBounce ? filled(TEXTS.strip.once, { text: read }) : "";
+    if (isBounce) {
+      station.scanned();
+      return;
+    }
     if (station.verdict.isAsking()) {
+      this.dropped = ["ENTER", "CANCEL"].includes(code.action) ? "" : filled(TEXTS.strip.dropped, { text: read });
       await station.verdict.answer(code.action);
     } else if (code.action === "CANCEL") {
       station.cancel();
@@ -219,8 +230,12 @@ export class Scan {
     return this.station.act(action, values);
   }
 
-  /** What is held, in words: the first says what, the others what comes next. */
+  /** What is held, in words: the first says what, the others what comes next, and what wasn't taken. */
   held() {
+    return [...(this.station.verdict.isAsking() ? [TEXTS.strip.question] : this.heldNow()), this.dropped].filter((it, at) => at === 0 || it !== "");
+  }
+
+  heldNow() {
     const { strip, actions } = TEXTS;
     if (this.asking) {
       const { action, values } = this.asking, what = values.reel ?? filled(strip.slot, values);

@@ -1,5 +1,6 @@
 // What whoever installs the station says of it: /etc/tracedesk/station/setup.json (docs/station.md).
-import { around, isName, MOST_BOARDS } from "./names.js";
+import { TEXTS } from "./words.js";
+import { around, filled, isName, MOST_BOARDS } from "./names.js";
 import * as desk from "./desk.js";
 
 export const USUAL = {
@@ -18,7 +19,7 @@ export const USUAL = {
 /** Whether a pattern has these places, each once and in this order. */
 function hasPlaces(pattern, ...names) {
   const found = typeof pattern === "string" ? [...pattern.matchAll(/\{(\w+)\}/g)].map((it) => it[1]) : [];
-  return found.join() === names.join() && /^[^{]+\{/.test(pattern);
+  return found.join() === names.join() && /^[^{]+\{/.test(pattern) && (names.length > 1 || !/^[A-Za-z0-9]\{/.test(pattern)); // one letter alone begins many a reel's name
 }
 
 function isText(it) {
@@ -48,10 +49,11 @@ function areMachines(machines) {
     && machines.every((it) => it && isName(it.machine ?? "") && (it.product === undefined || isName(it.product)));
 }
 
-/** Two machines of which a slot of one may have the code of a slot of the other, or none. */
+/** Two kinds of code of which one may be read as the other, or none: slots of each machine, actions, badges, labels. */
 function alike({ machines, codes }) {
-  const begins = machines.map(({ machine }) => ({ machine, before: around(codes.slot, { machine })[0] }));
-  return begins.flatMap((it, at) => begins.filter((other, place) => place !== at && other.before.startsWith(it.before)).map((other) => [it.machine, other.machine]))[0];
+  const { slot, kinds } = TEXTS.setup, begins = [...machines.map(({ machine }) => ({ kind: filled(slot, { machine }), before: around(codes.slot, { machine })[0] })),
+    ...["action", "badge"].map((it) => ({ kind: kinds[it], before: around(codes[it], {})[0] })), { kind: kinds.label, before: "[)>" }];
+  return begins.flatMap((it, at) => begins.filter((other, place) => place !== at && other.before.startsWith(it.before)).map((other) => [it.kind, other.kind]))[0];
 }
 
 /** Reads the set-up: {setup}, or {fault} with the name of its text and what that text names. */
@@ -70,6 +72,6 @@ export async function read() {
   if (!areMachines(setup.machines)) {
     return { status, fault: "machines" };
   }
-  const member = faultOf(setup), [machine, other] = member ? [] : alike(setup) ?? [];
-  return member ? { status, fault: "member", member } : machine ? { status, fault: "alike", machine, other } : { status, setup };
+  const member = faultOf(setup), [one, other] = member ? [] : alike(setup) ?? [];
+  return member ? { status, fault: "member", member } : one ? { status, fault: "alike", one, other } : { status, setup };
 }

@@ -12,7 +12,7 @@ import { Outbox } from "./outbox.js";
 import { bodyOf, Scan, WORDS } from "./scan.js";
 import { play } from "./sound.js";
 import { dayAnd } from "./known.js";
-import { Verdict } from "./verdict.js";
+import { Verdict, whatOf } from "./verdict.js";
 import { LineScreen } from "./line.js";
 import { ScanScreen } from "./history.js";
 import { ReceiveScreen } from "./receive.js";
@@ -22,9 +22,16 @@ import { TraceScreen } from "./trace.js";
 const SCREENS = { line: LineScreen, scan: ScanScreen, receive: ReceiveScreen, changeover: ChangeoverScreen, trace: TraceScreen };
 const JUMP = 3_600_000; // milliseconds: so far the server's clock may move against the tablet's without a question
 const SOON = 3; // seconds that a scan waits for the server's time
-const ANEW = 5; // seconds: so often it is asked whether this log-in may send, until that is known
-const MINUTE = 60_000;
+const ANEW = 5; // seconds: so often it is asked whether this log-in may send, until that is known, and looked for refusals that no page shows
+const TAKES = [WORDS.SCRAP, WORDS.COUNT]; // a second one does another thing than the first
+const MINUTE = 60_000, TOGETHER = 100, UNDER = 2_000; // milliseconds
 const at = (id) => document.getElementById(id);
+
+/** What a message is about: its slot, its reel, and of a selection its machine. */
+function aboutOf({ Machine, Slot, Reel, Counts, Product }) {
+  const reel = Reel ?? Counts?.[0].Reel;
+  return [Slot && `slot ${Machine} ${Slot}`, reel && `reel ${reel}`, Product && `machine ${Machine}`].filter(Boolean);
+}
 
 class Station {
   constructor(read, name) {
@@ -35,18 +42,18 @@ class Station {
     this.ahead = 0; // how far the server's clock is ahead of the tablet's, as far as somebody knows
     this.seconds = 0;
     this.waiting = [];
+    this.drawing = this.since = null; // the timer that draws a screen anew, and since when that is wanted
     this.problem = null;
     this.mine = new Set(); // scans of this page without an answer
-    this.began = clock.now();
     this.model = new Model(read, () => this.changed());
-    this.verdict = new Verdict(this.model, at("verdict"), (scan) => store.see(scan.uid).catch(() => {}));
     this.outbox = new Outbox((told) => this.told(told));
+    this.verdict = new Verdict(this.model, at("verdict"), (scan) => store.see(scan.uid).catch(() => {}), (scan) => this.outbox.keepNotSent(scan).catch(() => {}), () => this.scanned());
     this.scan = new Scan(this);
     this.screens = Object.fromEntries(Object.entries(SCREENS).map(([screen, Kind]) => [screen, new Kind(this)]));
   }
 
   async begin() {
-    const [badge, ahead, unseen] = await Promise.all([store.note("badge"), store.note("ahead"), store.unseen()]);
+    const [badge, ahead] = await Promise.all([store.note("badge"), store.note("ahead")]);
     this.badge = badge?.name ? badge : this.badge;
     this.ahead = ahead ?? 0;
     await this.askMaySend(SOON);
@@ -61,7 +68,7 @@ class Station {
     window.addEventListener("hashchange", () => this.go(location.hash.slice(1)));
     setInterval(() => this.tick(), 1000);
     this.go(location.hash.slice(1));
-    unseen.reverse().forEach((it) => this.verdict.answered(it, true));
+    await this.showUnseen();
     this.outbox.begin();
     this.model.begin();
     const scanned = sessionStorage.getItem("scanned"); // on the page of codes
@@ -77,6 +84,15 @@ class Station {
     this.maySend = (await desk.maySend(seconds)) ?? this.maySend;
   }
 
+  /** Shows each refusal that nobody has seen and that no other page shows. */
+  async showUnseen() {
+    for (const scan of (await store.unseen()).reverse()) {
+      if (!this.verdict.wasShown(scan.uid) && (await this.outbox.isOurs(scan)) && !this.mine.has(scan.uid)) {
+        this.verdict.answered(scan, scan.state !== "notSent");
+      }
+    }
+  }
+
   /** What goes by the clock: what is held and a badge end, and what isn't known yet is asked again. */
   tick() {
     this.seconds += 1;
@@ -86,8 +102,11 @@ class Station {
       this.setBadge(null);
       this.scanned();
     }
-    if (this.maySend === null && this.seconds % ANEW === 0) {
-      this.askMaySend();
+    if (this.seconds % ANEW === 0) {
+      this.showUnseen().catch(() => {});
+      if (this.maySend === null) {
+        this.askMaySend();
+      }
     }
     this.head();
   }
@@ -124,15 +143,26 @@ class Station {
       el("a", { href: "codes.html" }, TEXTS.codes));
     at("main").className = this.screen;
     at("main").replaceChildren(...this.screens[this.screen].parts());
+    this.screens[this.screen].update?.();
     this.changed();
     at("scan").focus();
   }
 
-  /** What the desk's reports say has changed. */
+  /** What the desk's reports say has changed. Reports that come together are drawn once, and under a verdict a little later: a scan is answered first. */
   changed() {
-    this.screens[this.screen].update?.();
     this.head();
     this.scanned();
+    this.since ??= performance.now();
+    this.drawing ??= setTimeout(() => this.draw(), TOGETHER);
+  }
+
+  draw() {
+    const isEarly = this.isCovered() && performance.now() - this.since < UNDER;
+    this.drawing = isEarly ? setTimeout(() => this.draw(), 2 * TOGETHER) : null;
+    if (!isEarly) {
+      this.since = null;
+      this.screens[this.screen].update?.();
+    }
   }
 
   head() {
@@ -192,31 +222,41 @@ class Station {
   }
 
   /** Why nothing can be sent now, or nothing. */
-  whyNot(word, body) {
-    const same = JSON.stringify(body), { fault } = TEXTS, isAsked = this.waiting.some((it) => it.word === word && JSON.stringify(it.body) === same);
-    return [[this.maySend === false, fault.readOnly], [this.maySend === null, fault.rightUnknown], [clock.now() === null, fault.noTime], [isAsked, fault.kept],
-      [this.setup.badgeWanted && this.badgeName === null, fault.badge]].find(([holds]) => holds)?.[1];
+  whyNot() {
+    const { fault } = TEXTS;
+    return [[this.maySend === false, fault.readOnly], [this.maySend === null, fault.rightUnknown], [clock.now() === null, fault.noTime], [this.setup.badgeWanted && this.badgeName === null, fault.badge]].find(([holds]) => holds)?.[1];
   }
 
-  /** Keeps a message and has it sent; its answer comes to `told`. False where it isn't kept. */
-  async send(word, body, values) {
+  /** Whether the last scan without an answer about the same slot or reel is this very one. */
+  isAsked(word, body) {
+    const about = aboutOf(body), last = this.waiting.findLast((it) => aboutOf(it.body).some((what) => about.includes(what)));
+    return last?.word === word && JSON.stringify(last.body) === JSON.stringify(body);
+  }
+
+  /** Keeps a message and has it sent; its answer comes to `told`. False where it isn't kept. `isMeant` is one that was asked for a second time. */
+  async send(word, body, values, isMeant = false) {
     this.verdict.pass();
     if (this.maySend === null || clock.now() === null) {
       await this.askMaySend(SOON);
     }
-    const why = this.whyNot(word, body), ahead = clock.ahead();
+    const why = this.whyNot(), ahead = clock.ahead();
     if (why) {
-      if (why === TEXTS.fault.kept) {
-        this.fault(why);
+      this.verdict.notSent(word, body, why);
+      return false;
+    }
+    if (!isMeant && this.isAsked(word, body)) {
+      const what = whatOf({ word, body });
+      if (TAKES.includes(word)) {
+        this.verdict.ask(filled(TEXTS.ask.again, { what }), () => this.send(word, body, values, true));
       } else {
-        this.verdict.notSent(word, body, why);
+        this.fault(filled(TEXTS.fault.kept, { what }));
       }
       return false;
     }
     if (Math.abs(ahead - this.ahead) > JUMP) {
       this.verdict.ask(filled(TEXTS.ask.time, { server: dayAnd(clock.now()), tablet: dayAnd(Date.now()) }), () => {
         this.setAhead(clock.ahead());
-        return this.send(word, body, values);
+        return this.send(word, body, values, isMeant);
       });
       return false;
     }
@@ -254,12 +294,12 @@ class Station {
     if (waiting) {
       this.waiting = waiting;
       this.problem = problem;
-      this.scanned();
+      this.changed();
     }
     if (answered) {
       desk.heardAnswer();
       const isMine = this.mine.delete(answered.uid);
-      if (isMine || answered.at < this.began) {
+      if (!this.verdict.wasShown(answered.uid) && (isMine || (await this.outbox.isOurs(answered)))) {
         this.verdict.answered(answered, !isMine || (this.verdict.current !== null && this.verdict.current.scan?.uid !== answered.uid));
       }
       this.model.heard(answered);

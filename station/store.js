@@ -55,9 +55,9 @@ export function isKept() {
 }
 
 /** Keeps a scan on disk. */
-export async function keep(scan) {
+export async function keep(scan, state = "waiting") {
   const transaction = await begun("scans", "readwrite", { durability: "strict" });
-  const adding = done(transaction.objectStore("scans").add({ ...scan, state: "waiting" }));
+  const adding = done(transaction.objectStore("scans").add({ ...scan, state }));
   const [seq] = await Promise.all([adding, ended(transaction)]);
   return seq;
 }
@@ -69,8 +69,8 @@ async function put(scan) {
 }
 
 /** Keeps the answer to a scan. One that isn't a yes is unseen until somebody has seen it. */
-export function settle(scan, answer, status) {
-  return put({ ...scan, state: "answered", answer, status, unseen: answer.Answer !== "Accepted" });
+export function settle(scan, answer, status, record = null) {
+  return put({ ...scan, state: "answered", answer, status, unseen: answer.Answer !== "Accepted", ...(record ? { record } : {}) });
 }
 
 async function inState(state) {
@@ -84,7 +84,18 @@ export function waiting() {
 
 /** The scans with an answer that is no yes and that no one has seen, the newest first. */
 export async function unseen() {
-  return (await inState("answered")).filter((it) => it.unseen).reverse();
+  return [...(await inState("answered")).filter((it) => it.unseen), ...(await inState("notSent"))].sort((a, b) => b.seq - a.seq);
+}
+
+/** The refused reports of work whose record isn't handed on yet. */
+export async function unrecorded() {
+  return (await inState("answered")).filter((it) => it.record);
+}
+
+/** Notes that the record of a refused report of work is handed on. */
+export async function recorded(uid) {
+  const { record, ...scan } = await byUid(uid);
+  await put(scan);
 }
 
 export async function byUid(uid) {
@@ -94,7 +105,9 @@ export async function byUid(uid) {
 /** Notes that somebody has seen the answer to a scan. */
 export async function see(uid) {
   const scan = await byUid(uid);
-  if (scan?.unseen) {
+  if (scan?.state === "notSent") {
+    (await begun("scans", "readwrite")).objectStore("scans").delete(scan.seq);
+  } else if (scan?.unseen) {
     await put({ ...scan, unseen: false });
   }
 }
@@ -117,7 +130,7 @@ export async function latest(count) {
 
 /** Drops the oldest answered scans beyond those that are kept. */
 export async function tidy() {
-  const answered = (await inState("answered")).filter((it) => !it.unseen), transaction = await begun("scans", "readwrite");
+  const answered = (await inState("answered")).filter((it) => !it.unseen && !it.record), transaction = await begun("scans", "readwrite");
   answered.slice(0, -KEPT).forEach(({ seq }) => transaction.objectStore("scans").delete(seq));
   await ended(transaction);
 }

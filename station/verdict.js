@@ -59,15 +59,18 @@ export function wordsOf(scan) {
 
 export class Verdict {
   /** `isSeen` is called with each refusal that somebody has seen. */
-  constructor(model, place, isSeen) {
+  constructor(model, place, isSeen, keep, changed) {
     this.model = model;
     this.place = place;
     this.isSeen = isSeen;
+    this.keep = keep; // what wasn't sent
+    this.changed = changed; // another thing is shown
     this.current = null; // what the operator did last: {scan}, {fault} or {question, yes}
     this.late = []; // accepted answers to earlier scans that no one has seen yet
     this.shown = []; // those of them that are shown
     this.refused = []; // refusals that no one has seen yet, the newest first
     this.more = new Map(); // what the desk's reports say of an answer, by the scan's UniqueID
+    this.known = new Set(); // answers that were shown here: none is shown anew
     this.turn = 0; // how much that is new was shown
     this.shownAt = 0;
     this.timer = null;
@@ -131,7 +134,10 @@ export class Verdict {
 
   /** A message that was wanted and not sent: it stays as a refusal does. */
   notSent(word, body, text) {
-    this.refused.unshift({ uid: crypto.randomUUID(), word, body, at: clock.now(), since: performance.now(), answer: { Answer: "NotSent", text } });
+    const told = { uid: crypto.randomUUID(), word, body, at: clock.now(), answer: { Answer: "NotSent", text } };
+    this.keep(told);
+    this.known.add(told.uid);
+    this.refused.unshift({ ...told, since: performance.now() });
     this.tell(null);
     play("refused");
   }
@@ -161,6 +167,7 @@ export class Verdict {
   /** Takes an answer; `isLate` is one of a scan before the last one, or of before the page was loaded. */
   answered(scan, isLate) {
     const { kind } = wordsOf(scan), told = { ...scan, isLate, since: performance.now() };
+    this.known.add(scan.uid);
     if (kind === "refused") {
       this.refused.unshift(told);
     } else if (isLate) {
@@ -183,7 +190,7 @@ export class Verdict {
     } else if (current?.fault) {
       parts.push(line("word", texts.faulty), el("h2", null, current.fault));
     } else if (waits) {
-      parts.push(line("word", texts.asked), el("h2", null, whatOf(scan)), line("todo", texts.askedWhat));
+      parts.push(line("word", texts.asked), el("h2", null, whatOf(scan)), line("todo", LOADS.includes(actionOf(scan)) ? texts.askedLoad : ""), line("todo", texts.askedWhat));
     } else if (front) {
       parts.push(this.one(front));
     }
@@ -203,10 +210,15 @@ export class Verdict {
     place.replaceChildren(...parts, ...(parts.length && kind !== "ask" ? [button(kind === "refused" ? texts.seen : texts.close, () => {}, { class: "close" })] : []));
     this.fit();
     this.more.forEach((_, uid) => this.isShown(uid) || this.more.delete(uid));
+    this.changed();
     if (front?.answer && !this.more.has(front.uid)) {
       this.more.set(front.uid, []);
       this.explain(front);
     }
+  }
+
+  wasShown(uid) {
+    return this.known.has(uid);
   }
 
   isShown(uid) {
@@ -289,7 +301,7 @@ export class Verdict {
     const row = (it) => el("li", null, filled(it.own ? texts.otherRow : texts.freeRow, { reel: it.reel, own: it.own, slot: it.slot, pieces: piecesText(it.pieces), life: lifeText(it.minutes_left) }));
     const shown = free.reels.slice(0, FREE_SHOWN), others = free.alternates.slice(0, FREE_SHOWN - shown.length), rest = free.reels.length - shown.length;
     const list = (title, rows) => (rows.length ? [el("p", { class: "from" }, title), el("ol", null, rows.map(row))] : []);
-    return el("div", { class: "free" }, el("p", { class: "part" }, free.part ? filled(texts.wants, { slot, part: free.part }) : TEXTS.strip.slotNoSheet),
+    return el("div", { class: "free" }, el("p", { class: "part" }, filled(free.part ? texts.wants : texts.notOnSheet, { slot, part: free.part })),
       el("p", { class: "from" }, filled(texts.bySheet, { product: known.product, source: sourceText(known) })), list(texts.free, shown), list(texts.freeOthers, others),
       free.part && !shown.length && !others.length ? el("p", { class: "todo" }, texts.freeNone) : null, rest > 0 ? el("p", { class: "from" }, filled(texts.freeMore, { count: rest })) : null);
   }

@@ -26,3 +26,4 @@ try {
   TEXTS.lang = OURS.lang;
 }
 document.documentElement.lang = TEXTS.lang;
+document.documentElement.dir = /^(ar|ckb|dv|fa|he|ps|sd|ug|ur|yi)\b/.test(TEXTS.lang) ? "rtl" : "ltr";

@@ -260,7 +260,7 @@ def a_stop_of_nginx_in_mid_scan(site):
         kind = it.script("return document.getElementById('verdict').className")
         it.scan("A/OPEN", "K-2")
         again = it.verdict()[1]
-        if kind != "asked" or "Already asked" not in again:
+        if kind != "asked" or "DROPPED: open K-2" not in again:
             raise Difference(f"without a network: {kind}, {again}")
         wait_for("it says that the desk does not answer", lambda: "OLD" in it.text("state"), 40)
         site.start_nginx()

@@ -1,4 +1,5 @@
 """The page as hands with gloves use it, and what goes wrong around it: clocks, disks, double touches, pauses, long names, small screens."""
+import json
 import os
 import pathlib
 import time
@@ -132,6 +133,37 @@ def what_is_held_is_forgotten(site):
 
 
 # --- The tablet's disk, the proxy
+
+
+def untraced_work_is_red(site):
+    """A refused report of work stands on Line until it is decided, and so does a load without an answer."""
+    refused = {"Answer": {"Answer": "Refused", "Refusal": "Expired", "At": "K-1"}, "At": "2026-03-02T06:00:00Z", "Id": "a" * 32,
+               "Message": {"MessageName": "TraceDesk.WorkStarted", "MessageBody": {"Machine": "M1", "Board": "SN-7"}}}
+    status = site.room / "line/status"
+    (status / "m1.json").write_text(json.dumps({"Machines": {"M1": {"LastRefused": refused, "State": "stop"}}, "Version": 1}))
+    first = "return document.querySelector('.first')?.innerText ?? ''"
+    with Operator(site) as it:
+        it.ready()
+        wait_for("the refusal", lambda: all(word in it.script(first) for word in ("M1", "WorkStarted", "SN-7", "Expired", "Put the board aside")))
+        (status / "untraced.json").write_text(json.dumps({"Decided": ["a" * 32], "Undecided": [], "Version": 1}))
+        wait_for("it is decided", lambda: "SN-7" not in it.script(first))
+        site.kill_desk()
+        it.does("S/M1/1", "K-3", kind="asked", holds=("NOT VERIFIED", "don't run this slot"))
+        it.seen()
+        wait_for("it is not verified", lambda: "M1 1: K-3 NOT VERIFIED" in it.script(first))
+        site.start_desk()
+        wait_for("it is verified", lambda: it.script(first) == "")
+    return "a refusal that is decided, and a load that is answered"
+
+
+def ambiguous_codes_are_reported(site):
+    """Set-ups by which one code may be read as another."""
+    wrong = ({"badge": "A/{badge}"}, {"slot": "A/{machine}/{slot}"}, {"badge": "S/{badge}"}, {"action": "[)>{action}"}, {"action": "K{action}"})
+    for codes in wrong:
+        site.set_up({**SETUP, "codes": codes})
+        with Operator(site, name="Z", setup="wrong") as it:
+            wait_for(f"{codes} is reported", lambda: "no usable set-up" in it.text("main"))  # noqa: B023
+    return f"{len(wrong)} set-ups"
 
 
 def a_disk_that_fails_once(site):
@@ -385,7 +417,7 @@ def two_slots_of_one_code(site):
     for machines, slot in ((("M1", "M11"), "S{machine}{slot}"), (("M1", "M1/2"), "S/{machine}/{slot}"), (("M1", "M1"), "S/{machine}/{slot}")):
         site.set_up({**SETUP, "machines": [{"machine": name} for name in machines], "codes": {"slot": slot}})
         with Operator(site, name="W2", setup="wrong") as it:
-            wait_for("it is told", lambda: "may be read as one of" in it.script("return document.getElementById('main').textContent"))
+            wait_for("it is told", lambda: "may be read as" in it.script("return document.getElementById('main').textContent"))
     site.set_up({**SETUP, "machines": [{"machine": "M1", "product": "CTRL-A"}, {"machine": "M11"}, {"machine": "M{1}", "product": "CTRL-A"}]})
     with Operator(site) as it:
         it.ready().does("S/M{1}/1", "K-1", holds=("LOADED", "M{1} slot 1"))
@@ -518,5 +550,5 @@ def each_size_of_a_screen(site):
     return f"{len(SIZES)} sizes, 20 verdicts and {touched} things to touch"
 
 
-FLOWS = [a_servers_clock_that_jumps, a_tablet_that_slept, what_is_held_is_forgotten, a_disk_that_fails_once, whether_it_may_send_is_asked_again, a_sheet_is_asked_for_again, a_refusal_stays, a_late_refusal_stays, a_mounted_reel_is_said_to_be_where_it_is,
+FLOWS = [a_servers_clock_that_jumps, a_tablet_that_slept, what_is_held_is_forgotten, untraced_work_is_red, ambiguous_codes_are_reported, a_disk_that_fails_once, whether_it_may_send_is_asked_again, a_sheet_is_asked_for_again, a_refusal_stays, a_late_refusal_stays, a_mounted_reel_is_said_to_be_where_it_is,
          a_name_is_no_number, typing_with_pauses_and_touches, two_slots_of_one_code, quiet_for_who_listens, each_size_of_a_screen]

@@ -22,6 +22,7 @@ PEOPLE = {"op": "senders", "office": "readers"}  # their passwords are their nam
 CERTIFICATES = {"m2": "sender", "auditor": "reader"}
 SETUP = {"title": "Line 1", "machines": [{"machine": "M1", "product": "CTRL-A"}, {"machine": "M2", "product": "CTRL-A"}], "boards": 50, "expires": 60}
 PATIENCE = 90  # seconds: of a machine that has much to do
+BOUNCE = 1.2  # seconds: the same action code within one is taken for one that was read twice
 slower = 1  # each wait takes so many times as long: station-test --slower
 
 
@@ -257,7 +258,7 @@ SCANS = """
 const done = arguments[arguments.length - 1], request = indexedDB.open("tracedesk-station");
 request.onsuccess = () => {
   const all = request.result.transaction("scans").objectStore("scans").getAll();
-  all.onsuccess = () => { request.result.close(); done(all.result); };
+  all.onsuccess = () => { request.result.close(); done(all.result.filter((it) => it.state !== "notSent")); };
 };
 """
 
@@ -268,6 +269,7 @@ class Operator:
     def __init__(self, site, name="W1", user="op", size=(1920, 1080), setup="", begin=True):
         self.site, self.name, self.user, self.size, self.setup = site, name, user, size, setup
         self.page = None
+        self.last = "", 0.0  # the last code, and when it was scanned
         self.agrees = True  # whether its Line is compared with `report` at the end
         if begin:
             with contextlib.ExitStack() as kept:
@@ -334,10 +336,13 @@ class Operator:
         ActionChains(self.page).send_keys(*keys).perform()
 
     def scan(self, *codes):
-        """Scans codes as a wedge does: letters and Enter."""
+        """Scans codes as a wedge does: letters and Enter; the same one not sooner than a hand does."""
         from selenium.webdriver.common.keys import Keys
         for code in codes:
+            if code == self.last[0]:
+                time.sleep(max(0, self.last[1] + BOUNCE - time.monotonic()))
             self.keys(code + Keys.ENTER)
+            self.last = code, time.monotonic()
 
     def text(self, name):
         return self.script("return document.getElementById(arguments[0])?.innerText ?? ''", name)
@@ -365,7 +370,7 @@ class Operator:
         """Scans, and looks whether the verdict is of this kind and has these texts."""
         after = self.turn() if codes else 0
         self.scan(*codes)
-        got, text = self.verdict(after=after)
+        got, text = self.verdict(kinds=("accepted", "refused", "fault") if kind in ("accepted", "refused", "fault") else (kind,), after=after)
         lacking = [it for it in holds if it not in text]
         if got != kind or lacking:
             raise Difference(f"{codes}: wanted {kind} with {lacking or 'no more'}, got {got}: {text!r}")

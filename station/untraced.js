@@ -1,0 +1,19 @@
+// Untraced work: a report of work that the desk refused isn't sent again. Its record goes to the line's inbox, where a person decides.
+import { REPORTS_OF_WORK } from "./kinds.js";
+
+function sorted(it) {
+  const isGroup = it && typeof it === "object" && !Array.isArray(it);
+  return isGroup ? Object.fromEntries(Object.keys(it).sort().map((name) => [name, sorted(it[name])])) : Array.isArray(it) ? it.map(sorted) : it;
+}
+
+/** The record of a refusal: {id, text}, of which the same refusal has the same; null where nothing was done that a record is needed for. */
+export async function recordOf({ text, source }, answer, at) {
+  const message = JSON.parse(text);
+  if (answer.Answer !== "Refused" || !REPORTS_OF_WORK.includes(message.MessageName)) {
+    return null;
+  }
+  const told = sorted({ Answer: answer, At: at, By: `station ${source}`, Kind: "refused", Message: message, Version: 1 });
+  const record = `${JSON.stringify(told).replace(/[\u0080-\uffff]/g, (it) => `\\u${it.charCodeAt(0).toString(16).padStart(4, "0")}`)}\n`;
+  const digest = new Uint8Array(await crypto.subtle.digest("SHA-256", new TextEncoder().encode(record)));
+  return { id: [...digest.slice(0, 16)].map((it) => it.toString(16).padStart(2, "0")).join(""), text: record };
+}
