@@ -30,6 +30,7 @@ CHUNK = 1 << 20
 LOGS = ("-wal", "-journal")
 MAGIC = b"SQLite format 3\0"
 PLANS, ASIDE, LACKS = "rollover-*/plan.json", "aside", "restore.json"  # beside the archive's folder: what roll-overs and restores leave
+BESIDE = ("untraced.csv",)  # what a line has there that was never rolled over
 LONGEST_EMPTY_LOG = 56  # bytes: the head of a log and that of a page, without the page
 
 
@@ -194,7 +195,7 @@ def want_chains(path, lines):
 def has_no_archives(path):
     """Whether a line has none yet: there is no catalogue, and nothing lies where it would be. Where all around is empty too, a disk may not be mounted."""
     folder = path.parent
-    return not path.exists() and (not any(folder.iterdir()) if folder.exists() else folder.parent.is_dir() and any(folder.parent.iterdir()))
+    return not path.exists() and (all(it.name in BESIDE for it in folder.iterdir()) if folder.exists() else folder.parent.is_dir() and any(folder.parent.iterdir()))
 
 
 def unasked(path, archives):
