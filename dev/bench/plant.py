@@ -2,11 +2,14 @@
 
 usage: dev/bench/run plant [--program FILE] [--folder FOLDER] [--archives N] [--minutes N] [--boards BOARDS] [--parts N]
        dev/bench/run plant --recall [--program FILE] [--folder FOLDER] [--archives N] [--boards BOARDS]
+       dev/bench/run plant --small N [--pieces N]
 
 examples:
   dev/bench/run plant                              40 archives of a million pieces: 20 GB of disk at most, and an hour
   dev/bench/run plant --archives 4 --boards 300    a minute
   dev/bench/run plant --recall                     52 archives of 830,000 pieces by ops/recall: 7 GB of disk, and ten minutes
+  dev/bench/run plant --small 10000                10,000 files of 200 pieces that SQL makes up: six minutes and 1 GB
+  dev/bench/run plant --small 1000 --pieces 200000      24 GB of disk
 
 One shift of dev/lib/tracedesk_dev/shift.py is fed to the program: that is the first archive, of ten lines in turn. The others are its
 bytes with other names of boards, machines, reels and lots of the same length; the audit of the second has to be lawful.
@@ -17,6 +20,8 @@ the system's cache. At the end empty parts are added, up to --parts, and it is a
 With --recall the archives stay, as those of one line in one catalogue, and ops/recall asks them for the lot and for a
 board, with checksums and without. PostgreSQL isn't needed then. Cold is with the archives out of the system's cache;
 warm is the median of five calls behind that.
+
+With --small nothing is loaded by ops/plant-load, and PostgreSQL has its default settings: files.sql and drop.sql are timed too.
 
 --folder   where all of it lies; it is new, and is removed at the end
 --minutes  nothing more is loaded after so many; what is there is asked
@@ -242,10 +247,49 @@ def postgres_bench(asked):
             print(json.dumps({f"with {asked.parts} parts": asked_for(server, board)}, indent=1), flush=True)
 
 
+# a file as ops/plant-load makes it: twenty reels in turn, boards of twenty pieces; two reels of each fifth file are of the lot
+SMALL = """SET search_path TO plant;
+DO $$ BEGIN FOR it IN {first} .. {last} LOOP
+    INSERT INTO file VALUES (it, 'L' || it % 10, 'archive-' || it, 'sum', 1, 9, 5, 'u', {pieces}, '');
+    INSERT INTO reel SELECT it, 'R' || it || '-' || n, 'P', CASE WHEN it % {fifth} = 1 AND n < 3 THEN '{lot}' ELSE 'L' || it END, '1' FROM generate_series(1, 20) n;
+    EXECUTE format('CREATE TABLE placement_%1$s (LIKE placement, CONSTRAINT part CHECK (file = %1$s))', it);
+    EXECUTE format('INSERT INTO placement_%1$s SELECT %1$s, n, 1, ''B%1$s-'' || n / 20, ''C'' || n %% 20, ''M'', ''1'', ''R%1$s-'' || 1 + n %% 20, false, n
+                    FROM generate_series(1, {pieces}) n ORDER BY 1 + n %% 20, n', it);
+    EXECUTE format('CREATE INDEX ON placement_%1$s (reel); CREATE INDEX ON placement_%1$s (board)', it);
+    EXECUTE format('INSERT INTO start SELECT DISTINCT ON (board) %1$s, number, machine, board, minute FROM placement_%1$s', it);
+    EXECUTE format('ALTER TABLE placement ATTACH PARTITION placement_%1$s FOR VALUES IN (%1$s)', it);
+END LOOP; END $$"""
+
+
+def small_bench(asked):
+    """Makes up files, and asks them by PostgreSQL with its default settings."""
+    count, told = asked.small, {}
+    with tempfile.TemporaryDirectory(prefix="plant-", dir=asked.folder) as folder, postgres.Server(pathlib.Path(folder), fsync="on") as server:
+        postgres.asked("-f", postgres.SQL / "schema.sql")
+        began, ticks = taken(None), program.Ticks()
+        for first in range(1, count + 1, 100):
+            postgres.asked("-c", SMALL.format(first=first, last=min(first + 99, count), pieces=asked.pieces, fifth=max(2, count // 5), lot=LOT))
+            ticks.tell(f"{first + 99} files")
+        postgres.asked("-c", "ANALYZE plant.file; ANALYZE plant.reel; ANALYZE plant.start")
+        told["made, by the clock"] = since(None, began)[0]
+        told["bytes of the database"] = int(postgres.asked("-At", "-c", "SELECT pg_database_size('postgres')"))
+        for name, query, values in (("lot, its boards", "recall", {"lot": LOT}), ("lot, its pieces", "pieces", {"lot": LOT}), ("reel", "pieces", {"reel": "R7-3"}),
+                                    ("board", "pieces", {"board": f"B{count // 2}-1"}), ("files", "files", {})):
+            server.stop()
+            out_of_cache(server.data)
+            server.start()
+            (cold, _), rows = timed(server, query, **values)
+            told[name] = {"rows": rows, "cold": cold, "warm": statistics.median(timed(server, query, **values)[0][0] for _ in range(TURNS))}
+        told["drop of all"] = timed(server, "drop", before="2027-01-01")[0][0]
+    print(json.dumps({"made-up files": count, "pieces of each": asked.pieces, **told, "load of the machine": os.getloadavg()[0]}, indent=1), flush=True)
+
+
 def words(reader):
     program.offer(reader)
     reader.add_argument("--folder", type=pathlib.Path)
     reader.add_argument("--recall", action="store_true")
+    reader.add_argument("--small", type=int)
+    reader.add_argument("--pieces", type=int, default=200)
     reader.add_argument("--archives", type=int)
     reader.add_argument("--minutes", type=float, default=600)
     reader.add_argument("--boards", type=int)
@@ -253,6 +297,8 @@ def words(reader):
 
 
 def main(asked, reader):
+    if asked.small:
+        return small_bench(asked)
     asked.program = program.to_use(asked.program)
     asked.archives = asked.archives or (52 if asked.recall else 40)
     asked.boards = asked.boards or (4_144 if asked.recall else 5_180)

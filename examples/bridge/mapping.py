@@ -1,7 +1,9 @@
 """Turns messages of another vocabulary into a desk's, by a table. tables.md says what a table has."""
+import contextlib
 import datetime
 import decimal
 import hashlib
+import itertools
 import json
 import re
 
@@ -240,21 +242,10 @@ class Entry:
 
     def one(self, scope, number):
         uid, source, time = (it.made(scope, number) for it in (self.uid, self.source, self.time))
-        return self.body.made(scope, number).message(source, unique_id=uid, at=moment(time))
-
-    def made(self, message):
-        """The messages, with the elements that have nothing to say left out."""
-        found = []
         try:
-            scopes = [(message, it) for it in elements(self.each, (message,), 0)] if self.each else [(message,)]
-        except NothingToSay:
-            return found
-        for number, scope in enumerate(scopes, 1):
-            try:
-                found.append(self.one(scope, number))
-            except NothingToSay:
-                pass
-        return found
+            return self.body.made(scope, number).message(source, unique_id=uid, at=moment(time))
+        except OutOfRange as fault:
+            raise NotMapped(f"{self.body.kind.__name__}: {fault}") from None
 
 
 def moment(text):
@@ -317,13 +308,16 @@ class Table:
         return as_text(self.name, found_at(self.name, (message,), 0))
 
     def made(self, message):
-        """The desk's messages that it gives, all or none; none where the table passes it over."""
+        """The desk's messages that it gives, all or none; none where the table passes it over. Entries of the same list, one behind the
+        other, are made element by element, and an element for which one of them has nothing to say gives none."""
         found = []
-        for entry in self.entries.get(self.name_of(message), ()):
-            try:
-                found += entry.made(message)
-            except OutOfRange as fault:
-                raise NotMapped(f"{entry.body.kind.__name__}: {fault}") from None
+        for each, entries in itertools.groupby(self.entries.get(self.name_of(message), ()), lambda it: it.each or id(it)):
+            entries = list(entries)
+            with contextlib.suppress(NothingToSay):
+                scopes = [(message, it) for it in elements(each, (message,), 0)] if entries[0].each else [(message,)]
+                for number, scope in enumerate(scopes, 1):
+                    with contextlib.suppress(NothingToSay):
+                        found += [it.one(scope, number) for it in entries]
         if len({it.unique_id for it in found}) < len(found):
             raise NotMapped("two of its messages have one UniqueID: look at the table")
         return found

@@ -20,14 +20,18 @@ CREATE TABLE IF NOT EXISTS file (
     dropped      boolean NOT NULL DEFAULT false, -- its pieces were taken out, by drop.sql
     copy_number  bigint NOT NULL DEFAULT 0,     -- of the copy of a running desk; copies are in this order
     said         bigint NOT NULL DEFAULT 0,     -- commands in the table command
+    desk         text NOT NULL DEFAULT '',      -- the desk's name; empty where it had none yet
     UNIQUE (line, name)
 );
-ALTER TABLE file ADD COLUMN IF NOT EXISTS copy_number bigint NOT NULL DEFAULT 0, ADD COLUMN IF NOT EXISTS said bigint NOT NULL DEFAULT 0;
--- each accepted command but a ClockSet, by the MD5 of all that its sender said: two files of a line that have one would count its pieces twice
+ALTER TABLE file ADD COLUMN IF NOT EXISTS copy_number bigint NOT NULL DEFAULT 0, ADD COLUMN IF NOT EXISTS said bigint NOT NULL DEFAULT 0,
+    ADD COLUMN IF NOT EXISTS desk text NOT NULL DEFAULT '';
+-- each accepted command but a ClockSet, by the MD5 of all that its sender said: two files of a line that have one which places pieces would count them twice
 CREATE TABLE IF NOT EXISTS command (
     file     integer NOT NULL REFERENCES file ON DELETE CASCADE,
-    identity uuid NOT NULL
+    identity uuid NOT NULL,
+    places   boolean NOT NULL DEFAULT true      -- whether it places pieces; of files loaded up to 0.3.0 nothing says so
 );
+ALTER TABLE command ADD COLUMN IF NOT EXISTS places boolean NOT NULL DEFAULT true;
 CREATE INDEX IF NOT EXISTS command_identity ON command (identity);
 CREATE INDEX IF NOT EXISTS command_file ON command (file);
 -- what a catalogue or a copy names and is not loaded, and why

@@ -1,17 +1,20 @@
 """tracedesk-send with a spool, before something that answers as a desk does."""
+import contextlib
 import fcntl
 import http.server
 import json
 import os
 import pathlib
+import socket
 import subprocess
 import sys
 import tempfile
 import threading
 import time
 import unittest
+from unittest import mock
 
-from tracedesk import forms
+from tracedesk import desk, forms
 
 SENDER = pathlib.Path(__file__).resolve().parents[1] / "tracedesk-send"
 
@@ -112,13 +115,81 @@ class Sending(unittest.TestCase):
         times = [at for at, _ in self.server.came]
         self.assertGreaterEqual(times[7] - times[0], 0.65)
 
-    def test_what_changes_nothing_stops(self):
+    def test_what_a_person_has_to_mend_is_reported_and_tried_seldom(self):
         self.send("--put", "-", given=line("u1"))
         for status, told in ((401, b"log-in"), (413, b"too long"), (404, b"--url"), (200, b"no answer of a desk")):
             self.server.script = [(status, {}, {"Answer": "Proxy", "Fault": "x"})]
-            done = self.send()
-            self.assertEqual((done.returncode, self.waits()), (4, ["000000000001.json"]))
+            done = self.send("--patience", "0.3")
+            self.assertEqual((done.returncode, self.waits(), self.server.script), (4, ["000000000001.json"], []))
             self.assertIn(told, done.stderr)
+        self.assertEqual(len(self.uids()), 4)
+        self.server.script, news = [(it, {}, {}) for it in (401, 403, 404, 200)], []
+        with mock.patch.object(desk, "SELDOM", 0.1), desk.Desk(self.words()[3], patience=None, waits=True, tell=news.append) as to:
+            begun, watched = time.monotonic(), []
+            to.tell = lambda it: (news.append(it), watched.append(dict(to.fault)))
+            self.assertEqual(type(to.send(line("u1"))).__name__, "Accepted")
+        self.assertGreater(time.monotonic() - begun, 1.4)
+        self.assertIsNone(to.fault)
+
+    def test_a_server_that_hangs_is_cut_and_reported(self):
+        def drip(link):
+            link.recv(9999)
+            with contextlib.suppress(OSError):
+                link.sendall(b"HTTP/1.1 200 OK\r\nContent-Length: 100000\r\n\r\n")
+                while True:
+                    link.sendall(b"x")
+                    time.sleep(0.05)
+        for hang in (drip, lambda link: time.sleep(30)):
+            with socket.create_server(("127.0.0.1", 0)) as listening:
+                def serve():
+                    with contextlib.suppress(OSError):
+                        while True:
+                            threading.Thread(target=hang, args=(listening.accept()[0],), daemon=True).start()
+                threading.Thread(target=serve, daemon=True).start()
+                news, begun = [], time.monotonic()
+                with mock.patch.object(desk, "FIRST_NEWS", 1.0), desk.Desk(f"http://127.0.0.1:{listening.getsockname()[1]}", patience=3.0, tell=news.append) as to:
+                    with self.assertRaises(desk.GivenUp):
+                        to.send(line("u1"))
+                self.assertLess(time.monotonic() - begun, 20)
+                self.assertIn("no answer for 1 seconds", news[0])
+
+    def test_two_senders_of_a_folder_lose_nothing(self):
+        """The folder is made anew, so that the lock on it holds no second sender off."""
+        running = [subprocess.Popen(self.words("--follow", self.out, "--rate", "0"), stderr=subprocess.DEVNULL)]
+        try:
+            self.wait_for(lambda: (self.spool / ".identity").exists())
+            self.out.rmdir()
+            self.out.mkdir()
+            words = self.words("--follow", self.out, "--rate", "0")
+            words[words.index("--spool") + 1] = str(self.room / "other")
+            running.append(subprocess.Popen(words, stderr=subprocess.DEVNULL))
+            wanted = {f"u{number}{n}" for number in range(60) for n in range(3)}
+            for number in range(60):
+                (self.out / "x.tmp").write_bytes(b"\n".join(line(f"u{number}{n}") for n in range(3)))
+                (self.out / "x.tmp").rename(self.out / f"{number:03}.jsonl")
+            self.wait_for(lambda: set(self.uids()) == wanted)
+        finally:
+            for it in running:
+                it.kill()
+                it.wait()
+
+    def wait_for(self, call):
+        end = time.monotonic() + 90
+        while not call():
+            self.assertLess(time.monotonic(), end)
+            time.sleep(0.05)
+
+    def test_check_and_validate(self):
+        done = subprocess.run([sys.executable, str(SENDER), "--url", self.words()[3], "--check"], capture_output=True, timeout=60)
+        self.assertEqual((done.returncode, b"no answer of a desk" in done.stdout), (1, True), done)
+        bad = self.room / "bad.jsonl"
+        told = json.loads(line("u1"))
+        bad.write_text("".join(json.dumps({**told, **it}) + "\n" for it in ({}, {"TimeStamp": "02.03.2026 06:00"}, {"MessageName": "TraceDesk.PartsDefined"}, {"MessageBody": {"PartNo": "x"}},
+                                                                            {"TimeStamp": "2026-02-30T06:00:00Z"}, {"Source": " x"})) + "{\n")
+        done = subprocess.run([sys.executable, str(SENDER), "--validate", bad], capture_output=True, text=True, timeout=60)
+        self.assertEqual((done.returncode, [it.split(":")[0] for it in done.stdout.splitlines()]), (1, [f"line {n}" for n in range(2, 8)] + ["7 messages, 6 of them wrong"]), done.stdout)
+        for it in ("write it as 2026-03-02T06:00:00Z", "nearest is TraceDesk.PartDefined", "'PartNo' meant to be it", "in no calendar"):
+            self.assertIn(it, done.stdout)
 
     def test_patience_ends(self):
         self.send("--put", "-", given=line("u1"))

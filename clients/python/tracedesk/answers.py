@@ -108,6 +108,16 @@ def read(text: bytes, archived: bool = False) -> Optional[Answer]:
         return None
 
 
+def word_of(told: Dict[str, Any]) -> str:
+    """The message kind of a message; empty if it is none of the desk's."""
+    return str(told.get("MessageName", "")).partition(words.PREFIX)[2]
+
+
+def body_of(told: Dict[str, Any]) -> Dict[str, Any]:
+    body = told.get("MessageBody")
+    return body if isinstance(body, dict) else {}
+
+
 def is_archived(answer: Answer) -> bool:
     """Whether the message was accepted before the desk was begun anew."""
     return isinstance(answer, Refused) and answer.archived
@@ -135,12 +145,21 @@ def question(message: bytes) -> bytes:
 LINE_TOO_LONG = Faulty("LineTooLong", text=b'{"Answer":"Faulty","Fault":"LineTooLong"}')
 
 
+def short(answer: Answer) -> str:
+    """What is wrong with a message that was not taken."""
+    if isinstance(answer, Refused):
+        return f"refused: {answer.refusal}{f' at {answer.at}' if answer.at else ''}"
+    if isinstance(answer, Faulty):
+        return f"faulty: {answer.fault}{f' at {answer.member}' if answer.member else ''}"
+    return type(answer).__name__.lower()
+
+
 def why(answer: Answer) -> str:
     """What is wrong with a message that was not taken, and what to do."""
     if isinstance(answer, Refused):
-        return f"refused: {answer.refusal}{f' at {answer.at}' if answer.at else ''}. To do: {words.REFUSALS.get(answer.refusal, 'see docs/messages.md')}"
+        return f"{short(answer)}. To do: {words.REFUSALS.get(answer.refusal, 'see docs/messages.md')}"
     if isinstance(answer, Faulty):
-        return f"faulty: {answer.fault}{f' at {answer.member}' if answer.member else ''}. To do: {words.FAULTS.get(answer.fault, 'see docs/messages.md')}"
+        return f"{short(answer)}. To do: {words.FAULTS.get(answer.fault, 'see docs/messages.md')}"
     if isinstance(answer, Ignored):
         names = [words.PREFIX + it.WORD for it in words.MESSAGES]
         near = difflib.get_close_matches(answer.message_name, names, 1, 0.0)[0]

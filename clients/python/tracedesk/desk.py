@@ -2,21 +2,27 @@
 from __future__ import annotations
 
 import base64
+import contextlib
+import copy
 import csv
 import dataclasses
+import email.utils
 import http.client
 import io
+import socket
 import ssl
+import threading
 import time
 import urllib.parse
-from typing import Any, Callable, Dict, List, Mapping, Optional, Tuple, Union
+from typing import Any, Callable, Dict, Iterator, List, Mapping, Optional, Tuple, Union
 
-from . import answers, forms, words
+from . import answers, forms, records, words
 
 FIRST_PAUSE, LONGEST_PAUSE = 0.05, 5.0  # seconds
 PATIENCE = 600.0  # seconds for one message: a desk of a month starts in two minutes
 TIMEOUT = 150.0  # seconds for one answer: longer than the proxy waits for the desk
 FIRST_NEWS, NEWS = 10.0, 60.0  # seconds without an answer, after which that is reported, and reported again
+SELDOM = 30.0  # seconds to the next try after a log-in was refused, doubled each time: nobody's password is tried fast
 NOT_VALID_NOW = (9, 10)  # OpenSSL: a certificate that isn't valid yet, or any more. Its renewal, or a clock that is set, mends that
 
 
@@ -53,11 +59,12 @@ class Desk:
     """One connection, made when it is needed and again when it is broken.
 
     `trust` is an ssl.SSLContext, with a client's certificate where there is one; `log_in` a user and a password; `rate` the
-    most tries in a second, 0 for no limit; `patience` none for ever; `tell` takes a line of news. A URL that names none is a ValueError.
+    most tries in a second, 0 for no limit; `patience` none for ever; `tell` takes a line of news. With `waits` what a person has
+    to mend, as a log-in that is refused, is reported and tried again, but seldom. A URL that names none is a ValueError.
     """
 
     def __init__(self, url: str = "http://127.0.0.1:8080", trust: Optional[ssl.SSLContext] = None, log_in: Optional[Tuple[str, str]] = None, *,
-                 patience: Optional[float] = PATIENCE, timeout: float = TIMEOUT, rate: float = 0.0, tell: Callable[[str], None] = lambda line: None) -> None:
+                 patience: Optional[float] = PATIENCE, timeout: float = TIMEOUT, rate: float = 0.0, waits: bool = False, tell: Callable[[str], None] = lambda line: None) -> None:
         self.url, self.trust, self.patience, self.timeout, self.tell = checked_url(url), trust, patience, timeout, tell
         self.place = f"{self.url.hostname}:{self.url.port or self.url.scheme}"
         self.path = self.url.path.rstrip("/")
@@ -67,6 +74,8 @@ class Desk:
                 raise ValueError("a log-in wants an https URL: a password is not sent in the clear")
             self.headers["Authorization"] = "Basic " + base64.b64encode(":".join(log_in).encode()).decode()
         self.connection: Optional[http.client.HTTPConnection] = None
+        self.socket: Optional[socket.socket] = None
+        self.waits, self.fault = waits, None  # type: bool, Optional[Dict[str, str]]
         self.interval, self.next_try, self.sent_again = (1 / rate if rate else 0.0), 0.0, 0
         self.is_unanswered = False  # whether there was a try of the last message that may have been accepted without an answer
 
@@ -80,7 +89,7 @@ class Desk:
         """Ends the connection: the desk serves one at a time, so who has nothing to say holds none."""
         if self.connection is not None:
             self.connection.close()
-            self.connection = None
+            self.connection = self.socket = None
 
     def connect(self) -> http.client.HTTPConnection:
         host = str(self.url.hostname)
@@ -95,6 +104,7 @@ class Desk:
         is_sent = True
         try:
             self.connection.request(method, self.path + target, body, {**self.headers, **headers})
+            self.socket = self.connection.sock
         except (BrokenPipeError, ConnectionResetError):
             if self.connection.sock is None:
                 raise
@@ -108,35 +118,87 @@ class Desk:
             self.close()
         return answer.status, got, answer.getheader("Retry-After")
 
+    @contextlib.contextmanager
+    def within(self, end: Optional[float], news: Callable[[], None]) -> Iterator[None]:
+        """Cuts a request that isn't answered whole in its time, by a clock of its own: a server that hangs, or sends a byte a
+        second, lets the caller look at nothing. Meanwhile it reports that there is no answer."""
+        limit = min(time.monotonic() + self.timeout, end or float("inf"))
+        over = threading.Event()
+
+        def look() -> None:
+            if not over.is_set():
+                news()
+                if time.monotonic() >= limit:
+                    self.cut()
+                begin()
+
+        def begin() -> None:
+            timer = threading.Timer(max(1.0, min(limit - time.monotonic(), FIRST_NEWS)), look)
+            timers[:] = [timer]
+            timer.daemon = True
+            timer.start()
+
+        timers: List[threading.Timer] = []
+        begin()
+        try:
+            yield
+        finally:
+            over.set()
+            timers[0].cancel()
+
+    def cut(self) -> None:
+        """Ends what a request waits for, from another thread."""
+        for it in (self.socket, getattr(self.connection, "sock", None)):
+            with contextlib.suppress(OSError, AttributeError):
+                socket.socket.shutdown(it, socket.SHUT_RDWR)  # type: ignore[arg-type]
+
     def until(self, call: Callable[[], Tuple[Optional[Any], str, float]]) -> Any:
         """Tries until the call finds something. It returns none with why, and how long to wait at least."""
-        begun, pause, news = time.monotonic(), FIRST_PAUSE, time.monotonic() + FIRST_NEWS
+        begun, pause, seldom = time.monotonic(), FIRST_PAUSE, SELDOM
         end = None if self.patience is None else begun + self.patience
+        next_news, why, wait = begun + FIRST_NEWS, "it has not answered", 0.0
+
+        def news() -> None:
+            nonlocal next_news
+            now = time.monotonic()
+            if now >= next_news or wait > FIRST_NEWS and next_news == begun + FIRST_NEWS:
+                self.tell(f"no answer for {now - begun:.0f} seconds, the last time: {why}")
+                next_news = now + NEWS
+
         while True:
             time.sleep(max(0.0, self.next_try - time.monotonic()))
             self.next_try = time.monotonic() + self.interval
+            found, stop = None, None  # type: Optional[Any], Optional[NotTaken]
             try:
-                found, why, wait = call()
+                with self.within(end, news):
+                    found, why, wait = call()
             except ssl.SSLCertVerificationError as fault:
-                found, why, wait = None, f"the certificate of {self.place} is not to be trusted: {fault.verify_message}", 0.0
+                why, wait = f"the certificate of {self.place} is not to be trusted: {fault.verify_message}", 0.0
                 self.close()
                 if fault.verify_code not in NOT_VALID_NOW:
-                    raise NotTaken(f"{why}. Look at --ca") from None
+                    stop = NotTaken(f"{why}. Look at --ca")
             except (OSError, http.client.HTTPException) as broken:
                 self.close()
-                found, why, wait = None, str(broken) or repr(broken), 0.0
+                why, wait = str(broken) or repr(broken), 0.0
+            except NotTaken as fault:
+                self.close()
+                stop = fault
+            if stop:
+                if not self.waits:
+                    raise stop
+                why, wait, seldom = f"{stop}. A person has to mend that; the next try is in {seldom:.0f} seconds", seldom, min(2 * seldom, answers.LONGEST_WAIT)
+                self.fault = self.fault or {"Since": records.utc(), "Why": str(stop)}
             if found is not None:
+                self.fault = None
                 return found
             self.sent_again += 1
             until = time.monotonic() + max(pause, wait)
             pause = min(2 * pause, LONGEST_PAUSE)
             while (now := time.monotonic()) < until:
                 if end is not None and now >= end:
-                    raise GivenUp(f"given up: no answer for {self.patience:.0f} seconds, the last time: {why}")
-                if now >= news or wait > FIRST_NEWS and news == begun + FIRST_NEWS:
-                    self.tell(f"no answer for {now - begun:.0f} seconds, the last time: {why}")
-                    news = now + NEWS
-                time.sleep(min([until, news] if end is None else [until, news, end]) - now)
+                    raise stop or GivenUp(f"given up: no answer for {self.patience:.0f} seconds, the last time: {why}")
+                news()
+                time.sleep(min([until, next_news] if end is None else [until, next_news, end]) - now)
 
     def ask(self, text: bytes) -> answers.Answer:
         """Sends the same bytes until they are answered. An answer that names another message is none."""
@@ -154,8 +216,9 @@ class Desk:
         answer: answers.Answer = self.until(call)
         return answer
 
-    def send(self, message: Union[forms.Message, bytes], is_tried: bool = False) -> answers.Answer:
-        """Sends the same bytes until they are answered, and returns the answer. `is_tried` is whether a run before may have sent them.
+    def send(self, message: Union[forms.Message, bytes], is_tried: bool = False, is_others: Callable[[], bool] = lambda: False) -> answers.Answer:
+        """Sends the same bytes until they are answered, and returns the answer. `is_tried` is whether a run before may have sent them,
+        `is_others` whether another message of the sender is known to have been accepted under their UniqueID.
 
         A message may have been accepted, its answer lost, and the desk begun anew: then the new desk refuses its UniqueID. It
         knows for each UniqueID of its archive the Source and the minute, and says so to `answers.question`.
@@ -165,13 +228,50 @@ class Desk:
             raise NotTaken(words.STOPS[413])
         self.is_unanswered = is_tried
         answer = self.ask(text)
-        if isinstance(answer, answers.Refused) and answer.refusal == "IdReused" and self.is_unanswered and isinstance(self.ask(answers.question(text)), answers.Accepted):
+        if isinstance(answer, answers.Refused) and answer.refusal == "IdReused" and self.is_unanswered and not is_others() and isinstance(self.ask(answers.question(text)), answers.Accepted):
             self.tell(f"{answer.unique_id} was accepted before the desk was begun anew: its first answer is in the archive")
             answer = dataclasses.replace(answer, archived=True)
         self.is_unanswered = False
         return answer
 
     # --- Reports
+
+    def checked(self) -> Tuple[List[str], bool]:
+        """What is right and wrong of the desk, its certificate, the clock and the log-in."""
+        connection, told = self.connect(), []  # type: http.client.HTTPConnection, List[str]
+        connection.timeout = min(self.timeout, 10.0)
+        try:
+            connection.connect()
+            told.append(f"desk: {self.place} listens")
+            if isinstance(connection.sock, ssl.SSLSocket):
+                told.append(f"certificate: trusted, until {dict(connection.sock.getpeercert() or {}).get('notAfter')}")
+            connection.request("GET", self.path + "/overdue", None, self.headers)
+            answer = connection.getresponse()
+            body, date = answer.read(), answer.getheader("Date")
+        except ssl.SSLCertVerificationError as fault:
+            return [*told, f"certificate: NOT trusted: {fault.verify_message}. Look at --ca, and at the clock"], False
+        except (OSError, http.client.HTTPException) as fault:
+            return [*told, f"desk: NO answer of {self.place}: {fault or repr(fault)}"], False
+        finally:
+            connection.close()
+        ahead = 0.0 if date is None else time.time() - email.utils.parsedate_to_datetime(date).timestamp()
+        told.append("clock: not compared, since the answer has no date" if date is None else f"clock: {'right' if abs(ahead) < 60 else 'WRONG'}, {abs(ahead):.0f} seconds {'ahead of' if ahead > 0 else 'behind'} the other's")
+        is_desk = answer.status == 200 and body.startswith(b"board,")
+        if answer.status in (401, 403):
+            told.append(f"log-in: REFUSED: {words.STOPS[answer.status]}")
+        elif is_desk:
+            told.append("log-in: accepted" if self.headers or self.trust else "log-in: none is wanted")
+        else:
+            told.append(f"desk: status {answer.status}, which is no answer of a desk: {body[:100].decode(errors='replace')}")
+        return told, is_desk and abs(ahead) < 60
+
+    def hasty(self, seconds: float = 2.0) -> "Desk":
+        """This desk with a patience of some seconds, for what may fail. Its own connection is closed: a desk serves one at a time."""
+        self.close()
+        made = copy.copy(self)
+        made.patience = made.timeout = seconds
+        made.waits, made.tell = False, lambda line: None
+        return made
 
     def report(self, path: str, detail: Optional[int] = None, **asked: Any) -> List[Any]:
         """The rows of a report."""

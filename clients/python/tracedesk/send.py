@@ -4,6 +4,9 @@ usage: tracedesk-send [--url URL] [WHO] [HOW] MESSAGES ANSWERS
        tracedesk-send [--url URL] [WHO] [HOW] --spool FOLDER [--follow FOLDER | --follow - | --stay]
        tracedesk-send --spool FOLDER --put MESSAGES | --put -
        tracedesk-send --spool FOLDER --again all | --again NAME .. | --again TIME
+       tracedesk-send --spool FOLDER [--url URL] [WHO] --again NAME --by PERSON --reason TEXT [--seen CODE]
+       tracedesk-send [--url URL] [WHO] --check
+       tracedesk-send --validate MESSAGES | --version
 
 examples:
   tracedesk-send first.jsonl first.answers
@@ -12,6 +15,10 @@ examples:
   tracedesk-send --spool m1 --put mended.jsonl
   tracedesk-send --spool m1 --again 000000000007
   tracedesk-send --spool m1 --again 2026-03-02T06:00Z
+  tracedesk-send --spool m1 --stay --untraced /var/lib/tracedesk/untraced --status /var/lib/tracedesk/status
+  tracedesk-send --spool m1 --follow /m1/out --interlock /usr/local/bin/permit --machine M1
+  tracedesk-send --url https://desk.plant --ca server.crt --user m1 --password-file m1.password --check
+  tracedesk-send --validate first.jsonl
 
 With two files it posts the lines of MESSAGES, each with the UniqueID in it, and adds the desk's answers to ANSWERS.
 Started again, it goes on behind the last whole line of ANSWERS.
@@ -24,9 +31,23 @@ whatever ended it, it goes on where it was. One sender has a spool at a time; an
 --follow -       takes in the lines of standard input, and prints 'kept NAME' for each once it is on disk
 --stay           goes on when nothing waits, for programs that put messages in
 --put            puts lines into the spool and sends nothing
---again          puts messages that were set aside behind those that wait, once what they name is mended. With a TIME, as
-                 2026-03-02T06:00Z, puts each message that was accepted since then before those that wait: after the desk was
-                 restored from a copy of that time. What the desk has already isn't done twice. No sender may run meanwhile
+--again          puts requests that were set aside behind those that wait, once what they name is mended. A report of work says
+                 what was done, so it is judged by the reels of its time or not at all: it is listed, and not sent, with status 6.
+                 With a TIME, as 2026-03-02T06:00Z, puts each message that was accepted since then before those that wait, and none
+                 that was refused: after the desk was restored from a copy of that time. What the desk has already isn't done
+                 twice. No sender may run meanwhile
+--by --reason    who decides that a report of work is sent again, and why. First what the desk accepted since is shown, with the
+                 CODE that --seen wants; then the decision is kept as a record, and the message waits again
+--untraced       where the records of reports of work that were not taken go: a folder, or https://desk.plant/line/untraced.
+                 Without it they are kept in the folder `untraced` of the spool, and are handed on once it is named
+--status         where NAME.json says every few seconds what waits, what was set aside, and the state of machines: a folder, or
+                 https://desk.plant/line/status
+--name           the sender's name there (that of the spool's folder)
+--interlock      a command that is called as COMMAND MACHINE STATE REASON, at each change and every --every seconds (2). STATE is `go`
+                 only while the machine's last start of work is accepted and not completed, and answers come; else `stop`
+--machine NAME   a machine of the interlock; --silence SECONDS without an answer stop it (10)
+--check          says whether the desk, its certificate, the clock and the log-in are right
+--validate       looks at messages, a line each, and sends nothing: '-' is standard input
 --keep-days N    how long the spool keeps sent messages for --again TIME (7): longer than from one copy of the desk to the next
 --keep-mib N     how much disk they may take (512). The oldest go first, and standard error says so
 
@@ -34,16 +55,17 @@ No answer is a connection that breaks, a port where nobody listens, status 408, 
 in front of it, an answer that was cut, the answer to another message, and a certificate that isn't valid yet or any more.
 Then the same bytes are sent again, after a wait that grows, or that Retry-After asks for, ten minutes at most: a
 message that was accepted the first time gets its first answer and changes nothing. An answer is what a desk says of
-a message, with status 200, 202, 400, 409 or 422. Anything else ends the run, since sending again would change nothing:
-a log-in that is refused, a certificate that is another's, an answer that is no desk's.
+a message, with status 200, 202, 400, 409 or 422. Anything else is for a person to mend: a log-in that is refused, a
+certificate that is another's, an answer that is no desk's. With two files it ends the run. With a spool it is reported, on
+standard error and in the status, and tried again after 30 seconds, then after twice as long each time, ten minutes at most.
 
 A message that was accepted, whose answer was lost, and whose desk was then begun anew, is refused there: IdReused. The desk is
 asked whether its archive has that message. If it has, the message is done, and a line on standard error says so.
 
 A message that is refused, faulty, too long, or Ignored though its name begins with TraceDesk. was not taken. With a spool it is
 set aside in its folder `aside`, with the reason, and the next one is sent. With two files its answer is in ANSWERS.
---stop-at-refusal  ends the run at such a message, on standard error. It stays the next one that is sent, so that it is sent
-                   again once what it names is mended
+--stop-at-refusal  ends the run at such a message, on standard error. A request stays the next one that is sent, so that it is
+                   sent again once what it names is mended. A report of work is done with: it is set aside, or its answer is kept
 --rate N           at most so many tries in a second (with a spool 40, since nginx lets 50 pass); 0 is no limit
 --patience SECONDS  for one message: 600, and with a spool no end. A line after ten seconds, and then each minute, says that
                    there is no answer, and why
@@ -51,23 +73,26 @@ The password is in FILE, or in the environment as TRACEDESK_PASSWORD.
 
 A full disk, and a file that can't be read, are reported and waited out. Standard output may be closed: nothing more is printed.
 
-Exit status: 0 every message has its answer; 1 stopped at a message that was not taken; or some are set aside in
-this run, or with two files were Ignored though their names begin with TraceDesk.; 2 bad command line, or a file or a spool that
-can't be used; 3 given up: no answer in all the time that was given; 4 a message can't be sent so, and standard error says
-why; 5 an error of this program, which standard error has. With 3, 4 and 5 what has no answer is sent by the next run.
+Exit status: 0 every message has its answer, or what was checked is right; 1 stopped at a message that was not taken; or some
+are set aside in this run, or with two files were Ignored though their names begin with TraceDesk.; or what was checked is wrong;
+2 bad command line, or a file or a spool that can't be used; 3 given up: no answer in all the time that was given; 4 a message
+can't be sent so, and standard error says why; 5 an error of this program, which standard error has; 6 a report of work is not
+sent again: a person has to decide. With 3, 4 and 5 what has no answer is sent by the next run.
 """
 from __future__ import annotations
 
 import argparse
 import contextlib
 import datetime
+import hashlib
 import os
 import pathlib
 import re
+import signal
 import sys
 from typing import BinaryIO, Iterator, List, Optional
 
-from . import answers, desk, sender, spool
+from . import __version__, answers, desk, interlock, records, sender, spool, untraced, validate
 from .console import NAME, ended, say, tell
 
 RATE = 40.0  # messages a second of one spool
@@ -114,15 +139,16 @@ def send_all(to: desk.Desk, messages: List[bytes], known: List[bytes], file: Bin
     file.truncate(sum(len(it) + 1 for it in known))  # a line that was cut goes
     for line in messages[len(known):]:
         answer, is_tried = to.send(line, is_tried), False
-        if not answers.is_taken(answer):
-            if stops:
-                raise sender.Stopped(answer.text.decode(errors="replace") + "\n" + answers.why(answer))
-            if isinstance(answer, answers.Ignored):
-                tell(answers.why(answer))
-                mistyped += 1
-        file.write(answer.text + b"\n")
-        file.flush()
-        os.fsync(file.fileno())
+        is_stopped = stops and not answers.is_taken(answer)
+        if not is_stopped and isinstance(answer, answers.Ignored) and answer.is_mistyped:
+            tell(answers.why(answer))
+            mistyped += 1
+        if not is_stopped or records.is_report(answers.read_object(line)):
+            file.write(answer.text + b"\n")
+            file.flush()
+            os.fsync(file.fileno())
+        if is_stopped:
+            raise sender.Stopped(answer.text.decode(errors="replace") + "\n" + answers.why(answer))
     return mistyped
 
 
@@ -144,7 +170,7 @@ def run_files(asked: argparse.Namespace, to: desk.Desk) -> int:
 
 
 def spool_of(asked: argparse.Namespace) -> spool.Spool:
-    return spool.Spool(asked.spool, asked.keep_days, round(asked.keep_mib * (1 << 20)))
+    return spool.Spool(asked.spool, asked.keep_days, round(asked.keep_mib * (1 << 20)), asked.name)
 
 
 def put(into: spool.Spool, file: str) -> int:
@@ -165,14 +191,38 @@ def moment(text: str) -> float:
     return at.timestamp()
 
 
-def again(into: spool.Spool, names: List[str]) -> int:
+def again(asked: argparse.Namespace, into: spool.Spool) -> int:
+    names: List[str] = asked.again
     if len(names) == 1 and TIME.fullmatch(names[0]):
         found = into.again_since(moment(names[0]))
         say(f"{len(found)} wait again, before those that wait" + (f": {found[0]} to {found[-1]}" if found else f": {into.sent} has none that was sent since then"))
         return 0
-    found = into.again(into.set_aside() if names == ["all"] else names)
+    names = into.set_aside() if names == ["all"] else names
+    reports = [it for it in names if into.is_report(it)]
+    if asked.by and reports:
+        if asked.seen != show(asked, into, reports):
+            return 6
+        for it in reports:
+            into.decide(it, asked.by, asked.reason)
+        reports = []
+    found = into.again((it for it in names if it not in reports), decided=bool(asked.by))
     say(f"{len(found)} wait again{', as ' + ' '.join(found) if found else ''}")
-    return 0
+    for it in reports:
+        tell(f"message {it} is a report of work, and is not sent again: {untraced.brief(into.message(it))} was {answers.short(into.why(it)[1])}")
+    if reports:
+        tell(f"{len(reports)} reports of work stay in {into.aside}: the boards are untraced work. Decide about each by tracedesk-untraced. To send one again all the same, name it, with --by and --reason")
+    return 6 if reports else 0
+
+
+def show(asked: argparse.Namespace, into: spool.Spool, names: List[str]) -> str:
+    """Shows what who decides must see, and returns its code: it changes with what is shown."""
+    with desk_of(asked) as to:
+        shown = "\n".join(untraced.shown(into, it, to) for it in names)
+    code = hashlib.sha256(shown.encode()).hexdigest()[:8]
+    if asked.seen != code:
+        say(shown)
+        tell("nothing is sent" + (": what is shown has changed" if asked.seen else "") + f". If the reels are those of the work, decide by the same command with --seen {code}")
+    return code
 
 
 def run_spool(asked: argparse.Namespace, to: desk.Desk) -> int:
@@ -182,9 +232,28 @@ def run_spool(asked: argparse.Namespace, to: desk.Desk) -> int:
         follower = sender.Lines(into, sys.stdin.buffer, lambda name: say(f"kept {name}"), tell)
     elif asked.follow:
         follower = sender.Folder(into, pathlib.Path(asked.follow), tell)
-    run = sender.Sender(into, to, asked.stop_at_refusal, tell)
+    places = [untraced.Place(it, lambda url: desk_of(asked, url, untraced.TIMEOUT)) if it else None for it in (asked.untraced, asked.status)]
+    states = interlock.Interlock(into, asked.machine, asked.interlock, asked.silence, asked.every, tell)
+    run = sender.Sender(into, to, asked.stop_at_refusal, tell, states, *places)
+    if asked.interlock:
+        signal.signal(signal.SIGTERM, lambda *_: terminated(states))
     run.run(follower, asked.stay)
     return 1 if run.aside else 0
+
+
+def terminated(states: interlock.Interlock) -> None:
+    """Stops the machines, and ends as the signal does."""
+    states.end("the sender was ended")
+    signal.signal(signal.SIGTERM, signal.SIG_DFL)
+    os.kill(os.getpid(), signal.SIGTERM)
+
+
+def check(asked: argparse.Namespace) -> int:
+    """Says whether the desk, its certificate, the clock and the log-in are right."""
+    told, is_right = desk_of(asked).checked()
+    for line in told:
+        say(line)
+    return 0 if is_right else 1
 
 
 # --- The command line
@@ -219,6 +288,14 @@ def reader_of_words() -> argparse.ArgumentParser:
     what.add_argument("--stay", action="store_true")
     what.add_argument("--put", metavar="FILE")
     what.add_argument("--again", nargs="+", metavar="NAME")
+    what.add_argument("--check", action="store_true")
+    what.add_argument("--validate", metavar="FILE")
+    for name in ("by", "reason", "seen", "untraced", "status", "name", "interlock"):
+        reader.add_argument(f"--{name}")
+    reader.add_argument("--machine", action="append", default=[])
+    reader.add_argument("--silence", type=float, default=interlock.SILENCE)
+    reader.add_argument("--every", type=float, default=interlock.EVERY)
+    reader.add_argument("--version", action="version", version=f"tracedesk-send {__version__}")
     reader.add_argument("files", nargs="*", metavar="MESSAGES ANSWERS")
     return reader
 
@@ -227,10 +304,18 @@ def words() -> argparse.Namespace:
     """What the command line says."""
     reader = reader_of_words()
     asked = reader.parse_args()
-    if len(asked.files) != (0 if asked.spool else 2):
+    if len(asked.files) != (0 if asked.spool or asked.check or asked.validate else 2):
         reader.error("name --spool FOLDER, or two files: MESSAGES and ANSWERS")
-    if not asked.spool and (asked.follow or asked.stay or asked.put or asked.again):
-        reader.error("--follow, --stay, --put and --again want --spool FOLDER")
+    if not asked.spool and (asked.follow or asked.stay or asked.put or asked.again or asked.untraced or asked.status or asked.interlock):
+        reader.error("--follow, --stay, --put, --again, --untraced, --status and --interlock want --spool FOLDER")
+    if (asked.by or asked.reason or asked.seen) and not (asked.again and asked.by and asked.by.strip() and asked.reason and asked.reason.strip()):
+        reader.error("--by and --reason go together, with --again NAME")
+    if bool(asked.interlock) != bool(asked.machine):
+        reader.error("--interlock COMMAND wants --machine NAME, of each machine that it stops")
+    if asked.silence <= 0 or asked.every <= 0:
+        reader.error("--silence and --every are numbers of seconds above 0")
+    if asked.name is not None and not re.fullmatch("[A-Za-z0-9_-][A-Za-z0-9._-]{0,63}", asked.name):
+        reader.error("--name is 1 to 64 letters, digits, '.', '_' and '-'")
     if asked.follow not in (None, "-") and not pathlib.Path(asked.follow).is_dir():
         reader.error(f"--follow: {asked.follow} is no folder: make it, or name another")
     if (asked.user or asked.cert or asked.ca) and not asked.url.startswith("https:"):
@@ -240,8 +325,8 @@ def words() -> argparse.Namespace:
     return asked
 
 
-def desk_of(asked: argparse.Namespace) -> desk.Desk:
-    """The desk that the command line names."""
+def desk_of(asked: argparse.Namespace, url: Optional[str] = None, timeout: Optional[float] = None) -> desk.Desk:
+    """The desk that the command line names, or another place behind its log-in."""
     trust = desk.trust_of(asked.ca, asked.cert, asked.key) if asked.url.startswith("https:") else None
     log_in = None
     if asked.user:
@@ -249,14 +334,18 @@ def desk_of(asked: argparse.Namespace) -> desk.Desk:
         log_in = asked.user, password
     patience = asked.patience if asked.patience is not None else None if asked.spool else desk.PATIENCE
     rate = asked.rate if asked.rate is not None else RATE if asked.spool else 0.0
-    return desk.Desk(asked.url, trust, log_in, patience=patience, timeout=asked.timeout, rate=rate, tell=tell)
+    return desk.Desk(url or asked.url, trust, log_in, patience=patience, timeout=timeout or asked.timeout, rate=rate, waits=bool(asked.spool and not asked.again), tell=tell)
 
 
 def run(asked: argparse.Namespace) -> int:
     if asked.put:
         return put(spool_of(asked), asked.put)
     if asked.again:
-        return again(spool_of(asked), asked.again)
+        return again(asked, spool_of(asked))
+    if asked.validate:
+        return validate.run(asked.validate, say)
+    if asked.check:
+        return check(asked)
     to = desk_of(asked)
     try:
         return run_spool(asked, to) if asked.spool else run_files(asked, to)

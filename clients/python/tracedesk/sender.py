@@ -6,15 +6,15 @@ import os
 import pathlib
 import threading
 import time
-from typing import BinaryIO, Callable, Iterator, Optional
+from typing import Any, BinaryIO, Callable, Dict, Iterator, Optional, Tuple
 
-from . import answers, forms
+from . import answers, forms, records, untraced
 from .console import NEWS_OF_A_FAULT, patiently
 from .desk import Desk
-from .spool import Spool, files_in, lines_of, lock_alone
+from .interlock import Interlock
+from .spool import MOST_READ, Spool, files_in, lines_of, lock_alone, write_synced
 
 LOOK = 0.2  # seconds between two looks at a folder
-BEGUN = ".tracedesk-send.taking"  # the file of a followed folder that is taken in: no machine writes one of this name
 
 
 class Stopped(Exception):
@@ -22,48 +22,86 @@ class Stopped(Exception):
 
 
 class Sender:
-    """The one sender of a spool. `stops` ends the run at a message that is not taken; else that one is set aside."""
+    """The one sender of a spool. `stops` ends the run at a message that is not taken; else that one is set aside. A report of work is
+    always set aside: it isn't sent again unless a person decides so."""
 
-    def __init__(self, spool: Spool, desk: Desk, stops: bool = False, tell: Callable[[str], None] = lambda line: None) -> None:
+    def __init__(self, spool: Spool, desk: Desk, stops: bool = False, tell: Callable[[str], None] = lambda line: None, interlock: Optional[Interlock] = None,
+                 inbox: Optional[untraced.Place] = None, status: Optional[untraced.Place] = None) -> None:
         self.spool, self.desk, self.stops, self.tell = spool, desk, stops, tell
+        self.interlock = interlock or Interlock(spool, [])
+        self.interlock.is_needed = bool(self.interlock.command or status)
+        self.line = untraced.Line(spool, desk, self.interlock, inbox, status, tell)
         self.sent = self.aside = 0
         self.news, self.dropped, self.next_news = threading.Event(), 0, 0.0
 
-    def answer_to(self, name: str) -> Optional[answers.Answer]:
-        """The answer to a message; none if the message is gone. One that is too long for any desk has its answer at once."""
+    def answer_to(self, name: str) -> Tuple[Optional[answers.Answer], Dict[str, Any]]:
+        """The answer to a message, and the message; none if it is gone. One that is too long for any desk has its answer at once."""
         place = self.spool.waiting / f"{name}.json"
         if not patiently(place.exists, self.tell):
             self.tell(f"{place} was deleted before it was sent")
-            return None
-        if patiently(place.stat, self.tell).st_size > forms.LONGEST_MESSAGE:
-            return answers.LINE_TOO_LONG
+            return None, {}
+        if (size := patiently(place.stat, self.tell).st_size) > forms.LONGEST_MESSAGE:
+            return answers.LINE_TOO_LONG, self.spool.message(name) if size <= MOST_READ else {}
+        text = patiently(lambda: self.spool.text(name), self.tell)
+        told = answers.read_object(text)
         try:
-            return self.desk.send(patiently(lambda: self.spool.text(name), self.tell), self.spool.is_tried(name))
+            return self.desk.send(text, self.spool.is_tried(name), lambda: self.spool.has_accepted(str(told.get("UniqueID")), name)), told
         finally:
             self.spool.is_unanswered = self.desk.is_unanswered
 
     def send_waiting(self) -> int:
         """Sends each message that waits; how many they were."""
         names = patiently(self.spool.names, self.tell)
+        self.interlock.look_ahead(names)
         for name in names:
-            answer = self.answer_to(name)
+            answer, told = self.answer_to(name)
             if answer is None:
                 continue
-            if not answers.is_taken(answer):
+            is_taken, is_report = answers.is_taken(answer), records.is_report(told)
+            if not is_taken:
+                self.interlock.judged(name, told, answer, False)  # a machine is stopped before anything is kept
                 why = f"message {name} is {answers.why(answer)}"
-                if self.stops:
+                if self.stops and not is_report:
                     raise Stopped(f"{why}\n{answer.text.decode(errors='replace')}")
-                self.tell(f"{why}. It is set aside in {self.spool.aside}")
+                self.tell(f"{why}. It is set aside in {self.spool.aside}" + (f". It is a report of work, and isn't sent again: a person decides about it{self.line.where_kept()}" if is_report else ""))
                 self.aside += 1
             self.keep(name, answer)
+            if is_taken:
+                if self.interlock.is_needed and answers.word_of(told) == "WorkStarted":
+                    self.interlock.look_ahead(patiently(self.spool.names, self.tell))  # a later start may wait by now
+                self.interlock.judged(name, told, answer, self.spool.is_tried(name))
+            elif is_report:
+                self.tell_line(name, told)
+                if self.stops:
+                    raise Stopped(f"{why}\n{answer.text.decode(errors='replace')}")
         return len(names)
 
     def keep(self, name: str, answer: answers.Answer) -> None:
         """Keeps an answer, and then moves its message."""
-        patiently(lambda: self.spool.keep_answer(name, answer), self.tell)
-        patiently(lambda: self.spool.finish(name, answer), self.tell)
+        at = records.utc()
+        patiently(lambda: self.spool.keep_answer(name, answer, at), self.tell)
+        patiently(lambda: self.spool.finish(name, answer, at), self.tell)
         self.sent += 1
+        self.interlock.heard()
         self.look_at_what_is_kept()
+
+    def tell_line(self, name: str, told: Dict[str, Any]) -> None:
+        """Keeps the reels that are on a machine now that a report of it was refused, and shows the refusal at the line."""
+        machine = str(answers.body_of(told).get("Machine"))
+        with contextlib.suppress(OSError, IndexError):
+            _, answer, more = self.spool.why(name)
+            self.interlock.refused(machine, {"Answer": answers.read_object(answer.text), "Message": told, **more})
+        with contextlib.suppress(Exception):  # who decides is told that they are not known
+            with self.desk.hasty() as desk:
+                write_synced(self.spool.aside / f"{name}.slots", "\n".join(untraced.slots_of(desk, machine)).encode())
+        self.interlock.news()
+
+    def sign_of_life(self) -> None:
+        """Asks the desk for the reels on a machine, so that a machine without messages isn't stopped."""
+        with contextlib.suppress(Exception):
+            with self.desk.hasty(self.interlock.silence / 2) as desk:
+                untraced.slots_of(desk, self.interlock.listed[0])
+            self.interlock.heard()
 
     def look_at_what_is_kept(self) -> None:
         """Reports, once a minute, sent messages that were deleted before their days were over."""
@@ -76,17 +114,24 @@ class Sender:
         with contextlib.ExitStack() as held:
             held.enter_context(self.spool.sending())
             self.aside += self.spool.is_made_good
+            held.callback(self.line.look)
+            held.callback(self.interlock.end)
+            self.interlock.begin()
+            self.line.begin()
             if follower:
                 held.enter_context(follower.held())
                 follower.begin(self.news)
             while True:
                 is_ended = follower is None or follower.is_ended
+                self.interlock.is_stuck = follower is not None and follower.is_stuck
                 if self.send_waiting():
                     continue
                 if is_ended and not stays:
                     break
                 self.news.clear()
                 if not self.spool.names() and not self.news.wait(LOOK):
+                    if self.interlock.is_due():
+                        self.sign_of_life()
                     self.desk.close()
             if follower and follower.fault:
                 raise follower.fault
@@ -96,12 +141,17 @@ class Follower:
     """Takes messages into a spool as they come, in a thread of its own: a desk that is away stops no machine."""
 
     def __init__(self, spool: Spool, tell: Callable[[str], None] = lambda line: None) -> None:
-        self.spool, self.tell, self.is_ended = spool, tell, False
+        self.spool, self.say, self.is_ended, self.is_stuck = spool, tell, False, False
         self.fault: Optional[OSError] = None
 
     def begin(self, news: threading.Event) -> None:
         self.news = news
         threading.Thread(target=self.run, daemon=True).start()
+
+    def tell(self, line: str) -> None:
+        """Reports what keeps it from taking messages in."""
+        self.is_stuck = True
+        self.say(line)
 
     def held(self) -> "contextlib.AbstractContextManager[None]":
         """Held while it follows."""
@@ -123,6 +173,7 @@ class Lines(Follower):
             for line in lines_of(self.stream):
                 text = line if isinstance(line, bytes) else b"".join(line)
                 name = patiently(lambda: self.spool.put(text), self.tell)
+                self.is_stuck = False
                 self.news.set()
                 self.acknowledge(name)
         except OSError as fault:
@@ -139,7 +190,7 @@ class Folder(Follower):
 
     def __init__(self, spool: Spool, folder: pathlib.Path, tell: Callable[[str], None] = lambda line: None) -> None:
         super().__init__(spool, tell)
-        self.folder, self.begun = folder, folder / BEGUN
+        self.folder, self.begun = folder, folder / f".tracedesk-send.{spool.identity()}.taking"  # two senders of a folder take what each has got
 
     @contextlib.contextmanager
     def held(self) -> Iterator[None]:
@@ -154,6 +205,7 @@ class Folder(Follower):
     def run(self) -> None:
         while True:
             patiently(self.look, self.tell)
+            self.is_stuck = False
             time.sleep(LOOK)
 
     def look(self) -> None:

@@ -4,7 +4,9 @@
     answers/2026-03-02.jsonl      a line for each answer, in the order sent: {"Answer":{..},"Message":"000000000012"}
     sent/000000000011.json        a message that was accepted, kept for some days; .refused is a copy of one that was refused
     aside/000000000007.json       a message that was not taken, and beside it
-    aside/000000000007.why        what was wrong, and what to do
+    aside/000000000007.why        what was wrong, and what to do; of a report of work the id of its record too
+    aside/000000000007.slots      the reels on the machine when a report of work was refused
+    untraced/ID.json              a record of untraced work that isn't handed on yet
 
 Files of answers of earlier days may be deleted. Programs may put messages in at the same time; one sends.
 """
@@ -19,16 +21,27 @@ import os
 import pathlib
 import re
 import time
+import uuid
 from typing import Any, BinaryIO, Deque, Dict, Iterable, Iterator, List, Optional, Tuple, Union
 
-from . import answers, forms
+from . import answers, forms, records
 from .console import patiently
 
 NAME = re.compile(r"(\d{12})\.json")
 LOG = re.compile(r"\d{4}-\d\d-\d\d\.jsonl")
 BLOCK = 4096  # bytes that a small file takes on a disk
 KEPT_DAYS, KEPT_BYTES = 7.0, 512 << 20  # of sent messages, at most
+LAST = 999_999_999_999  # the greatest number
+MOST_READ = 16 << 20  # bytes of a message of which a record is made
 ALWAYS_KEPT = 16 << 20  # bytes of sent messages, however old a wrong clock makes them
+
+
+STATE = {  # what the members of .sender may be
+    "Tried": lambda it: type(it) is int,
+    "Runs": lambda it: type(it) is bool,
+    "Answers": lambda it: it is None or isinstance(it, str),
+    "Again": lambda it: it is None or isinstance(it, list) and [type(one) for one in it] == [int, int],
+}
 
 
 class SpoolError(Exception):
@@ -43,7 +56,7 @@ def sync_folder(path: pathlib.Path) -> None:
         os.close(handle)
 
 
-def write_synced(path: pathlib.Path, text: Union[bytes, Iterable[bytes]]) -> None:
+def write_synced(path: pathlib.Path, text: Union[bytes, Iterable[bytes]], mode: Optional[int] = None) -> None:
     """Puts a file of this text, or of its pieces, at its place, whole; it is on disk once its folder is synced."""
     beside = path.with_name(f".{path.name}.new")
     try:
@@ -51,6 +64,8 @@ def write_synced(path: pathlib.Path, text: Union[bytes, Iterable[bytes]]) -> Non
             for piece in [text] if isinstance(text, bytes) else text:
                 file.write(piece)
             file.flush()
+            if mode is not None:
+                os.fchmod(file.fileno(), mode)
             os.fsync(file.fileno())
         os.rename(beside, path)
     except OSError:
@@ -98,12 +113,13 @@ def long_line(first: bytes, pieces: Iterator[bytes]) -> Iterator[bytes]:
 
 
 class Spool:
-    """A spool, which is made if there is none. Sent messages are kept for `days`, and of at most so many bytes."""
+    """A spool, which is made if there is none. Sent messages are kept for `days`, and of at most so many bytes. Its name is in records."""
 
-    def __init__(self, folder: Union[str, "os.PathLike[str]"], days: float = KEPT_DAYS, most: int = KEPT_BYTES) -> None:
+    def __init__(self, folder: Union[str, "os.PathLike[str]"], days: float = KEPT_DAYS, most: int = KEPT_BYTES, name: Optional[str] = None) -> None:
         self.folder, self.days, self.most = pathlib.Path(folder), days, most
-        self.waiting, self.aside, self.answered, self.sent = (self.folder / it for it in ("waiting", "aside", "answers", "sent"))
-        for it in (self.folder, self.waiting, self.aside, self.answered, self.sent):
+        self.name = name or self.folder.absolute().name
+        self.waiting, self.aside, self.answered, self.sent, self.untraced = (self.folder / it for it in ("waiting", "aside", "answers", "sent", "untraced"))
+        for it in (self.folder, self.waiting, self.aside, self.answered, self.sent, self.untraced):
             if not it.is_dir():
                 it.mkdir(mode=0o700, parents=it == self.folder, exist_ok=True)
                 sync_folder(it.parent)
@@ -128,6 +144,7 @@ class Spool:
     def last(self, lock: int) -> int:
         """The greatest number so far. It is counted anew once, and after a process that ended in the middle of a `put`."""
         told = re.fullmatch(rb"(\d{12}) (busy|free)\n", os.pread(lock, 100, 0))
+        told = None if told and int(told[1]) >= LAST else told  # a file that was damaged: no spool comes that far
         stored = (int(told[1]) - (told[2] == b"busy")) if told else 0
         if told and told[2] == b"free" and self.is_counted:
             return stored
@@ -145,6 +162,8 @@ class Spool:
 
     def put_next(self, lock: int, last: int, text: Union[bytes, Iterable[bytes]]) -> str:
         name = spelled(last + 1)
+        if last >= LAST:
+            raise SpoolError(f"{self.waiting} has a message of the greatest number: move it away, and use another spool")
         os.pwrite(lock, f"{name} busy\n".encode(), 0)
         write_synced(self.waiting / f"{name}.json", text)
         patiently(lambda: sync_folder(self.waiting))  # it is there, and may be sent already: who puts it in must not do so again
@@ -158,7 +177,8 @@ class Spool:
     def read_intake(self) -> Optional[Tuple[str, int, int]]:
         with contextlib.suppress(FileNotFoundError, ValueError, KeyError, TypeError):
             told = json.loads((self.folder / ".intake").read_text())
-            return told["File"], told["First"], told["Before"]
+            if [type(told[it]) for it in ("File", "First", "Before")] == [str, int, int]:
+                return told["File"], told["First"], told["Before"]
         return None
 
     def write_intake(self, file: str, first: int, before: int) -> None:
@@ -205,7 +225,7 @@ class Spool:
         state = {"Tried": 0, "Runs": False, "Answers": max(self.logs(), default=None), "Again": None}
         with contextlib.suppress(FileNotFoundError, ValueError):
             told = json.loads((self.folder / ".sender").read_text())
-            state.update(told if isinstance(told, dict) else {})
+            state.update({name: told[name] for name, is_it in STATE.items() if name in told and is_it(told[name])} if isinstance(told, dict) else {})
         return state
 
     def write_state(self, **changes: Any) -> None:
@@ -222,10 +242,10 @@ class Spool:
             lock_alone(handle, self.folder, "sender has this spool: end that one, or name another spool")
             self.state = self.read_state()
             self.move_back()
-            number, answer = self.last_answer(self.state["Answers"], mends=True)
+            number, answer, at = self.last_answer(self.state["Answers"], mends=True)
             self.is_made_good = answer is not None and not answers.is_taken(answer) and (self.waiting / f"{spelled(number)}.json").exists()
             if answer is not None:
-                self.finish(spelled(number), answer)
+                self.finish(spelled(number), answer, at)
             tried = [int(it) for it in self.names()[:1] if self.state["Runs"]]
             self.write_state(Tried=max([self.state["Tried"], *tried]), Runs=True, Answers=None)
             self.is_unanswered = False
@@ -254,8 +274,8 @@ class Spool:
     def logs(self) -> List[str]:
         return [it for it in os.listdir(self.answered) if LOG.fullmatch(it)]
 
-    def last_answer(self, log: Optional[str], mends: bool = False) -> Tuple[int, Optional[answers.Answer]]:
-        """The last answer in a file of answers and the number of its message; `mends` cuts a line that was not written whole."""
+    def last_answer(self, log: Optional[str], mends: bool = False) -> Tuple[int, Optional[answers.Answer], str]:
+        """The last answer in a file of answers, the number of its message, and when it came; `mends` cuts a line that was not written whole."""
         with contextlib.suppress(OSError, ValueError, KeyError, TypeError):
             with open(self.answered / str(log), "r+b" if mends else "rb") as file:
                 size = file.seek(0, os.SEEK_END)
@@ -268,16 +288,25 @@ class Spool:
                 if mends and cut:
                     file.truncate(size - len(cut))
                 told = json.loads(whole.rpartition(b"\n")[2])
-                return int(told["Message"]), answers.read(json.dumps(told["Answer"], separators=(",", ":")).encode(), told.get("Archived", False))
-        return 0, None
+                return int(told["Message"]), answers.read(json.dumps(told["Answer"], separators=(",", ":")).encode(), told.get("Archived", False)), str(told.get("At", ""))
+        return 0, None, ""
 
-    def done(self, name: str, answer: answers.Answer) -> None:
+    def done(self, name: str, answer: answers.Answer, at: str = "") -> None:
         """Keeps the answer to a message on disk; then the message goes where it belongs."""
-        self.keep_answer(name, answer)
-        self.finish(name, answer)
+        at = at or records.utc()
+        self.keep_answer(name, answer, at)
+        self.finish(name, answer, at)
 
-    def keep_answer(self, name: str, answer: answers.Answer) -> None:
-        """Adds an answer to the file of the day."""
+    def has_accepted(self, unique_id: str, name: str) -> bool:
+        """Whether the desk accepted another message of this spool under this UniqueID."""
+        for log in self.logs():
+            for line in (self.answered / log).read_bytes().splitlines():
+                if unique_id.encode() in line and name.encode() not in line and answers.read_object(line).get("Answer", {}).get("Answer") == "Accepted":
+                    return True
+        return False
+
+    def keep_answer(self, name: str, answer: answers.Answer, at: str = "") -> None:
+        """Adds an answer to the file of the day; of a message that was not taken with the time, so that its record is the same each time it is made."""
         today = f"{datetime.date.today()}.jsonl"
         if self.log is None or self.log[0] != today:
             if self.log is not None:
@@ -287,7 +316,7 @@ class Spool:
             sync_folder(self.answered)
         if self.state.get("Answers") != today:
             self.write_state(Answers=today)
-        line = b'{"Answer":' + answer.text + (b',"Archived":true' if answers.is_archived(answer) else b"") + b',"Message":"' + name.encode() + b'"}\n'
+        line = b'{"Answer":' + answer.text + (b',"Archived":true' if answers.is_archived(answer) else b"" if answers.is_taken(answer) else b',"At":"' + at.encode() + b'"') + b',"Message":"' + name.encode() + b'"}\n'
         size = os.fstat(self.log[1]).st_size
         try:
             if os.write(self.log[1], line) != len(line):
@@ -298,7 +327,7 @@ class Spool:
                 os.ftruncate(self.log[1], size)
             raise
 
-    def finish(self, name: str, answer: answers.Answer) -> None:
+    def finish(self, name: str, answer: answers.Answer, at: str = "") -> None:
         """Moves a message that is answered: to those that were sent, or aside. Done once more it does nothing."""
         place = self.waiting / f"{name}.json"
         if not place.exists():
@@ -311,7 +340,15 @@ class Spool:
             kept = self.sent / f"{name}.refused"
             if size <= forms.LONGEST_MESSAGE:
                 write_synced(kept, place.read_bytes())
-            write_synced(self.aside / f"{name}.why", f"{answers.why(answer)}\n{answer.text.decode()}\n".encode())
+            why = f"{answers.why(answer)}\n{answer.text.decode()}\n"
+            told = self.message(name) if size <= MOST_READ else {}
+            if records.is_report(told):
+                at = at or records.utc()
+                made, text = records.record("refused", f"tracedesk-send {self.name}", at, Answer=answers.read_object(answer.text), Message=told)
+                write_synced(self.untraced / f"{made}.json", text)
+                sync_folder(self.untraced)
+                why += json.dumps({"At": at, "Id": made}) + "\n"
+            write_synced(self.aside / f"{name}.why", why.encode())
             os.rename(place, self.aside / place.name)
             sync_folder(self.aside)
         sync_folder(self.waiting)
@@ -359,25 +396,73 @@ class Spool:
             self.kept = None
             self.write_state(Again=None, Answers=None)
 
+    def sent_after(self, name: str) -> List[str]:
+        """The messages that were accepted after this one was refused."""
+        return [it for it in names_in(self.sent) if it > name]
+
     # --- What was set aside
 
     def set_aside(self) -> List[str]:
         """The names of the messages that were set aside, in their order."""
         return names_in(self.aside)
 
-    def again(self, names: Iterable[str]) -> List[str]:
-        """Puts messages that were set aside behind those that wait, the same bytes; their new names."""
+    def message(self, name: str) -> Dict[str, Any]:
+        """A message that waits, or was set aside; empty if its text is no JSON object."""
+        with contextlib.suppress(FileNotFoundError):
+            return answers.read_object(self.text(name))
+        return answers.read_object((self.aside / f"{name}.json").read_bytes())
+
+    def is_report(self, name: str) -> bool:
+        """Whether a message that was set aside is a report of work: it isn't sent again unless a person decides so."""
+        place = self.aside / f"{name}.json"
+        if not NAME.fullmatch(place.name) or not place.exists():
+            raise SpoolError(f"{place} is not there: name a message of {self.aside}, or a time, as 2026-03-02T06:00Z")
+        return records.is_report(self.message(name))
+
+    def why(self, name: str) -> Tuple[str, answers.Answer, Dict[str, Any]]:
+        """Why a message was set aside, the answer, and of a report of work when that was and the id of its record."""
+        lines = (self.aside / f"{name}.why").read_text().split("\n")
+        answer = answers.read(lines[1].encode()) or answers.LINE_TOO_LONG
+        return lines[0], answer, answers.read_object(lines[2].encode())
+
+    def last_refused(self) -> Dict[str, Dict[str, Any]]:
+        """Of each machine the last report of work that was refused, as a status has it."""
+        found = {}
+        for name in self.set_aside():
+            with contextlib.suppress(OSError, IndexError):
+                _, answer, told = self.why(name)
+                if told:
+                    message = self.message(name)
+                    found[str(answers.body_of(message).get("Machine"))] = {"Answer": answers.read_object(answer.text), "Message": message, **told}
+        return found
+
+    def decide(self, name: str, by: str, reason: str) -> None:
+        """Keeps who decided that a report of work is sent again, and why, before it is sent."""
+        made, text = records.record("decided", by, records.utc(), Became="sent again", Of=self.why(name)[2].get("Id"), Reason=reason)
+        write_synced(self.untraced / f"{made}.json", text)
+        sync_folder(self.untraced)
+
+    def again(self, names: Iterable[str], decided: bool = False) -> List[str]:
+        """Puts messages that were set aside behind those that wait, the same bytes; their new names. Of reports of work only with a decision."""
         found = []
         for name in names:
             place = self.aside / f"{name}.json"
-            if not NAME.fullmatch(place.name) or not place.exists():
-                raise SpoolError(f"{place} is not there: name a message of {self.aside}, or a time, as 2026-03-02T06:00Z")
+            if self.is_report(name) and not decided:
+                raise SpoolError(f"{place} is a report of work: it isn't sent again without a decision")
             found.append(self.put(place.read_bytes()))
-            place.unlink()
-            with contextlib.suppress(FileNotFoundError):
-                place.with_suffix(".why").unlink()
+            for it in (place, place.with_suffix(".why"), place.with_suffix(".slots")):
+                with contextlib.suppress(FileNotFoundError):
+                    it.unlink()
             sync_folder(self.aside)
         return found
+
+    def identity(self) -> str:
+        """What no other spool has: it is in the names of files that this one takes in."""
+        place = self.folder / ".identity"
+        if not place.exists() or not re.fullmatch("[0-9a-f]{32}", place.read_text()):
+            write_synced(place, uuid.uuid4().hex.encode())
+            sync_folder(self.folder)
+        return place.read_text()
 
 
 def files_in(folder: pathlib.Path) -> List[pathlib.Path]:

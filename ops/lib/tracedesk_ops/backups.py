@@ -1,11 +1,15 @@
 """The copies that ops/backup makes, in a folder: their order, whose they are, how old, and whether they are whole.
 
 A copy is a folder that is named by when it was taken, in UTC: `desk`, `archive` with the catalogue, the checksums in
-SHA256SUMS, and backup.json, which has the copy's number, its desk's file and line, how many commands it has, and which
-archives it is without. Copies are in the order of their numbers, since a clock may jump; up to 0.2.0 they have none.
+SHA256SUMS, and backup.json, which has the copy's number, its desk's name, file and line, how many commands it has, and
+which archives it is without. Copies are in the order of their numbers, since a clock may jump; up to 0.2.0 they have
+none. Up to 0.3.0 they have no name: then the first command of the desk in them says whose they are.
+
+A copy that can't be read is a fault, and never passed over: it may be the newest one.
 """
 import contextlib
 import datetime
+import hashlib
 import json
 import os
 import pathlib
@@ -13,7 +17,7 @@ import re
 import sqlite3
 import time
 
-from tracedesk_ops import carry, catalogue, plant
+from tracedesk_ops import catalogue, identity, plant
 
 ARCHIVE, SUMS, ABOUT = "archive", "SHA256SUMS", "backup.json"
 NAME, NAMED = re.compile(r"\d{4}-\d\d-\d\dT\d{6}Z"), "%Y-%m-%dT%H%M%SZ"
@@ -21,37 +25,88 @@ FUTURE = 300  # seconds that the clocks of two machines may differ
 
 
 def about(copy):
-    """What a copy says of itself."""
+    """What a copy says of itself; a Fault where that is not the file of its checksum."""
     try:
-        told = json.loads((copy / ABOUT).read_text(encoding="utf-8"))
-        return {"number": 0, "desk": "", "line": "", **told, "commands": told["commands"], "missing": told["missing"]}
+        text, sums = (copy / ABOUT).read_bytes(), sums_of(copy)
+        if sums.get(ABOUT) != hashlib.sha256(text).hexdigest():
+            raise ValueError(f"it is not the file of its checksum in {SUMS}")
+        told = json.loads(text)
+        return {"number": 0, "desk": "", "line": "", "name": "", "host": "", **told, "commands": told["commands"], "missing": told["missing"]}
     except (OSError, ValueError, KeyError, TypeError) as fault:
-        raise plant.Fault(f"{copy / ABOUT} can't be read: {fault!r}. Name another copy") from fault
+        raise plant.Fault(f"{copy / ABOUT} can't be read: {fault}: the copy is damaged. Name another copy, or move this one out of the folder once you have looked at its disk") from fault
+
+
+def sums_of(copy):
+    """The checksums of a copy's files."""
+    return {line[66:]: line[:64] for line in (copy / SUMS).read_text(encoding="utf-8").splitlines()}
 
 
 def number_of(copy):
-    """A copy's number; 0 where it says none."""
-    with contextlib.suppress(plant.Fault):
-        return about(copy)["number"]
-    return 0
+    return about(copy)["number"]
 
 
-def kept_in(to, db=None):
-    """The copies in a folder, from the oldest to the newest; of a desk's file alone where it is named. Each was lawful when it got its name."""
-    there = [it for it in to.iterdir() if NAME.fullmatch(it.name)] if to.is_dir() else []
-    return sorted((it for it in there if db is None or is_of(it, db)), key=lambda it: (number_of(it), it.name))
+class Whose:
+    """A desk whose copies are looked for: its name, and the first commands of it and of its archives. Neither is known where its disk is lost."""
+
+    def __init__(self, db, archive=None):
+        self.db, path = pathlib.Path(db), pathlib.Path(archive or pathlib.Path(db).parent / ARCHIVE) / catalogue.FILE_NAME
+        self.desk, there = identity.of_running(db), catalogue.survey(path).archives
+        chain = identity.chain(path, there, self.desk.mark)[0] if self.desk else there
+        names = {self.desk.name} if self.desk else {it.name for it in there if it.name}
+        self.name = names.pop() if len(names) == 1 else ""
+        self.firsts = {command(file, 1) for file in (db, *(catalogue.path_of(path, it) for it in chain))} - {None}
+
+    def has(self, copy, told):
+        """Whether a copy is of this desk."""
+        if told["name"] and self.name:
+            return told["name"] == self.name
+        return command(copy / "desk", 1) in self.firsts
+
+    def guessed(self, copies):
+        """The copies of a desk whose disk is lost: all of them, if they are of one desk; a Fault where they are of several."""
+        names, here = {told["name"] for _, told in copies} - {""}, [(it, told) for it, told in copies if told["name"] or told["desk"] in ("", os.path.realpath(self.db))]
+        unnamed = {command(it / "desk", 1) for it, told in here if not told["name"]}
+        if len(names) > 1 or (not names and len(unnamed) > 1) or names and unnamed - {first for it, told in here if told["name"] for first in firsts_of(it)}:
+            whose = sorted({f"{it.name} ({told['line'] or 'no line'}, {told['host'] or 'no host'}, {told['desk']})" for it, told in copies})
+            raise plant.Fault(f"{self.db} can't be read, so nothing says which desk it was, and the copies are of several. Name one: {', '.join(whose)}")
+        return [it for it, _ in here]
 
 
-def is_of(copy, db):
-    """Whether a copy is one of the desk in that file, or doesn't say of which desk it is."""
-    return desk_of(copy) in ("", os.path.realpath(db))
+def firsts_of(copy):
+    path = copy / ARCHIVE / catalogue.FILE_NAME
+    return {command(it, 1) for it in (copy / "desk", *(catalogue.path_of(path, it) for it in catalogue.survey(path).archives))} - {None}
 
 
-def desk_of(copy):
-    """The desk's file that a copy is of; empty where it doesn't say so."""
-    with contextlib.suppress(plant.Fault):
-        return about(copy)["desk"]
-    return ""
+def survey(to, whose=None):
+    """The copies in a folder, from the oldest to the newest, of one desk alone where it is named; and what is wrong with those that can't be read."""
+    there, faults = [], []
+    for it in sorted(it for it in to.iterdir() if NAME.fullmatch(it.name)) if to.is_dir() else ():
+        try:
+            there.append((it, about(it)))
+        except plant.Fault as fault:
+            its = identity.of_running(it / "desk")  # what is left may say that it is another desk's
+            if not (whose and whose.name and its and its.name and its.name != whose.name):
+                faults.append(str(fault))
+    if whose and not whose.desk and not whose.name:
+        those = set(whose.guessed(there))
+        there = [it for it in there if it[0] in those]
+    elif whose:
+        there = [it for it in there if whose.has(*it)]
+    return [it for it, _ in sorted(there, key=lambda it: (it[1]["number"], it[0].name))], faults
+
+
+def kept_in(to, db=None, archive=None):
+    """The same; a Fault where one of them can't be read."""
+    copies, faults = survey(to, db and Whose(db, archive))
+    if faults:
+        raise plant.Fault(faults[0])
+    return copies
+
+
+def held_by(copy):
+    """The archives that a copy has, by their checksums."""
+    missing = about(copy)["missing"]
+    return {it.sha256 for it in catalogue.survey(copy / ARCHIVE / catalogue.FILE_NAME).archives if it.file not in missing}
 
 
 def taken(copy):
@@ -65,7 +120,7 @@ def taken(copy):
 def compare_sums(copy):
     """A Fault where a file of a copy is not that of its checksum, or has none."""
     try:
-        sums = {line[66:]: line[:64] for line in (copy / SUMS).read_text(encoding="utf-8").splitlines()}
+        sums = sums_of(copy)
         there = {str(it.relative_to(copy)) for it in copy.rglob("*") if it.is_file()} - {SUMS, *(f"desk{tail}" for tail in catalogue.LOGS)}
         wrong = sorted(there ^ set(sums)) or [it for it in sums if catalogue.sha256_of(copy / it) != sums[it]]
     except (OSError, UnicodeDecodeError) as fault:
@@ -104,14 +159,3 @@ def have_the_same(file, other):
     least = min(commands(file), commands(other))
     last = command(file, least)
     return last is not None and last == command(other, least)
-
-
-def goes_on_from(first, archive):
-    """Whether the desk with this first command was begun from this archive."""
-    return bool(first) and first[0].startswith((f"begin-{archive.sha256[:carry.CHECKSUM]}-", f"begin-{archive.last_minute}-{archive.commands}-"))  # the second up to 0.2.0
-
-
-def lines_of(first, path, archives, *named):
-    """The lines whose archives are of the desk with this first command: it went on from one, or one began as it did."""
-    its = {it.desk for it in archives if goes_on_from(first, it) or first and (file := pathlib.Path(catalogue.path_of(path, it))).is_file() and command(file, 1) == first}
-    return its | {it for it in named if it}

@@ -14,16 +14,16 @@ import re
 import sqlite3
 from typing import NamedTuple
 
-from tracedesk_ops import copies
+from tracedesk_ops import copies, identity
 
 FLOOR_LIFE = {"1": None, "2": 525_600, "2a": 40_320, "3": 10_080, "4": 4_320, "5": 2_880, "5a": 1_440}
 GREATEST_FLOOR_LIFE = 525_600  # in minutes, a label's too
 FARTHEST_AHEAD = 20_160  # a message may be so many minutes after the desk's, if it doesn't set the clock
 LONGEST_MESSAGE = 1_048_576
 KNOWN = 1_000  # UniqueIDs of each source that a new desk knows of the archive: those that a sender may still send again
+KNOWN_IN_ALL = 20_000  # of all sources, the newest ones
 EPOCH = datetime.datetime(1970, 1, 1)
 TABLES = ("accepted", "part", "alternate", "sheet_row", "selected", "reel", "mount", "board")
-CHECKSUM = 24  # digits of an archive's checksum, in the UniqueIDs with which the desk after it is begun
 COLUMNS = "reel, part, lot, level, label, remaining, used, open_since, baked"
 
 
@@ -103,7 +103,10 @@ class Archive:
         for machine, slot, reel in rows("SELECT machine, slot, reel FROM mount ORDER BY machine, slot, since"):
             self.tapes.setdefault((machine, slot), []).append(self.reels[reel])
         self.in_work = rows("SELECT machine, board FROM board WHERE machine <> '' ORDER BY machine")
-        self.known = known(database)
+        self.identity = identity.read(database)
+        self.known = known(database, self.identity)
+        its = [name for name, *_ in rows("SELECT name FROM sqlite_master WHERE type = 'table' AND name NOT LIKE 'sqlite_%'")]
+        self.of_others = sorted(set(its) - {*TABLES, "version", "placement", "found"})
 
     def of_one_reel(self, name, called, known_parts, minute):
         """A desk that has nothing but this reel, as it is at that minute, under the name by which it is called there."""
@@ -116,21 +119,16 @@ class Archive:
         return it
 
 
-def begun_by(first):
-    """How the UniqueIDs begin with which a desk was begun whose first one this is; none where it was not."""
-    return first[:-1] if re.fullmatch("begin-.*-1", first) else None
-
-
-def known(database):
-    """The last UniqueIDs of each source, the newest first: their number, source and own minute. What the desk was begun with is
-    left out, but not the UniqueIDs of its own archive that it was told then: those are older than the rest, the newest first."""
-    ((first,),) = database.execute("SELECT coalesce(max(uid), '') FROM accepted WHERE number = 1").fetchall()
-    prefix = begun_by(first)
-    ((begun,),) = database.execute("SELECT coalesce(max(number), 0) FROM accepted WHERE uid = ? || number", [prefix]).fetchall()
+def known(database, desk):
+    """The last UniqueIDs of each source, the newest first: their number, source and own minute. What the desk was begun with, and its
+    name, are left out, but not the UniqueIDs of its own archive that it was told then: those are older than the rest, the newest first."""
+    ((first, source),) = database.execute("SELECT max(uid), max(source) FROM accepted WHERE number = 1").fetchall()
+    numbered = f"{first[:-1]}%" if desk.begun else ""
     return database.execute("""
-        WITH those AS (SELECT *, iif(number > ?, number, -number) AS turn FROM accepted WHERE uid IS NOT ? || number)
+        WITH those AS (SELECT *, iif(number > ?1, number, -number) AS turn FROM accepted
+            WHERE NOT (number <= ?1 AND source = ?2 AND uid LIKE ?3) AND uid NOT IN (?4, ?5))
         SELECT number, uid, source, own FROM (SELECT *, row_number() OVER (PARTITION BY source ORDER BY turn DESC) AS place FROM those)
-        WHERE place <= ? ORDER BY turn DESC""", [begun, prefix, KNOWN]).fetchall()
+        WHERE place <= ?6 ORDER BY turn DESC""", [desk.begun, source, numbered, desk.name, identity.BEGUN, KNOWN]).fetchall()
 
 
 class Messages:
@@ -250,6 +248,10 @@ class Carrier:
         carried = f"{len(archive.reels)} reels are carried over"
         yield f"{carried}, {len(archive.spent)} spent ones are not: the new desk takes a new reel of their names"
         yield f"{len(archive.known)} UniqueIDs are known to the new desk, the last {KNOWN:,} of each source: a message that the archive has is refused as IdReused"
+        if archive.unknown:
+            yield f"{archive.unknown:,} older UniqueIDs are not: {KNOWN_IN_ALL:,} are known at most, and these messages would act again. Let each sender keep one Source"
+        if archive.of_others:
+            yield f"the tables {', '.join(archive.of_others)} are not the desk's: they stay in the archive, and the new desk is without them"
         for machine, board in archive.in_work:
             yield f"board {board} is in work on {machine}: the new desk doesn't know what is placed on it"
         if not self.mounts:
@@ -259,18 +261,22 @@ class Carrier:
                     yield f"reel {reel.reel} is to be loaded on {machine}, slot {slot}{', after a bake' if gone else ''}"
 
 
-def begun(archive, at=None, loads=True, prefix="", checksum="", source="begin"):
-    """The messages of a new desk that begins where an archived one ended, and who tells what is not in them."""
+def begun(archive, at=None, loads=True, prefix="", checksum="", source="begin", name=""):
+    """The messages of a new desk that begins where an archived one ended, and who tells what is not in them. It has the archived desk's name, or else this one."""
     if archive.minute is None:
         raise NotCarried("it has accepted no command, so there is nothing to carry over")
     end = archive.minute if at is None else min(at, archive.minute)
-    messages = Messages(prefix or f"begin-{checksum[:CHECKSUM]}", source)
+    messages = Messages(prefix or f"begin-{checksum[:identity.CHECKSUM]}", source)
     carrier = Carrier(archive, messages, end, loads)
     carrier.all()
     if at is not None and at > end:
         messages.say(at, "ClockSet")
-    archive.known = archive.known[: max(0, archive.greatest - len(messages.lines)) // 2]  # a desk of few commands has room for its own
-    messages.say_known(archive.known)
+    its = {uid: number for number, uid, _, _ in archive.identity.rows}
+    names = [(its.get(uid, 0), uid, identity.SOURCE, end) for uid in (archive.identity.name or name, identity.BEGUN) if uid]
+    room = max(0, archive.greatest - len(messages.lines)) // 2  # a desk of few commands has room for its own
+    archive.unknown = len(archive.known) - min(room, KNOWN_IN_ALL, len(archive.known))
+    archive.known = archive.known[: len(archive.known) - archive.unknown]
+    messages.say_known([*names, *archive.known])
     return messages.lines, carrier
 
 

@@ -1,12 +1,16 @@
 """The catalogue of a line's archived desks, a CSV file in the folder with the archives: for ops/rollover and those
 that read archives.
 
-    file,sha256,desk,first_minute,last_minute,commands,pieces,from,to
-    L1-20260302T0600Z-20260601T1412Z-41873,9f2c..,L1,2026-03-02T06:00:00Z,2026-06-01T14:12:00Z,41873,912004,,
+    file,sha256,desk,first_minute,last_minute,commands,pieces,from,to,name
+    L1-20260302T0600Z-20260601T1412Z-41873,9f2c..,L1,2026-03-02T06:00:00Z,2026-06-01T14:12:00Z,41873,912004,,,desk-5d0e..
 
 `file` lies in the catalogue's folder or below it, and stands whole, without a log; `sha256` is its checksum. `desk` is
 the name of the line. The minutes are those of its first and last command. `from` and `to` are the files of the archives
-that it went on from and to; empty where there is none, and `to` also where it went on to the running desk.
+that it went on from and to; empty where there is none, and `to` also where it went on to the running desk. `name` is
+the desk's (identity.py), empty where it had none yet; up to 0.3.0 there was no such column.
+
+The catalogue is an index of the files: each file says itself from which one it was begun, and tracedesk-settle makes
+the catalogue anew from them.
 """
 import contextlib
 import csv
@@ -24,13 +28,14 @@ from typing import NamedTuple
 
 FILE_NAME = "catalogue.csv"
 RUNNING = "running desk"  # in the place of an archive's name
-HEADER = ("file", "sha256", "desk", "first_minute", "last_minute", "commands", "pieces", "from", "to")
+HEADER = ("file", "sha256", "desk", "first_minute", "last_minute", "commands", "pieces", "from", "to", "name")
 EPOCH = datetime.datetime(1970, 1, 1)
 CHUNK = 1 << 20
 LOGS = ("-wal", "-journal")
 MAGIC = b"SQLite format 3\0"
 PLANS, ASIDE, LACKS = "rollover-*/plan.json", "aside", "restore.json"  # beside the archive's folder: what roll-overs and restores leave
-BESIDE = ("untraced.csv",)  # what a line has there that was never rolled over
+ENTRIES = "lacks-*.json"  # in the archive's folder: what a copy lacks that became the desk
+STAY = (ENTRIES, "untraced.csv")  # of the archive's folder, whichever desk is put in place
 LONGEST_EMPTY_LOG = 56  # bytes: the head of a log and that of a page, without the page
 
 
@@ -49,6 +54,7 @@ class Archive(NamedTuple):
     pieces: int
     went_on_from: str = ""
     went_on_to: str = ""
+    name: str = ""
 
 
 def spelled(minute):
@@ -117,11 +123,12 @@ def survey_text(path, text):
     faults = []
     try:
         rows = csv.reader(io.StringIO(text.decode(), newline=""), strict=True)
-        if next(rows, None) != list(HEADER):
+        header = next(rows, None)
+        if header not in (list(HEADER), list(HEADER[:-1])):  # the second up to 0.3.0
             return Survey(text, [], [f"{path}, line 1: the header is not {','.join(HEADER)}"])
         for row in rows:
             try:
-                archive = archive_of(row)
+                archive = archive_of(row, header)
             except ValueError as fault:
                 faults.append(f"{path}, line {rows.line_num}: {fault}")
                 continue
@@ -140,11 +147,11 @@ def survey_text(path, text):
     return Survey(text, [archive for _, archive in lines.values()], faults)
 
 
-def archive_of(row):
+def archive_of(row, header):
     """The archive of a row; a ValueError says what is wrong with it."""
-    if len(row) != len(HEADER):
-        raise ValueError(f"it has {len(row)} fields, and the header has {len(HEADER)}")
-    said = dict(zip(HEADER, row))
+    if len(row) != len(header):
+        raise ValueError(f"it has {len(row)} fields, and the header has {len(header)}")
+    said = dict(zip(header, row))
     for name in ("file", "from", "to"):
         want_file_name(name, said[name])
     if not said["file"] or not said["desk"]:
@@ -156,7 +163,7 @@ def archive_of(row):
     commands, pieces = (read_field(said, name, *numbers) for name in ("commands", "pieces"))
     if first > last:
         raise ValueError("first_minute is after last_minute")
-    return Archive(said["file"], said["sha256"], said["desk"], first, last, commands, pieces, said["from"], said["to"])
+    return Archive(said["file"], said["sha256"], said["desk"], first, last, commands, pieces, said["from"], said["to"], said.get("name", ""))
 
 
 def read_field(said, name, reader, kind):
@@ -195,7 +202,7 @@ def want_chains(path, lines):
 def has_no_archives(path):
     """Whether a line has none yet: there is no catalogue, and nothing lies where it would be. Where all around is empty too, a disk may not be mounted."""
     folder = path.parent
-    return not path.exists() and (all(it.name in BESIDE for it in folder.iterdir()) if folder.exists() else folder.parent.is_dir() and any(folder.parent.iterdir()))
+    return not path.exists() and (all(it.match(ENTRIES) for it in folder.iterdir()) if folder.exists() else folder.parent.is_dir() and any(folder.parent.iterdir()))
 
 
 def unasked(path, archives):
@@ -207,15 +214,18 @@ def unasked(path, archives):
     for room in sorted(it for it in around.iterdir() if it.match(PLANS.partition("/")[0])):
         if (plan := room / PLANS.partition("/")[2]).exists():
             yield f"{plan}: a roll-over is on its way or was cut off, so commands may be in two files: ask again later, or call tracedesk-rollover"
+    for entry in sorted(path.parent.glob(ENTRIES)):
+        if lacks(entry):
+            yield f"{entry}: a copy was restored that lacks what the desk had accepted: once its senders have sent that again, delete this entry"
     for aside in sorted((around / ASIDE).iterdir()) if (around / ASIDE).exists() else ():
-        if aside.is_dir() and any(aside.iterdir()) and lacks(aside):
+        if aside.is_dir() and any(aside.iterdir()) and lacks(aside / LACKS):
             yield f"{aside}: a restore put it aside, and nobody asks it: once its senders have sent again what it has, move it elsewhere"
 
 
-def lacks(aside):
+def lacks(entry):
     """Whether what a restore put aside has something that the copy lacks, or nothing says that it hasn't."""
     try:
-        told = json.loads((aside / LACKS).read_text(encoding="utf-8"))
+        told = json.loads(entry.read_text(encoding="utf-8"))
         return told["archives"] != [] or told["commands"] != 0
     except (FileNotFoundError, ValueError, KeyError, TypeError):
         return True
@@ -252,7 +262,7 @@ def check(path, archive):
 @contextlib.contextmanager
 def opened(file):
     """A file that stands whole, as a database. It is not written any more, so nothing is locked or made beside it."""
-    with contextlib.closing(sqlite3.connect(f"file:{urllib.parse.quote(str(file))}?mode=ro&immutable=1", uri=True)) as database:
+    with contextlib.closing(sqlite3.connect(f"file:{urllib.parse.quote(os.fsencode(file))}?mode=ro&immutable=1", uri=True)) as database:
         yield database
 
 

@@ -15,7 +15,7 @@ import subprocess
 import sys
 import time
 
-from tracedesk_ops import catalogue, copies
+from tracedesk_ops import catalogue, copies, identity
 
 NAME = pathlib.Path(sys.argv[0]).name
 DESK = pathlib.Path("/var/lib/tracedesk/desk")
@@ -115,10 +115,11 @@ def line_name(text):
 def understood(reader, wants_desk=True):
     """The words of the command line, with whole paths; it ends where they can't be followed."""
     asked = reader.parse_args()
-    asked.db = asked.db.absolute()
-    asked.archive = (asked.archive or asked.db.parent / "archive").absolute()
+    asked.archive = (asked.archive or asked.db.absolute().parent / "archive").absolute()
+    asked.db = asked.db.resolve() if asked.db.is_symlink() else asked.db.absolute()  # a link to it stays one
     find_program(reader, asked)
-    if wants_desk and not asked.db.is_file():
+    was_cut_off = (rolled_in(asked.db) / PLAN).exists() or (asked.db.parent / catalogue.ASIDE).exists()
+    if wants_desk and not asked.db.is_file() and not was_cut_off:
         reader.error(f"there is no file {asked.db}: name the desk's file by --db")
     if asked.archive == asked.db.parent:
         reader.error("the archived desks have a folder of their own")
@@ -146,18 +147,18 @@ def ends_by_exception():
 
 @contextlib.contextmanager
 def alone(db):
-    """Holds the desk's folder, once no other tool has it that changes a desk, its archive or its copies; no roll-over may be unfinished."""
+    """Holds the desk's folder, once no other tool has it that changes a desk, its archive or its copies."""
     with folder_lock(db) as take:
         wait_for_lock(take, LONGEST_OTHER, f"another roll-over or backup of {db} is running")
-        if (plan := rolled_in(db) / PLAN).exists():
-            raise Fault(f"{plan} is of a roll-over that was cut off, so that commands may be in two files: call tracedesk-rollover first")
         yield
 
 
-def want_restored(db):
-    """Stops where a restore was cut off: the desk is gone, or it has a second name, and no run opens such a file."""
+def want_settled(db):
+    """Stops where a roll-over or a restore was cut off: commands may be in two files; or the desk is gone, or it has a second name, and no run opens such a file."""
+    if (plan := rolled_in(db) / PLAN).exists():
+        raise Fault(f"{plan} is of a roll-over that was cut off, so that commands may be in two files: call tracedesk-rollover, or stop the service and call tracedesk-settle")
     if not db.exists() or db.stat().st_nlink > 1:
-        raise Fault(f"{db} is gone or has a second name, so a restore was cut off: call tracedesk-backup --restore again")
+        raise Fault(f"{db} is gone or has a second name, so a restore was cut off: call tracedesk-backup --restore again, or tracedesk-settle")
 
 
 @contextlib.contextmanager
@@ -285,7 +286,7 @@ class Program:
     also where that is killed: else it would have a file open that the next call of the tool wants."""
 
     def __init__(self, program, db):
-        self.program, owner = program, db.stat()
+        self.program, owner = program, (db if db.exists() else db.parent).stat()
         self.uid, self.gid = owner.st_uid, owner.st_gid
         own = os.geteuid() == self.uid or os.geteuid() != os.getuid()  # the second within `as_owner`
         self.how = {} if own else {"user": self.uid, "group": self.gid, "extra_groups": []}
@@ -318,6 +319,16 @@ class Program:
             said = " ".join((done.stdout + done.stderr).split())
             raise Fault(f"the audit of {file} ended with status {done.returncode}: {said}; docs/operations.md, 'What is said, and what to do'")
         return int(lawful[1])
+
+
+    def named(self, db, desk, name=""):
+        """Gives a desk that no run has open a name, where it has none; whether it got one."""
+        if not desk.commands or not (lines := identity.naming(desk, name)):  # without a command it has no minute, and nothing that could be lost
+            return False
+        done = self.run("feed", "--db", db, input="".join(f"{it}\n" for it in lines), capture_output=True, text=True)
+        if done.stdout.count('"Answer":"Accepted"') != len(lines):
+            raise Fault(f"{db} gets no name: {' '.join((done.stdout + done.stderr).split())}")
+        return True
 
 
 class Service:

@@ -1,0 +1,122 @@
+"""What the line sees of a sender: its records of untraced work, which are handed on to the inbox of the line, and its status."""
+from __future__ import annotations
+
+import json
+import pathlib
+import threading
+import time
+from typing import Any, Callable, Dict, List, Optional
+
+from . import answers
+from .console import NEWS_OF_A_FAULT, PAUSE_OF_A_FAULT
+from .desk import Desk, NotThere
+from .interlock import Interlock
+from .records import spelled, utc
+from .spool import Spool, sync_folder, write_synced
+
+READABLE = 0o644  # whoever collects records, and the proxy, are other users
+
+
+TIMEOUT = 10.0  # seconds for one file
+
+
+class Place:
+    """A folder, or a folder of the proxy that takes files by PUT."""
+
+    def __init__(self, where: str, desk_of: Callable[[str], Desk]) -> None:
+        self.where = where.rstrip("/")
+        self.desk = desk_of(self.where) if "://" in where else None
+        if self.desk is None and not pathlib.Path(where).is_dir():
+            raise ValueError(f"{where} is no folder: make it, or name another")
+
+    def put(self, name: str, text: bytes) -> None:
+        """Puts a file there, whole; an OSError if it isn't there then."""
+        if self.desk is None:
+            write_synced(pathlib.Path(self.where, name), text, READABLE)
+            sync_folder(pathlib.Path(self.where))
+            return
+        try:
+            status, body, _ = self.desk.once("PUT", f"/{name}", text, {"Content-Type": "application/json"})
+        except Exception as fault:
+            raise OSError(f"{self.where}: {fault or repr(fault)}") from None
+        finally:
+            self.desk.close()
+        if status not in (200, 201, 204):
+            raise OSError(f"{self.where}: status {status}: {body[:100].decode(errors='replace')}")
+
+
+class Line:
+    """What the line sees of a sender: its records of untraced work, and its status. It has a thread of its own, so that no place
+    that is away holds a message up."""
+
+    def __init__(self, spool: Spool, desk: Desk, interlock: Interlock, inbox: Optional[Place], status: Optional[Place], tell: Callable[[str], None]) -> None:
+        self.spool, self.desk, self.interlock, self.inbox, self.status, self.tell = spool, desk, interlock, inbox, status, tell
+        self.next_news: Dict[str, float] = {}
+        self.one = threading.Lock()
+
+    def begin(self) -> None:
+        def run() -> None:
+            while True:
+                self.look()
+                self.interlock.changed.wait(PAUSE_OF_A_FAULT)
+                self.interlock.changed.clear()
+        if self.inbox or self.status:
+            threading.Thread(target=run, daemon=True).start()
+
+    def where_kept(self) -> str:
+        return "" if self.inbox else f". Its record is kept in {self.spool.untraced} until --untraced names an inbox"
+
+    def look(self) -> None:
+        """Hands records on, and writes the status."""
+        with self.one:
+            self.try_to("untraced work", self.hand_on)
+            if self.status:
+                place, text = self.status, spelled(self.told())
+                self.try_to("the status", lambda: place.put(f"{self.spool.name}.json", text))
+
+    def try_to(self, what: str, call: Callable[[], None]) -> None:
+        try:
+            call()
+        except Exception as fault:
+            if time.monotonic() >= self.next_news.get(what, 0.0):
+                self.next_news[what] = time.monotonic() + NEWS_OF_A_FAULT
+                self.tell(f"{what} is not handed on: {fault}. It is tried again every {PAUSE_OF_A_FAULT:.0f} seconds")
+
+    def hand_on(self) -> None:
+        for path in sorted(self.spool.untraced.glob("*.json")) if self.inbox else []:
+            self.inbox.put(path.name, path.read_bytes())  # type: ignore[union-attr]
+            path.unlink()
+
+    def told(self) -> Dict[str, Any]:
+        """The status: what waits, what was set aside, the machines, and what the sender can't mend itself."""
+        names, oldest = self.spool.names(), None
+        if names:
+            try:
+                oldest = utc((self.spool.waiting / f"{names[0]}.json").stat().st_mtime)
+            except FileNotFoundError:
+                pass
+        return {"At": utc(), "Sender": self.spool.name, "Waiting": len(names), "OldestWaiting": oldest, "Aside": len(self.spool.set_aside()), "Fault": self.desk.fault, "Machines": self.interlock.told()}
+
+
+def shown(spool: Spool, name: str, desk: Desk) -> str:
+    """What a person must see who decides about a report that was refused: what the desk accepted from here since, and the reels then and now."""
+    told, why = spool.message(name), spool.why(name)
+    machine, then = answers.body_of(told).get("Machine"), spool.aside / f"{name}.slots"
+    lines = [f"message {name}, refused {why[2].get('At', '')}: {brief(told)}", f"  {why[0]}", f"accepted for {machine} from this sender since then:"]
+    later = [(it, answers.read_object((spool.sent / f"{it}.json").read_bytes())) for it in spool.sent_after(name)]
+    lines += [f"  {it}: {brief(one)}" for it, one in later if answers.body_of(one).get("Machine") == machine] or ["  nothing"]
+    lines += [f"on {machine} when it was refused:", *(then.read_text().splitlines() if then.exists() else ["  not known"]), f"on {machine} now:", *slots_of(desk, machine)]
+    return "\n".join(lines)
+
+
+def brief(told: Dict[str, Any]) -> str:
+    return f"{answers.word_of(told)} at {told.get('TimeStamp')}, {json.dumps(told.get('MessageBody'))[:300]}"
+
+
+def slots_of(desk: Desk, machine: Any) -> List[str]:
+    """The reels on a machine, as the desk has them now."""
+    try:
+        found = desk.slots(str(machine))
+    except NotThere:
+        found = []
+    return [f"  slot {it.slot}: reel {it.reel}, lot {it.lot}, {it.remaining} pieces" for it in found] or ["  no reel"]

@@ -1,0 +1,125 @@
+"""Who a desk is, by what it has accepted: its name, and the archive that it was begun from.
+
+A desk's name is a random UniqueID, `desk-` and 32 hexadecimal digits. It is that of an accepted ClockSet of the source
+`tracedesk`, which changes nothing, and each roll-over carries it over. The first UniqueID of a desk that was begun from
+an archive is `begin-MARK-1`; MARK is the first 24 digits of the archive's SHA-256. The messages of the beginning are
+numbered so, the last one too, with the UniqueIDs that are carried over between them. Such a desk also has the UniqueID
+`desk-begun`, so that a running desk can be asked whether it was begun from an archive.
+
+    identity.of("/var/lib/tracedesk/archive/L1-20260302T0600Z-20260601T1412Z-41873").mark
+"""
+import datetime
+import json
+import pathlib
+import re
+import secrets
+import sqlite3
+from typing import NamedTuple
+
+from tracedesk_ops import catalogue
+
+SOURCE, BEGUN = "tracedesk", "desk-begun"
+NAME = re.compile("desk-[0-9a-f]{32}")
+MARK = re.compile(r"begin-([0-9a-f]{24}|\d+-\d+)-1")  # the second up to 0.2.0: the archive's last minute, and how many commands it has
+CHECKSUM = 24  # digits of an archive's checksum in a mark
+EPOCH = datetime.datetime(1970, 1, 1)
+
+
+class Identity(NamedTuple):
+    """Who a desk is. `name` is empty where it has none yet, `mark` where it was begun from no archive; `begun` is the number of the last
+    message of its beginning, `taken` how many commands it has from others since, and `rows` are the commands of its name."""
+    name: str
+    mark: str
+    begun: int
+    commands: int
+    taken: int
+    minute: int
+    rows: list
+
+
+def read(database):
+    """Who the desk with these tables is."""
+    rows = lambda query, *values: database.execute(query, values).fetchall()
+    ((commands, minute),) = rows("SELECT count(*), coalesce(max(effective), 0) FROM accepted")
+    first = rows("SELECT uid, source FROM accepted WHERE number = 1")
+    found, begun = MARK.fullmatch(first[0][0]) if first else None, 0
+    if found and "-" in found[1] and first[0][1] != "begin":
+        found = None
+    if found:
+        ((begun,),) = rows("SELECT max(number) FROM accepted WHERE uid = ? || number AND source = ?", first[0][0][:-1], first[0][1])
+    its = rows("SELECT number, uid, source, own FROM accepted WHERE source = ? AND command = 'ClockSet' AND uid LIKE 'desk-%' ORDER BY number", SOURCE)
+    name = next((uid for _, uid, _, _ in its if NAME.fullmatch(uid)), "")
+    ((taken,),) = rows("SELECT count(*) FROM accepted WHERE number > ? AND source <> ?", begun, SOURCE)
+    return Identity(name, found[1] if found else "", begun, commands, taken, minute, [it for it in its if it[1] in (name, BEGUN)])
+
+
+def of(file):
+    """Who the desk in a file is that stands whole; of a running desk as of its file without the log. Its beginning doesn't change."""
+    with catalogue.opened(file) as database:
+        return read(database)
+
+
+def of_running(db):
+    """Who the desk in a file is, or none where the file is gone or can't be read. The running desk may be writing it."""
+    for _ in range(3):
+        try:
+            return of(db) if pathlib.Path(db).is_file() else None
+        except (OSError, sqlite3.Error):
+            continue
+    return None
+
+
+def new_name():
+    return f"desk-{secrets.token_hex(16)}"
+
+
+def naming(desk, name=""):
+    """The messages that a desk lacks to have a name, this one or a new one, and to say that it was begun from an archive."""
+    uids = ([] if desk.name else [name or new_name()]) + ([BEGUN] if desk.mark and BEGUN not in {it[1] for it in desk.rows} else [])
+    stamp = (EPOCH + datetime.timedelta(minutes=desk.minute)).isoformat()
+    return [json.dumps({"MessageName": "TraceDesk.ClockSet", "UniqueID": uid, "Source": SOURCE, "TimeStamp": stamp, "MessageBody": {}}) for uid in uids]
+
+
+# --- What the files say of each other
+
+
+def follows(mark, archive):
+    """Whether a desk with this mark was begun from this archive of a catalogue."""
+    return bool(mark) and mark in (archive.sha256[:CHECKSUM], f"{archive.last_minute}-{archive.commands}")
+
+
+def first_uids(archive):
+    """The first UniqueIDs, one of which the desk has that was begun from an archive."""
+    return f"begin-{archive.sha256[:CHECKSUM]}-1", f"begin-{archive.last_minute}-{archive.commands}-1"
+
+
+def chain(path, archives, mark):
+    """The archives behind a desk with this mark, from the newest to the oldest, by what their files say; and what is wrong."""
+    found = []
+    while mark:
+        it = next((it for it in archives if follows(mark, it)), None)
+        if it is None or it in found:
+            return found, [f"{path}: no archive has the checksum {mark}.., from which {found[-1].file if found else 'the desk'} was begun: take it from a copy"]
+        found.append(it)
+        try:
+            mark = of(catalogue.path_of(path, it)).mark
+        except (OSError, sqlite3.Error) as fault:
+            return found, [f"{catalogue.path_of(path, it)}: it can't be read: {fault}: take it from a copy"]
+    return found, []
+
+
+# --- A running desk
+
+
+def question(uid):
+    """A message that every desk refuses, and which tells whether the desk has accepted the UniqueID: it unloads a slot that no sheet names."""
+    body = {"Machine": f"none-{secrets.token_hex(16)}", "Slot": "-"}
+    return json.dumps({"MessageName": "TraceDesk.MaterialsUnloaded", "UniqueID": uid, "Source": SOURCE, "TimeStamp": "1970-01-01T00:00:00Z", "MessageBody": body}).encode()
+
+
+def has_it(status, body):
+    """Whether a desk has the UniqueID of a question, by its answer; a ValueError where that says neither."""
+    answer = json.loads(body) if status == 409 else None
+    if not isinstance(answer, dict) or answer.get("Answer") != "Refused":
+        raise ValueError(f"its answer has status {status}: {body[:200].strip()}")
+    return answer.get("Refusal") == "IdReused"

@@ -1,0 +1,218 @@
+"""What a roll-over or a restore leaves that was cut off, and how it is finished or put back: for ops/settle, ops/rollover and ops/backup."""
+import contextlib
+import errno
+import json
+import os
+import pathlib
+import shutil
+import time
+
+from tracedesk_ops import backups, catalogue, identity, plant
+
+RESTORED = ".restored"  # beside the desk: what is to take its place
+
+
+class Rolling:
+    """A roll-over's work in a folder beside the desk's file.
+
+    Until `plan.json` is in that folder nothing else was changed. From then on `desk` in it is the new desk, which is
+    renamed to the desk's file once the archive has its line: so where the plan is without it, the new desk is in place.
+    """
+
+    def __init__(self, asked):
+        self.asked, self.db, self.archives = asked, asked.db, asked.archive
+        self.catalogue = asked.archive / catalogue.FILE_NAME
+        self.room = plant.rolled_in(asked.db)
+        self.copy, self.new, self.plan = (self.room / name for name in ("archive", "desk", plant.PLAN))
+        self.program = plant.Program(asked.program, asked.db)
+        self.may_put_back, self.held = False, None
+
+    def is_left_to_start(self):
+        """Whether the new desk is in place, and may not be started yet."""
+        return self.plan.exists() and not self.new.exists()
+
+    def goes_on(self, may_be_damaged=False):
+        """Finishes what a run left that was cut off before that, or puts everything back; whether a roll-over is done by that."""
+        if not self.plan.exists():
+            self.clear()
+            return False
+        archive = self.read_plan()
+        try:
+            if not self.db.exists():
+                raise plant.Fault(f"{self.db} is gone")
+            commands = self.program.audit(self.db)
+        except plant.Fault as fault:
+            if self.db.exists() and not may_be_damaged:
+                raise plant.Fault(f"{fault}. {self.room} has a whole copy of it: where the file is damaged, and no run has it open, call tracedesk-settle --damaged") from None
+            self.salvage(archive, fault)
+            return True
+        if backups.command(self.db, archive.commands) != backups.command(self.copy, archive.commands):
+            raise plant.Fault(f"{self.db} is another desk than the one in {self.room}, which an earlier run was to archive: move {self.room} elsewhere")
+        self.may_put_back = True
+        if commands == archive.commands and self.hold() == archive.sha256:
+            plant.tell("an earlier run is gone on with")
+            self.put_in_place()
+            return True
+        self.let_go()
+        self.put_back()
+        return False
+
+    def hold(self):
+        """Keeps each run from the desk's file from now on; the checksum that it has then."""
+        self.held = plant.Held(self.db)
+        return self.held.sha256()
+
+    def let_go(self):
+        if self.held:
+            self.held.let_go()
+        self.held = None
+
+    def read_plan(self):
+        return catalogue.Archive(**json.loads(self.plan.read_text(encoding="utf-8")))
+
+    def put_back(self):
+        """Leaves the old desk, the archive and the catalogue as they were before."""
+        if self.plan.exists():
+            archive = self.read_plan()
+            filed = self.archives / archive.file
+            for it in catalogue.read(self.catalogue):
+                if (it.file, it.sha256) == (archive.file, archive.sha256):
+                    catalogue.take_out(self.catalogue, it)
+            if filed.exists() and filed.samefile(self.copy):
+                filed.unlink()
+        self.clear()
+
+    def clear(self):
+        """Takes the work's folder away, the plan first: without it there is nothing to go on with."""
+        self.plan.unlink(missing_ok=True)
+        end = time.monotonic() + plant.PATIENCE
+        while self.room.exists():
+            plant.keep(self.room)
+            try:
+                shutil.rmtree(self.room)
+            except OSError as fault:  # a run that began as a signal ended the work still writes there
+                if fault.errno != errno.ENOTEMPTY or time.monotonic() > end:
+                    raise
+                time.sleep(0.05)
+
+    def salvage(self, archive, fault):
+        """Finishes it without the desk's file, which is gone or damaged, by the copy of it that was to be the archive. What the file had more is not known, and an entry says so."""
+        if catalogue.sha256_of(self.copy) != archive.sha256:  # it was audited when it got that
+            raise plant.Fault(f"{fault}; and {self.copy} is not whole: restore a copy, after you have moved {self.room} elsewhere")
+        aside = self.db.parent / catalogue.ASIDE / f"damaged-{archive.file}"
+        if not self.archives.exists():
+            self.archives.mkdir(mode=0o700)
+        about = {"copy": str(self.copy), "aside": str(aside), "archives": [], "commands": None, "fault": str(fault)}
+        catalogue.put(self.archives / f"lacks-{archive.file}.json", json.dumps(about) + "\n")
+        for it in (it for tail in ("", *catalogue.LOGS) if (it := pathlib.Path(f"{self.db}{tail}")).exists()):
+            aside.mkdir(mode=0o700, parents=True, exist_ok=True)
+            os.rename(it, aside / it.name)
+        plant.tell(f"{fault}; the roll-over is finished by the copy that it had made. What the file had accepted since, if anything, its senders send again; each recall says so while {self.archives}/lacks-{archive.file}.json is there")
+        self.put_in_place()
+
+    def put_in_place(self):
+        """The archive, its line, and the new desk, in this order: every command is always in one of them."""
+        archive, filed = self.read_plan(), self.archives / self.read_plan().file
+        if not self.archives.exists():
+            self.archives.mkdir(mode=0o700)
+        if not (filed.exists() and filed.samefile(self.copy)):
+            os.link(self.copy, filed)  # never over another file
+        plant.keep(self.archives)
+        plant.reached("file")
+        catalogue.add(self.catalogue, archive)
+        plant.reached("catalogue")
+        plant.without_log(self.db)
+        plant.keep(self.db.parent)
+        plant.reached("log")
+        os.rename(self.new, self.db)
+        plant.keep(self.db.parent)
+        if self.held:
+            self.held.spoil()
+        plant.reached("switch")
+        plant.tell(f"{archive.file} is archived, with {archive.commands:,} commands and {archive.pieces:,} pieces; the new desk is in place")
+
+
+class Restoring:
+    """A restore's work beside the desk's file: the copy that is to take its place, and a folder of `aside` for what gives way."""
+
+    def __init__(self, asked):
+        self.asked = asked
+        self.desk, self.archive = (it.with_name(f".{it.name}{RESTORED}") for it in (asked.db, asked.archive))
+        self.within = asked.db.parent / catalogue.ASIDE
+        self.untold = []  # folders of `aside` of runs that were killed when the copy was in place
+
+    def files(self):
+        """The desk's file and its log, as far as they are there."""
+        return [it for it in (self.asked.db, *(pathlib.Path(f"{self.asked.db}{tail}") for tail in catalogue.LOGS)) if it.exists()]
+
+    def clear(self):
+        """Takes away what a run that was killed left of its copy."""
+        for it in list(self.desk.parent.iterdir()):
+            if it.name.startswith(self.desk.name):
+                it.unlink()
+        if self.archive.exists():
+            shutil.rmtree(self.archive)
+
+    def settle(self):
+        """Puts everything back that a run had moved which was killed or failed, so that the next one names what the copy lacks."""
+        for aside in sorted(self.within.iterdir(), reverse=True) if self.within.is_dir() else ():
+            both = [it for it in self.files() if (aside / it.name).exists() and it.samefile(aside / it.name)]
+            if self.asked.db in both:
+                self.empty(aside, both)
+                continue
+            for it in both:
+                it.unlink()
+            if is_untold(aside) and not self.asked.db.exists():
+                self.put_back(aside)
+            elif is_untold(aside):
+                self.untold.append(aside)
+
+    def put_all_back(self):
+        """The same for a tool that restores nothing; a Fault where the desk is gone all the same."""
+        self.settle()
+        self.clear()
+        if not self.asked.db.exists() and not (plant.rolled_in(self.asked.db) / plant.PLAN).exists() and self.within.is_dir():
+            raise plant.Fault(f"{self.asked.db} is gone: restore a copy, by tracedesk-backup --restore")
+
+    def put_back(self, aside):
+        """Everything that lies aside has its place again: the desk at last, since with it a service could start."""
+        self.clear()
+        if (aside / backups.ARCHIVE).exists():
+            if self.asked.archive.exists():
+                os.rename(self.asked.archive, self.archive)  # the copy's
+            os.rename(aside / backups.ARCHIVE, self.asked.archive)
+        for tail in (*catalogue.LOGS, ""):
+            if (it := aside / f"{self.asked.db.name}{tail}").exists():
+                os.rename(it, f"{self.asked.db}{tail}")
+        self.empty(aside, [])
+
+    def empty(self, aside, files):
+        """Takes the second names of files that are in their place away, and a folder that has nothing else."""
+        for it in (*files, pathlib.Path(catalogue.LACKS)):
+            (aside / it.name).unlink(missing_ok=True)
+        with contextlib.suppress(OSError):
+            aside.rmdir()
+
+
+def is_untold(aside):
+    """Whether a run was killed before it knew what the copy lacks that lies there."""
+    with contextlib.suppress(OSError, ValueError, KeyError, TypeError):
+        return json.loads((aside / catalogue.LACKS).read_text(encoding="utf-8"))["archives"] is None
+    return False
+
+
+def settled(asked, service, may_be_damaged=False):
+    """Finishes or puts back what a roll-over or a restore left that was cut off, where the service is stopped. Whether a roll-over is done by that."""
+    Restoring(asked).put_all_back()
+    rolling, is_done = Rolling(asked), False
+    try:
+        if rolling.plan.exists() and not rolling.is_left_to_start():
+            is_done = rolling.goes_on(may_be_damaged)
+        rolling.clear()
+    finally:
+        rolling.let_go()
+    service.let_in()
+    desk = identity.of_running(asked.db)
+    if desk and not plant.is_open(asked.db) and rolling.program.named(asked.db, desk):
+        plant.tell(f"{asked.db} has a name now: {identity.of(asked.db).name}")
+    return is_done
