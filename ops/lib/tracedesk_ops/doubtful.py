@@ -4,7 +4,9 @@ A desk attributes a piece to the reel that feeds its slot when the install is ac
 
 - The reel was changed at another moment than the desk heard of it: a load, splice or unload and an install on its slot were
   accepted in the other order than they were done in, by their own minutes. Minutes are whole, so within one minute nothing is seen.
-- Pieces were placed that are in no trace (untraced.py): so a reel with another one spliced to it ends before the desk has it end.
+- The desk's count of a reel is not what is on it: pieces were placed that are in no trace (untraced.py), or are counted on another
+  reel for the first reason. So the last pieces of a reel, and the first ones of a reel that is spliced to it, as many as those were
+  on the machine until then, may be of another one.
 
 All files of a line are read as one story, in the order of their chain. What a desk was begun with is no story of its own.
 """
@@ -25,7 +27,7 @@ CARRIED = re.compile(r"begin-[0-9a-f]+-\d+")
 STORY = f"""SELECT number, uid, source, own, effective, iif(command GLOB 'MaterialsInstalled*', substr(command, 1, 90), command) FROM accepted
     WHERE {' OR '.join(f"command GLOB '{it}*'" for it in WORDS)} ORDER BY number"""
 HEADER = ("board", "designator", "machine", "slot", "minute", "reel", "lot", "other_reels", "other_lots", "why", "file")
-LATE, SHORT = "handled in another order than accepted", "placed after untraced work on a spliced tape"
+LATE, SHORT, LONG = "handled in another order than accepted", "the reel may have ended before", "the reel before it may have ended later"
 STATUS = "status"  # beside the archives: what senders say of themselves
 TRIES = 5  # of a copy of a running desk's file
 
@@ -58,7 +60,7 @@ class Piece(NamedTuple):
     def concerns(self, kind, name):
         """Whether it may be a piece of this lot or reel, or is one of this board; where nobody knows the other reel it may be any."""
         its = {"board": (self.board,), "lot": (self.lot, *self.other_lots), "reel": (self.reel, *self.other_reels)}[kind]
-        return name in its or kind != "board" and not self.other_reels
+        return name in its or kind != "board" and (not self.other_reels or SHORT in self.why)
 
     def row(self):
         return [*self[:4], catalogue.spelled(self.minute), self.reel, self.lot, "; ".join(self.other_reels), "; ".join(self.other_lots), self.why, self.file]
@@ -79,7 +81,7 @@ class Story:
     def __init__(self, works=()):
         """`works` are the line's untraced work."""
         self.works = [it for it in works if it.pieces]
-        self.slots, self.installs, self.late, self.lots, self.names, self.tables = {}, {}, {}, {}, [], []
+        self.slots, self.installs, self.late, self.lots, self.names, self.tables, self.machines = {}, {}, {}, {}, [], [], {}
 
     def read(self, name, database):
         """Takes a file in: what is late in it is found on the way."""
@@ -111,6 +113,7 @@ class Story:
 
     def handled(self, it):
         self.slots.setdefault((it.machine, it.slot), []).append(it)
+        self.machines.setdefault(it.reel, set()).add(it.machine)
         if it.own < it.effective:  # pieces were placed since it was done, and the desk heard of them first
             for turn, own, effective in reversed(self.installs.get(it.machine, ())):
                 if effective <= it.own:
@@ -132,25 +135,17 @@ class Story:
         return found
 
     def placed(self, place, database):
-        """The pieces of each install that is in doubt by its order, and of each reel that has another one spliced to it."""
-        numbers = [turn[1] for turn in self.late if turn[0] == place]
-        machines = {it.machine for it in self.works}
-        tapes = {reel for (machine, _), its in self.slots.items() if machine in machines for reel in spliced_to(its)}
-        if not numbers and not tapes:
+        """The pieces of each install that is in doubt by its order, and those of machines whose reels may have other pieces left than the desk has."""
+        numbers = [[turn[1]] for turn in self.late if turn[0] == place]
+        machines = {it.machine for it in self.works} | {machine for machine, its in self.installs.items() if any(turn in self.late for turn, _, _ in its)}
+        if not numbers and not machines:
             return []
-        with self.wanted(database, numbers, tapes):
-            return database.execute("""SELECT number, board, designator, placement.machine, slot, reel, own FROM placement JOIN accepted USING (number)
-                WHERE number IN (SELECT number FROM temp.late) OR reel IN (SELECT reel FROM temp.spliced) ORDER BY number, place""").fetchall()
-
-    @contextlib.contextmanager
-    def wanted(self, database, numbers, reels):
-        database.execute("CREATE TEMP TABLE late (number INTEGER PRIMARY KEY)")
-        database.execute("CREATE TEMP TABLE spliced (reel TEXT PRIMARY KEY)")
-        database.executemany("INSERT INTO late VALUES (?)", [[it] for it in numbers])
-        database.executemany("INSERT INTO spliced VALUES (?)", [[it] for it in reels])
-        yield
-        database.execute("DROP TABLE temp.late")
-        database.execute("DROP TABLE temp.spliced")
+        database.execute("CREATE TEMP TABLE IF NOT EXISTS late (number INTEGER PRIMARY KEY)")
+        database.execute("CREATE TEMP TABLE IF NOT EXISTS drifted (machine TEXT PRIMARY KEY)")
+        database.executemany("INSERT INTO late VALUES (?)", numbers)
+        database.executemany("INSERT INTO drifted VALUES (?)", [[it] for it in machines])
+        return database.execute("""SELECT number, board, designator, placement.machine, slot, reel, own FROM placement JOIN accepted USING (number)
+            WHERE number IN (SELECT number FROM temp.late) OR placement.machine IN (SELECT machine FROM temp.drifted) ORDER BY number, place""").fetchall()
 
     def left(self, database):
         """How many pieces are left of each reel."""
@@ -176,18 +171,30 @@ class Story:
 
     def pieces(self):
         """The pieces that may be of another reel, from the oldest on."""
-        short, found = self.short(), []
+        lacking, moved, found = {}, {}, []  # by machine: minutes and how many pieces since
+        for work in self.works:
+            lacking.setdefault(work.machine, []).append((work.first, work.pieces))
+        for place, placed, _ in self.tables:
+            for number, _, _, machine, slot, _, own in placed:
+                if slot in self.late.get((place, number), {}):
+                    moved.setdefault(machine, []).append((own, 1))
+        until = lambda counts, reel, minute: sum(many for machine in self.machines.get(reel, ()) for since, many in counts.get(machine, ()) if since <= minute)
+        before = {reel: front for its in self.slots.values() for reel, front in spliced_onto(its)}
         for place, placed, left in self.tables:
-            after = dict(left)
+            after, first = dict(left), {}
+            for piece in placed:
+                first[piece[5]] = first.get(piece[5], 0) + 1
             for number, board, designator, machine, slot, reel, own in reversed(placed):
-                its = self.late.get((place, number), {})
-                others, whys = set(its.get(slot, ())) - {reel}, []
+                its, whys = self.late.get((place, number), {}), []
+                others = set(its.get(slot, ())) - {reel}
                 if slot in its and (others or not its[slot]):
                     whys.append(LATE)
-                lacking, since, nexts = short.get((machine, slot, reel), (0, 0, ()))
-                if own >= since and after.get(reel, 0) < lacking and (spliced := {it.reel for it in nexts if it.own <= own}):
-                    others |= spliced
+                if after.get(reel, 0) < until(lacking, reel, own) + until(moved, reel, own):
                     whys.append(SHORT)
+                first[reel] -= 1
+                if reel in before and first[reel] < until(moved, reel, own):
+                    others.add(before[reel])
+                    whys.append(LONG)
                 after[reel] = after.get(reel, 0) + 1
                 if whys:
                     names = tuple(sorted(others))
@@ -195,26 +202,14 @@ class Story:
                     found.append(Piece(board, designator, machine, slot, own, reel, self.lots.get(reel, ""), names, lots, "; ".join(whys), self.names[place]))
         return sorted(found, key=lambda it: (it.minute, it.board, it.designator))
 
-    def short(self):
-        """Of each reel with another one spliced to it, how many pieces untraced work may have taken off it, since which minute, and these splices."""
-        found = {}
-        for work in self.works:
-            for (machine, slot), handled in self.slots.items():
-                if machine == work.machine and work.slot in ("", slot):
-                    for reel, nexts in spliced_to(handled).items():
-                        before, since, _ = found.get((machine, slot, reel), (0, work.first, ()))
-                        found[machine, slot, reel] = before + work.pieces, min(since, work.first), nexts
-        return found
 
-
-def spliced_to(handled):
-    """Of a slot's reels, each that others were spliced to, with these splices."""
-    found, tape = {}, []
+def spliced_onto(handled):
+    """Of a slot's reels, each that was spliced to another one, with that one."""
+    tape = []
     for it in handled:
-        tape = [it] if it.word == "MaterialsLoaded" else [*tape, it] if it.reel else []
-        for front in tape[:-1]:
-            found.setdefault(front.reel, []).append(it)
-    return found
+        if it.word == "MaterialsSpliced" and tape:
+            yield it.reel, tape[-1]
+        tape = [it.reel] if it.word == "MaterialsLoaded" else [*tape, it.reel] if it.reel else []
 
 
 def minute_of(text):
