@@ -1,18 +1,23 @@
 -- The files that a command left open, after they are closed.
 use Rattle.std.specs.Prelude.{⊤, MatchOption}
-use Rattle.std.proofs.Common.{◌≡◌, ◌⊎◌, ℕ, true, Option, Some, None, IsTrue, length, refl, sym, subst, inl, inr}
+use Rattle.std.proofs.Common.{◌≡◌, ◌⊎◌, ◌∙◌, ℕ, true, Option, Some, None, IsTrue, length, refl, sym, ap, subst, inl, inr, arith}
+use Rattle.std.proofs.lemmas.Bool.{cases_Bool, both_ways}
+use Rattle.std.proofs.Math.Logic.{∥∥₁_map}
 use Rattle.sqlite_disk.specs.declared.Disk as disk
 use Rattle.sqlite_disk.specs.declared.Files.{Files}
 use Rattle.sqlite_disk.specs.declared.start.Start as start
 use Rattle.sqlite_wal.specs.Files.{image_at}
 use Rattle.sqlite_wal.specs.Reads.{AreClean}
 use Rattle.sqlite_wal.specs.Recovery.{Image}
+use Rattle.sqlite_wal.proofs.LogLemmas.{SeenMayStay}
 use Rattle.sqlite_store.specs.declared.store.FileStore.{FileStore}
+use Rattle.sqlite_store.specs.Laws.{settled_at}
 use Rattle.sqlite_trees.specs.Tree.{Trees}
 use Rattle.sqlite.specs.Closing.{HoldsAlone, IsCopied}
-use Rattle.sqlite.specs.Files.{file_state}
+use Rattle.sqlite.specs.Effect.{Database}
+use Rattle.sqlite.specs.Files.{file_state, over_files}
 use Rattle.sqlite.specs.Held.{Held}
-use Rattle.sqlite.specs.State.{State, HasCleanDisk}
+use Rattle.sqlite.specs.State.{State, HasCleanDisk, Opens}
 use Rattle.desk_types.specs.declared.rules.Rules.TheVariants.{One}
 use Rattle.desk_types.specs.History.{History}
 use Rattle.desk_answers.specs.Ledger.{Ledger}
@@ -20,12 +25,62 @@ use Rattle.line_tables.specs.Calls.{LeavesMigrated}
 use Rattle.line_rows.specs.Rows.{ledger_tables}
 use Rattle.line_schema.specs.declared.fault.OpenFault.{OpenFault}
 use Rattle.line_schema.specs.declared.fault.OpenFault.TheVariants.{NotADesk, Unavailable}
-use Rattle.desk_file.specs.Files.{IsFoundIn}
-use Rattle.desk_file.specs.Refused.{IsFaultFor, IsFaultIn, IsRefused, LeavesMade}
+use Rattle.feeder_state.specs.declared.desk.StateDesk.{StateDesk}
+use Rattle.feeder_state.specs.contracts.desk.StateDeskDesk.TheImpl.{ghosts as state}
+use Rattle.line_schema.specs.declared.store.LineStore.{LineStore}
+use Rattle.line_schema.specs.Stands.{Kept, Stands, conn_of}
+use Rattle.desk_file.proofs.FirstLists.{found}
+use Rattle.desk_file.specs.Files.{IsFoundIn, IsLeft}
+use Rattle.desk_file.specs.Refused.{IsFaultFor, IsFaultIn, IsRefused, IsUnchangedSince, LeavesMade, idle_state}
 use Rattle.desk_commands.specs.declared.left.Left.{Left}
 use Rattle.desk_commands.specs.declared.left.Left.TheVariants.{Nothing, Desk, Migrated, Refused}
 use Rattle.desk_commands.specs.Runs.{Audits, Migrates, Refuses, RefusesToMigrate, RunsOn}
-use Rattle.desk_commands.specs.Closed.{Close, whole, failed, ClosesLeft, HoldsFound, IsRefusedTo, AuditsTo, MigratesTo, RefusesTo, RefusesToMigrateTo, RunsTo}
+use Rattle.desk_commands.specs.Closed.{Close, whole, failed, ClosesLeft, HoldsDesk, HoldsFound, IsRefusedTo, AuditsTo, MigratesTo, RefusesTo, RefusesToMigrateTo, RunsTo}
+
+-- The files of a desk after a close that failed.
+desk_left : {D : Type 0} {g : disk.Ghosts D} (d : LineStore (FileStore D g) StateDesk) (f : Files D) (L : Kept) → IsLeft (conn_of d) f → Stands over_files state.Stands state.kept_rules d L → IsTrue L.own
+    → HoldsDesk failed g f (ledger_tables L.greatest L.history)
+desk_left d f L left stands own = elim (cases_Bool (file_state (conn_of d)).is_open) [
+  | inl on ↦ inl (λ image reads.
+      ∥∥₁_map (left.holds image reads) (λ found. (found.0, ((file_state (conn_of d)).committed, stands.tables left.was_clean own on, (left.was_live on).1, found.1.last on), found.2)))
+  | inr shut ↦ inr (
+    conn_of d,
+    record { shut = shut; failed = elim (stands.stays_open left.was_clean) [ inl on ↦ absurd (both_ways _ shut on) | inr faults ↦ faults ]; left = left },
+  )
+]
+
+-- What a crash may leave of an open is so of the database that it finds.
+abbrev pub IsCalm : (State → Trees → Type 0) → Type 1
+IsCalm Commits = (s : State) → Opens s → (trees : Trees) → Commits s trees → Commits (idle_state s.committed) trees
+
+calm_made : (make : Option ℕ) → IsCalm (LeavesMade make)
+calm_made None s opens trees made = absurd made
+calm_made (Some greatest) s opens trees made = record {
+  was_open = refl;
+  holds = λ bare. made.holds (ap (λ (db : Database). db.schema) opens.clean ∙ bare);
+}
+
+calm_migrated : IsCalm LeavesMigrated
+calm_migrated s opens trees left = record { was_open = refl; holds = left.holds }
+
+-- The files that were refused, after a close that failed.
+found_left : {D : Type 0} {g : disk.Ghosts D} (stays : SeenMayStay g) (conn first : Held (FileStore D g)) (f : Files D) (image : Image) (Commits : State → Trees → Type 0) → IsCalm Commits
+    → IsLeft conn f → IsUnchangedSince image Commits first conn → HoldsFound failed g f image Commits
+found_left stays conn first f image Commits calm left since =
+    let early : HasCleanDisk (file_state first) = omega (arith, since.survives.clean, left.was_clean) in
+    let (opened, finds) = since.opened early in (
+      (file_state first).committed,
+      found image (file_state first) finds opened.0 opened.1,
+      λ at reads.
+          ∥∥₁_map (left.holds at reads) (λ it. (
+            it.0,
+            elim (since.survives.crash left.was_clean it.0 it.1.may) [
+              | inl before ↦ inl (settled_at first.store stays it.0 opened.0.is_open before)
+              | inr commits ↦ inr (calm (file_state first) opened.0 it.0 commits)
+            ],
+            it.2,
+          )),
+    )
 
 module _ {T D : Type 0} {g : disk.Ghosts D} (first : start.Ghosts T) where
   pub runs_to : (how : Close) (left : Left D g) (files : Option (Files D)) (make : Option ℕ) (Fact : Ledger → History → Type 0) → ClosesLeft how left files
@@ -37,9 +92,9 @@ module _ {T D : Type 0} {g : disk.Ghosts D} (first : start.Ghosts T) where
       (greatest, H, begins, lawful, H', stands.lawful was_clean refl, stands.consistent, closed.0 (record { greatest = greatest; history = H'; own = true }) stands refl clean, fact)
   runs_to whole (Desk d) None make Fact closed runs = absurd closed
   runs_to failed (Desk d) (Some f) make Fact closed runs = λ clean alone.
-      let was_clean = closed clean in
-      let (greatest, H, begins, lawful, H', stands, fact) = runs was_clean alone in
-      (greatest, H, begins, lawful, H', stands.lawful was_clean refl, stands.consistent, tt, fact)
+      let left = closed clean in
+      let (greatest, H, begins, lawful, H', stands, fact) = runs left.was_clean alone in
+      (greatest, H, begins, lawful, H', stands.lawful left.was_clean refl, stands.consistent, desk_left d f (record { greatest = greatest; history = H'; own = true }) left stands refl, fact)
   runs_to failed (Desk d) None make Fact closed runs = absurd closed
   runs_to how (Migrated conn) files make Fact closed runs = absurd runs
   runs_to how (Refused r) files make Fact closed runs = absurd runs
@@ -59,14 +114,15 @@ module _ {T D : Type 0} {g : disk.Ghosts D} (first : start.Ghosts T) where
       (greatest, H, was, closed.0 (ledger_tables greatest H) (λ _ _. holds) clean)
   migrates_to whole (Migrated conn) None closed migrates = absurd closed
   migrates_to failed (Migrated conn) (Some f) closed migrates = λ clean alone.
-      let (greatest, H, was, holds, left) = migrates (closed clean) alone in
-      (greatest, H, was, tt)
+      let it = closed clean in
+      let (greatest, H, was, holds, left) = migrates it.was_clean alone in
+      (greatest, H, was, λ image reads. ∥∥₁_map (it.holds image reads) (λ found. (found.0, left found.0 found.1.may, found.2)))
   migrates_to failed (Migrated conn) None closed migrates = absurd closed
   migrates_to how (Refused r) files closed migrates = absurd migrates
 
   holds_found : (conn : Held (FileStore D g)) (f : Files D) (image : Image) → IsCopied conn f
-      → (HasCleanDisk (file_state conn) → IsTrue (file_state conn).is_open → IsFoundIn image (file_state conn).committed) → HoldsFound whole g f image
-  holds_found conn f image copied found = (
+      → (HasCleanDisk (file_state conn) → IsTrue (file_state conn).is_open → IsFoundIn image (file_state conn).committed) → (Commits : State → Trees → Type 0) → HoldsFound whole g f image Commits
+  holds_found conn f image copied found Commits = (
     (file_state conn).committed,
     found copied.was_clean copied.was_open,
     λ at. elim [
@@ -75,31 +131,38 @@ module _ {T D : Type 0} {g : disk.Ghosts D} (first : start.Ghosts T) where
     ],
   )
 
-  refused_to : (how : Close) (StandsIn : OpenFault → Type 0) (Leaves : State → Trees → Type 0) (MakesNone : Type 0) (fault : OpenFault) (file : Option (Held (FileStore D g))) (files : Option (Files D))
-      → ClosesLeft how (Refused (record { fault = fault; file = file })) files → IsRefused (image_at first) StandsIn Leaves MakesNone (record { fault = fault; file = file }) → IsRefusedTo how first g files StandsIn MakesNone fault
-  refused_to how StandsIn Leaves MakesNone fault None files closed is = (
-    subst (λ (o : Option (Files D)). MatchOption o ((fault ≡ Unavailable) ⊎ ((fault ≡ NotADesk) × MakesNone)) (λ f. AreClean g f.log f.db → StandsIn fault × HoldsFound how g f (image_at first))) (sym closed) (is.unopened refl),
+  refused_to : SeenMayStay g → (how : Close) (StandsIn : OpenFault → Type 0) (Commits : State → Trees → Type 0) → IsCalm Commits → (MakesNone : Type 0) (fault : OpenFault) (file : Option (Held (FileStore D g))) (files : Option (Files D))
+      → ClosesLeft how (Refused (record { fault = fault; file = file })) files → IsRefused (image_at first) StandsIn Commits MakesNone (record { fault = fault; file = file }) → IsRefusedTo how first g files StandsIn Commits MakesNone fault
+  refused_to stays how StandsIn Commits calm MakesNone fault None files closed is = (
+    subst (λ (o : Option (Files D)). MatchOption o ((fault ≡ Unavailable) ⊎ ((fault ≡ NotADesk) × MakesNone)) (λ f. AreClean g f.log f.db → StandsIn fault × HoldsFound how g f (image_at first) Commits)) (sym closed) (is.unopened refl),
     is.never,
   )
-  refused_to how StandsIn Leaves MakesNone fault (Some conn) None closed is = absurd closed
-  refused_to whole StandsIn Leaves MakesNone fault (Some conn) (Some f) closed is = (
+  refused_to stays how StandsIn Commits calm MakesNone fault (Some conn) None closed is = absurd closed
+  refused_to stays whole StandsIn Commits calm MakesNone fault (Some conn) (Some f) closed is = (
     λ clean.
         let copied = closed.1 clean in
-        (is.fault copied.was_clean, holds_found conn f (image_at first) copied is.found),
+        (is.fault copied.was_clean, holds_found conn f (image_at first) copied is.found Commits),
     is.never,
   )
-  refused_to failed StandsIn Leaves MakesNone fault (Some conn) (Some f) closed is = (λ clean. (is.fault (closed clean), tt), is.never)
+  refused_to stays failed StandsIn Commits calm MakesNone fault (Some conn) (Some f) closed is = (
+    λ clean.
+        let left = closed clean in
+        (is.fault left.was_clean, found_left stays conn is.since.0 f (image_at first) Commits calm left is.since.1),
+    is.never,
+  )
 
-  pub refuses_to : (how : Close) (left : Left D g) (files : Option (Files D)) (make : Option ℕ) (fault : OpenFault) → ClosesLeft how left files → Refuses first make left fault → RefusesTo how first g files make fault
-  refuses_to how Nothing files make fault closed refuses = absurd refuses
-  refuses_to how (Desk d) files make fault closed refuses = absurd refuses
-  refuses_to how (Migrated conn) files make fault closed refuses = absurd refuses
-  refuses_to how (Refused r) files make fault closed refuses =
-      subst (λ (it : OpenFault). RefusesTo how first g files make it) refuses.0 (refused_to how (IsFaultFor (image_at first) make) (LeavesMade make) (make ≡ None) r.fault r.file files closed refuses.1)
+  pub refuses_to : SeenMayStay g → (how : Close) (left : Left D g) (files : Option (Files D)) (make : Option ℕ) (fault : OpenFault) → ClosesLeft how left files → Refuses first make left fault → RefusesTo how first g files make fault
+  refuses_to stays how Nothing files make fault closed refuses = absurd refuses
+  refuses_to stays how (Desk d) files make fault closed refuses = absurd refuses
+  refuses_to stays how (Migrated conn) files make fault closed refuses = absurd refuses
+  refuses_to stays how (Refused r) files make fault closed refuses =
+      subst (λ (it : OpenFault). RefusesTo how first g files make it) refuses.0
+      (refused_to stays how (IsFaultFor (image_at first) make) (LeavesMade make) (calm_made make) (make ≡ None) r.fault r.file files closed refuses.1)
 
-  pub refuses_to_migrate : (how : Close) (left : Left D g) (files : Option (Files D)) (fault : OpenFault) → ClosesLeft how left files → RefusesToMigrate first left fault → RefusesToMigrateTo how first g files fault
-  refuses_to_migrate how Nothing files fault closed refuses = absurd refuses
-  refuses_to_migrate how (Desk d) files fault closed refuses = absurd refuses
-  refuses_to_migrate how (Migrated conn) files fault closed refuses = absurd refuses
-  refuses_to_migrate how (Refused r) files fault closed refuses =
-      subst (λ (it : OpenFault). RefusesToMigrateTo how first g files it) refuses.0 (refused_to how (IsFaultIn (image_at first) One) LeavesMigrated ⊤ r.fault r.file files closed refuses.1)
+  pub refuses_to_migrate : SeenMayStay g → (how : Close) (left : Left D g) (files : Option (Files D)) (fault : OpenFault) → ClosesLeft how left files → RefusesToMigrate first left fault → RefusesToMigrateTo how first g files fault
+  refuses_to_migrate stays how Nothing files fault closed refuses = absurd refuses
+  refuses_to_migrate stays how (Desk d) files fault closed refuses = absurd refuses
+  refuses_to_migrate stays how (Migrated conn) files fault closed refuses = absurd refuses
+  refuses_to_migrate stays how (Refused r) files fault closed refuses =
+      subst (λ (it : OpenFault). RefusesToMigrateTo how first g files it) refuses.0
+      (refused_to stays how (IsFaultIn (image_at first) One) LeavesMigrated calm_migrated ⊤ r.fault r.file files closed refuses.1)

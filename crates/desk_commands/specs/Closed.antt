@@ -1,16 +1,18 @@
 -- The effect of a run on the files that it closed.
-use Rattle.std.specs.Prelude.{◌≡◌, ◌≢◌, ◌⊎◌, ⊤, ℕ, Option, None, IsSomeAnd, MatchOption, length}
+use Rattle.std.specs.Prelude.{◌≡◌, ◌≢◌, ◌⊎◌, ⊤, ℕ, false, Option, None, IsSomeAnd, MatchOption, length}
 use Rattle.sqlite_disk.specs.declared.Disk as disk
 use Rattle.sqlite_disk.specs.declared.Files.{Files}
 use Rattle.sqlite_disk.specs.declared.start.Start as start
-use Rattle.sqlite_wal.specs.Files.{image_at, outcomes}
+use Rattle.sqlite_wal.specs.Files.{image_at}
 use Rattle.sqlite_wal.specs.Reads.{AreClean}
 use Rattle.sqlite_wal.specs.Recovery.{Image}
 use Rattle.sqlite_store.specs.declared.store.FileStore.{FileStore}
+use Rattle.sqlite_trees.specs.Tree.{Trees}
 use Rattle.sqlite.specs.Closing.{HoldsAlone}
 use Rattle.sqlite.specs.Effect.{Database}
-use Rattle.sqlite.specs.Files.{image_of}
+use Rattle.sqlite.specs.Files.{file_state}
 use Rattle.sqlite.specs.Held.{Held}
+use Rattle.sqlite.specs.State.{State}
 use Rattle.desk_types.specs.declared.rules.Rules.TheVariants.{One, Two}
 use Rattle.desk_types.specs.History.{History}
 use Rattle.desk_types.specs.Judged.{IsLawful}
@@ -18,14 +20,15 @@ use Rattle.desk_laws.specs.Consistent.{IsConsistent}
 use Rattle.desk_answers.specs.Ledger.{Ledger}
 use Rattle.feeder_state.specs.declared.desk.StateDesk.{StateDesk}
 use Rattle.feeder_state.specs.contracts.desk.StateDeskDesk.TheImpl.{ghosts as state}
-use Rattle.line_tables.specs.Rows.{Tables}
+use Rattle.line_tables.specs.Calls.{LeavesMigrated}
+use Rattle.line_tables.specs.Rows.{Tables, HoldsAt}
 use Rattle.line_rows.specs.Rows.{ledger_tables}
 use Rattle.line_schema.specs.declared.fault.OpenFault.{OpenFault}
 use Rattle.line_schema.specs.declared.fault.OpenFault.TheVariants.{NotADesk, NotBlank, Unavailable}
 use Rattle.line_schema.specs.declared.store.LineStore.{LineStore}
-use Rattle.line_schema.specs.Stands.{conn_of}
-use Rattle.desk_file.specs.Files.{Begins, Closes, Copies, HasOursFirst, IsFoundIn, IsOfOne, IsWhole, KeepsTables, Leaves}
-use Rattle.desk_file.specs.Refused.{IsFaultFor, IsFaultIn}
+use Rattle.line_schema.specs.Stands.{HasFailed, conn_of}
+use Rattle.desk_file.specs.Files.{Begins, Closes, Copies, HasOursFirst, IsFoundIn, IsLeft, IsOfOne, IsWhole, KeepsTables, Leaves, MayRead, ReadsAs}
+use Rattle.desk_file.specs.Refused.{IsFaultFor, IsFaultIn, LeavesMade, idle_state}
 use Rattle.desk_commands.specs.declared.left.Left.{Left}
 use Rattle.desk_commands.specs.declared.left.Left.TheVariants.{Nothing, Desk, Migrated, Refused}
 
@@ -35,10 +38,6 @@ use Rattle.desk_commands.specs.declared.left.Left.TheVariants.{Nothing, Desk, Mi
 pub data Close : Type 0 where
   whole : Close
   failed : Close
-
--- The current contents of the files, or those that a crash leaves.
-abbrev pub MayRead : {D : Type 0} → disk.Ghosts D → Files D → Image → Type 0
-MayRead g files image = (image ≡ image_of g files) ⊎ outcomes g files.log files.db image
 
 -- The connection was closed in this way.
 abbrev pub ClosesConn : {D : Type 0} {g : disk.Ghosts D} → Close → Held (FileStore D g) → Files D
@@ -64,17 +63,38 @@ ClosesLeft how (Refused r) files =
 
 -- ---- contents of the files
 
--- Files that were closed completely hold these tables without a log, even after a crash.
+-- The files hold these tables, now and after a crash: without a log if they were closed completely.
 abbrev pub HoldsTables : {D : Type 0} → Close → disk.Ghosts D → Files D → Tables → Type 0
 HoldsTables whole g files tables = (image : Image) → MayRead g files image → IsWhole tables image
-HoldsTables failed g files tables = ⊤
+HoldsTables failed g files tables = (image : Image) → MayRead g files image
+    → ∥ ((trees : Trees) × HoldsAt tables trees × ReadsAs trees image) ∥₁
 
--- They hold the database that an open of the first files finds.
-abbrev pub HoldsFound : {D : Type 0} → Close → disk.Ghosts D → Files D → Image → Type 0
-HoldsFound whole g files first =
+-- A failure of the disk had shut the connection before its close failed. The files still hold what a crash could have
+-- left then.
+pub record WasShut {D : Type 0} {g : disk.Ghosts D} (conn : Held (FileStore D g))
+    (files : Files D) : Type 0 where
+  pub shut : (file_state conn).is_open ≡ false
+  pub failed : HasFailed (file_state conn)
+  pub left : IsLeft conn files
+
+-- The files of a desk hold these tables, unless a failure of the disk had shut its connection before a close failed.
+abbrev pub HoldsDesk : {D : Type 0} → Close → disk.Ghosts D → Files D → Tables → Type 0
+HoldsDesk whole g files tables = HoldsTables whole g files tables
+HoldsDesk {D = D} failed g files tables = HoldsTables failed g files tables
+    ⊎ ((conn : Held (FileStore D g)) × WasShut conn files)
+
+-- They hold the database that an open of the first files finds. If a close failed, they may instead hold what the run
+-- was about to commit.
+abbrev pub HoldsFound : {D : Type 0} → Close → disk.Ghosts D → Files D → Image
+    → (State → Trees → Type 0) → Type 0
+HoldsFound whole g files first Commits =
     (db : Database) × IsFoundIn first db
     × ((image : Image) → MayRead g files image → HoldsAlone image db.trees)
-HoldsFound failed g files first = ⊤
+HoldsFound failed g files first Commits =
+    (db : Database) × IsFoundIn first db
+    × ((image : Image) → MayRead g files image
+    → ∥ ((trees : Trees) × ((trees ≡ db.trees) ⊎ Commits (idle_state db) trees)
+    × ReadsAs trees image) ∥₁)
 
 -- ---- effect of the run
 
@@ -87,7 +107,7 @@ RunsTo how first g files make Fact =
     → (greatest : ℕ) × (H : History) × Begins (image_at first) make greatest H
     × IsLawful Two greatest H
     × (H' : History) × IsLawful Two greatest H' × IsConsistent H'
-    × HoldsTables how g f (ledger_tables greatest H')
+    × HoldsDesk how g f (ledger_tables greatest H')
     × Fact (record { rules = Two; greatest = greatest; history = H }) H')
 
 -- An audit found this number of commands.
@@ -106,19 +126,20 @@ MigratesTo how first g files =
 
 -- The files were refused for this fault. If they never lied, the fault is in their contents, which are unchanged.
 abbrev pub IsRefusedTo : {T D : Type 0} → Close → start.Ghosts T → disk.Ghosts D → Option (Files D)
-    → (OpenFault → Type 0) → Type 0 → OpenFault → Type 0
-IsRefusedTo how first g files StandsIn MakesNone fault =
+    → (OpenFault → Type 0) → (State → Trees → Type 0) → Type 0 → OpenFault → Type 0
+IsRefusedTo how first g files StandsIn Commits MakesNone fault =
     MatchOption files ((fault ≡ Unavailable) ⊎ ((fault ≡ NotADesk) × MakesNone))
-    (λ f. AreClean g f.log f.db → StandsIn fault × HoldsFound how g f (image_at first))
+    (λ f. AreClean g f.log f.db → StandsIn fault × HoldsFound how g f (image_at first) Commits)
     × (MakesNone → fault ≢ NotBlank)
 
 -- The same for a run that may make a desk up to this number, or for a migration.
 abbrev pub RefusesTo : {T D : Type 0} → Close → start.Ghosts T → disk.Ghosts D → Option (Files D)
     → Option ℕ → OpenFault → Type 0
 RefusesTo how first g files make =
-    IsRefusedTo how first g files (IsFaultFor (image_at first) make) (make ≡ None)
+    IsRefusedTo how first g files (IsFaultFor (image_at first) make) (LeavesMade make)
+    (make ≡ None)
 
 abbrev pub RefusesToMigrateTo : {T D : Type 0} → Close → start.Ghosts T → disk.Ghosts D
     → Option (Files D) → OpenFault → Type 0
 RefusesToMigrateTo how first g files =
-    IsRefusedTo how first g files (IsFaultIn (image_at first) One) ⊤
+    IsRefusedTo how first g files (IsFaultIn (image_at first) One) LeavesMigrated ⊤

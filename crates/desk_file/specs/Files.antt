@@ -1,8 +1,16 @@
 -- The initial history of a run, by the contents of its files.
-use Rattle.std.specs.Prelude.{◌≡◌, ◌⊎◌, ℕ, IsTrue, [], Option, Some}
+use Rattle.std.specs.Prelude.{◌≡◌, ◌⊎◌, ℕ, IsTrue, List, [], Option, Some}
 use Rattle.sqlite_disk.specs.declared.Disk as disk
 use Rattle.sqlite_disk.specs.declared.Files.{Files}
+use Rattle.sqlite_catalog.specs.Listing.{IsSound}
+use Rattle.sqlite_pages.specs.PageMap.{PageMap}
+use Rattle.sqlite_pool.specs.Stored.{Adopts, stored_size}
+use Rattle.sqlite_schema.specs.declared.schema.Schema.{Schema}
+use Rattle.sqlite_store.specs.Db.{IsFile}
+use Rattle.sqlite_store.specs.Listing.{file_trees}
+use Rattle.sqlite_store.specs.declared.catalog.Wanted.{Wanted}
 use Rattle.sqlite_wal.specs.Files.{outcomes}
+use Rattle.sqlite_wal.specs.PageSize.{IsPageSize}
 use Rattle.sqlite_wal.specs.Reads.{AreClean}
 use Rattle.sqlite_wal.specs.Recovery.{Image}
 use Rattle.sqlite_store.specs.declared.store.FileStore.{FileStore}
@@ -11,7 +19,7 @@ use Rattle.sqlite.specs.Effect.{Database, IsDatabase}
 use Rattle.sqlite.specs.Closing.{HoldsAlone, IsCopied}
 use Rattle.sqlite.specs.Files.{HoldsDatabase, file_state, image_of, over_files}
 use Rattle.sqlite.specs.Held.{Held}
-use Rattle.sqlite.specs.State.{HasCleanDisk}
+use Rattle.sqlite.specs.State.{HasCleanDisk, IsLive}
 use Rattle.desk_file.specs.Found.{AreReadIn}
 use Rattle.desk_types.specs.declared.rules.Rules.{Rules}
 use Rattle.desk_types.specs.declared.rules.Rules.TheVariants.{One, Two}
@@ -76,17 +84,49 @@ IsWhole tables image = (trees : Trees) × HoldsAt tables trees × HoldsAlone ima
 abbrev pub Copies : {D : Type 0} {g : disk.Ghosts D} → Held (FileStore D g) → Files D → Type 0
 Copies {g = g} conn files = AreClean g files.log files.db → IsCopied conn files
 
--- The connection could not be closed, and left these files. If they are honest, its disk was.
+-- The current contents of the files, or those that a crash leaves.
+abbrev pub MayRead : {D : Type 0} → disk.Ghosts D → Files D → Image → Type 0
+MayRead g files image = (image ≡ image_of g files) ⊎ outcomes g files.log files.db image
+
+-- The files recover to a sound database with these trees. This is `HoldsDatabase` without the numbers that the list of
+-- tables gives its trees.
+pub record ReadsAs (trees : Trees) (image : Image) : Type 0 where
+  pub size : ℕ
+  pub allowed : IsPageSize (stored_size size)
+  pub pages : PageMap
+  pub wanted : List Wanted
+  pub schema : Schema
+  pub found : Adopts size image pages
+  pub file : IsFile size wanted pages
+  pub reads : trees ≡ file_trees size wanted pages
+  pub sound : IsSound schema trees
+
+-- A crash could have left these trees of the connection: if it was open, those of its last commit, with other people's
+-- tables.
+pub record MayHold {D : Type 0} {g : disk.Ghosts D} (conn : Held (FileStore D g))
+    (trees : Trees) : Type 0 where
+  pub may : (file_state conn).may_leave trees
+  pub last : IsTrue (file_state conn).is_open → trees ≡ (file_state conn).committed.trees
+
+-- Files of an honest disk, after a close that failed. Now and after a crash they hold what a crash could have left
+-- before.
+pub record IsLeft {D : Type 0} {g : disk.Ghosts D} (conn : Held (FileStore D g))
+    (files : Files D) : Type 0 where
+  pub was_clean : HasCleanDisk (file_state conn)
+  pub was_live : IsLive (file_state conn)
+  pub holds : (image : Image) → MayRead g files image
+      → ∥ ((trees : Trees) × MayHold conn trees × ReadsAs trees image) ∥₁
+
+-- The connection could not be closed, and left these files.
 abbrev pub Leaves : {D : Type 0} {g : disk.Ghosts D} → Held (FileStore D g) → Files D → Type 0
-Leaves {g = g} conn files = AreClean g files.log files.db → HasCleanDisk (file_state conn)
+Leaves {g = g} conn files = AreClean g files.log files.db → IsLeft conn files
 
 -- The files of a connection hold whatever tables it held, now and after any crash, if it was sound and open and the
 -- disk never lied.
 abbrev pub KeepsTables : {D : Type 0} {g : disk.Ghosts D} → Held (FileStore D g) → Files D → Type 0
 KeepsTables {g = g} conn files = (tables : Tables) → (HasCleanDisk (file_state conn)
     → IsTrue (file_state conn).is_open → Holds (file_state conn).committed tables)
-    → AreClean g files.log files.db
-    → (image : Image) → (image ≡ image_of g files) ⊎ outcomes g files.log files.db image
+    → AreClean g files.log files.db → (image : Image) → MayRead g files image
     → IsWhole tables image
 
 -- The files of a desk with its own tables hold those of its history, now and after any crash, if the disk never lied.
@@ -94,5 +134,4 @@ abbrev pub Closes : {D E : Type 0} {g : disk.Ghosts D} → (E → History → Ty
     → LineStore (FileStore D g) E → Files D → Type 0
 Closes {g = g} StandsFor kept_rules desk files = (L : Kept)
     → Stands over_files StandsFor kept_rules desk L → IsTrue L.own → AreClean g files.log files.db
-    → (image : Image) → (image ≡ image_of g files) ⊎ outcomes g files.log files.db image
-    → IsWhole (ledger_tables L.greatest L.history) image
+    → (image : Image) → MayRead g files image → IsWhole (ledger_tables L.greatest L.history) image

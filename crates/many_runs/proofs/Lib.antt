@@ -2,3 +2,4 @@ pub mod CrashedFiles
 pub mod FailingDisks
 pub mod ProgramRuns
 pub mod RunsInTurn
+pub mod WholeRuns

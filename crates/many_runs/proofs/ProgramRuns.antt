@@ -28,7 +28,7 @@ use Rattle.sqlite_wal.specs.Files.{image_at}
 use Rattle.sqlite_trees.specs.Tree.{Trees}
 use Rattle.sqlite.specs.Effect.{Database}
 use Rattle.sqlite.specs.Files.{HoldsDatabase, over_files}
-use Rattle.sqlite.specs.State.{HasCleanDisk}
+use Rattle.sqlite.specs.State.{State, HasCleanDisk}
 use Rattle.line_tables.specs.Rows.{Holds, HoldsAt}
 use Rattle.line_rows.specs.Rows.{ledger_tables}
 use Rattle.line_schema.specs.declared.fault.OpenFault.{OpenFault}
@@ -84,7 +84,7 @@ serves reports G sent unread before after (Err (Read served)) H connected = conn
 serves reports G sent unread before after (Err (TooManyReads served)) H connected = connected
 serves reports G sent unread before after (Err (Write served)) H connected = connected
 
-serves_each : (exchanges : List Exchange) (G : Ledger) (H : History) → ServesEach exchanges G H → AnswersByTheList report_of G (connections_of exchanges) H
+pub serves_each : (exchanges : List Exchange) (G : Ledger) (H : History) → ServesEach exchanges G H → AnswersByTheList report_of G (connections_of exchanges) H
 serves_each [] G H same = same
 serves_each (e ∷ es) G H (H₁, one, rest) = (H₁, serves report_of G e.sent e.unread e.before e.after e.ended H₁ one, serves_each es (record G { history = H₁ }) H rest)
 
@@ -139,9 +139,9 @@ FindsTables = (image : Image) (trees : Trees) (greatest : ℕ) (H : History) →
 
 -- A run whose files were refused keeps their history.
 module _ {T D : Type 0} (finds : FindsTables) (g : disk.Ghosts D) (first : start.Ghosts T) (make : Option ℕ) (files : Files D) (image : Image) where
-  pub keeps : (StandsIn : OpenFault → Type 0) (MakesNone : Type 0) (fault : OpenFault) → IsRefusedTo whole first g (Some files) StandsIn MakesNone fault → ReadsClean g files image
-      → KeepsList (run_of first make [] image)
-  keeps StandsIn MakesNone fault refuses is = (
+  pub keeps : (StandsIn : OpenFault → Type 0) (Commits : State → Trees → Type 0) (MakesNone : Type 0) (fault : OpenFault) → IsRefusedTo whole first g (Some files) StandsIn Commits MakesNone fault
+      → ReadsClean g files image → KeepsList (run_of first make [] image)
+  keeps StandsIn Commits MakesNone fault refuses is = (
     refl,
     λ greatest H trees database holds.
         let (db, found, alone) = (refuses.0 is.clean).1 in

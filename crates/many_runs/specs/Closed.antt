@@ -1,23 +1,23 @@
 -- A run of the program that closed its files.
-use Rattle.std.specs.Prelude.{◌≡◌, ◌⊎◌, ℕ, List, [], ◌∷◌, Option, Some, map}
+use Rattle.std.specs.Prelude.{ℕ, List, [], ◌∷◌, Option, Some, map}
 use Rattle.sqlite_disk.specs.declared.Disk as disk
 use Rattle.sqlite_disk.specs.declared.Files.{Files}
 use Rattle.sqlite_disk.specs.declared.start.Start as start
-use Rattle.sqlite_wal.specs.Files.{image_at, outcomes}
+use Rattle.sqlite_wal.specs.Files.{image_at}
 use Rattle.sqlite_wal.specs.Reads.{AreClean}
 use Rattle.sqlite_wal.specs.Recovery.{Image}
 use Rattle.sqlite_store.specs.declared.store.FileStore.{FileStore}
 use Rattle.sqlite.specs.State.{HasCleanDisk}
-use Rattle.sqlite.specs.Files.{image_of, over_files}
+use Rattle.sqlite.specs.Files.{over_files}
 use Rattle.desk_types.specs.History.{History}
 use Rattle.desk_answers.specs.Ledger.{Ledger}
 use Rattle.feeder_state.specs.declared.desk.StateDesk.{StateDesk}
 use Rattle.feeder_state.specs.contracts.desk.StateDeskDesk.TheImpl.{ghosts as state}
 use Rattle.line_schema.specs.declared.store.LineStore.{LineStore}
 use Rattle.line_schema.specs.Stands.{state_of}
-use Rattle.desk_file.specs.Files.{Closes}
+use Rattle.desk_file.specs.Files.{Closes, MayRead}
 use Rattle.desk_commands.specs.declared.left.Left.TheVariants.{Desk}
-use Rattle.desk_commands.specs.Closed.{MayRead, RunsTo, whole}
+use Rattle.desk_commands.specs.Closed.{RunsTo, whole}
 use Rattle.desk_commands.specs.Runs.{RunsOn, ServesEach}
 use Rattle.desk_runs.specs.Clients.{Ended, Exchange}
 use Rattle.desk_runs.specs.Runs.{AnswersReport, StaysSame}
@@ -34,8 +34,7 @@ abbrev pub ClosesTo : {D : Type 0} {g : disk.Ghosts D} → LineStore (FileStore 
     → Files D → Image → Type 0
 ClosesTo {g = g} desk files image =
     Closes state.Stands state.kept_rules desk files × HasCleanDisk (state_of over_files desk)
-    × AreClean g files.log files.db
-    × ((image ≡ image_of g files) ⊎ outcomes g files.log files.db image)
+    × AreClean g files.log files.db × MayRead g files image
 
 -- The disk never lied, and these are the closed files' contents then, or after a crash.
 pub record ReadsClean {D : Type 0} (g : disk.Ghosts D) (files : Files D)

@@ -5,6 +5,7 @@
 #![tactic(auto)]
 
 mod failing;
+mod whole;
 
 ghost use Rattle.std.specs.Prelude.{ℕ, List, [], Option, Some};
 ghost use Rattle.sqlite_wal.specs.Recovery.{Image};
@@ -30,6 +31,7 @@ use line_schema::LineStore;
 use sqlite::{FileFrom, FileStore, Files, Start};
 use sqlite_disk::Disk;
 use state_rows::KeepsRows;
+pub use whole::whole_run_goes_on;
 
 /// A law: runs one after another, each on the files that the previous one left, are equivalent to one run that makes
 /// all their calls. So every answer of every run is that of one list of accepted commands, which is lawful and

@@ -1,24 +1,25 @@
-//! The program of the trace desk: its arguments ask for a command on a desk in memory or in a file.
+//! The program of the trace desk, which is `program` of `desk_program`.
 #![tactic(auto)]
 
-mod program;
-mod run;
-mod system;
-
+use desk_program::{program, wordless, words};
 use desk_types::Wire;
-use run::{wordless, words};
+use sqlite::Unknown;
 use std::process::ExitCode;
 
 fn main(rt: HostRuntime) -> ExitCode {
     let mut errors = Wire::new(rt.stderr());
     ExitCode::from(match words(&rt) {
-        Ok(words) => run::program(
-            &rt,
-            words.as_slice(),
-            &mut Wire::new(rt.stdin()),
-            &mut Wire::new(rt.stdout()),
-            &mut errors,
-        ),
+        Ok(words) => {
+            let (status, _files) = program(
+                &rt,
+                words.as_slice(),
+                Unknown,
+                &mut Wire::new(rt.stdin()),
+                &mut Wire::new(rt.stdout()),
+                &mut errors,
+            );
+            status
+        }
         Err(error) => wordless(&error, &mut errors),
     })
 }

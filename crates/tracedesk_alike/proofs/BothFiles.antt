@@ -4,6 +4,7 @@ use Rattle.sqlite_disk.specs.declared.Disk as disk
 use Rattle.sqlite_disk.specs.declared.Files.{Files}
 use Rattle.sqlite_disk.specs.declared.start.Start as start
 use Rattle.sqlite_wal.specs.Files.{image_at}
+use Rattle.sqlite_wal.proofs.LogLemmas.{SeenMayStay}
 use Rattle.sqlite_store.specs.declared.store.FileStore.{FileStore}
 use Rattle.sqlite.specs.State.{HasCleanDisk}
 use Rattle.sqlite.specs.Files.{over_files}
@@ -70,12 +71,12 @@ runs_weaker first (Desk d) Fact Fact' to runs = λ clean alone.
 runs_weaker first (Migrated conn) Fact Fact' to runs = absurd runs
 runs_weaker first (refused r) Fact Fact' to runs = absurd runs
 
-at_fault : {T D : Type 0} {g : disk.Ghosts D} (first : start.Ghosts T) (how : Close) (left : Left D g) (files : Option (Files D)) (fault : OpenFault) → ClosesLeft how left files
+at_fault : {T D : Type 0} {g : disk.Ghosts D} → SeenMayStay g → (first : start.Ghosts T) (how : Close) (left : Left D g) (files : Option (Files D)) (fault : OpenFault) → ClosesLeft how left files
     → AreOpenAtFault first left fault → AreAtFault first g files fault
-at_fault first how left files fault closed (inl is) = inl is
-at_fault first how left files fault closed (inr refuses) = inr (how, refuses_to first how left files None fault closed refuses)
+at_fault stays first how left files fault closed (inl is) = inl is
+at_fault stays first how left files fault closed (inr refuses) = inr (how, refuses_to first stays how left files None fault closed refuses)
 
-module _ {T U D E : Type 0} {g : disk.Ghosts D} {g' : disk.Ghosts E} (of_old : start.Ghosts T) (of_new : start.Ghosts U) (old : Left D g) (new : Left E g') (files : Option (Files D)) (files' : Option (Files E)) where
+module _ {T U D E : Type 0} {g : disk.Ghosts D} {g' : disk.Ghosts E} (stays : SeenMayStay g) (stays' : SeenMayStay g') (of_old : start.Ghosts T) (of_new : start.Ghosts U) (old : Left D g) (new : Left E g') (files : Option (Files D)) (files' : Option (Files E)) where
   holds_both : (Relates : History → History → Type 0) → ClosesLeft whole old files → ClosesLeft whole new files' → HoldOpen of_old of_new old new Relates → HoldBoth of_old of_new g g' files files' Relates
   holds_both Relates closed closed' runs =
       let was : History → Type 0 = λ H. RunsOn of_new None new (OnlyLooks (Relates H)) in
@@ -87,8 +88,8 @@ module _ {T U D E : Type 0} {g : disk.Ghosts D} {g' : disk.Ghosts E} (of_old : s
   closes : (found : Compared) → ClosesLeft whole old files → ClosesLeft whole new files' → FindsOpen of_old of_new found old new → Finds of_old of_new g g' found files files'
   closes (Alike reels mounts) closed closed' is = holds_both (Says (Alike reels mounts)) closed closed' is
   closes (Differs difference) closed closed' is = holds_both (Says (Differs difference)) closed closed' is
-  closes (Refused Old fault) closed closed' is = at_fault of_old whole old files fault closed is
-  closes (Refused New fault) closed closed' is = at_fault of_new whole new files' fault closed' is
+  closes (Refused Old fault) closed closed' is = at_fault stays of_old whole old files fault closed is
+  closes (Refused New fault) closed closed' is = at_fault stays' of_new whole new files' fault closed' is
 
   -- One of them was not.
   leaves : (how how' : Close) (side : Side) (found : Compared) → ClosesLeft how old files → ClosesLeft how' new files' → FindsOpen of_old of_new found old new
@@ -97,8 +98,8 @@ module _ {T U D E : Type 0} {g : disk.Ghosts D} {g' : disk.Ghosts E} (of_old : s
   leaves how how' New (Alike reels mounts) closed closed' is = inl refl
   leaves how how' Old (Differs difference) closed closed' is = inl refl
   leaves how how' New (Differs difference) closed closed' is = inl refl
-  leaves how how' side (Refused Old fault) closed closed' is = at_fault of_old how old files fault closed is
-  leaves how how' side (Refused New fault) closed closed' is = at_fault of_new how' new files' fault closed' is
+  leaves how how' side (Refused Old fault) closed closed' is = at_fault stays of_old how old files fault closed is
+  leaves how how' side (Refused New fault) closed closed' is = at_fault stays' of_new how' new files' fault closed' is
 
   pub finds : (old_closed new_closed : Bool) (found : Compared) → ClosesLeft (close_of old_closed) old files → ClosesLeft (close_of new_closed) new files' → FindsOpen of_old of_new found old new
       → Finds of_old of_new g g' (settled old_closed new_closed found) files files'

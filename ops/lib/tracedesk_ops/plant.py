@@ -22,6 +22,9 @@ DESK = pathlib.Path("/var/lib/tracedesk/desk")
 STOP, PORT = "systemctl stop tracedesk", 8080
 START = "systemctl reset-failed tracedesk; systemctl start tracedesk"  # it may have failed too often, on a desk that was not to be had
 PROXY_PORT = 8081  # packaging/nginx.conf
+COPIES = pathlib.Path("/var/backups/tracedesk")
+SET_UP = pathlib.Path(os.environ.get("TRACEDESK_SET_UP", "/etc/tracedesk"))  # a file LINE.conf for each line that this machine serves
+WORDS = ("line", "db", "archive", "copies", "port", "url", "stop", "start")  # of such a file
 DRAINED = pathlib.Path("/run/tracedesk-drained")  # packaging/nginx.conf looks for it
 SECONDS_A_MILLION = 19  # of a start, for a million placed pieces: docs/figures.md, "A file's start"
 QUIET = float(os.environ.get("TRACEDESK_QUIET", 1))  # seconds without a connection, after which nobody waits for an answer any more; ops/tests/evidence-faults is in a hurry
@@ -93,6 +96,43 @@ def alike_of(program):
     return next(filter(None, map(shutil.which, [named] if named else beside)), None)
 
 
+def set_ups():
+    """The lines that are set up on this machine: of each what its file LINE.conf says, as `db = /var/lib/tracedesk/desk`, and what follows from that."""
+    found = []
+    with contextlib.suppress(PermissionError):  # who may not read it names each thing
+        for file in sorted(SET_UP.glob("*.conf")):
+            rows = [it.partition("=") for it in file.read_text(encoding="utf-8").splitlines() if it.strip() and not it.lstrip().startswith("#")]
+            its = {name.strip(): value.strip() for name, _, value in rows}
+            if "line" not in its:
+                continue  # another one, as certificates.conf
+            if unknown := [name for name in its if name not in WORDS] + [name for name, value in its.items() if not value]:
+                raise Fault(f"{file}: {', '.join(unknown)} is none of {', '.join(WORDS)}, or has no value")
+            its = {"db": str(DESK), "port": str(PORT), "copies": str(COPIES), **its}
+            found.append({"archive": f"{pathlib.Path(its['db']).parent}/archive", "url": f"http://127.0.0.1:{its['port']}", **its})
+    if twice := {it["db"] for it in found if [other["db"] for other in found].count(it["db"]) > 1}:
+        raise Fault(f"two files of {SET_UP} have the desk {', '.join(twice)}")
+    return found
+
+
+def set_up(reader, **names):
+    """Takes the words of a tool from the line's set-up file, as far as the command line doesn't say them. `names` are those of words that the tool calls otherwise."""
+    given = argparse.ArgumentParser(add_help=False, allow_abbrev=False)
+    given.add_argument("--line")
+    given.add_argument("--db")
+    it = given.parse_known_args()[0]
+    try:
+        those = [its for its in set_ups() if it.db in (None, its["db"])]
+    except Fault as fault:
+        reader.error(str(fault))
+    own = [its for its in those if it.line in (None, its["line"])]
+    if len(own) > 1:
+        reader.error(f"the lines {', '.join(its['line'] for its in own)} are set up in {SET_UP}: say by --line which it is")
+    if those and not own:
+        reader.error(f"in {SET_UP} the lines {', '.join(its['line'] for its in those)} are set up, and not {it.line}: write {SET_UP}/{it.line}.conf, or name its desk by --db")
+    known = {action.dest for action in reader._actions}
+    reader.set_defaults(**{names.get(name, name): value for its in own for name, value in its.items() if names.get(name, name) in known})
+
+
 def offer(reader):
     """Adds the words of both tools."""
     reader.add_argument("--db", type=pathlib.Path, default=DESK, metavar="FILE", help=f"the desk's file ({DESK})")
@@ -104,6 +144,7 @@ def offer(reader):
     reader.add_argument("--drained", type=pathlib.Path, default=DRAINED, metavar="FILE", help=f"the proxy sends senders away while it is there ({DRAINED})")
     reader.add_argument("--drain-seconds", type=float, default=30, metavar="N", help="how long the last answers may take (30)")
     reader.add_argument("--proxy-port", type=int, default=PROXY_PORT, metavar="N", help=f"where the proxy counts its requests for this machine ({PROXY_PORT})")
+    set_up(reader, copies="to")
 
 
 def line_name(text):
