@@ -22,7 +22,7 @@ from typing import NamedTuple
 
 from tracedesk_ops import catalogue, untraced
 
-WORDS = ("MaterialsLoaded", "MaterialsSpliced", "MaterialsUnloaded", "MaterialsInstalled")
+WORDS = ("MaterialsLoaded", "MaterialsSpliced", "MaterialsUnloaded", "MaterialsInstalled", "MaterialsScrapped")
 CARRIED = re.compile(r"begin-[0-9a-f]+-\d+")
 STORY = f"""SELECT number, uid, source, own, effective, iif(command GLOB 'MaterialsInstalled*', substr(command, 1, 90), command) FROM accepted
     WHERE {' OR '.join(f"command GLOB '{it}*'" for it in WORDS)} ORDER BY number"""
@@ -57,11 +57,6 @@ class Piece(NamedTuple):
     why: str
     file: str
 
-    def concerns(self, kind, name):
-        """Whether it may be a piece of this lot or reel, or is one of this board; where nobody knows the other reel it may be any."""
-        its = {"board": (self.board,), "lot": (self.lot, *self.other_lots), "reel": (self.reel, *self.other_reels)}[kind]
-        return name in its or kind != "board" and (not self.other_reels or SHORT in self.why)
-
     def row(self):
         return [*self[:4], catalogue.spelled(self.minute), self.reel, self.lot, "; ".join(self.other_reels), "; ".join(self.other_lots), self.why, self.file]
 
@@ -81,19 +76,22 @@ class Story:
     def __init__(self, works=()):
         """`works` are the line's untraced work."""
         self.works = [it for it in works if it.pieces]
-        self.slots, self.installs, self.late, self.lots, self.names, self.tables, self.machines = {}, {}, {}, {}, [], [], {}
+        self.slots, self.installs, self.late, self.lots, self.names, self.tables = {}, {}, {}, {}, [], []
+        self.machines, self.parts, self.scraps = {}, {}, {}
 
     def read(self, name, database):
         """Takes a file in: what is late in it is found on the way."""
         place = len(self.names)
         self.names.append(name)
         self.lots.update(database.execute("SELECT reel, lot FROM reel"))
+        self.parts.update(database.execute("SELECT reel, part FROM reel"))
         for number, uid, source, own, effective, text in database.execute(STORY):
             word, machine, *more = text.split("\t")
             if source == "begin" and CARRIED.fullmatch(uid):
                 continue
-            if word == "MaterialsInstalled":
-                self.install((place, number), own, effective, machine)
+            if word in ("MaterialsInstalled", "MaterialsScrapped"):
+                slot, many = (more[0], int(more[1])) if word == "MaterialsScrapped" else ("", 0)
+                self.took((place, number), own, effective, machine, slot, many)
             else:
                 self.handled(Handling((place, number), own, effective, word, machine, more[0], more[1] if more[1:] else ""))
 
@@ -101,28 +99,32 @@ class Story:
         """Takes the pieces of a file in, once all files were read: what is late in one may be told in the next."""
         self.tables.append((place, self.placed(place, database), self.left(database)))
 
-    def install(self, turn, own, effective, machine):
-        self.installs.setdefault(machine, []).append((turn, own, effective))
+    def took(self, turn, own, effective, machine, slot, many):
+        """Takes in an install, or a scrap of pieces of one slot."""
+        self.installs.setdefault(machine, []).append((turn, own, effective, slot, many))
         if own < effective:  # a reel was changed after it was placed, and the desk heard of that first
-            for handled in (its for (on, _), its in self.slots.items() if on == machine):
+            for handled in (its for (on, at), its in self.slots.items() if on == machine and slot in ("", at)):
                 for it in reversed(handled):
                     if it.effective <= own:
                         break
                     if it.own > own:
-                        self.doubt(turn, it.slot, self.tape_before(it, own))
+                        self.doubt(turn, own, many, it, self.tape_before(it, own))
 
     def handled(self, it):
         self.slots.setdefault((it.machine, it.slot), []).append(it)
         self.machines.setdefault(it.reel, set()).add(it.machine)
         if it.own < it.effective:  # pieces were placed since it was done, and the desk heard of them first
-            for turn, own, effective in reversed(self.installs.get(it.machine, ())):
+            for turn, own, effective, slot, many in reversed(self.installs.get(it.machine, ())):
                 if effective <= it.own:
                     break
-                if own > it.own:
-                    self.doubt(turn, it.slot, {it.reel} - {""})
+                if own > it.own and slot in ("", it.slot):
+                    self.doubt(turn, own, many, it, {it.reel} - {""})
 
-    def doubt(self, turn, slot, reels):
-        self.late.setdefault(turn, {}).setdefault(slot, set()).update(reels)
+    def doubt(self, turn, own, many, handling, reels):
+        if many:
+            self.scraps[turn] = handling.machine, own, many
+        else:
+            self.late.setdefault(turn, {}).setdefault(handling.slot, set()).update(reels)
 
     def tape_before(self, handling, own):
         """The reels that were on a slot before this handling, as far as they were put there by that minute."""
@@ -137,7 +139,7 @@ class Story:
     def placed(self, place, database):
         """The pieces of each install that is in doubt by its order, and those of machines whose reels may have other pieces left than the desk has."""
         numbers = [[turn[1]] for turn in self.late if turn[0] == place]
-        machines = {it.machine for it in self.works} | {machine for machine, its in self.installs.items() if any(turn in self.late for turn, _, _ in its)}
+        machines = {it.machine for it in self.works} | {machine for machine, its in self.installs.items() if any(turn in self.late or turn in self.scraps for turn, *_ in its)}
         if not numbers and not machines:
             return []
         database.execute("CREATE TEMP TABLE IF NOT EXISTS late (number INTEGER PRIMARY KEY)")
@@ -164,6 +166,14 @@ class Story:
             found += [(slot, reel) for reel in dict.fromkeys([*tape, *since])]
         return found
 
+    def concerns(self, piece, kind, name):
+        """Whether a recall of this lot, reel or board has to name a piece in doubt. It may be of any reel of its part: one that the desk
+        refused may have been on the slot all the same."""
+        if kind == "board":
+            return piece.board == name
+        own = self.lots if kind == "lot" else {it: it for it in self.parts}
+        return name in (piece.lot, *piece.other_lots, piece.reel, *piece.other_reels) or self.parts.get(piece.reel) in {self.parts[it] for it, its in own.items() if its == name}
+
     def reels_of(self, work):
         """The reels that were on a machine while it did this work, as a text."""
         found = self.reels_between(work.machine, work.first, work.last)
@@ -178,6 +188,8 @@ class Story:
             for number, _, _, machine, slot, _, own in placed:
                 if slot in self.late.get((place, number), {}):
                     moved.setdefault(machine, []).append((own, 1))
+        for machine, own, many in self.scraps.values():
+            moved.setdefault(machine, []).append((own, many))
         until = lambda counts, reel, minute: sum(many for machine in self.machines.get(reel, ()) for since, many in counts.get(machine, ()) if since <= minute)
         before = {reel: front for its in self.slots.values() for reel, front in spliced_onto(its)}
         for place, placed, left in self.tables:
@@ -264,6 +276,7 @@ class Line(NamedTuple):
     pieces: list
     faults: list
     notes: list
+    story: Story
 
 
 def look(path, archives, is_running=False):
@@ -286,7 +299,7 @@ def look(path, archives, is_running=False):
     except (catalogue.CatalogueError, OSError, sqlite3.Error) as fault:
         faults.append(f"{path}: whether pieces may be of other reels isn't known: {fault}")
     works = [(it, decided.get(it.id), story.reels_of(work_of(it))) for it in refused]
-    return Line(works, pieces, [*book.faults, *faults, *waiting(path.parent.parent / STATUS)], notes)
+    return Line(works, pieces, [*book.faults, *faults, *waiting(path.parent.parent / STATUS)], notes, story)
 
 
 def work_of(record):
