@@ -159,7 +159,7 @@ class Story:
         for (on, slot), handled in sorted(self.slots.items()):
             tape, since = [], []
             for it in handled if on == machine else ():
-                if it.effective <= first:
+                if it.effective < first:  # what came in the same minute may have come before or after
                     tape = [it.reel] if it.word == "MaterialsLoaded" else [*tape, it.reel] if it.reel else []
                 elif it.own <= last and it.reel:
                     since.append(it.reel)
