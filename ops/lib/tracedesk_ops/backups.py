@@ -149,6 +149,12 @@ def command(file, number):
         return database.execute("SELECT uid, source, own, command FROM accepted WHERE number = ?", [number]).fetchone()
 
 
+def has(file, told):
+    """Whether a desk has accepted this command, with all that its sender said."""
+    with catalogue.opened(file) as database:
+        return database.execute("SELECT (uid, source, own, command) = (?, ?, ?, ?) FROM accepted WHERE uid = ?", [*told, told[0]]).fetchone() == (1,)
+
+
 def commands(file):
     with catalogue.opened(file) as database:
         return database.execute("SELECT count(*) FROM accepted").fetchone()[0]
