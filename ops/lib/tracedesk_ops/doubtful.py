@@ -10,6 +10,7 @@ A desk attributes a piece to the reel that feeds its slot when the install is ac
 
 All files of a line are read as one story, in the order of their chain. What a desk was begun with is no story of its own.
 """
+import bisect
 import contextlib
 import datetime
 import json
@@ -28,6 +29,7 @@ STORY = f"""SELECT number, uid, source, own, effective, iif(command GLOB 'Materi
     WHERE {' OR '.join(f"command GLOB '{it}*'" for it in WORDS)} ORDER BY number"""
 HEADER = ("board", "designator", "machine", "slot", "minute", "reel", "lot", "other_reels", "other_lots", "why", "file")
 LATE, SHORT, LONG = "handled in another order than accepted", "the reel may have ended before", "the reel before it may have ended later"
+AFTER = "after such an order, on the same tape"
 STATUS = "status"  # beside the archives: what senders say of themselves
 TRIES = 5  # of a copy of a running desk's file
 
@@ -190,6 +192,12 @@ class Story:
                     moved.setdefault(machine, []).append((own, 1))
         for machine, own, many in self.scraps.values():
             moved.setdefault(machine, []).append((own, many))
+        late = {}
+        for place, placed, _ in self.tables:
+            for number, _, _, machine, slot, _, _ in placed:
+                if slot in self.late.get((place, number), {}):
+                    late.setdefault((machine, slot), []).append((place, number))
+        begun = {on: [it.turn for it in its if it.word != "MaterialsSpliced"] for on, its in self.slots.items()}
         until = lambda counts, reel, minute: sum(many for machine in self.machines.get(reel, ()) for since, many in counts.get(machine, ()) if since <= minute)
         before = {reel: front for its in self.slots.values() for reel, front in spliced_onto(its)}
         for place, placed, left in self.tables:
@@ -201,6 +209,8 @@ class Story:
                 others = set(its.get(slot, ())) - {reel}
                 if slot in its and (others or not its[slot]):
                     whys.append(LATE)
+                elif self.follows((place, number), late.get((machine, slot), []), begun.get((machine, slot), [])):
+                    whys.append(AFTER)
                 if after.get(reel, 0) < until(lacking, reel, own) + until(moved, reel, own):
                     whys.append(SHORT)
                 first[reel] -= 1
@@ -213,6 +223,13 @@ class Story:
                     lots = tuple(sorted({self.lots.get(it, "") for it in names}))
                     found.append(Piece(board, designator, machine, slot, own, reel, self.lots.get(reel, ""), names, lots, "; ".join(whys), self.names[place]))
         return sorted(found, key=lambda it: (it.minute, it.board, it.designator))
+
+
+    @staticmethod
+    def follows(turn, late, begun):
+        """Whether a piece in doubt by its order was placed off the same tape before; a tape begins with a load."""
+        before, since = bisect.bisect_right(late, turn), bisect.bisect_right(begun, turn)
+        return before > 0 and (since == 0 or late[before - 1] > begun[since - 1])
 
 
 def spliced_onto(handled):
