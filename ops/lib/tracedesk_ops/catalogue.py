@@ -202,7 +202,7 @@ def want_chains(path, lines):
 def has_no_archives(path):
     """Whether a line has none yet: there is no catalogue, and nothing lies where it would be. Where all around is empty too, a disk may not be mounted."""
     folder = path.parent
-    return not path.exists() and (all(it.match(ENTRIES) or it.suffix == ".new" for it in folder.iterdir()) if folder.exists() else folder.parent.is_dir() and any(folder.parent.iterdir()))
+    return not path.exists() and (all(any(map(it.match, STAY)) or it.suffix == ".new" for it in folder.iterdir()) if folder.exists() else folder.parent.is_dir() and any(folder.parent.iterdir()))
 
 
 def unasked(path, archives):

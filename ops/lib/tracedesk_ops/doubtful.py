@@ -1,73 +1,336 @@
-"""Doubtful pieces of a desk's file, and the reels that were on a machine at a minute: for ops/recall and ops/plant-load.
+"""Pieces of a line that may be of another reel than the desk has it: for ops/recall, ops/untraced and ops/plant-load.
 
-A load, splice or unload can be accepted later than it was done, as from a tablet that had no network: then its own minute is before
-its effective one. Pieces that were placed from its slot in between, by installs that were accepted before it, are recorded from the
-reels that the desk knew then. They may have come from the other reel. Minutes are whole, so only a later minute counts, not the same.
+A desk attributes a piece to the reel that feeds its slot when the install is accepted. Two things can make that the wrong reel:
+
+- The reel was changed at another moment than the desk heard of it: a load, splice or unload and an install on its slot were
+  accepted in the other order than they were done in, by their own minutes. Minutes are whole, so within one minute nothing is seen.
+- The desk's count of a reel is not what is on it: pieces were placed that are in no trace (untraced.py), or are counted on another
+  reel for the first reason. So the last pieces of a reel, and the first ones of a reel that is spliced to it, as many as those were
+  on the machine until then, may be of another one.
+
+All files of a line are read as one story, in the order of their chain. What a desk was begun with is no story of its own.
 """
 import bisect
+import contextlib
+import datetime
+import json
+import pathlib
+import re
+import shutil
+import sqlite3
+import tempfile
 from typing import NamedTuple
 
-WORDS = ("MaterialsLoaded", "MaterialsSpliced", "MaterialsUnloaded")
-HANDLING = "SELECT number, own, effective, command FROM accepted WHERE own < effective AND command GLOB 'Materials[LSU]*' ORDER BY number"
-MINUTES = "SELECT number, effective FROM accepted ORDER BY number"
-PLACED = """SELECT placement.number, board, designator, placement.machine, placement.slot, placement.reel, part, lot, effective
-    FROM placement CROSS JOIN reel USING (reel) CROSS JOIN accepted USING (number) ORDER BY placement.number, place"""
-MOUNTED = "SELECT command FROM accepted WHERE command GLOB 'Materials[LSU]*' AND effective <= ? ORDER BY number"
+from tracedesk_ops import catalogue, untraced
+
+WORDS = ("MaterialsLoaded", "MaterialsSpliced", "MaterialsUnloaded", "MaterialsInstalled", "MaterialsScrapped")
+CARRIED = re.compile(r"begin-[0-9a-f]+-\d+")
+STORY = f"""SELECT number, uid, source, own, effective, iif(command GLOB 'MaterialsInstalled*', substr(command, 1, 90), command) FROM accepted
+    WHERE {' OR '.join(f"command GLOB '{it}*'" for it in WORDS)} ORDER BY number"""
+HEADER = ("board", "designator", "machine", "slot", "minute", "reel", "lot", "other_reels", "other_lots", "why", "file")
+LATE, SHORT, LONG = "handled in another order than accepted", "the reel may have ended before", "the reel before it may have ended later"
+AFTER = "after such an order, on the same tape"
+STATUS = "status"  # beside the archives: what senders say of themselves
+TRIES = 5  # of a copy of a running desk's file
 
 
-class Doubt(NamedTuple):
-    """A piece that may have come from another reel than the recorded one; `other` is empty where the slot had been unloaded."""
-    board: str
-    designator: str
-    part: str
+class Handling(NamedTuple):
+    """A load, splice or unload that a desk accepted; the reel is empty where it is an unload. `turn` is its place in the line's story."""
+    turn: tuple
+    own: int
+    effective: int
+    word: str
     machine: str
     slot: str
     reel: str
-    lot: str
-    other: str
-    other_lot: str
+
+
+class Piece(NamedTuple):
+    """A piece that may be of another reel."""
+    board: str
+    designator: str
+    machine: str
+    slot: str
     minute: int
+    reel: str
+    lot: str
+    other_reels: tuple
+    other_lots: tuple
+    why: str
+    file: str
+
+    def row(self):
+        return [*self[:4], catalogue.spelled(self.minute), self.reel, self.lot, "; ".join(self.other_reels), "; ".join(self.other_lots), self.why, self.file]
 
 
-def late_handling(database):
-    """The spans of pieces that late commands make doubtful, by machine and slot: first and last number, and the other reel."""
-    late = [(number, own, command.split("\t")) for number, own, _, command in database.execute(HANDLING)]
-    late = [it for it in late if it[2][0] in WORDS]
-    spans: dict = {}
-    if late:
-        numbers, minutes = zip(*database.execute(MINUTES))
-        for number, own, fields in late:
-            first = bisect.bisect_right(minutes, own)  # effective minutes never fall
-            if first < len(numbers) and numbers[first] < number:
-                spans.setdefault((fields[1], fields[2]), []).append((numbers[first], number - 1, fields[3] if len(fields) > 3 else ""))
-    return spans
+class Work(NamedTuple):
+    """Work that is in no trace: how many pieces it took, off which slot where that is known, and from when it was done to when it was refused."""
+    machine: str
+    slot: str
+    pieces: int
+    first: int
+    last: int
 
 
-def pieces(database):
-    """The doubtful pieces of a file, one for each other reel."""
-    if not (spans := late_handling(database)):
-        return
-    lots = dict(database.execute("SELECT reel, lot FROM reel"))
-    for number, board, designator, machine, slot, reel, part, lot, minute in database.execute(PLACED):
-        others = {other for first, last, other in spans.get((machine, slot), ()) if first <= number <= last} - {reel}
-        for other in sorted(others):
-            yield Doubt(board, designator, part, machine, slot, reel, lot, other, lots.get(other, ""), minute)
+class Story:
+    """The handling and the installs of a line, file by file in the order of their chain."""
 
+    def __init__(self, works=()):
+        """`works` are the line's untraced work."""
+        self.works = [it for it in works if it.pieces]
+        self.slots, self.installs, self.late, self.lots, self.names, self.tables = {}, {}, {}, {}, [], []
+        self.machines, self.parts, self.scraps = {}, {}, {}
 
-def concerns(doubt, kind, name):
-    """Whether a recall of a lot, a reel or a board has to name the piece."""
-    return name in {"lot": (doubt.lot, doubt.other_lot), "reel": (doubt.reel, doubt.other), "board": (doubt.board,)}[kind]
+    def read(self, name, database):
+        """Takes a file in: what is late in it is found on the way."""
+        place = len(self.names)
+        self.names.append(name)
+        self.lots.update(database.execute("SELECT reel, lot FROM reel"))
+        self.parts.update(database.execute("SELECT reel, part FROM reel"))
+        for number, uid, source, own, effective, text in database.execute(STORY):
+            word, machine, *more = text.split("\t")
+            if source == "begin" and CARRIED.fullmatch(uid):
+                continue
+            if word in ("MaterialsInstalled", "MaterialsScrapped"):
+                slot, many = (more[0], int(more[1])) if word == "MaterialsScrapped" else ("", 0)
+                self.took((place, number), own, effective, machine, slot, many)
+            else:
+                self.handled(Handling((place, number), own, effective, word, machine, more[0], more[1] if more[1:] else ""))
 
+    def place(self, place, database):
+        """Takes the pieces of a file in, once all files were read: what is late in one may be told in the next."""
+        self.tables.append((place, self.placed(place, database), self.left(database)))
 
-def mounted(database, machine, minute):
-    """The reels that were loaded or spliced onto each slot of a machine at a minute, in the order of their tapes; spent ones are among them."""
-    slots: dict = {}
-    for (command,) in database.execute(MOUNTED, [minute]):
-        word, *fields = command.split("\t")
-        if word not in WORDS or fields[0] != machine:
-            continue
-        if word == "MaterialsSpliced":
-            slots.setdefault(fields[1], []).append(fields[2])
+    def took(self, turn, own, effective, machine, slot, many):
+        """Takes in an install, or a scrap of pieces of one slot."""
+        self.installs.setdefault(machine, []).append((turn, own, effective, slot, many))
+        if own < effective:  # a reel was changed after it was placed, and the desk heard of that first
+            for handled in (its for (on, at), its in self.slots.items() if on == machine and slot in ("", at)):
+                for it in reversed(handled):
+                    if it.effective <= own:
+                        break
+                    if it.own > own:
+                        self.doubt(turn, own, many, it, self.tape_before(it, own))
+
+    def handled(self, it):
+        self.slots.setdefault((it.machine, it.slot), []).append(it)
+        self.machines.setdefault(it.reel, set()).add(it.machine)
+        if it.own < it.effective:  # pieces were placed since it was done, and the desk heard of them first
+            for turn, own, effective, slot, many in reversed(self.installs.get(it.machine, ())):
+                if effective <= it.own:
+                    break
+                if own > it.own and slot in ("", it.slot):
+                    self.doubt(turn, own, many, it, {it.reel} - {""})
+
+    def doubt(self, turn, own, many, handling, reels):
+        if many:
+            self.scraps[turn] = handling.machine, own, many
         else:
-            slots[fields[1]] = fields[2:]
-    return {slot: reels for slot, reels in slots.items() if reels}
+            self.late.setdefault(turn, {}).setdefault(handling.slot, set()).update(reels)
+
+    def tape_before(self, handling, own):
+        """The reels that were on a slot before this handling, as far as they were put there by that minute."""
+        found = set()
+        for it in reversed(self.slots[handling.machine, handling.slot]):
+            if it.turn < handling.turn and it.reel and it.own <= own:
+                found.add(it.reel)
+                if it.word == "MaterialsLoaded":
+                    break
+        return found
+
+    def placed(self, place, database):
+        """The pieces of each install that is in doubt by its order, and those of machines whose reels may have other pieces left than the desk has."""
+        numbers = [[turn[1]] for turn in self.late if turn[0] == place]
+        machines = {it.machine for it in self.works} | {machine for machine, its in self.installs.items() if any(turn in self.late or turn in self.scraps for turn, *_ in its)}
+        if not numbers and not machines:
+            return []
+        database.execute("CREATE TEMP TABLE IF NOT EXISTS late (number INTEGER PRIMARY KEY)")
+        database.execute("CREATE TEMP TABLE IF NOT EXISTS drifted (machine TEXT PRIMARY KEY)")
+        database.executemany("INSERT INTO late VALUES (?)", numbers)
+        database.executemany("INSERT INTO drifted VALUES (?)", [[it] for it in machines])
+        return database.execute("""SELECT number, board, designator, placement.machine, slot, reel, own FROM placement JOIN accepted USING (number)
+            WHERE number IN (SELECT number FROM temp.late) OR placement.machine IN (SELECT machine FROM temp.drifted) ORDER BY number, place""").fetchall()
+
+    def left(self, database):
+        """How many pieces are left of each reel."""
+        return dict(database.execute("SELECT reel, remaining FROM reel"))
+
+    def reels_between(self, machine, first, last):
+        """The reels on a machine from a minute to another, by what the desk was told, then or later. Pairs of slot and reel."""
+        found = []
+        for (on, slot), handled in sorted(self.slots.items()):
+            tape, since = [], []
+            for it in handled if on == machine else ():
+                if it.effective < first:  # what came in the same minute may have come before or after
+                    tape = [it.reel] if it.word == "MaterialsLoaded" else [*tape, it.reel] if it.reel else []
+                elif it.own <= last and it.reel:
+                    since.append(it.reel)
+            found += [(slot, reel) for reel in dict.fromkeys([*tape, *since])]
+        return found
+
+    def concerns(self, piece, kind, name):
+        """Whether a recall of this lot, reel or board has to name a piece in doubt. It may be of any reel of its part: one that the desk
+        refused may have been on the slot all the same."""
+        if kind == "board":
+            return piece.board == name
+        own = self.lots if kind == "lot" else {it: it for it in self.parts}
+        return name in (piece.lot, *piece.other_lots, piece.reel, *piece.other_reels) or self.parts.get(piece.reel) in {self.parts[it] for it, its in own.items() if its == name}
+
+    def reels_of(self, work):
+        """The reels that were on a machine while it did this work, as a text."""
+        found = self.reels_between(work.machine, work.first, work.last)
+        return "; ".join(f"slot {slot}: {reel} of lot {self.lots.get(reel, '')}" for slot, reel in found) or "none that the desk knew"
+
+    def pieces(self):
+        """The pieces that may be of another reel, from the oldest on."""
+        lacking, moved, found = {}, {}, []  # by machine: minutes and how many pieces since
+        for work in self.works:
+            lacking.setdefault(work.machine, []).append((work.first, work.pieces))
+        for place, placed, _ in self.tables:
+            for number, _, _, machine, slot, _, own in placed:
+                if slot in self.late.get((place, number), {}):
+                    moved.setdefault(machine, []).append((own, 1))
+        for machine, own, many in self.scraps.values():
+            moved.setdefault(machine, []).append((own, many))
+        late = {}
+        for place, placed, _ in self.tables:
+            for number, _, _, machine, slot, _, _ in placed:
+                if slot in self.late.get((place, number), {}):
+                    late.setdefault((machine, slot), []).append((place, number))
+        begun = {on: [it.turn for it in its if it.word != "MaterialsSpliced"] for on, its in self.slots.items()}
+        until = lambda counts, reel, minute: sum(many for machine in self.machines.get(reel, ()) for since, many in counts.get(machine, ()) if since <= minute)
+        before = {reel: front for its in self.slots.values() for reel, front in spliced_onto(its)}
+        for place, placed, left in self.tables:
+            after, first = dict(left), {}
+            for piece in placed:
+                first[piece[5]] = first.get(piece[5], 0) + 1
+            for number, board, designator, machine, slot, reel, own in reversed(placed):
+                its, whys = self.late.get((place, number), {}), []
+                others = set(its.get(slot, ())) - {reel}
+                if slot in its and (others or not its[slot]):
+                    whys.append(LATE)
+                elif self.follows((place, number), late.get((machine, slot), []), begun.get((machine, slot), [])):
+                    whys.append(AFTER)
+                if after.get(reel, 0) < until(lacking, reel, own) + until(moved, reel, own):
+                    whys.append(SHORT)
+                first[reel] -= 1
+                if reel in before and first[reel] < until(moved, reel, own):
+                    others.add(before[reel])
+                    whys.append(LONG)
+                after[reel] = after.get(reel, 0) + 1
+                if whys:
+                    names = tuple(sorted(others))
+                    lots = tuple(sorted({self.lots.get(it, "") for it in names}))
+                    found.append(Piece(board, designator, machine, slot, own, reel, self.lots.get(reel, ""), names, lots, "; ".join(whys), self.names[place]))
+        return sorted(found, key=lambda it: (it.minute, it.board, it.designator))
+
+
+    @staticmethod
+    def follows(turn, late, begun):
+        """Whether a piece in doubt by its order was placed off the same tape before; a tape begins with a load."""
+        before, since = bisect.bisect_right(late, turn), bisect.bisect_right(begun, turn)
+        return before > 0 and (since == 0 or late[before - 1] > begun[since - 1])
+
+
+def spliced_onto(handled):
+    """Of a slot's reels, each that was spliced to another one, with that one."""
+    tape = []
+    for it in handled:
+        if it.word == "MaterialsSpliced" and tape:
+            yield it.reel, tape[-1]
+        tape = [it.reel] if it.word == "MaterialsLoaded" else [*tape, it.reel] if it.reel else []
+
+
+def minute_of(text):
+    """The minute of a time as a message has it, none where that can't be read."""
+    try:
+        then = datetime.datetime.fromisoformat(text)
+    except ValueError:
+        return None
+    utc = then.astimezone(datetime.timezone.utc).replace(tzinfo=None) if then.tzinfo else then
+    return (utc - catalogue.EPOCH) // datetime.timedelta(minutes=1)
+
+
+@contextlib.contextmanager
+def copied(file):
+    """A database of a running desk's file and log as they are now. They are copied, since nobody else may open them; a log is written to its
+    end while the file stays, until that takes the log in: a copy during which the file changed, or the log began anew, is made again."""
+    file = pathlib.Path(file)
+    log = file.with_name(f"{file.name}-wal")
+    with tempfile.TemporaryDirectory(prefix="tracedesk-") as room:
+        to = pathlib.Path(room, "desk")
+        for _ in range(TRIES):
+            before = state_of(file, log)
+            shutil.copyfile(file, to)
+            with contextlib.suppress(FileNotFoundError):
+                shutil.copyfile(log, f"{to}-wal")
+            if state_of(file, log) == before:
+                break
+        else:
+            raise catalogue.CatalogueError(f"{file}: it was changed while it was copied, {TRIES} times: ask again")
+        try:
+            with contextlib.closing(sqlite3.connect(to)) as database:
+                yield database
+        except sqlite3.Error as fault:
+            raise catalogue.CatalogueError(f"{file}: {fault}") from fault
+
+
+def state_of(file, log):
+    """What stays the same of a file and its log while a log is only added to."""
+    its, head = file.stat(), b""
+    with contextlib.suppress(FileNotFoundError), open(log, "rb") as it:
+        head = it.read(32)
+    return its.st_ino, its.st_size, its.st_mtime_ns, head
+
+
+# --- All of a line
+
+
+class Line(NamedTuple):
+    """What is known of a line besides its traces: untraced work, each with its decision or none and the reels that were on its machine; pieces
+    in doubt; what could not be looked at; and what a reader has to know."""
+    works: list
+    pieces: list
+    faults: list
+    notes: list
+    story: Story
+
+
+def look(path, archives, is_running=False):
+    """Looks at what is around a catalogue. The archives are in the order of their chain; the running desk's file lies beside their folder."""
+    book, faults, notes, pieces = untraced.read(path.parent), [], [], []
+    refused = [it for it in book.records if it.told["Kind"] == "refused"]
+    story, desk, decided = Story(map(work_of, refused)), path.parent.parent / "desk", untraced.decisions(book.records)
+    try:
+        with contextlib.ExitStack() as held:
+            files = {it.file: held.enter_context(catalogue.unchanged(path, it, False)) for it in archives}
+            if is_running and desk.exists():
+                files[catalogue.RUNNING] = held.enter_context(copied(desk))
+            elif is_running:
+                notes.append(f"{desk} is not here: whether pieces since the last archive may be of other reels was not looked at")
+            for name, database in files.items():
+                story.read(name, database)
+            for place, database in enumerate(files.values()):
+                story.place(place, database)
+        pieces = story.pieces()
+    except (catalogue.CatalogueError, OSError, sqlite3.Error) as fault:
+        faults.append(f"{path}: whether pieces may be of other reels isn't known: {fault}")
+    works = [(it, decided.get(it.id), story.reels_of(work_of(it))) for it in refused]
+    return Line(works, pieces, [*book.faults, *faults, *waiting(path.parent.parent / STATUS)], notes, story)
+
+
+def work_of(record):
+    message = record.told["Message"]
+    body = message.get("MessageBody") if isinstance(message.get("MessageBody"), dict) else {}
+    count = len(body["Designators"]) if isinstance(body.get("Designators"), list) else body.get("Quantity") if type(body.get("Quantity")) is int else 0
+    minutes = sorted(it for it in map(minute_of, (str(message.get("TimeStamp")), record.told["At"])) if it is not None) or [0, 1 << 40]
+    return Work(str(body.get("Machine")), str(body.get("Slot", "")), count, minutes[0], minutes[-1])
+
+
+def waiting(folder):
+    """Senders that hold messages for more than a minute, by what they say of themselves."""
+    for file in sorted(folder.glob("*.json")) if folder.is_dir() else ():
+        with contextlib.suppress(OSError, ValueError, TypeError, AttributeError):
+            told = json.loads(file.read_bytes())
+            if told.get("OldestWaiting") and minute_of(told["At"]) - minute_of(told["OldestWaiting"]) > 1:
+                yield f"{file}: {told['Waiting']} messages wait at {told['Sender']} since {told['OldestWaiting']}, and the desk doesn't have them: ask again once they are sent"

@@ -263,11 +263,29 @@ def write_status(folder, records):
     catalogue.put(pathlib.Path(folder) / STATUS, json.dumps(told) + "\n", 0o644)
 
 
-def bring(source, archive):
-    """Brings the records of another folder's file and inbox, as what a restore put aside, into the inbox of this one."""
-    inbox = inbox_of(archive)
-    known = {it.id for it in read(archive).records}
-    for it in parsed(source, pathlib.Path(source).read_bytes())[0] if pathlib.Path(source).exists() else ():
+def copy(archive, to, opened):
+    """Copies the inbox and the file into a copy of the line, the archives of which are in its folder of that name; what is wrong with them.
+
+    The inbox goes first: a record that leaves it meanwhile is in the file by then."""
+    inbox, path = inbox_of(archive), pathlib.Path(archive) / FILE_NAME
+    names = sorted(it.name for it in inbox.iterdir() if RECORD.fullmatch(it.name) or it.name == COLLECTED) if inbox.is_dir() else []
+    for file, copied in [*((inbox / it, to / INBOX / it) for it in names), (path, to / pathlib.Path(archive).name / FILE_NAME)]:
+        with contextlib.suppress(FileNotFoundError), opened(file) as source:
+            copied.parent.mkdir(mode=0o700, parents=True, exist_ok=True)
+            copied.write_bytes(source.read())
+    return read(archive).faults
+
+
+def records_of(folder, name="archive"):
+    """The records of a copy of the line, or of what a restore put aside, as far as they can be read."""
+    path = folder / name / FILE_NAME
+    return [*(parsed(path, path.read_bytes())[0] if path.exists() else ()), *waiting_in(folder / INBOX)[0]]
+
+
+def take_back(archive, records):
+    """Puts those of these records into the inbox that the line doesn't have: so a restore loses none."""
+    inbox, known = inbox_of(archive), {it.id for it in read(archive).records}
+    for it in records:
         if it.id not in known:
             inbox.mkdir(exist_ok=True)
             catalogue.put(inbox / f"{it.id}.json", it.text + "\n", 0o644)
