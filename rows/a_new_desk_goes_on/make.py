@@ -67,19 +67,19 @@ NEW = [(400, *it, {}) for it in SETUP] + [
     (1700, "ReelOpened", {"Reel": "K5"}, {}),
     (1940, "ReelOpened", {"Reel": "K3"}, {}),
     (2000, "ReelSealed", {"Reel": "K5"}, {}),
-    (2000, "ClockSet", {}, {}),  # else u20 would have number 20 in both desks
+    (2000, "ClockSet", {}, {}),  # desk-begun, by which the desk says that it was begun from another; else u20 would have number 20 in both
 ]
 KNOWN = [(f"u{n}", minute) for n, (minute, *_) in reversed(list(enumerate(OLD, 1)))]  # the old one's UniqueIDs, the newest first
 ALL = len(NEW) + len(KNOWN) + 1  # the last command is a ClockSet of its own
 
 
 def own(number):
-    return f"goes-on-{number}"
+    return "desk-begun" if number == len(NEW) else f"goes-on-{number}"
 
 
 def begun(uid, minute, word, body, source="begin"):
     """A message of ops/begin."""
-    envelope = {"MessageName": "TraceDesk." + word, "UniqueID": uid, "Source": source}
+    envelope = {"MessageName": "TraceDesk." + word, "UniqueID": uid, "Source": "tracedesk" if uid == "desk-begun" else source}
     return text({**envelope, "TimeStamp": stamp(minute).removesuffix("Z"), "MessageBody": body})
 
 
