@@ -13,6 +13,7 @@ use crate::begin::{Begin, begin_of};
 use crate::first::first_desk;
 use desk_types::{Id, IdList, Listing, MOST_ENTRIES, Rules};
 use line_schema::{LineStore, Unavailable};
+use line_traces::Working;
 use sqlite::{Alter, Connection};
 use state_rows::KeepsRows;
 use std::alloc::Global;
@@ -89,11 +90,17 @@ pub fn look<S: Alter, D: KeepsRows + Drop>(
     let mut store = store;
     let commands = store.count();
     let names = names_in(alloc, &mut store, question);
-    let (mut conn, whole) = store.into_parts();
+    let (mut conn, working) = store.into_parts();
     let Ok(names) = names else {
         return (conn, Err(Unavailable));
     };
-    let Some(whole) = whole else {
+    let Some(
+        Working {
+            desk: whole,
+            lists: _lists,
+        },
+    ) = working
+    else {
         return (conn, Err(Unavailable));
     };
     if u64::from(commands) > MOST_ENTRIES {
