@@ -39,7 +39,7 @@ def files():
         ("lib/tracedesk", tools()),
         ("lib/tracedesk/lib/tracedesk_ops", these("ops/lib/tracedesk_ops/*.py")),
         ("lib/systemd/system", these("packaging/*.service", "packaging/*.timer")),
-        ("share/tracedesk/plant", these("examples/plant/*.sql")),
+        ("share/tracedesk/plant", these("ops/plant/*.sql")),
         ("share/tracedesk/station", these("station/*")),
         ("share/doc/tracedesk/api", these("docs/api/*.json")),
         ("share/doc/tracedesk/examples", these("examples/client.py", "packaging/Containerfile")),
