@@ -1,4 +1,3 @@
-pub mod Answer
 pub mod Files
 pub mod Stops
 pub mod Whole

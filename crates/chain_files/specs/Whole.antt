@@ -1,5 +1,5 @@
 -- The effect of a run of the program.
-use Rattle.std.specs.Prelude.{◌≡◌, ◌⊎◌, ℕ, Bool, Option, Some, None, List, [], ◌∷◌, ◌++◌, length, codes}
+use Rattle.std.specs.Prelude.{◌≡◌, ◌⊎◌, ℕ, Bool, Option, List, ◌∷◌, ◌++◌, length, codes}
 use Rattle.std.specs.Io.KnownBytes.{Appends}
 use Rattle.sqlite_disk.specs.declared.Disk as disk
 use Rattle.sqlite_disk.specs.declared.Files.{Files}
@@ -7,20 +7,13 @@ use Rattle.sqlite_wal.specs.Recovery.{Image}
 use Rattle.desk_types.specs.declared.wire.Wire.{Wire}
 use Rattle.desk_types.specs.Wire.{inner_of}
 use Rattle.desk_runs.specs.Told.{unavailable_line, TellsLine}
-use Rattle.line_prefix.specs.declared.looking.Question.{Question}
 use Rattle.alike.specs.Chain.{DeskFile, IsChain}
-use Rattle.chain_check.specs.declared.recall.Recall.{Recall}
+use Rattle.chain_check.specs.declared.question.Question.{Question}
+use Rattle.chain_check.specs.Rows.{answer_over}
 use Rattle.chain_files.specs.declared.chain.Fault.{Fault}
-use Rattle.chain_files.specs.Answer.{answer_over, rows_text}
 use Rattle.chain_files.specs.Files.{AreHonest, HoldEach, IsStop, oldest_first}
 use Rattle.chain_files.specs.Stops.{status_of, stop_line}
 use Rattle.chain_files.specs.Words.{question_words, middle_words}
-
--- The text of a recall.
-abbrev pub recall_text : Question → List (List ℕ) → Option Recall → List ℕ
-recall_text question paths None = rows_text question paths [] []
-recall_text question paths (Some recall) =
-    rows_text question paths recall.files.items recall.found.items
 
 -- The files of these paths held, and still hold, lawful histories that are a chain, and this is the answer over them.
 pub record IsAnswer {D : Type 0} (g : disk.Ghosts D) (image : ℕ → Image) (closed : List (Files D))
@@ -63,16 +56,16 @@ abbrev pub IsStopped : ℕ → Type 0
 IsStopped status = (status ≡ 1) ⊎ (status ≡ 3) ⊎ (status ≡ 5)
 
 -- Standard error names the first file at fault, and what is wrong with it. Or memory was refused.
-abbrev pub StopsAt : {D E : Type 0} → disk.Ghosts D → (ℕ → Image) → List (Files D) → Question
+abbrev pub StopsAt : {D E : Type 0} → disk.Ghosts D → (ℕ → Image) → List (Files D)
     → List (List ℕ) → (E → Option (List ℕ)) → Wire E → ℕ → Type 0
-StopsAt {E = E} g image closed question paths writes errors' status =
+StopsAt {E = E} g image closed paths writes errors' status =
     (errors : Wire E) × (((place : ℕ) × (fault : Fault) × (status_of fault ≡ status)
     × TellsLine writes errors errors' (stop_line paths place fault)
-    × (AreHonest g image closed → IsStop g image question place fault))
+    × (AreHonest g image closed → IsStop g image place fault))
     ⊎ ((status ≡ 3) × TellsLine writes errors errors' unavailable_line))
 
 abbrev pub Stops : {D E : Type 0} → disk.Ghosts D → (ℕ → Image) → List (Files D) → List (List ℕ)
     → (E → Option (List ℕ)) → Wire E → ℕ → Type 0
 Stops g image closed words writes errors' status =
     (question : Question) × (paths : List (List ℕ)) × AsksOf words question paths
-    × StopsAt g image closed question paths writes errors' status
+    × StopsAt g image closed paths writes errors' status

@@ -1,18 +1,34 @@
 -- The meaning of a command line.
 use Rattle.std.specs.Prelude.{◌≡◌, ⊤, ℕ, Bool, true, false, List, [], ◌∷◌, ◌++◌, map, codes, string_bytes}
-use Rattle.line_prefix.specs.declared.looking.Question.{Question}
-use Rattle.line_prefix.specs.declared.looking.Question.TheVariants.{Chain, Lot}
+use Rattle.chain_check.specs.declared.question.Question.{Question}
+use Rattle.chain_check.specs.declared.question.Question.TheVariants.{Chain, Names, Pieces}
+use Rattle.chain_check.specs.declared.question.Subject.{Subject}
+use Rattle.chain_check.specs.declared.question.Subject.TheVariants.{Lot, Board, Reel}
 use Rattle.chain_files.specs.declared.words.Asked.{Asked}
 use Rattle.chain_files.specs.declared.words.Asked.TheVariants.{Recall, Help, Version, Bad}
 
 -- The words of a question.
+abbrev pub subject_words : Subject → List (List ℕ)
+subject_words (Lot lot) = codes "lot" ∷ lot ∷ []
+subject_words (Board board) = codes "board" ∷ board ∷ []
+subject_words (Reel reel) = codes "reel" ∷ reel ∷ []
+
 abbrev pub question_words : Question → List (List ℕ)
 question_words Chain = codes "check" ∷ []
-question_words (Lot lot) = codes "lot" ∷ lot ∷ []
+question_words (Names subject) = subject_words subject
+question_words (Pieces subject) = subject_words subject ++ codes "--pieces" ∷ []
 
 abbrev pub middle_words : Bool → List (List ℕ)
 middle_words true = codes "--from-middle" ∷ []
 middle_words false = []
+
+-- The words after a subject: the option for pieces, and those of a question.
+abbrev pub AsksAbout : Subject → List (List ℕ) → Asked → Type 0
+AsksAbout subject words (Recall q from_middle files) =
+    subject_words subject ++ words
+    ≡ question_words q ++ middle_words from_middle ++ map string_bytes files.now
+AsksAbout subject words Bad = ⊤
+AsksAbout subject words _ = ⊥
 
 -- The words after a question: an option, and the files.
 abbrev pub AsksFiles : Question → List (List ℕ) → Asked → Type 0

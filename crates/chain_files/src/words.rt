@@ -1,10 +1,10 @@
 //! The command line.
 
-ghost use Rattle.std.specs.Prelude.{map, string_bytes};
-ghost use Rattle.chain_files.specs.Words.{Asks, AsksFiles, Recalls};
+ghost use Rattle.std.specs.Prelude.{◌≡◌, ◌∷◌, IfSome, map, string_bytes};
+ghost use Rattle.chain_files.specs.Words.{Asks, AsksAbout, AsksFiles, Recalls};
 
+use chain_check::{Question, Subject};
 use desk_types::Id;
-use line_prefix::Question;
 
 /// The meaning of a command line.
 #[derive(Clone, Copy)]
@@ -26,17 +26,25 @@ pub enum Asked<'a> {
 
 /// What the program does.
 pub const HELP: &str = "\
-Says whether desk files are the chain of one line, and recalls a lot over them.
+Says whether desk files are the chain of one line, and recalls a lot, a board or a reel over them.
 
 Usage:
   tracedesk-chain check [--from-middle] FILE..
-  tracedesk-chain lot NAME [--from-middle] FILE..
+  tracedesk-chain lot NAME [--pieces] [--from-middle] FILE..
+  tracedesk-chain board NAME [--pieces] [--from-middle] FILE..
+  tracedesk-chain reel NAME [--pieces] [--from-middle] FILE..
 
-Name the files oldest first. Each is opened as an audit opens it, and not changed.
-`check` prints file,begun,commands,minute: with how many commands a desk was begun, how many it has, and its last
-minute. `lot` prints board,file: each board with a piece of the lot, once a file. Standard error has a line for each
-file, and names the archive from which its desk was begun.
+Name the files oldest first. Each is opened as an audit opens it, and not changed. Standard error has a line for each
+file, and names the archive from which its desk was begun. Standard output has a header, and then these columns:
 
+  check  file,begun,commands,minute: with how many commands a desk was begun, how many it has, and its last minute
+  lot    board,file: each board with a piece of the lot, once a file
+  board  lot,file: each lot with a piece on the board, once a file
+  reel   board,file: each board with a piece of the reel, once a file
+
+A name that no file knows is no error: only the header is printed.
+
+  --pieces       Print each piece: board,designator,part,lot,reel,machine,slot,overdue,minute,file
   --from-middle  The first file is one that was begun from an older file, which is left out
   --help         Print help
   --version      Print the version
@@ -52,6 +60,7 @@ Exit status:
 Examples:
   tracedesk-chain check archive/L1-2026* desk.db
   tracedesk-chain lot L4711 archive/L1-2026* desk.db > boards.csv
+  tracedesk-chain board B1 --pieces archive/L1-2026* desk.db
 ";
 
 /// The program's name and version.
@@ -66,19 +75,46 @@ pub fn read_words<'a>(words: &'a [String]) -> Asked<'a>
     };
     match verb.as_str() {
         "check" => files_of(Question::Chain, rest),
-        "lot" => {
-            let Some((name, rest)) = rest.split_first() else {
-                return Asked::Bad;
-            };
-            match Id::read(name.as_str().as_bytes()) {
-                Some(lot) => files_of(Question::Lot(lot), rest),
-                None => Asked::Bad,
-            }
-        }
+        "lot" => match name_in(rest) {
+            Some((lot, rest)) => about(Subject::Lot(lot), rest),
+            None => Asked::Bad,
+        },
+        "board" => match name_in(rest) {
+            Some((board, rest)) => about(Subject::Board(board), rest),
+            None => Asked::Bad,
+        },
+        "reel" => match name_in(rest) {
+            Some((reel, rest)) => about(Subject::Reel(reel), rest),
+            None => Asked::Bad,
+        },
         "--help" => Asked::Help,
         "--version" => Asked::Version,
         _ => Asked::Bad,
     }
+}
+
+/// Returns the name that comes first, and the words after it.
+fn name_in<'a>(words: &'a [String]) -> Option<(Id, &'a [String])>
+    ensures { IfSome result (λ found.
+        map string_bytes words.now ≡ found.0 ∷ map string_bytes found.1.now) }
+{
+    let (name, rest) = words.split_first()?;
+    match Id::read(name.as_str().as_bytes()) {
+        Some(id) => Some((id, rest)),
+        None => None,
+    }
+}
+
+fn about<'a>(subject: Subject, rest: &'a [String]) -> Asked<'a>
+    ensures { AsksAbout subject (map string_bytes rest.now) result }
+{
+    let Some((first, files)) = rest.split_first() else {
+        return Asked::Bad;
+    };
+    if first.as_str() == "--pieces" {
+        return files_of(Question::Pieces(subject), files);
+    }
+    files_of(Question::Names(subject), rest)
 }
 
 fn files_of<'a>(question: Question, rest: &'a [String]) -> Asked<'a>
