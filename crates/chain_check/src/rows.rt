@@ -131,11 +131,7 @@ fn minute_text<'a>(minute: Option<Minute>, digits: &'a mut Buffer) -> &'a str
 }
 
 /// Returns the lots of a board's pieces, or the boards of other pieces, each once and in byte order.
-fn names_among(
-    alloc: Global,
-    subject: &Subject,
-    pieces: &[Placement],
-) -> Result<IdList, AllocError>
+fn names_among(alloc: Global, subject: &Subject, pieces: &[Placement]) -> Result<IdList, AllocError>
     ensures { IfOk result (λ names. names ≡ names_of subject.now pieces.now) }
 {
     let mut names = BTreeSet::new(alloc);
@@ -167,11 +163,7 @@ fn write_names(writer: &mut TextWriter, path: &str, names: &[Id]) -> Result<(), 
     Ok(())
 }
 
-fn write_pieces(
-    writer: &mut TextWriter,
-    path: &str,
-    pieces: &[Placement],
-) -> Result<(), AllocError>
+fn write_pieces(writer: &mut TextWriter, path: &str, pieces: &[Placement]) -> Result<(), AllocError>
     ensures { (text : List ℕ) → HasWritten writer.old text
         → OnOk result (HasWritten writer.new
         (text ++ rows_text (map (piece_row path.now) pieces.now))) }

@@ -16,9 +16,9 @@ ghost use Rattle.chain_check.specs.Chained.{IsSoFar};
 ghost use Rattle.line_prefix.specs.Look.{Says};
 ghost use Rattle.chain_files.specs.Files.{Adds, Continues, IsWhyRefused, IsWhyStopped, Recalled, Stops, Takes, all_at, files_in};
 
-use crate::paths::path_at;
 use crate::closed::{ClosedFiles, add_closed};
 use crate::opener::Fresh;
+use crate::paths::path_at;
 use alike_check::Difference;
 use chain_check::{Chain, ChainFile, Question, ShownDifference, begin_rows, write_rows};
 use desk_file::{Refusal, close_file, open_desk};
@@ -268,7 +268,15 @@ pub fn recall_files<T: Fresh, E: Write>(
             }
         };
         tell_file(rt.alloc(), path, &looked, paths.len() - place, errors);
-        match add(rt.alloc(), chain, looked, from_middle, question, path, &mut answer) {
+        match add(
+            rt.alloc(),
+            chain,
+            looked,
+            from_middle,
+            question,
+            path,
+            &mut answer,
+        ) {
             Ok(next) => chain = Some(next),
             Err(fault) => {
                 return Err(Stopped {

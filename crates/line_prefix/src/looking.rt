@@ -93,11 +93,7 @@ fn lot_of<S: Alter, D: KeepsRows + Drop>(
 }
 
 /// Keeps the pieces of a reel.
-fn only_of(
-    alloc: Global,
-    reel: &Id,
-    pieces: &[Placement],
-) -> Result<PlacedRows, AllocError>
+fn only_of(alloc: Global, reel: &Id, pieces: &[Placement]) -> Result<PlacedRows, AllocError>
     ensures { IfOk result (λ kept. kept ≡ filter (is_of (Reel reel.now)) pieces.now) }
 {
     let mut kept = Vec::new(alloc);
