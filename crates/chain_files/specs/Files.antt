@@ -1,5 +1,5 @@
--- What a recall says of the files that it opened and closed.
-use Rattle.std.specs.Prelude.{◌≡◌, ◌<◌, ◌⊎◌, ⊤, ℕ, Option, Some, None, List, [], ◌∷◌, ◌++◌, length, All, Vec}
+-- The files of a recall: their contents, and why there is no answer.
+use Rattle.std.specs.Prelude.{◌≡◌, ◌<◌, ◌⊎◌, ⊤, ℕ, Bool, true, false, Option, Some, None, List, [], ◌∷◌, ◌++◌, length, All, Vec}
 use Rattle.sqlite_disk.specs.declared.Disk as disk
 use Rattle.sqlite_disk.specs.declared.Files.{Files}
 use Rattle.sqlite_disk.specs.declared.start.Start as start
@@ -8,9 +8,12 @@ use Rattle.sqlite_wal.specs.Reads.{AreClean}
 use Rattle.sqlite_wal.specs.Recovery.{Image}
 use Rattle.sqlite.specs.Files.{image_of}
 use Rattle.std.specs.Global.{Global}
+use Rattle.std.specs.Option.{option_to_list}
 use Rattle.csv.specs.declared.writer.Writer.{Writer}
 use Rattle.desk_types.specs.declared.rules.Rules.TheVariants.{Two}
 use Rattle.desk_types.specs.History.{History, IsPrefix}
+use Rattle.desk_types.specs.Judged.{IsLawful}
+use Rattle.desk_laws.specs.Consistent.{IsConsistent}
 use Rattle.feeder_state.specs.declared.desk.StateDesk.{StateDesk}
 use Rattle.feeder_state.specs.contracts.desk.StateDeskDesk.TheImpl.{ghosts as state}
 use Rattle.line_tables.specs.Rows.{Tables}
@@ -21,6 +24,7 @@ use Rattle.line_prefix.specs.declared.looking.Looked.{Looked}
 use Rattle.line_prefix.specs.Look.{Says}
 use Rattle.desk_file.specs.Files.{HasOursFirst, HasTables, IsWhole}
 use Rattle.desk_file.specs.Refused.{IsFaultFor}
+use Rattle.desk_commands.specs.Closed.{Close, whole, failed, RefusesTo}
 use Rattle.report_texts.specs.Csv.{HasWritten, csv_text}
 use Rattle.alike.specs.Chain.{DeskFile, IsChain}
 use Rattle.chain_check.specs.declared.chain.Chain.{Chain}
@@ -34,11 +38,11 @@ use Rattle.chain_files.specs.declared.closed.ClosedFiles.{ClosedFiles}
 
 -- ---- the closed files
 
--- What each file held when it was opened, by what is known of files of their type.
+-- The contents of each file when it was opened: the same for all files of a type.
 abbrev pub all_at : {T : Type 0} → start.Ghosts T → ℕ → Image
 all_at first place = image_at first
 
--- They are in the order in which they were closed.
+-- The first to be closed comes first.
 abbrev pub files_in : {D : Type 0} → ClosedFiles D → List (Files D)
 files_in closed = closed.files.items
 
@@ -48,15 +52,19 @@ pub record AreHonest {D : Type 0} (g : disk.Ghosts D) (image : ℕ → Image)
   pub clean : All (λ (f : Files D). AreClean g f.log f.db) closed
   pub ours : (place : ℕ) → place < length closed → HasOursFirst (image place)
 
+abbrev pub close_of : Bool → Close
+close_of true = whole
+close_of false = failed
+
 -- The files hold these tables without a log, now and after any crash.
 abbrev pub StillHold : {D : Type 0} → disk.Ghosts D → Files D → Tables → Type 0
 StillHold g f tables = (image : Image)
     → (image ≡ image_of g f) ⊎ outcomes g f.log f.db image → IsWhole tables image
 
--- They held the tables of this history when they were opened, and still do.
+-- They held the tables of this lawful history when they were opened, and still do.
 abbrev pub HoldHistory : {D : Type 0} → disk.Ghosts D → Image → Files D → History → Type 0
 HoldHistory g image f H = (greatest : ℕ) × HasTables image (ledger_tables greatest H)
-    × StillHold g f (ledger_tables greatest H)
+    × StillHold g f (ledger_tables greatest H) × IsLawful Two greatest H × IsConsistent H
 
 -- So did each of these, the newest first.
 abbrev pub HoldEach : {D : Type 0} → disk.Ghosts D → (ℕ → Image) → List (Files D) → List DeskFile
@@ -85,18 +93,22 @@ abbrev pub Takes : {D : Type 0} → disk.Ghosts D → Image → Question → Lis
 Takes {D} g image question closed closed' looked = (f : Files D) × (closed' ≡ closed ++ f ∷ [])
     × (AreClean g f.log f.db → HasOursFirst image → HoldsSaid g image question f looked)
 
+-- A file was refused for this fault. If its disk never lied, the fault is in its contents, and these are unchanged. Or it
+-- could not be read or closed.
+abbrev pub IsRefused : {T D : Type 0} → start.Ghosts T → disk.Ghosts D → List (Files D)
+    → List (Files D) → OpenFault → Type 0
+IsRefused {D = D} first g closed closed' fault = (fault ≡ open_fault.Unavailable)
+    ⊎ ((how : Close) × (files : Option (Files D)) × (closed' ≡ closed ++ option_to_list files)
+    × RefusesTo how first g files None fault)
+
 -- The fault of a file that was refused is in it. That a file is missing or empty is reported without one.
 abbrev pub IsFaultOf : Image → OpenFault → Type 0
 IsFaultOf image fault = (fault ≡ open_fault.Unavailable)
     ⊎ (fault ≡ open_fault.NotADesk) ⊎ IsFaultFor image None fault
 
-abbrev pub IsWhyRefused : {D : Type 0} → disk.Ghosts D → Image → List (Files D) → OpenFault → Type 0
-IsWhyRefused {D} g image closed fault =
-    All (λ (f : Files D). AreClean g f.log f.db) closed → IsFaultOf image fault
-
 -- ---- the chain
 
--- What the answer is written to.
+-- The writer of the answer.
 abbrev pub Answer : Type 0
 Answer = Writer (Vec ℕ Global)
 
@@ -164,7 +176,7 @@ abbrev pub IsStop : {D : Type 0} → disk.Ghosts D → (ℕ → Image) → ℕ �
 IsStop g image place (Refused fault) = IsFaultOf (image place) fault
 IsStop g image place fault = BreaksChain g image place fault
 
--- Why the files are no chain: the first one at fault, and what is wrong with it.
+-- Why the files are no chain: the first one at fault, and its fault.
 abbrev pub IsWhyStopped : {D : Type 0} → disk.Ghosts D → (ℕ → Image) → List (Files D)
     → Stopped → Type 0
 IsWhyStopped g image closed stopped =

@@ -1,3 +1,4 @@
+pub mod Compared
 pub mod Files
 pub mod Stops
 pub mod Whole

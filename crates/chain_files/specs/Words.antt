@@ -5,7 +5,7 @@ use Rattle.chain_check.specs.declared.question.Question.TheVariants.{Chain, Name
 use Rattle.chain_check.specs.declared.question.Subject.{Subject}
 use Rattle.chain_check.specs.declared.question.Subject.TheVariants.{Lot, Board, Reel}
 use Rattle.chain_files.specs.declared.words.Asked.{Asked}
-use Rattle.chain_files.specs.declared.words.Asked.TheVariants.{Recall, Help, Version, Bad}
+use Rattle.chain_files.specs.declared.words.Asked.TheVariants.{Recall, Alike, Help, Version, Bad}
 
 -- The words of a question.
 abbrev pub subject_words : Subject → List (List ℕ)
@@ -43,10 +43,15 @@ Recalls question from_middle files (Recall q m fs) =
 Recalls question from_middle files Bad = ⊤
 Recalls question from_middle files _ = ⊥
 
--- The words ask to recall over these files. What is no question is bad.
+-- The words of a comparison.
+abbrev pub alike_words : List ℕ → List ℕ → List (List ℕ)
+alike_words old new = codes "alike" ∷ old ∷ new ∷ []
+
+-- The words ask to recall over these files, or to compare two. Nothing is said of bad words.
 abbrev pub Asks : List (List ℕ) → Asked → Type 0
 Asks words (Recall question from_middle files) =
     words ≡ question_words question ++ middle_words from_middle ++ map string_bytes files.now
+Asks words (Alike old new) = words ≡ alike_words old.now new.now
 Asks words Help = (rest : List (List ℕ)) × (words ≡ codes "--help" ∷ rest)
 Asks words Version = (rest : List (List ℕ)) × (words ≡ codes "--version" ∷ rest)
 Asks words Bad = ⊤

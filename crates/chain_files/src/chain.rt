@@ -1,11 +1,8 @@
 //! A recall over the files of a chain.
 
 ghost use Rattle.std.specs.Prelude.{◌≡◌, ◌<◌, ◌^◌, [], None, List, ℕ, IfOk, IfErr, length, map, string_bytes};
-ghost use Rattle.sqlite_wal.specs.Reads.{AreClean};
 ghost use Rattle.sqlite_wal.specs.Files.{image_at};
-ghost use Rattle.sqlite_wal.specs.Recovery.{Image};
-ghost use Rattle.sqlite.specs.Files.{file_state};
-ghost use Rattle.sqlite.specs.State.{HasCleanDisk};
+ghost use Rattle.desk_commands.specs.Closed.{ClosesConn};
 ghost use Rattle.desk_file.specs.Refused.{RefusesRun};
 ghost use Rattle.desk_types.specs.History.{History};
 ghost use Rattle.desk_types.specs.Wire.{failures_of};
@@ -14,7 +11,7 @@ ghost use Rattle.alike.specs.Chain.{DeskFile};
 ghost use Rattle.report_texts.specs.Csv.{HasWritten};
 ghost use Rattle.chain_check.specs.Chained.{IsSoFar};
 ghost use Rattle.line_prefix.specs.Look.{Says};
-ghost use Rattle.chain_files.specs.Files.{Adds, Continues, IsWhyRefused, IsWhyStopped, Recalled, Stops, Takes, all_at, files_in};
+ghost use Rattle.chain_files.specs.Files.{Adds, Continues, IsRefused, IsWhyStopped, Recalled, Stops, Takes, all_at, close_of, files_in};
 
 use crate::closed::{ClosedFiles, add_closed};
 use crate::opener::Fresh;
@@ -71,7 +68,7 @@ pub struct Stopped {
 }
 
 /// Looks into the file at a place, and closes it.
-fn look_at<T: Fresh>(
+pub fn look_at<T: Fresh>(
     rt: &HostRuntime,
     place: u64,
     path: &str,
@@ -82,7 +79,7 @@ fn look_at<T: Fresh>(
         (Takes ⟦<FileFrom<T> as Disk>⟧ (image_at T.Start) question.now
         (files_in closed.old) (files_in closed.new)) }
     ensures refused { IfErr result
-        (IsWhyRefused ⟦<FileFrom<T> as Disk>⟧ (image_at T.Start) (files_in closed.new)) }
+        (IsRefused T.Start ⟦<FileFrom<T> as Disk>⟧ (files_in closed.old) (files_in closed.new)) }
 {
     match open_desk::<T, StateDesk>(rt, path, T::fresh(), None) {
         Ok(store) => {
@@ -104,28 +101,30 @@ fn look_at<T: Fresh>(
 
 /// Closes a file that was refused. Returns its fault.
 fn shut<T: Fresh>(refusal: Refusal<FileFrom<T>>, closed: &mut ClosedFiles<FileFrom<T>>) -> OpenFault
-    ensures why { (image : Image) → RefusesRun image None refusal
-        → IsWhyRefused ⟦<FileFrom<T> as Disk>⟧ image (files_in closed.new) result }
+    ensures { RefusesRun (image_at T.Start) None refusal
+        → IsRefused T.Start ⟦<FileFrom<T> as Disk>⟧ (files_in closed.old) (files_in closed.new)
+        result }
 {
     let Refusal { fault, file } = refusal;
     let Some(file) = file else {
         return fault;
     };
-    let files = close_any(file);
+    let (_is_whole, files) = close_any(file);
     match add_closed(closed, files) {
         Ok(()) => fault,
         Err(_) => OpenFault::Unavailable,
     }
 }
 
-/// Closes a file, or leaves what could not be closed.
-fn close_any<T: Fresh>(file: Connection<FileStore<FileFrom<T>>>) -> Files<FileFrom<T>>
-    ensures clean { AreClean ⟦<FileFrom<T> as Disk>⟧ result.log result.db
-        → HasCleanDisk (file_state file) }
+/// Closes a file, or leaves what could not be closed. Returns whether it was closed.
+fn close_any<T: Fresh>(
+    file: Connection<FileStore<FileFrom<T>>>,
+) -> (bool, Files<FileFrom<T>>)
+    ensures { ClosesConn (close_of result.0) file result.1 }
 {
     match close_file(file) {
-        Ok(files) => files,
-        Err((_, files)) => files,
+        Ok(files) => (true, files),
+        Err((_, files)) => (false, files),
     }
 }
 

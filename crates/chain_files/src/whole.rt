@@ -6,10 +6,12 @@ ghost use Rattle.desk_types.specs.Wire.{inner_of, failures_of};
 ghost use Rattle.desk_runs.specs.Told.{unavailable_line, TellsLine};
 ghost use Rattle.desk_runs.specs.Wires.{HaveFewFailures};
 ghost use Rattle.report_texts.specs.Csv.{HasWritten};
+ghost use Rattle.chain_files.specs.Compared.{Shows};
 ghost use Rattle.chain_files.specs.Files.{all_at, files_in};
 ghost use Rattle.chain_files.specs.Stops.{status_of, stop_line};
-ghost use Rattle.chain_files.specs.Whole.{Answers, Done, IsStopped, Stops, StopsAt};
+ghost use Rattle.chain_files.specs.Whole.{Answers, Compares, Done, Fails, IsStopped, Stops, StopsAt, Unlike};
 
+use crate::alike::alike;
 use crate::chain::{Fault, Stopped, recall_files};
 use crate::closed::ClosedFiles;
 use crate::opener::Fresh;
@@ -25,44 +27,66 @@ use sqlite_disk::Disk;
 use std::alloc::Global;
 use std::io::Write;
 
-/// Runs the program with these arguments. Returns the exit status, and the files that it closed, which clauses name.
-pub fn program<T: Fresh, W: Write, E: Write>(
+/// Runs the program with these arguments. Returns the exit status, and the files that it closed, which clauses name: those
+/// of a recall, or the old file of a comparison, and its new file.
+pub fn program<T: Fresh, U: Fresh, W: Write, E: Write>(
     rt: &HostRuntime,
     words: &[String],
     output: &mut Wire<W>,
     errors: &mut Wire<E>,
-) -> (u8, ClosedFiles<FileFrom<T>>)
+) -> (u8, ClosedFiles<FileFrom<T>>, ClosedFiles<FileFrom<U>>)
     requires few { HaveFewFailures output.old errors.old }
     ensures status { result.0 ≤ 5 }
     ensures done { result.0 ≡ 0
         → Done ⟦<FileFrom<T> as Disk>⟧ (all_at T.Start) (files_in result.1)
-        (map string_bytes words.now) W.contents output.old output.new }
+        (map string_bytes words.now) W.contents output.old output.new
+        ⊎ Shows
+        (Compares T.Start U.Start ⟦<FileFrom<T> as Disk>⟧ ⟦<FileFrom<U> as Disk>⟧
+        (files_in result.1) (files_in result.2) (map string_bytes words.now)) W.contents
+        output.old output.new 0 }
     ensures stopped { IsStopped result.0
         → (output.new ≡ output.old)
         × Stops ⟦<FileFrom<T> as Disk>⟧ (all_at T.Start) (files_in result.1)
-        (map string_bytes words.now) E.contents errors.new result.0 }
+        (map string_bytes words.now) E.contents errors.new result.0
+        ⊎ Unlike
+        (Compares T.Start U.Start ⟦<FileFrom<T> as Disk>⟧ ⟦<FileFrom<U> as Disk>⟧
+        (files_in result.1) (files_in result.2) (map string_bytes words.now)) W.contents
+        E.contents output.old output.new errors.old errors.new result.0 }
     ensures bad { result.0 ≡ 2 → output.new ≡ output.old }
+    ensures failed { result.0 ≡ 4
+        → Fails (map string_bytes words.now) E.contents output.old output.new errors.old
+        errors.new }
 {
     match read_words(words) {
         Asked::Recall {
             question,
             from_middle,
             files,
-        } => answer(rt, &question, from_middle, files, output, errors),
+        } => {
+            let (status, closed) = answer(rt, &question, from_middle, files, output, errors);
+            (status, closed, ClosedFiles::new(rt.alloc()))
+        }
+        Asked::Alike { old, new } => alike(rt, old, new, output, errors),
         Asked::Help => (
             send_text(HELP, output, errors),
+            ClosedFiles::new(rt.alloc()),
             ClosedFiles::new(rt.alloc()),
         ),
         Asked::Version => (
             send_text(VERSION, output, errors),
             ClosedFiles::new(rt.alloc()),
+            ClosedFiles::new(rt.alloc()),
         ),
         Asked::Bad => {
             tell(
                 errors,
-                "usage: tracedesk-chain check|lot NAME|board NAME|reel NAME [--pieces] [--from-middle] FILE.., or --help\n",
+                "usage: tracedesk-chain check|lot NAME|board NAME|reel NAME [--pieces] [--from-middle] FILE.., alike OLD NEW, or --help\n",
             );
-            (Exit::BadCommandLine as u8, ClosedFiles::new(rt.alloc()))
+            (
+                Exit::BadCommandLine as u8,
+                ClosedFiles::new(rt.alloc()),
+                ClosedFiles::new(rt.alloc()),
+            )
         }
     }
 }

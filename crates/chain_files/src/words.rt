@@ -1,6 +1,6 @@
 //! The command line.
 
-ghost use Rattle.std.specs.Prelude.{◌≡◌, ◌∷◌, IfSome, map, string_bytes};
+ghost use Rattle.std.specs.Prelude.{◌≡◌, ◌∷◌, IfSome, codes, map, string_bytes};
 ghost use Rattle.chain_files.specs.Words.{Asks, AsksAbout, AsksFiles, Recalls};
 
 use chain_check::{Question, Subject};
@@ -16,6 +16,8 @@ pub enum Asked<'a> {
         from_middle: bool,
         files: &'a [String],
     },
+    /// Compare the desk in the old file with the one that follows it in the new file.
+    Alike { old: &'a str, new: &'a str },
     /// Print the help.
     Help,
     /// Print the version.
@@ -33,6 +35,7 @@ Usage:
   tracedesk-chain lot NAME [--pieces] [--from-middle] FILE..
   tracedesk-chain board NAME [--pieces] [--from-middle] FILE..
   tracedesk-chain reel NAME [--pieces] [--from-middle] FILE..
+  tracedesk-chain alike OLD NEW
 
 Name the files oldest first. Each is opened as an audit opens it, and not changed. Standard error has a line for each
 file, and names the archive from which its desk was begun. Standard output has a header, and then these columns:
@@ -44,16 +47,21 @@ file, and names the archive from which its desk was begun. Standard output has a
 
 A name that no file knows is no error: only the header is printed.
 
+`alike` compares the desk in the file OLD, which was closed, with the one that follows it in NEW, right after its begin.
+It prints `alike <reels> <mounts>`, the reels and mounts of the new desk, if the desks are alike and the new one received
+the pieces that were left of each reel. Otherwise it prints the first difference, as `differs reel K1 remaining 47 46`.
+
   --pieces       Print each piece: board,designator,part,lot,reel,machine,slot,overdue,minute,file
   --from-middle  The first file is one that was begun from an older file, which is left out
   --help         Print help
   --version      Print the version
 
 Exit status:
-  0  The files are a chain, and the answer was printed; or help or the version was
-  1  They are not: standard error names the first file that does not carry on the one before it, and a difference
+  0  The files are a chain, and the answer was printed; or two desks are alike; or help or the version was printed
+  1  They are not: standard error names the first file that does not carry on the one before it, and a difference.
+     Or two desks are not alike, and the output names the difference
   2  The command line asks for nothing that the program does
-  3  A file was refused, or memory was; standard error names the file and its fault
+  3  A file was refused, or memory was; standard error names the file, or `old` or `new`, and its fault
   4  The output failed
   5  The first file was begun from another: standard error names its archive
 
@@ -61,6 +69,7 @@ Examples:
   tracedesk-chain check archive/L1-2026* desk.db
   tracedesk-chain lot L4711 archive/L1-2026* desk.db > boards.csv
   tracedesk-chain board B1 --pieces archive/L1-2026* desk.db
+  tracedesk-chain alike line-1.db line-2.db
 ";
 
 /// The program's name and version.
@@ -87,9 +96,26 @@ pub fn read_words<'a>(words: &'a [String]) -> Asked<'a>
             Some((reel, rest)) => about(Subject::Reel(reel), rest),
             None => Asked::Bad,
         },
+        "alike" => files_to_compare(rest),
         "--help" => Asked::Help,
         "--version" => Asked::Version,
         _ => Asked::Bad,
+    }
+}
+
+/// Exactly two files, and no word that looks like an option.
+fn files_to_compare<'a>(words: &'a [String]) -> Asked<'a>
+    ensures { Asks (codes "alike" ∷ map string_bytes words.now) result }
+{
+    let [old, new] = words else {
+        return Asked::Bad;
+    };
+    if old.as_str().starts_with("-") || new.as_str().starts_with("-") {
+        return Asked::Bad;
+    }
+    Asked::Alike {
+        old: old.as_str(),
+        new: new.as_str(),
     }
 }
 

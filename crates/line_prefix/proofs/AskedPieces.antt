@@ -1,7 +1,7 @@
 -- The pieces of a lot or reel, or on a board, by what a store's calls return.
 use Rattle.std.proofs.Common.{◌≡◌, ◌∙◌, Bool, true, false, Contains, Option, Some, None, is_some, List, [], ◌∷◌, filter, map, refl, sym, ap, subst}
 use Rattle.std.specs.Prelude.{if◌then◌else◌, unwrap_or, ◌||◌}
-use Rattle.std.specs.Option.{option_map_or}
+use Rattle.std.specs.Option.{option_map, option_map_or}
 use Rattle.std.specs.List.{AllByRecursion}
 use Rattle.std.specs.Cmp.Lexicographic.{nat_list_eq_equiv}
 use Rattle.std.proofs.lemmas.List.Elements.{recursion_from_All}
@@ -62,7 +62,7 @@ none-on H board judged lacks = at (pieces_on H board) refl
   where
     at : (pieces : List Placement) → pieces_on H board ≡ pieces → pieces_on H board ≡ []
     at [] is = is
-    at (p ∷ others) is = absurd cc
+    at (p ∷ others) is = absurd (let no : false ≡ true = none in cc)
       where
         first : has (map (λ (q : Placement). q.lot) (p ∷ others)) p.lot ≡ true
         first = ap (λ b. b || has (map (λ (q : Placement). q.lot) others) p.lot) (same-refl p.lot)
@@ -106,3 +106,13 @@ reel-some H reel r judged is = filter-both (is_of (Lot r.lot)) (is_of (Reel reel
         let one : Some right.receipt ≡ Some r = sym (receipt-there H judged p right) ∙ ap (receipt_of H) (same-true p.reel reel its) ∙ is in
         let lot : right.receipt.lot ≡ r.lot = ap (λ o. option_map_or (λ (r : Receipt). r.lot) o []) one in
         ap (λ n. same p.lot n) (sym (right.lot ∙ lot)) ∙ same-refl p.lot
+
+-- ---- a receipt by its lot
+
+pub none-mapped : {X Y : Type 0} (f : X → Y) (o : Option X) → option_map f o ≡ None → o ≡ None
+none-mapped f None is = refl
+none-mapped f (Some x) is = cc
+
+pub some-mapped : {X Y : Type 0} (f : X → Y) (o : Option X) (y : Y) → option_map f o ≡ Some y → (x : X) × (o ≡ Some x) × (f x ≡ y)
+some-mapped f None y is = absurd cc
+some-mapped f (Some x) y is = (x, refl, cc)

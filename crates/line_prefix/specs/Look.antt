@@ -1,4 +1,4 @@
--- What a store says of its history.
+-- The answer of a store by its history.
 use Rattle.std.specs.Prelude.{◌≡◌, length}
 use Rattle.desk_types.specs.declared.rules.Rules.{Rules}
 use Rattle.desk_types.specs.declared.rules.Rules.TheVariants.{Two}

@@ -15,5 +15,5 @@ returns-in-Ok-clause-ok c H text says written =
     record {
       begun = [];
       adds = c.first.ensures H says.whole says.rules;
-      written = subst (HasWritten c.write_rows.new.answer) (λ j. text ++ rows_text (rows_in question c.args.path.now (file j) (pieces j))) (c.in-Ok.ensures text written);
+      written = subst (HasWritten c.write_rows.new.writer) (λ j. text ++ rows_text (rows_in question c.args.path.now (file j) (pieces j))) (c.in-Ok.ensures text written);
     }

@@ -13,8 +13,8 @@ returns-in-Ok-next-clause-ok c files H text is says written =
     record {
       begun = says.first;
       adds = c.in-Ok-next.ensures.ok files says.first H is says.begun says.whole says.rules says.prefix;
-      written = subst (HasWritten c.write_rows.new.answer) (λ j. text ++ rows_text (rows_in question c.args.path.now (file j) (pieces j))) (c.in-Ok.ensures text written);
+      written = subst (HasWritten c.write_rows.new.writer) (λ j. text ++ rows_text (rows_in question c.args.path.now (file j) (pieces j))) (c.in-Ok.ensures text written);
     }
 
-pub returns-in-Err-clause-err : goal.returns-in-Err-clause-err
-returns-in-Err-clause-err c files H is says = stops-next c.args.chain files H says.first c.in-Err.difference is says.prefix (λ G stands. c.in-Err.ensures.err G says.first stands says.begun)
+pub returns-clause-err : goal.returns-clause-err
+returns-clause-err c files H is says = stops-next c.args.chain files H says.first c.in-Err.difference is says.prefix (λ G stands. c.in-Err.ensures.err G says.first stands says.begun)

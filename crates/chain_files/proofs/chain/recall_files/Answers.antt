@@ -1,6 +1,10 @@
 use Rattle.std.proofs.Common.{◌≡◌, ◌∙◌, ◌+◌, ◌∷◌, [], length, length-append, map, string_bytes, refl, ap, arith}
+use Rattle.sqlite_std_file.specs.contracts.host.Host.{the_row}
+use Rattle.sqlite_std_file.specs.contracts.host.HostCalls.TheImpl.{ghosts as host, dict as host_dict}
+use Rattle.sqlite_disk.specs.contracts.modelled.ModelledDisk.TheImpl.{ghosts as disk}
 use Rattle.chain_files.specs.Files.{all_at, files_in}
 use Rattle.chain_files.proofs.OneFileMore.{added, stopped}
+use Rattle.chain_files.proofs.RefusedFiles.{to-fault}
 use Rattle.chain_files.proofs.chain.recall_files.Goals as goal
 
 pub loop-place-init : goal.loop-place-init
@@ -19,7 +23,7 @@ loop-place-init g c = record {
 }
 
 pub returns-in-Err-clause-stopped : goal.returns-in-Err-clause-stopped
-returns-in-Err-clause-stopped g c honest = c.in-Err.ensures.refused honest.clean
+returns-in-Err-clause-stopped g c honest = to-fault (disk the_row g.row.T host host_dict g.T.Start g.T.Start-dict g.T.Destruct-dict) g.T.Start (files_in c.loop-place.closed) (files_in c.look_at.new.closed) c.in-Err.fault c.in-Err.ensures.refused honest.clean
 
 pub returns-in-Err-add-clause-stopped : goal.returns-in-Err-add-clause-stopped
 returns-in-Err-add-clause-stopped g c honest =
