@@ -14,7 +14,7 @@ of-some P o x is all = subst (λ (o : Option _). IfSome o P) is all
 
 pub returns-in-Some-first_desk-clause-says : goal.returns-in-Some-first_desk-clause-says
 returns-in-Some-first_desk-clause-says g c L stands own clean =
-    let store = c.names_in-names.new.store in
+    let store = c.asked_of-pieces.new.store in
     let first = c.into_parts-conn.result.0 in
     let conn = c.begin_of.new.conn in
     let parts = c.into_parts-conn.ensures in
@@ -22,7 +22,7 @@ returns-in-Some-first_desk-clause-says g c L stands own clean =
     let clean2 : HasCleanDisk (state g.S.Store conn) = omega (arith, c.first_desk.ensures.reads.survives.clean, clean) in
     let clean1 : HasCleanDisk (state g.S.Store first) = omega (arith, c.begin_of.ensures.reads.survives.clean, clean2) in
     let clean0 : HasCleanDisk (state g.S.Store store.conn) = subst (λ (k : Held g.row.S.Denot). HasCleanDisk (state g.S.Store k)) conn_is clean1 in
-    let after = c.names_in-names.ensures.reads.stands L stands in
+    let after = c.asked_of-pieces.ensures.reads.stands L stands in
     let tables : IsTrue (state g.S.Store first).is_open → Holds (state g.S.Store first).committed (ledger_tables L.greatest L.history) =
     subst (λ (k : Held g.row.S.Denot). IsTrue (state g.S.Store k).is_open → Holds (state g.S.Store k).committed (ledger_tables L.greatest L.history)) (sym conn_is) (after.tables clean0 own) in
     let kept = c.begin_of.ensures.reads.kept clean2 in
@@ -39,5 +39,5 @@ returns-in-Some-first_desk-clause-says g c L stands own clean =
       count = c.count-commands.ensures L stands;
       whole = works.0.stands;
       rules = works.1;
-      names = c.in-Ok.ensures.names L stands clean0 own;
+      pieces = c.in-Ok.ensures.pieces L stands clean0 own;
     }
