@@ -44,7 +44,7 @@ export class LineScreen {
     this.overview = el("div", { class: "overview" });
     this.machines = el("div", { class: "slots" });
     this.fitted = null;
-    return [el("div", { class: "top" }, this.alarms, this.orders), this.first, this.urgent, this.overview, this.machines, el("p", { class: "legend" }, filled(TEXTS.line.low, { boards, minutes: expires, splice }))];
+    return [this.first, el("div", { class: "top" }, this.alarms, this.orders), this.urgent, this.overview, this.machines, el("p", { class: "legend" }, filled(TEXTS.line.low, { boards, minutes: expires, splice }))];
   }
 
   /** Shows what is known; what has not changed is not touched. */

@@ -13,10 +13,11 @@ ghost use Rattle.desk_commands.specs.Runs.{HasNoDesk, LeavesDesk, Refuses, RunsI
 use crate::left::Left;
 use crate::refusal::tell_refusal;
 use desk_file::{in_memory, open_desk};
-use desk_import::{Folder, Import};
+use desk_import::Folder;
 use desk_runs::{feed_lines, import_rows, unavailable};
 use desk_types::Wire;
 use feeder_state::StateDesk;
+use imports::Import;
 use sqlite::{FileFrom, Start};
 use std::alloc::Global;
 use std::io::{Read, Write};

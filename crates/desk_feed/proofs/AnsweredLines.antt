@@ -11,22 +11,20 @@ use Rattle.desk_types.specs.History.{History}
 use Rattle.served.specs.declared.serving.Served.{Served}
 use Rattle.desk_types.specs.declared.limits.TheConstants.{LONGEST_INPUT}
 use Rattle.desk_feed.specs.declared.line.LineAnswer.TheVariants.{TooLong}
-use Rattle.desk_feed.specs.declared.message.Told.{Told}
+use Rattle.desk_feed.specs.declared.message.AnswerText.{AnswerText}
 use Rattle.desk_feed.specs.LineAnswers.{AnswersRaw}
 use Rattle.desk_feed.specs.Lines.{is_empty, without_return}
 use Rattle.desk_feed.specs.Messages.{answer_to, list_after}
+use Rattle.desk_feed.specs.Verdicts.{is_refused}
 use Rattle.desk_feed.specs.Stream.{Answered, line_answer, line_after, answers_to, after_lines, sent_line}
 
-abbrev pub is_refused : Told → Bool
-is_refused told = told.refused
-
-one_counted : (b : Bool) (n m : ℕ) (told : Told) → told.refused ≡ b → m ≡ cond b (n + 1) n → m ≡ n + count_by is_refused (told ∷ [])
+one_counted : (b : Bool) (n m : ℕ) (told : AnswerText) → is_refused told ≡ b → m ≡ cond b (n + 1) n → m ≡ n + count_by is_refused (told ∷ [])
 one_counted true n m told e h = grind (arith, common_steps, e, h)
 one_counted false n m told e h = grind (arith, common_steps, e, h)
 
-pub one_answered : (rules : Rules) (greatest : ℕ) (mark : Bool) (H H' : History) (line : List ℕ) (out out' : Option (List ℕ)) (s s' : Served) (told : Told)
+pub one_answered : (rules : Rules) (greatest : ℕ) (mark : Bool) (H H' : History) (line : List ℕ) (out out' : Option (List ℕ)) (s s' : Served) (told : AnswerText)
     → told ≡ line_answer rules greatest mark H line → H' ≡ line_after rules greatest mark H line → Appends out out' (sent_line told)
-    → s'.answered ≡ s.answered + 1 → s'.refused ≡ cond told.refused (s.refused + 1) s.refused
+    → s'.answered ≡ s.answered + 1 → s'.refused ≡ cond (is_refused told) (s.refused + 1) s.refused
     → Answered rules greatest (line ∷ []) (mark ∷ []) H out s H' out' s'
 one_answered rules greatest mark H H' line out out' s s' told e after went answered refused =
     record {
@@ -34,7 +32,7 @@ one_answered rules greatest mark H H' line out out' s s' told e after went answe
       bytes = subst (Appends out out') (ap sent_line e ∙ sym (append-nil (sent_line (line_answer rules greatest mark H line)))) went;
       history = after;
       answered = answered;
-      refused = subst (λ (x : Told). s'.refused ≡ s.refused + count_by is_refused (x ∷ [])) e (one_counted told.refused s.refused s'.refused told refl refused);
+      refused = subst (λ (x : AnswerText). s'.refused ≡ s.refused + count_by is_refused (x ∷ [])) e (one_counted (is_refused told) s.refused s'.refused told refl refused);
     }
 
 pub none_answered : (rules : Rules) (greatest : ℕ) (H : History) (out : Option (List ℕ)) (s : Served) → Appends out out [] → Answered rules greatest [] [] H out s H out s
@@ -56,7 +54,7 @@ after_lines-append rules greatest [] ns H (l ∷ ls) ks e = absurd (omega (arith
 after_lines-append rules greatest (m ∷ ms) ns H [] ks e = absurd (omega (arith, e))
 after_lines-append rules greatest (m ∷ ms) ns H (l ∷ ls) ks e = after_lines-append rules greatest ms ns (line_after rules greatest m H l) ls ks (omega (arith, e))
 
-count_by-append : (p : Told → Bool) (xs ys : List Told) → count_by p (xs ++ ys) ≡ count_by p xs + count_by p ys
+count_by-append : (p : AnswerText → Bool) (xs ys : List AnswerText) → count_by p (xs ++ ys) ≡ count_by p xs + count_by p ys
 count_by-append p [] ys = grind (arith, common_steps)
 count_by-append p (x ∷ xs) ys = grind (arith, common_steps, count_by-append p xs ys)
 

@@ -4,3 +4,4 @@ pub mod Messages
 pub mod Repeats
 pub mod Stream
 pub mod Taking
+pub mod Verdicts

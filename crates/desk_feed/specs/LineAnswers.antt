@@ -8,7 +8,8 @@ use Rattle.served.specs.Counts.{CountsUpToOne}
 use Rattle.served.specs.declared.serving.Served.{Served}
 use Rattle.desk_feed.specs.declared.line.LineAnswer.{LineAnswer}
 use Rattle.desk_feed.specs.declared.line.LineAnswer.TheVariants.{Made, TooLong, Unavailable}
-use Rattle.desk_feed.specs.declared.message.Told.{Told}
+use Rattle.desk_feed.specs.declared.message.AnswerText.{AnswerText}
+use Rattle.desk_feed.specs.declared.message.Verdict.TheVariants as verdict
 use Rattle.desk_feed.specs.declared.taking.RawLine.{RawLine}
 use Rattle.desk_feed.specs.Lines.{lines_in, without_return}
 use Rattle.desk_feed.specs.Taking.{HoldsLine}
@@ -16,10 +17,10 @@ use Rattle.served.specs.Sent.{SendsFront}
 use Rattle.desk_feed.specs.Stream.{Answered, sent_line, line_answer, line_after, too_long_text}
 
 -- The answer's text, including fixed texts.
-abbrev pub line_told : LineAnswer → Told
+abbrev pub line_told : LineAnswer → AnswerText
 line_told (Made told) = told
-line_told TooLong = record { text = too_long_text; refused = true }
-line_told Unavailable = record { text = unavailable_text; refused = true }
+line_told TooLong = record { text = too_long_text; verdict = verdict.Unreadable }
+line_told Unavailable = record { text = unavailable_text; verdict = verdict.Unavailable }
 
 -- The piece is not a line and has no answer, or it is one and has its answer.
 abbrev pub AnswersRaw : Rules → ℕ → History → List ℕ → Option LineAnswer → History → Type 0

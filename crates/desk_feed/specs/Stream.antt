@@ -11,9 +11,11 @@ use Rattle.served.specs.declared.serving.Served.{Served}
 use Rattle.served.specs.declared.serving.ServeFault.{ServeFault}
 use Rattle.served.specs.declared.serving.ServeFault.TheVariants.{Read, Write, TooManyReads}
 use Rattle.desk_types.specs.declared.limits.TheConstants.{LONGEST_INPUT}
-use Rattle.desk_feed.specs.declared.message.Told.{Told}
+use Rattle.desk_feed.specs.declared.message.AnswerText.{AnswerText}
+use Rattle.desk_feed.specs.declared.message.Verdict.TheVariants as verdict
 use Rattle.desk_feed.specs.Lines.{lines_of, ended_lines}
 use Rattle.desk_feed.specs.Messages.{answer_to, list_after}
+use Rattle.desk_feed.specs.Verdicts.{is_refused}
 use Rattle.served.specs.Counts.{none_served}
 use Rattle.served.specs.Sent.{SendsFront}
 
@@ -25,10 +27,10 @@ too_long_text = compact_text (faulty (codes "LineTooLong"))
 
 -- The answer to a line after H: Unavailable if marked, LineTooLong over the limit, or else the
 -- message's answer.
-abbrev pub line_answer : Rules → ℕ → Bool → History → List ℕ → Told
-line_answer rules greatest true H line = record { text = unavailable_text; refused = true }
+abbrev pub line_answer : Rules → ℕ → Bool → History → List ℕ → AnswerText
+line_answer rules greatest true H line = record { text = unavailable_text; verdict = verdict.Unavailable }
 line_answer rules greatest false H line = if nat_lt LONGEST_INPUT (length line)
-    then record { text = too_long_text; refused = true } else answer_to rules greatest H line
+    then record { text = too_long_text; verdict = verdict.Unreadable } else answer_to rules greatest H line
 
 -- The history after the line, changed only by messages.
 abbrev pub line_after : Rules → ℕ → Bool → History → List ℕ → History
@@ -41,7 +43,7 @@ line_after rules greatest false H line = if nat_lt LONGEST_INPUT (length line) t
 -- A line's mark is whether it was answered Unavailable.
 
 -- The answers to the lines, each from the history before it.
-abbrev pub answers_to : Rules → ℕ → List Bool → History → List (List ℕ) → List Told
+abbrev pub answers_to : Rules → ℕ → List Bool → History → List (List ℕ) → List AnswerText
 answers_to rules greatest [] H lines = []
 answers_to rules greatest (m ∷ ms) H [] = []
 answers_to rules greatest (m ∷ ms) H (line ∷ lines) = line_answer rules greatest m H line
@@ -55,7 +57,7 @@ after_lines rules greatest (m ∷ ms) H (line ∷ lines) =
     after_lines rules greatest ms (line_after rules greatest m H line) lines
 
 -- The answer's text with a line feed.
-abbrev pub sent_line : Told → List ℕ
+abbrev pub sent_line : AnswerText → List ℕ
 sent_line told = told.text ++ 10 ∷ []
 
 -- ---- a run
@@ -68,8 +70,8 @@ pub record Answered (rules : Rules) (greatest : ℕ) (lines : List (List ℕ)) (
   pub bytes : Appends out out' (flat_map sent_line (answers_to rules greatest marks H lines))
   pub history : H' ≡ after_lines rules greatest marks H lines
   pub answered : after.answered ≡ before.answered + length lines
-  pub refused : after.refused ≡ before.refused + count_by
-      (λ (told : Told). told.refused) (answers_to rules greatest marks H lines)
+  pub refused : after.refused ≡ before.refused + count_by is_refused
+      (answers_to rules greatest marks H lines)
 
 -- The first lines of a list.
 abbrev pub IsFront : List (List ℕ) → List (List ℕ) → Type 0

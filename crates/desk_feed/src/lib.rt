@@ -14,4 +14,4 @@ mod taking;
 pub use feeding::feed;
 pub use law::repeats_act_once;
 pub use line::LineAnswer;
-pub use message::{Told, answer_command};
+pub use message::{AnswerText, Verdict, answer_command, answer_message};

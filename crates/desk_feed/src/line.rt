@@ -6,8 +6,9 @@ ghost use Rattle.desk_feed.specs.Taking.{HoldsLine};
 ghost use Rattle.desk_feed.specs.LineAnswers.{line_told, AnswersRaw};
 ghost use Rattle.desk_feed.specs.Lines.{lines_in, without_return};
 ghost use Rattle.desk_feed.specs.Stream.{too_long_text};
+ghost use Rattle.desk_feed.specs.Verdicts.{is_refused};
 
-use crate::message::{Told, answer_message};
+use crate::message::{AnswerText, answer_message};
 use crate::taking::{RawLine, without_return};
 use cfx_profile::unavailable_text;
 use desk_answers::Owner;
@@ -18,7 +19,7 @@ use std::alloc::Global;
 #[derive(Drop)]
 pub enum LineAnswer {
     /// The answer to the line's message.
-    Made(Told),
+    Made(AnswerText),
     /// The line is over the limit.
     TooLong,
     /// Out of memory.
@@ -39,10 +40,10 @@ impl LineAnswer {
 
     /// Returns whether the answer counts as refused.
     pub fn is_refused(&self) -> bool
-        ensures { result ≡ (line_told self.now).refused }
+        ensures { result ≡ is_refused (line_told self.now) }
     {
         match self {
-            LineAnswer::Made(told) => told.refused,
+            LineAnswer::Made(told) => told.is_refused(),
             LineAnswer::TooLong | LineAnswer::Unavailable => true,
         }
     }

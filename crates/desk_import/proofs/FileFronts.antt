@@ -12,11 +12,12 @@ use Rattle.imports.specs.declared.fault.ImportFault.{ImportFault}
 use Rattle.imports.specs.declared.fault.ImportFault.TheVariants.{OverLimit}
 use Rattle.desk_types.specs.declared.limits.TheConstants.{LONGEST_INPUT}
 use Rattle.imports.specs.File.{Record, records_of, rows_of, file_rows, setup_said, counts_said}
-use Rattle.desk_import.specs.declared.options.Content.{Content}
-use Rattle.desk_import.specs.declared.options.Content.TheVariants.{Sheet, Counts}
-use Rattle.desk_import.specs.declared.options.Import.{Import}
+use Rattle.imports.specs.declared.import.Content.{Content}
+use Rattle.imports.specs.declared.import.Content.TheVariants.{Sheet, Counts}
+use Rattle.imports.specs.declared.import.Import.{Import}
 use Rattle.desk_import.specs.Folder.{IsRead}
-use Rattle.desk_import.specs.Import.{rows_said, stamped_by, command_said, IsSaidBy}
+use Rattle.desk_import.specs.Import.{IsSaidBy}
+use Rattle.imports.specs.Import.{rows_said, stamped_by, command_said}
 
 -- ---- reading
 

@@ -2,41 +2,21 @@
 use Rattle.std.specs.Prelude.{◌≡◌, ℕ, Bool, true, false, List, Option, IfSome, Result, Ok, Err}
 use Rattle.std.specs.Io.KnownBytes.{Appends}
 use Rattle.cfx_profile.specs.Answer.{unavailable_text}
-use Rattle.cfx_profile.specs.Fault.{◌>>=◌}
-use Rattle.desk_types.specs.declared.command.Command.{Command}
 use Rattle.desk_types.specs.declared.command.Stamped.{Stamped}
 use Rattle.desk_types.specs.History.{History}
 use Rattle.desk_answers.specs.Commands.{command_after}
 use Rattle.desk_answers.specs.Ledger.{Ledger}
 use Rattle.imports.specs.declared.fault.ImportFault.{ImportFault}
 use Rattle.imports.specs.Answer.{fault_text}
-use Rattle.imports.specs.File.{setup_said, counts_said}
+use Rattle.imports.specs.Import.{command_said}
 use Rattle.served.specs.Sent.{SendsFront}
 use Rattle.served.specs.declared.sending.WriteFailed.{WriteFailed}
-use Rattle.desk_feed.specs.declared.message.Told.{Told}
+use Rattle.desk_feed.specs.declared.message.AnswerText.{AnswerText}
+use Rattle.desk_feed.specs.declared.message.Verdict.TheVariants.{Faulty, Unavailable}
 use Rattle.desk_feed.specs.Messages.{answer_asked}
 use Rattle.desk_feed.specs.Stream.{sent_line}
-use Rattle.desk_import.specs.declared.options.Content.{Content}
-use Rattle.desk_import.specs.declared.options.Content.TheVariants.{Sheet, Counts}
-use Rattle.desk_import.specs.declared.options.Import.{Import}
-
--- ---- content
-
--- The command of a file's rows: a product's sheet on a machine, or a count.
-abbrev pub rows_said : Content → List ℕ → Result Command ImportFault
-rows_said (Sheet product machine) bytes = setup_said product machine bytes
-rows_said Counts bytes = counts_said bytes
-
--- The command with the import's UniqueID, source and minute.
-abbrev pub stamped_by : Import → Command → Stamped
-stamped_by import command =
-    record { uid = import.uid; source = import.source; minute = import.minute; command = command }
-
--- The import's command from the file's bytes, or the first fault.
-unfoldable pub command_said : Import → List ℕ → Result Stamped ImportFault
-command_said import bytes = do
-  command ← rows_said import.content bytes
-  Ok (stamped_by import command)
+use Rattle.desk_feed.specs.Verdicts.{is_refused}
+use Rattle.imports.specs.declared.import.Import.{Import}
 
 -- The result is that of the whole file, if known.
 abbrev pub IsSaidBy : Import → Option (List ℕ) → Result Stamped ImportFault → Type 0
@@ -45,9 +25,9 @@ IsSaidBy import file said = IfSome file (λ all. said ≡ command_said import al
 -- ---- answers
 
 -- The answer from a ledger: Faulty, or the command's.
-abbrev pub answer_said : Ledger → Result Stamped ImportFault → Told
+abbrev pub answer_said : Ledger → Result Stamped ImportFault → AnswerText
 answer_said G (Ok s) = answer_asked G.rules G.greatest G.history s
-answer_said G (Err fault) = record { text = fault_text fault; refused = true }
+answer_said G (Err fault) = record { text = fault_text fault; verdict = Faulty }
 
 -- The history after it, unchanged by a faulty file.
 abbrev pub after_said : Ledger → Result Stamped ImportFault → History
@@ -55,8 +35,8 @@ after_said G (Ok s) = command_after G.rules G.greatest G.history s
 after_said G (Err fault) = G.history
 
 -- The answer that is sent: Unavailable if marked.
-abbrev pub import_answer : Bool → Ledger → Result Stamped ImportFault → Told
-import_answer true G said = record { text = unavailable_text; refused = true }
+abbrev pub import_answer : Bool → Ledger → Result Stamped ImportFault → AnswerText
+import_answer true G said = record { text = unavailable_text; verdict = Unavailable }
 import_answer false G said = answer_said G said
 
 -- The history after that answer, unchanged by Unavailable.
@@ -69,7 +49,7 @@ abbrev pub IsAnswered : Result Stamped ImportFault → Option (List ℕ) → Opt
     → Ledger → History → Type 0
 IsAnswered said out out' refused G H = (mark : Bool) × (H ≡ import_after mark G said)
     × Appends out out' (sent_line (import_answer mark G said))
-    × (refused ≡ (import_answer mark G said).refused)
+    × (refused ≡ is_refused (import_answer mark G said))
 
 -- Only the first bytes of the answer were sent.
 abbrev pub IsCutOff : Result Stamped ImportFault → Option (List ℕ) → Option (List ℕ)

@@ -6,8 +6,8 @@ use Rattle.cfx_profile.specs.Minute.{minute_of}
 use Rattle.desk_types.specs.Id.{Name}
 use Rattle.desk_import.specs.declared.options.BadOption.{BadOption}
 use Rattle.desk_import.specs.declared.options.BadOption.TheVariants as bad
-use Rattle.desk_import.specs.declared.options.Content.TheVariants.{Sheet, Counts}
-use Rattle.desk_import.specs.declared.options.Import.{Import}
+use Rattle.imports.specs.declared.import.Content.TheVariants.{Sheet, Counts}
+use Rattle.imports.specs.declared.import.Import.{Import}
 
 -- The option's text as an id.
 abbrev pub id_in : List ℕ → BadOption → Result Name BadOption

@@ -5,13 +5,13 @@ ghost use Rattle.desk_types.specs.Wire.{inner_of, failures_of};
 ghost use Rattle.desk_answers.specs.Ledger.{Ledger, ForLists};
 ghost use Rattle.served.specs.Owners.{StaysReady};
 ghost use Rattle.served.specs.Sent.{CountsWrite};
-ghost use Rattle.desk_import.specs.Import.{after_said, answer_said, command_said, AnswersFile};
+ghost use Rattle.imports.specs.Import.{command_said};
+ghost use Rattle.desk_import.specs.Import.{after_said, answer_said, AnswersFile};
 
-use crate::options::Import;
 use desk_answers::Owner;
-use desk_feed::{LineAnswer, Told, answer_command};
+use desk_feed::{AnswerText, LineAnswer, Verdict, answer_command};
 use desk_types::Wire;
-use imports::ImportFault;
+use imports::{Import, ImportFault};
 use served::{WriteFailed, send_line};
 use std::alloc::{AllocError, Global};
 use std::io::Write;
@@ -23,7 +23,7 @@ pub fn answer_import<L: Owner>(
     owner: &mut L,
     import: &Import,
     bytes: &[u8],
-) -> Result<Told, AllocError>
+) -> Result<AnswerText, AllocError>
     requires ready { L.Ready owner.old }
     ensures ready { L.Ready owner.new }
     ensures trusts { L.Trusts owner.new → L.Trusts owner.old }
@@ -38,9 +38,9 @@ pub fn answer_import<L: Owner>(
     match import.command(alloc, bytes) {
         Ok(stamped) => answer_command(alloc, owner, &stamped),
         Err(ImportFault::NoMemory) => Err(AllocError),
-        Err(fault) => Ok(Told {
+        Err(fault) => Ok(AnswerText {
             text: fault.write_text(alloc)?,
-            refused: true,
+            verdict: Verdict::Faulty,
         }),
     }
 }

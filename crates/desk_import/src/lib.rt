@@ -10,5 +10,5 @@ mod options;
 mod reading;
 
 pub use answering::{answer_import, serve_import};
-pub use options::{BadOption, Content, Import, counts_import, setup_import};
+pub use options::{BadOption, counts_import, setup_import};
 pub use reading::{Folder, Unread, read_file};

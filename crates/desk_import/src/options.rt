@@ -2,32 +2,11 @@
 
 ghost use Rattle.std.specs.Prelude.{◌≡◌, ok_or};
 ghost use Rattle.cfx_profile.specs.Forms.{id_of};
-ghost use Rattle.imports.specs.Fault.{IsSaid};
-ghost use Rattle.desk_import.specs.Import.{command_said};
 ghost use Rattle.desk_import.specs.Options.{counts_import, id_in, setup_import, time_in};
 
 use cfx_profile::read_minute;
-use desk_types::{Id, Minute, Stamped};
-use imports::{ImportFault, read_counts, read_setup};
-use std::alloc::Global;
-
-/// The kind of rows in a file.
-#[derive(Clone, Copy)]
-pub enum Content {
-    /// A product's sheet on a machine.
-    Sheet { product: Id, machine: Id },
-    /// A count of reels.
-    Counts,
-}
-
-/// A command except for its rows, which come from the file.
-#[derive(Clone, Copy)]
-pub struct Import {
-    pub uid: Id,
-    pub source: Id,
-    pub minute: Minute,
-    pub content: Content,
-}
+use desk_types::{Id, Minute};
+use imports::{Content, Import};
 
 /// The first bad option.
 #[derive(Clone, Copy, PartialEq, Eq)]
@@ -37,25 +16,6 @@ pub enum BadOption {
     Time,
     Product,
     Machine,
-}
-
-impl Import {
-    /// Returns the command with the rows in the file's bytes.
-    #[tactic(auto, unfolding(crate::specs::Import::command_said))]
-    pub fn command(&self, alloc: Global, bytes: &[u8]) -> Result<Stamped, ImportFault>
-        ensures { IsSaid (command_said self.now bytes.now) result }
-    {
-        let command = match self.content {
-            Content::Sheet { product, machine } => read_setup(alloc, bytes, product, machine)?,
-            Content::Counts => read_counts(alloc, bytes)?,
-        };
-        Ok(Stamped {
-            uid: self.uid,
-            source: self.source,
-            minute: self.minute,
-            command,
-        })
-    }
 }
 
 /// Returns the import of a setup file.

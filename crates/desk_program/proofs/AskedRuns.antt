@@ -10,7 +10,7 @@ use Rattle.line_schema.specs.declared.fault.OpenFault.{OpenFault}
 use Rattle.served.specs.declared.serving.ServeFault.TheVariants.{Write}
 use Rattle.served.specs.Counts.{none_served}
 use Rattle.served.specs.Sent.{SendsFront}
-use Rattle.desk_import.specs.declared.options.Import.{Import}
+use Rattle.imports.specs.declared.import.Import.{Import}
 use Rattle.desk_words.specs.CommandLine.{AsksForAudit, AsksForFeed, AsksForImport, AsksForMigration, AsksForReport, AsksForServing}
 use Rattle.http_stream.specs.Answers.{Told, code_of}
 use Rattle.http_stream.specs.Stream.{RuleBy}

@@ -10,7 +10,7 @@ use Rattle.desk_types.specs.History.{History}
 use Rattle.desk_types.specs.Wire.{inner_of, failures_of}
 use Rattle.desk_answers.specs.Ledger.{Ledger}
 use Rattle.line_schema.specs.declared.fault.OpenFault.{OpenFault}
-use Rattle.desk_import.specs.declared.options.Import.{Import}
+use Rattle.imports.specs.declared.import.Import.{Import}
 use Rattle.http_stream.specs.Answers.{Told, code_of}
 use Rattle.served.specs.Sent.{SendsFront}
 use Rattle.gateway_http.specs.Reports.{report_of}

@@ -10,7 +10,7 @@ use Rattle.desk_answers.specs.Ledger.{Ledger}
 use Rattle.line_schema.specs.declared.fault.OpenFault.{OpenFault}
 use Rattle.desk_feed.specs.Stream.{LeavesNone}
 use Rattle.desk_import.specs.declared.options.BadOption.{BadOption}
-use Rattle.desk_import.specs.declared.options.Import.{Import}
+use Rattle.imports.specs.declared.import.Import.{Import}
 use Rattle.desk_words.specs.CommandLine.{AsksForAudit, AsksForFeed, AsksForImport, AsksForMigration, AsksForNothing, AsksForReport, AsksForServing, AsksForText, HasBadOption}
 use Rattle.http_stream.specs.Answers.{Told, code_of}
 use Rattle.gateway_http.specs.Reports.{report_of}

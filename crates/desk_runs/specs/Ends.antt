@@ -16,7 +16,7 @@ use Rattle.served.specs.Counts.{none_served}
 use Rattle.served.specs.Sent.{SendsFront}
 use Rattle.served.specs.Shown.{IsShown}
 use Rattle.desk_feed.specs.Stream.{LeavesNone}
-use Rattle.desk_import.specs.declared.options.Import.{Import}
+use Rattle.imports.specs.declared.import.Import.{Import}
 use Rattle.http_stream.specs.Answers.{Told, code_of}
 use Rattle.http_stream.specs.Stream.{RuleBy}
 use Rattle.desk_runs.specs.Clients.{Serving, ends_of}

@@ -9,7 +9,7 @@ use Rattle.served.specs.declared.serving.Served.{Served}
 use Rattle.served.specs.declared.serving.ServeFault.{ServeFault}
 use Rattle.desk_feed.specs.Stream.{AnsweredAll, AnsweredUpTo}
 use Rattle.imports.specs.declared.fault.ImportFault.{ImportFault}
-use Rattle.desk_import.specs.declared.options.Import.{Import}
+use Rattle.imports.specs.declared.import.Import.{Import}
 use Rattle.desk_import.specs.Import.{IsAnswered, IsCutOff, IsSaidBy}
 use Rattle.http_answers.specs.Gateways.{AnswersGet}
 use Rattle.http_answers.specs.Requests.{Reports}

@@ -8,8 +8,9 @@ ghost use Rattle.desk_runs.specs.Wires.{HaveFewFailures};
 
 use crate::exit::{Exit, tell_line, unavailable};
 use desk_answers::Owner;
-use desk_import::{Folder, Import, Unread, serve_import};
+use desk_import::{Folder, Unread, serve_import};
 use desk_types::Wire;
+use imports::Import;
 use std::alloc::Global;
 use std::io::Write;
 

@@ -11,8 +11,9 @@ ghost use Rattle.desk_words.specs.CommandLine.{audit_shape, bare, commands, coun
 
 use clap::error::ErrorKind;
 use clap::{Arg, ArgMatches};
-use desk_import::{BadOption, Import, counts_import, setup_import};
+use desk_import::{BadOption, counts_import, setup_import};
 use desk_types::{MOST_CONNECTIONS, MOST_ENTRIES, MOST_PORT};
+use imports::Import;
 use std::alloc::{AllocError, Global};
 
 /// The meaning of a command line.

@@ -25,7 +25,7 @@ use Rattle.desk_laws.proofs.PicksOfOneSlot.{live-pieces}
 use Rattle.desk_types.specs.Setup.{is_part, is_alternate, selected_on}
 use Rattle.desk_types.specs.Tables.{Tables, board_row}
 use Rattle.state_rows.specs.Kept.{KeptRows, tables_in, but_placements}
-use Rattle.entry_search.specs.Floor.{tape_at}
+use Rattle.feeder_state.specs.Tape.{tape_at}
 use Rattle.desk_types.proofs.BothRules.{judged-by-two}
 use Rattle.feeder_state.specs.Noted.{IsNoted}
 use Rattle.feeder_state.specs.State.{IsState}

@@ -28,8 +28,8 @@ use Rattle.desk_types.specs.View.{part_of, life_left}
 use Rattle.desk_types.specs.Free.{received_by, reels_received, is_free, by_left, by_turn, in_order}
 use Rattle.desk_types.proofs.Keys.{is_at-by_name, list_any-same, same-sym}
 use Rattle.desk_laws.proofs.Mounts.{has, has-filter}
-use Rattle.entry_search.specs.Turns.{turn_of, by_life, if_free}
-use Rattle.entry_search.proofs.FreeReels.{turn-put}
+use Rattle.judging.specs.Turns.{turn_of, by_life, if_free}
+use Rattle.judging.proofs.FreeReels.{turn-put}
 use Rattle.feeder_state.specs.Resting.{rests, is_resting}
 use Rattle.feeder_state.proofs.AtRest.{rests-received}
 use Rattle.feeder_state.proofs.NamesInOrder.{in_order-same}

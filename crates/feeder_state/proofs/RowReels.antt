@@ -1,5 +1,5 @@
 -- Reels made from their rows.
-use Rattle.std.proofs.Common.{◌≡◌, ℕ, ◌+◌, ◌-◌, ◌≤◌, Bool, true, false, Option, Some, None, ◌∷◌, [], refl, sym, ap, subst, ◌∙◌, unwrap_or, arith, is_some}
+use Rattle.std.proofs.Common.{◌≡◌, ℕ, ◌+◌, ◌≤◌, Bool, true, false, Option, Some, None, ◌∷◌, [], refl, sym, ap, subst, ◌∙◌, unwrap_or, arith, is_some}
 use Rattle.std.specs.Prelude.{if◌then◌else◌}
 use Rattle.std.specs.Option.{option_map, option_map_or, option_or}
 use Rattle.std.specs.Cmp.Lexicographic.{nat_list_eq_equiv}
@@ -15,7 +15,7 @@ use Rattle.desk_types.specs.History.{History, now_of}
 use Rattle.desk_types.specs.Setup.{receipt_of, receipt_by}
 use Rattle.desk_types.specs.Pieces.{left_of, found_of, live_on, is_mounted}
 use Rattle.desk_types.specs.FloorLife.{out_since, exposure_of}
-use Rattle.desk_types.specs.View.{view_of, used_of}
+use Rattle.desk_types.specs.View.{view_of}
 use Rattle.desk_types.specs.Judged.{IsJudged}
 use Rattle.desk_laws.proofs.Balance.{balance, unreceived-empty}
 use Rattle.desk_laws.proofs.Exposures.{exposure-within}
@@ -28,7 +28,7 @@ use Rattle.reels.specs.declared.reel.Reel.{Reel}
 use Rattle.reels.specs.Fitting.{IsFitting}
 use Rattle.reels.specs.Reel.{RowStandsFor}
 use Rattle.reels.proofs.StandingReels.{label-below}
-use Rattle.entry_search.specs.Life.{IsReelOf}
+use Rattle.judging.specs.Facts.{IsReelOf}
 use Rattle.desk_types.specs.Tables.{Tables, columns_of, reel_row, last_put, mount_row}
 use Rattle.state_rows.proofs.Exposed.{since-by}
 use Rattle.state_rows.proofs.MountedRows.{live-mount}

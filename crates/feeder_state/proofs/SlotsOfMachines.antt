@@ -25,7 +25,7 @@ use Rattle.desk_types.specs.Free.{in_order}
 use Rattle.desk_types.proofs.Keys.{is_at-by_pair, same-sym, same-true}
 use Rattle.desk_laws.proofs.Lookups.{tape-loaded}
 use Rattle.desk_laws.proofs.Mounts.{has}
-use Rattle.entry_search.specs.Floor.{tape_at}
+use Rattle.feeder_state.specs.Tape.{tape_at}
 use Rattle.feeder_state.proofs.NamesInOrder.{in_order-ordered, told-same}
 
 pub by_pair-total : IsTotalOrder by_pair

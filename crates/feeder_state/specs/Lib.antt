@@ -7,4 +7,5 @@ pub mod Rows
 pub mod Setup
 pub mod Spending
 pub mod State
+pub mod Tape
 pub mod Work

@@ -169,7 +169,7 @@ impl StateDesk {
 
 #[tactic(auto, using(crate::proofs::AcceptedChanges::of_state))]
 impl Facts for StateDesk {
-    ghost use Rattle.entry_search.specs.Floor.{tape_at};
+    ghost use Rattle.feeder_state.specs.Tape.{tape_at};
     ghost use Rattle.feeder_state.specs.State.{IsState};
 
     ghost Stands = { λ desk H. IsState H desk };

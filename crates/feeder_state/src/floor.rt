@@ -12,9 +12,9 @@ ghost use Rattle.feeder_state.specs.Spending.{NoneIsSpent};
 
 pub use self::rows::floor_of;
 use crate::resting::{end_rests, note_resting};
+use crate::tape::{Tape, note_tape};
 use crate::tapes::drop_all_spent;
 use desk_types::{Command, Id, Take};
-use entry_search::floor::{Tape, note_tape};
 use state_rows::RowSet;
 use std::alloc::{AllocError, Global};
 use std::collections::{BTreeMap, BTreeSet};

@@ -1,7 +1,7 @@
 //! Single facts of the floor, each found by one look-up or two, with no memory taken.
 
 ghost use Rattle.std.specs.Prelude.{◌≡◌, length, slice_get};
-ghost use Rattle.entry_search.specs.Floor.{tape_at};
+ghost use Rattle.feeder_state.specs.Tape.{tape_at};
 
 use crate::floor::Floor;
 use desk_types::Id;

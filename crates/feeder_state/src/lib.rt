@@ -11,6 +11,7 @@ mod placed;
 mod resting;
 mod same_state;
 mod setup;
+mod tape;
 mod tapes;
 mod views;
 mod work;

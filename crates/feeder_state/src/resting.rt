@@ -4,16 +4,16 @@ ghost use Rattle.std.specs.Prelude.{◌≡◌, ◌||◌, ◌==◌, true, false, 
 ghost use Rattle.std.specs.List.{list_any};
 ghost use Rattle.desk_types.specs.Id.{Name, same};
 ghost use Rattle.desk_types.specs.History.{History};
-ghost use Rattle.entry_search.specs.Floor.{tape_at};
+ghost use Rattle.feeder_state.specs.Tape.{tape_at};
 ghost use Rattle.feeder_state.specs.Held.{IsHeld};
 ghost use Rattle.feeder_state.specs.Restored.{AreRowsOf};
 ghost use Rattle.feeder_state.specs.Rows.{left_at};
 ghost use Rattle.feeder_state.specs.Resting.{rests, held_rests, row_rests, is_resting, resting_after};
 
 use crate::held::Held;
+use crate::tape::Tape;
 use crate::tapes::is_spent;
 use desk_types::{Command, Id, ReelRow, Take};
-use entry_search::floor::Tape;
 use state_rows::RowSet;
 use std::alloc::{AllocError, Global};
 use std::collections::{BTreeMap, BTreeSet};

@@ -3,12 +3,12 @@
 ghost use Rattle.std.specs.Prelude.{◌≡◌, not, ◌&&◌, ◌==◌};
 ghost use Rattle.std.specs.List.{list_any, filter, IsDistinct};
 ghost use Rattle.desk_types.specs.Id.{Name, same};
-ghost use Rattle.entry_search.specs.Floor.{tape_at};
+ghost use Rattle.feeder_state.specs.Tape.{tape_at};
 ghost use Rattle.feeder_state.specs.Rows.{left_at};
 ghost use Rattle.feeder_state.specs.Spending.{is_spent_by, empties};
 
+use crate::tape::Tape;
 use desk_types::{Id, Purpose, Take};
-use entry_search::floor::Tape;
 use state_rows::{RowEdit, RowSet};
 use std::collections::{BTreeMap, VecDeque};
 

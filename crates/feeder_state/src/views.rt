@@ -11,9 +11,9 @@ ghost use Rattle.feeder_state.specs.Rows.{AreRowsAt};
 
 use crate::floor::Floor;
 use crate::held::{Held, find};
+use crate::tape::Tape;
 use desk_types::{Id, Listing, Minute, Mount, Mounts, ReelView};
-use entry_search::floor::Tape;
-use entry_search::views::life_left;
+use judging::lives::life_left;
 use state_rows::RowSet;
 use std::alloc::{AllocError, Global};
 
@@ -78,7 +78,7 @@ fn mount_of(held: &Held, minute: Minute, slot: &Id, position: u64, name: &Id) ->
     }
 }
 
-/// Returns the reels of a tape, the front first. Each of them was received.
+/// Appends the reels of a tape, the front first. Each of them was received.
 fn put_tape(
     mounts: &mut Vec<Mount>,
     rows: &RowSet,

@@ -7,7 +7,7 @@ ghost use Rattle.http_answers.specs.Gateways.{Meets};
 ghost use Rattle.http_answers.specs.Requests.{kind_of, none_told, report_told, outcome_leaving, asked_outcome};
 
 use crate::reported::ReportedOwner;
-use http_answers::{Unavailable, answer_counts, answer_fault, answer_message, answer_setup, json};
+use http_answers::{Unavailable, answer_fault, answer_import, answer_message, json};
 use http_routes::{AskFault, Asked, Report, RouteTable};
 use http_stream::{Body, Kind, Response, Status};
 use report_texts::not_found_text;
@@ -31,14 +31,7 @@ pub fn answer_request<L: ReportedOwner>(
     let routes = routes.ok_or(Unavailable)?;
     match routes.read_request(alloc, method, target) {
         Ok(Asked::Message) => answer_message(alloc, owner, body),
-        Ok(
-            Asked::ImportSetup {
-                stamp,
-                product,
-                machine,
-            },
-        ) => answer_setup(alloc, owner, stamp, product, machine, body),
-        Ok(Asked::ImportCounts { stamp }) => answer_counts(alloc, owner, stamp, body),
+        Ok(Asked::Import(import)) => answer_import(alloc, owner, &import, body),
         Ok(Asked::Report(report)) => answer_report(alloc, owner, report),
         Err(AskFault::NoMemory) => Err(Unavailable),
         Err(fault) => answer_fault(alloc, fault),

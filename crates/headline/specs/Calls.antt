@@ -10,7 +10,7 @@ use Rattle.served.specs.declared.sending.WriteFailed.{WriteFailed}
 use Rattle.served.specs.declared.serving.ServeFault.TheVariants.{Read, Write, TooManyReads}
 use Rattle.desk_feed.specs.Stream as lines
 use Rattle.desk_import.specs.Import as file
-use Rattle.desk_import.specs.declared.options.Import.{Import}
+use Rattle.imports.specs.declared.import.Import.{Import}
 use Rattle.imports.specs.declared.fault.ImportFault.{ImportFault}
 use Rattle.http_routes.specs.declared.asked.Report.{Report}
 use Rattle.http_stream.specs.Answers.{Told}

@@ -9,11 +9,11 @@ ghost use Rattle.headline.specs.Calls.{CallsOnce};
 ghost use Rattle.headline.specs.Calls.Call.{fed, connected, commanded, asked, reported, imported};
 
 use desk_answers::Answer;
-use desk_import::Import;
 use desk_types::{Stamped, Text, Wire};
 use gateway_http::{ReportedOwner, Unavailable};
 use http_routes::Report;
 use http_stream::Response;
+use imports::Import;
 use served::{ServeFault, Served, WriteFailed};
 use std::alloc::Global;
 use std::io::{Read, Write};

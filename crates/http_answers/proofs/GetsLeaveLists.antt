@@ -23,15 +23,13 @@ use Rattle.http_answers.specs.Requests.{Reports, asked_outcome, outcome_of, requ
 abbrev Asks : Result Asked AskFault → Type 0
 Asks (Ok (asks.Report report)) = ⊤
 Asks (Ok asks.Message) = ⊥
-Asks (Ok (asks.ImportSetup stamp product machine)) = ⊥
-Asks (Ok (asks.ImportCounts stamp)) = ⊥
+Asks (Ok (asks.Import import)) = ⊥
 Asks (Err fault) = ⊤
 
 stays : (reports : Reports) (L : Ledger) (body : List ℕ) (a : Result Asked AskFault) → Asks a → (asked_outcome reports L body a).after ≡ L.history
 stays reports L body (Ok (asks.Report report)) asked_of = refl
 stays reports L body (Ok asks.Message) asked_of = absurd asked_of
-stays reports L body (Ok (asks.ImportSetup stamp product machine)) asked_of = absurd asked_of
-stays reports L body (Ok (asks.ImportCounts stamp)) asked_of = absurd asked_of
+stays reports L body (Ok (asks.Import import)) asked_of = absurd asked_of
 stays reports L body (Err fault) asked_of = refl
 
 after : {X : Type 0} (m : Result X AskFault) (rest : X → Result Asked AskFault) → ((x : X) → Asks (rest x)) → Asks (m >>= rest)

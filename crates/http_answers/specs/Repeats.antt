@@ -7,18 +7,15 @@ use Rattle.cfx_profile.specs.declared.message.Said.{Said}
 use Rattle.cfx_profile.specs.declared.message.Said.TheVariants as says
 use Rattle.desk_answers.specs.Commands.{earlier_answer, is_refused}
 use Rattle.desk_types.specs.History.{History}
-use Rattle.desk_types.specs.declared.command.Command.{Command}
 use Rattle.desk_types.specs.declared.command.Stamped.{Stamped}
 use Rattle.http_routes.specs.Asked.{asked_of}
 use Rattle.http_routes.specs.declared.asked.Asked.{Asked}
 use Rattle.http_routes.specs.declared.asked.Asked.TheVariants as asks
-use Rattle.http_routes.specs.declared.asked.Stamp.{Stamp}
 use Rattle.http_routes.specs.declared.fault.AskFault.{AskFault}
 use Rattle.http_stream.specs.Cut.{Request}
 use Rattle.http_stream.specs.Repeats.{Repeats}
-use Rattle.imports.specs.File.{setup_said, counts_said}
+use Rattle.imports.specs.Import.{command_said}
 use Rattle.imports.specs.declared.fault.ImportFault.{ImportFault}
-use Rattle.http_answers.specs.Requests.{stamped_by}
 
 -- ---- repeats
 
@@ -28,17 +25,15 @@ message_command (Ok (says.Ignored name)) = None
 message_command (Ok (says.Asked s)) = Some s
 message_command (Err fault) = None
 
--- The command in a file.
-abbrev pub file_command : Stamp → Result Command ImportFault → Option Stamped
-file_command stamp (Ok command) = Some (stamped_by stamp command)
-file_command stamp (Err fault) = None
+-- The command of an import.
+abbrev pub import_command : Result Stamped ImportFault → Option Stamped
+import_command (Ok s) = Some s
+import_command (Err fault) = None
 
 -- The command in a request with this body, if it has one.
 abbrev pub command_asked : List ℕ → Result Asked AskFault → Option Stamped
 command_asked body (Ok asks.Message) = message_command (said_in body)
-command_asked body (Ok (asks.ImportSetup stamp product machine)) =
-    file_command stamp (setup_said product machine body)
-command_asked body (Ok (asks.ImportCounts stamp)) = file_command stamp (counts_said body)
+command_asked body (Ok (asks.Import import)) = import_command (command_said import body)
 command_asked body (Ok (asks.Report report)) = None
 command_asked body (Err fault) = None
 

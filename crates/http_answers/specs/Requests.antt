@@ -1,15 +1,10 @@
 -- The answer to a request and the history after it, given the commands accepted before.
 use Rattle.std.specs.Prelude.{ℕ, List, Option, Some, None, Result, Ok, Err}
-use Rattle.cfx_profile.specs.Answer.{ignored_text}
-use Rattle.cfx_profile.specs.Answer as message
-use Rattle.cfx_profile.specs.Message.{said_in}
-use Rattle.cfx_profile.specs.declared.fault.MessageFault.{MessageFault}
-use Rattle.cfx_profile.specs.declared.message.Said.{Said}
-use Rattle.cfx_profile.specs.declared.message.Said.TheVariants as says
-use Rattle.desk_answers.specs.Commands.{command_answer, command_after, answer_text}
 use Rattle.desk_answers.specs.Ledger.{Ledger}
+use Rattle.desk_feed.specs.Messages.{answer_to, list_after}
+use Rattle.desk_feed.specs.declared.message.AnswerText.{AnswerText}
+use Rattle.desk_import.specs.Import.{after_said, answer_said}
 use Rattle.desk_types.specs.History.{History}
-use Rattle.desk_types.specs.declared.command.Command.{Command}
 use Rattle.desk_types.specs.declared.command.Stamped.{Stamped}
 use Rattle.desk_types.specs.declared.rules.Rules.{Rules}
 use Rattle.http_routes.specs.Answer as request
@@ -18,7 +13,6 @@ use Rattle.http_routes.specs.declared.asked.Asked.{Asked}
 use Rattle.http_routes.specs.declared.asked.Asked.TheVariants as asks
 use Rattle.http_routes.specs.declared.asked.Report.{Report}
 use Rattle.http_routes.specs.declared.asked.Report.TheVariants as report
-use Rattle.http_routes.specs.declared.asked.Stamp.{Stamp}
 use Rattle.http_routes.specs.declared.fault.AskFault.{AskFault}
 use Rattle.http_stream.specs.Answers.{Told, unavailable}
 use Rattle.http_stream.specs.Cut.{Request}
@@ -26,13 +20,12 @@ use Rattle.http_stream.specs.Stream.{Outcome, Rule}
 use Rattle.http_stream.specs.declared.response.Kind.TheVariants.{Json, Csv}
 use Rattle.http_stream.specs.declared.response.Status.{Status}
 use Rattle.http_stream.specs.declared.response.Status.TheVariants as status
-use Rattle.imports.specs.Answer as file
-use Rattle.imports.specs.File.{setup_said, counts_said}
+use Rattle.imports.specs.Import.{command_said}
 use Rattle.imports.specs.declared.fault.ImportFault.{ImportFault}
 use Rattle.report_texts.specs.NotFound.{not_found_text}
 use Rattle.report_texts.specs.declared.kind.Kind.{Kind}
 use Rattle.report_texts.specs.declared.kind.Kind.TheVariants.{Board, Lot, Reel, Machine, Sheet}
-use Rattle.http_answers.specs.Statuses.{command_status, message_fault_status, import_fault_status, request_fault_status}
+use Rattle.http_answers.specs.Statuses.{request_fault_status, verdict_status}
 
 -- ---- reports
 
@@ -69,40 +62,26 @@ report_told asked_of None = none_told (kind_of asked_of)
 abbrev pub outcome_leaving : Ledger → Told → Outcome
 outcome_leaving L told = record { told = told; after = L.history }
 
--- The outcome of a command.
-abbrev pub command_outcome : Ledger → Stamped → Outcome
-command_outcome L s = record {
-  told = json (command_status (command_answer L.rules L.greatest L.history s))
-      (answer_text s.uid (command_answer L.rules L.greatest L.history s));
-  after = command_after L.rules L.greatest L.history s;
-}
+-- The answer to a message or an import, with the status of its verdict.
+abbrev pub told : AnswerText → Told
+told answer = json (verdict_status answer.verdict) answer.text
 
 -- The outcome of a message.
-abbrev pub message_outcome : Ledger → Result Said MessageFault → Outcome
-message_outcome L (Ok (says.Ignored name)) =
-    outcome_leaving L (json status.Accepted (ignored_text name))
-message_outcome L (Ok (says.Asked s)) = command_outcome L s
-message_outcome L (Err fault) =
-    outcome_leaving L (json (message_fault_status fault) (message.fault_text fault))
+abbrev pub message_outcome : Ledger → List ℕ → Outcome
+message_outcome L body = record {
+  told = told (answer_to L.rules L.greatest L.history body);
+  after = list_after L.rules L.greatest L.history body;
+}
 
--- The file's command with its request's parameters.
-abbrev pub stamped_by : Stamp → Command → Stamped
-stamped_by stamp command =
-    record { uid = stamp.uid; source = stamp.source; minute = stamp.minute; command = command }
-
--- The outcome of a file.
-abbrev pub file_outcome : Ledger → Stamp → Result Command ImportFault → Outcome
-file_outcome L stamp (Ok command) = command_outcome L (stamped_by stamp command)
-file_outcome L stamp (Err fault) =
-    outcome_leaving L (json (import_fault_status fault) (file.fault_text fault))
+-- The outcome of an import, by the command or the first fault of its file.
+abbrev pub import_outcome : Ledger → Result Stamped ImportFault → Outcome
+import_outcome L said = record { told = told (answer_said L said); after = after_said L said }
 
 -- The outcome of a request with this body.
 abbrev pub asked_outcome : Reports → Ledger → List ℕ → Result Asked AskFault → Outcome
-asked_outcome reports L body (Ok asks.Message) = message_outcome L (said_in body)
-asked_outcome reports L body (Ok (asks.ImportSetup stamp product machine)) =
-    file_outcome L stamp (setup_said product machine body)
-asked_outcome reports L body (Ok (asks.ImportCounts stamp)) =
-    file_outcome L stamp (counts_said body)
+asked_outcome reports L body (Ok asks.Message) = message_outcome L body
+asked_outcome reports L body (Ok (asks.Import import)) =
+    import_outcome L (command_said import body)
 asked_outcome reports L body (Ok (asks.Report asked_of)) =
     outcome_leaving L (report_told asked_of (reports asked_of L.history))
 asked_outcome reports L body (Err fault) =

@@ -1,22 +1,21 @@
 //! Answers to messages, files and faulty requests.
 
 ghost use Rattle.std.specs.Prelude.{◌≡◌, IfOk};
-ghost use Rattle.cfx_profile.specs.Message.{said_in};
 ghost use Rattle.http_routes.specs.Answer.{fault_text};
 ghost use Rattle.http_stream.specs.Answers.{response_told};
-ghost use Rattle.imports.specs.File.{setup_said, counts_said};
+ghost use Rattle.imports.specs.Import.{command_said};
 ghost use Rattle.http_answers.specs.Gateways.{Meets};
-ghost use Rattle.http_answers.specs.Requests.{json, command_outcome, message_outcome, stamped_by, file_outcome};
+ghost use Rattle.http_answers.specs.Requests.{json, told, import_outcome, message_outcome};
 ghost use Rattle.http_answers.specs.Statuses.{request_fault_status};
 
-use crate::statuses::{import_fault_status, message_fault_status, request_fault_status};
+use crate::statuses::{request_fault_status, verdict_status};
 use crate::unavailable::Unavailable;
-use cfx_profile::{MessageFault, Said, ignored_text, read_message};
-use desk_answers::{Answer, Owner};
-use desk_types::{Command, Id, Stamped, Text};
-use http_routes::{AskFault, Stamp};
+use desk_answers::Owner;
+use desk_feed::AnswerText;
+use desk_types::Text;
+use http_routes::AskFault;
 use http_stream::{Body, Kind, Response, Status};
-use imports::{ImportFault, read_counts, read_setup};
+use imports::Import;
 use std::alloc::Global;
 
 /// Returns an answer with a JSON text.
@@ -48,85 +47,29 @@ pub fn answer_message<L: Owner>(
     ensures ready { L.Ready owner.new }
     ensures trusts { L.Trusts owner.new → L.Trusts owner.old }
     ensures told { Meets L.Stands L.Trusts owner.old owner.new result
-        (λ G. message_outcome G (said_in body.now)) }
+        (λ G. message_outcome G body.now) }
 {
-    match read_message(alloc, body) {
-        Ok(Said::Ignored(name)) => Ok(json(Status::Accepted, ignored_text(alloc, &name)?)),
-        Ok(Said::Asked(stamped)) => answer_command(alloc, owner, &stamped),
-        Err(MessageFault::NoMemory) => Err(Unavailable),
-        Err(fault) => Ok(json(message_fault_status(&fault), fault.write_text(alloc)?)),
-    }
+    Ok(told(desk_feed::answer_message(alloc, owner, body)?))
 }
 
-/// Answers a setup file.
-pub fn answer_setup<L: Owner>(
+/// Answers the file of an import.
+pub fn answer_import<L: Owner>(
     alloc: Global,
     owner: &mut L,
-    stamp: Stamp,
-    product: Id,
-    machine: Id,
+    import: &Import,
     body: &[u8],
 ) -> Result<Response, Unavailable>
     requires ready { L.Ready owner.old }
     ensures ready { L.Ready owner.new }
     ensures trusts { L.Trusts owner.new → L.Trusts owner.old }
     ensures told { Meets L.Stands L.Trusts owner.old owner.new result
-        (λ G. file_outcome G stamp (setup_said product machine body.now)) }
+        (λ G. import_outcome G (command_said import.now body.now)) }
 {
-    match read_setup(alloc, body, product, machine) {
-        Ok(command) => answer_command(alloc, owner, &stamped_by(stamp, command)),
-        Err(ImportFault::NoMemory) => Err(Unavailable),
-        Err(fault) => Ok(json(import_fault_status(&fault), fault.write_text(alloc)?)),
-    }
+    Ok(told(desk_import::answer_import(alloc, owner, import, body)?))
 }
 
-/// Answers a count file.
-pub fn answer_counts<L: Owner>(
-    alloc: Global,
-    owner: &mut L,
-    stamp: Stamp,
-    body: &[u8],
-) -> Result<Response, Unavailable>
-    requires ready { L.Ready owner.old }
-    ensures ready { L.Ready owner.new }
-    ensures trusts { L.Trusts owner.new → L.Trusts owner.old }
-    ensures told { Meets L.Stands L.Trusts owner.old owner.new result
-        (λ G. file_outcome G stamp (counts_said body.now)) }
+fn told(answer: AnswerText) -> Response
+    ensures { response_told result ≡ told answer }
 {
-    match read_counts(alloc, body) {
-        Ok(command) => answer_command(alloc, owner, &stamped_by(stamp, command)),
-        Err(ImportFault::NoMemory) => Err(Unavailable),
-        Err(fault) => Ok(json(import_fault_status(&fault), fault.write_text(alloc)?)),
-    }
-}
-
-fn stamped_by(stamp: Stamp, command: Command) -> Stamped
-    ensures { result ≡ stamped_by stamp command }
-{
-    Stamped {
-        uid: stamp.uid,
-        source: stamp.source,
-        minute: stamp.minute,
-        command,
-    }
-}
-
-/// Answers a command. An accepted one takes no memory beyond its judgement.
-#[tactic(auto, using(desk_answers::proofs::Refusing::refused_leaves))]
-fn answer_command<L: Owner>(
-    alloc: Global,
-    owner: &mut L,
-    stamped: &Stamped,
-) -> Result<Response, Unavailable>
-    requires ready { L.Ready owner.old }
-    ensures ready { L.Ready owner.new }
-    ensures trusts { L.Trusts owner.new → L.Trusts owner.old }
-    ensures told { Meets L.Stands L.Trusts owner.old owner.new result
-        (λ G. command_outcome G stamped.now) }
-{
-    match owner.command(stamped) {
-        Answer::Accepted(_, text) => Ok(json(Status::Ok, text)),
-        Answer::Unavailable => Err(Unavailable),
-        answer => Ok(json(Status::Conflict, answer.into_text(alloc, &stamped.uid)?)),
-    }
+    json(verdict_status(answer.verdict), answer.text)
 }

@@ -9,6 +9,6 @@ mod law;
 mod statuses;
 mod unavailable;
 
-pub use answers::{answer_counts, answer_fault, answer_message, answer_setup, json};
+pub use answers::{answer_fault, answer_import, answer_message, json};
 pub use law::{questions_leave_the_list, repeats_leave_the_list};
 pub use unavailable::Unavailable;

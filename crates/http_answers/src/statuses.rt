@@ -1,12 +1,11 @@
 //! The statuses of answers.
 
 ghost use Rattle.std.specs.Prelude.{◌≡◌};
-ghost use Rattle.http_answers.specs.Statuses.{allow_of, request_fault_status, message_fault_status, import_fault_status};
+ghost use Rattle.http_answers.specs.Statuses.{allow_of, request_fault_status, verdict_status};
 
-use cfx_profile::MessageFault;
+use desk_feed::Verdict;
 use http_routes::{AskFault, Method};
 use http_stream::{Allow, Status};
-use imports::ImportFault;
 
 /// Returns the status for a request that can't be read.
 pub fn request_fault_status(fault: AskFault) -> Status
@@ -29,29 +28,16 @@ fn allow_of(method: Method) -> Allow
     }
 }
 
-/// Returns the status for a message that can't be read.
-pub fn message_fault_status(fault: &MessageFault) -> Status
-    ensures { result ≡ message_fault_status fault.now }
+/// Returns the status of an answer.
+pub fn verdict_status(verdict: Verdict) -> Status
+    ensures { result ≡ verdict_status verdict }
 {
-    match fault {
-        MessageFault::NotJson
-        | MessageFault::NotObject
-        | MessageFault::EnvelopeMember(_)
-        | MessageFault::BadTime => Status::BadRequest,
-        MessageFault::BodyMember(_) | MessageFault::OverLimit(_) => Status::UnprocessableEntity,
-        MessageFault::NoMemory => Status::ServiceUnavailable,
-    }
-}
-
-/// Returns the status for a file that can't be read.
-pub fn import_fault_status(fault: &ImportFault) -> Status
-    ensures { result ≡ import_fault_status fault.now }
-{
-    match fault {
-        ImportFault::BadHeader
-        | ImportFault::BadRow(_)
-        | ImportFault::BadField(..)
-        | ImportFault::OverLimit => Status::UnprocessableEntity,
-        ImportFault::NoMemory => Status::ServiceUnavailable,
+    match verdict {
+        Verdict::Accepted => Status::Ok,
+        Verdict::Ignored => Status::Accepted,
+        Verdict::Refused => Status::Conflict,
+        Verdict::Unreadable => Status::BadRequest,
+        Verdict::Faulty => Status::UnprocessableEntity,
+        Verdict::Unavailable => Status::ServiceUnavailable,
     }
 }

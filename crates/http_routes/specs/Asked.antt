@@ -9,13 +9,14 @@ use Rattle.desk_types.specs.declared.trace_detail.TraceDetail.{TraceDetail}
 use Rattle.http_routes.specs.declared.asked.Asked.{Asked}
 use Rattle.http_routes.specs.declared.asked.Asked.TheVariants as asks
 use Rattle.http_routes.specs.declared.asked.Report.TheVariants as report
-use Rattle.http_routes.specs.declared.asked.Stamp.{Stamp}
 use Rattle.http_routes.specs.declared.fault.AskFault.{AskFault}
 use Rattle.http_routes.specs.declared.fault.AskFault.TheVariants.{NoPath, BadMethod, BadQuery}
 use Rattle.http_routes.specs.declared.parameter.Parameter.{Parameter}
 use Rattle.http_routes.specs.declared.parameter.Parameter.TheVariants as parameter
 use Rattle.http_routes.specs.declared.routes.Route.{Route}
 use Rattle.http_routes.specs.declared.routes.Route.TheVariants as route
+use Rattle.imports.specs.declared.import.Content.TheVariants.{Sheet, Counts}
+use Rattle.imports.specs.declared.import.Import.{Import}
 use Rattle.http_routes.specs.Parameter.{parameter_text}
 use Rattle.http_routes.specs.Query.{value_of}
 use Rattle.http_routes.specs.Routes.{method_text, route_method, route_of}
@@ -65,26 +66,26 @@ boards_in query = do
 
 -- ---- the parameters of each route, in order
 
--- The parameters of an import's command.
-unfoldable pub stamp_in : List ℕ → Result Stamp AskFault
-stamp_in query = do
+-- The parameters of an import of a count file.
+unfoldable pub import_in : List ℕ → Result Import AskFault
+import_in query = do
   uid ← id_in parameter.Id query
   source ← id_in parameter.Source query
   minute ← minute_in query
-  Ok (record { uid = uid; source = source; minute = minute })
+  Ok (record { uid = uid; source = source; minute = minute; content = Counts })
 
 -- The content of a request to a route; the first parameter that is missing, repeated or invalid is
 -- the fault.
 unfoldable pub asked_at : Route → List ℕ → Result Asked AskFault
 asked_at route.Messages query = Ok asks.Message
 asked_at route.ImportSetup query = do
-  stamp ← stamp_in query
+  import ← import_in query
   product ← id_in parameter.Product query
   machine ← id_in parameter.Machine query
-  Ok (asks.ImportSetup stamp product machine)
+  Ok (asks.Import (record import { content = Sheet product machine }))
 asked_at route.ImportCounts query = do
-  stamp ← stamp_in query
-  Ok (asks.ImportCounts stamp)
+  import ← import_in query
+  Ok (asks.Import import)
 asked_at route.TraceBoard query = do
   board ← id_in parameter.Board query
   detail ← detail_in query

@@ -4,7 +4,7 @@ ghost use Rattle.std.specs.Prelude.{◌≡◌, ◌≢◌, Ok, Err, IfOk, IfErr};
 ghost use Rattle.std.specs.Cow.{cow_str_bytes};
 ghost use Rattle.std.specs.List.{position};
 ghost use Rattle.cfx_profile.specs.Forms.{id_of};
-ghost use Rattle.http_routes.specs.Asked.{is_mark, path_of, query_of, parameter_value, id_in, minute_in, detail_in, boards_in, stamp_in, asked_at, by_method, asked_of};
+ghost use Rattle.http_routes.specs.Asked.{is_mark, path_of, query_of, parameter_value, id_in, minute_in, detail_in, boards_in, import_in, asked_at, by_method, asked_of};
 ghost use Rattle.http_routes.specs.Fault.{IsAsked};
 
 use crate::fault::AskFault;
@@ -14,33 +14,17 @@ use crate::routes::{Route, RouteTable};
 use crate::values::{boards_of, detail_of};
 use cfx_profile::read_minute;
 use desk_types::{Boards, Id, Minute, TraceDetail};
+use imports::{Content, Import};
 use std::alloc::Global;
 use std::borrow::CowStr;
-
-/// The data of an import's command that a message has in its envelope.
-#[derive(Clone, Copy, PartialEq, Eq)]
-pub struct Stamp {
-    pub uid: Id,
-    pub source: Id,
-    /// The minute of the sender's clock.
-    pub minute: Minute,
-}
 
 /// The content of a request, with its parameters.
 #[derive(Clone, Copy, PartialEq, Eq)]
 pub enum Asked {
     /// `POST /messages`: the body is a message.
     Message,
-    /// `POST /imports/setup`: the body is the setup file of a product on a machine.
-    ImportSetup {
-        stamp: Stamp,
-        product: Id,
-        machine: Id,
-    },
-    /// `POST /imports/counts`: the body is a count file.
-    ImportCounts {
-        stamp: Stamp,
-    },
+    /// `POST /imports/setup` and `/imports/counts`: the body is the file of an import.
+    Import(Import),
     Report(Report),
 }
 
@@ -130,18 +114,15 @@ fn read_parameters(alloc: Global, route: Route, query: &[u8]) -> Result<Asked, A
     match route {
         Route::Messages => Ok(Asked::Message),
         Route::ImportSetup => {
-            let stamp = stamp_in(alloc, query)?;
+            let import = import_in(alloc, query)?;
             let product = id_in(alloc, query, Parameter::Product)?;
             let machine = id_in(alloc, query, Parameter::Machine)?;
-            Ok(Asked::ImportSetup {
-                stamp,
-                product,
-                machine,
-            })
+            let content = Content::Sheet { product, machine };
+            Ok(Asked::Import(Import { content, ..import }))
         }
         Route::ImportCounts => {
-            let stamp = stamp_in(alloc, query)?;
-            Ok(Asked::ImportCounts { stamp })
+            let import = import_in(alloc, query)?;
+            Ok(Asked::Import(import))
         }
         Route::TraceBoard => {
             let board = id_in(alloc, query, Parameter::Board)?;
@@ -175,17 +156,19 @@ fn read_parameters(alloc: Global, route: Route, query: &[u8]) -> Result<Asked, A
     }
 }
 
-#[tactic(auto, unfolding(crate::specs::Asked::stamp_in))]
-fn stamp_in(alloc: Global, query: &[u8]) -> Result<Stamp, AskFault>
-    ensures { IsAsked (stamp_in query.now) result }
+/// Returns the import of a count file with these parameters.
+#[tactic(auto, unfolding(crate::specs::Asked::import_in))]
+fn import_in(alloc: Global, query: &[u8]) -> Result<Import, AskFault>
+    ensures { IsAsked (import_in query.now) result }
 {
     let uid = id_in(alloc, query, Parameter::Id)?;
     let source = id_in(alloc, query, Parameter::Source)?;
     let minute = minute_in(alloc, query)?;
-    Ok(Stamp {
+    Ok(Import {
         uid,
         source,
         minute,
+        content: Content::Counts,
     })
 }
 

@@ -12,7 +12,7 @@ mod query;
 mod routes;
 mod values;
 
-pub use asked::{Asked, Report, Stamp};
+pub use asked::{Asked, Report};
 pub use fault::AskFault;
 pub use parameter::Parameter;
 pub use routes::{Method, RouteTable};

@@ -8,10 +8,12 @@ mod answer;
 mod fault;
 mod fields;
 mod file;
+mod import;
 mod law;
 mod records;
 mod rows;
 
 pub use fault::ImportFault;
 pub use file::{read_counts, read_setup};
+pub use import::{Content, Import};
 pub use law::{commands_are_said, first_records_decide, rows_have_their_lines};

@@ -1,4 +1,7 @@
+pub mod EmptyHistory
 pub mod Feeds
+pub mod FreeReels
+pub mod MountLists
 pub mod PicksOfCommands
 pub mod PlacedInTurn
 pub mod Reels

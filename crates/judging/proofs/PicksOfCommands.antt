@@ -23,7 +23,7 @@ use Rattle.desk_types.specs.Outcome.{pieces_of}
 use Rattle.desk_types.specs.Judged.{IsJudged}
 use Rattle.desk_laws.proofs.Balance.{unreceived-empty}
 use Rattle.desk_laws.proofs.Picks.{find-passes}
-use Rattle.entry_search.specs.Floor.{IsKnownReel}
+use Rattle.judging.specs.Facts.{IsKnownReel}
 use Rattle.desk_laws.proofs.Ranges.{left-range}
 
 -- ---- reels

@@ -1,10 +1,13 @@
--- The minute of a judgement, and the designators placed on a board.
-use Rattle.std.specs.Prelude.{◌≡◌, ℕ, ◌≤◌, List}
+-- The minute of a judgement, the designators placed on a board, and a reel of a history.
+use Rattle.std.specs.Prelude.{◌≡◌, ℕ, ◌≤◌, true, is_some, Option, Some, None, List}
 use Rattle.std.specs.List.{list_any}
 use Rattle.std.specs.List.Sorted.{IsSorted}
 use Rattle.desk_types.specs.Id.{Name, same, by_name}
 use Rattle.desk_types.specs.History.{History, now_of}
+use Rattle.desk_types.specs.Setup.{receipt_of}
 use Rattle.desk_types.specs.Work.{is_placed_on}
+use Rattle.reels.specs.declared.reel.Reel.{Reel}
+use Rattle.reels.specs.Reel.{StandsFor}
 
 -- The facts represent some history, and the minute is not before the desk minute of any that they
 -- represent.
@@ -16,3 +19,12 @@ IsBy Stands facts minute = ((H : History) × Stands facts H)
 abbrev pub ArePlacedOn : History → Name → List Name → Type 0
 ArePlacedOn H board names = IsSorted by_name names
     × ((designator : Name) → list_any (same designator) names ≡ is_placed_on H board designator)
+
+-- The reel was received.
+abbrev pub IsKnownReel : History → Name → Type 0
+IsKnownReel H reel = is_some (receipt_of H reel) ≡ true
+
+-- The reel represents this name's history; there is no reel before its receipt.
+abbrev pub IsReelOf : History → Name → Option Reel → Type 0
+IsReelOf H name None = receipt_of H name ≡ None
+IsReelOf H name (Some reel) = StandsFor H name reel × (reel.last ≤ now_of H)

@@ -3,4 +3,5 @@ pub mod Facts
 pub mod Feeding
 pub mod Placing
 pub mod Scrapping
+pub mod Turns
 pub mod Words

@@ -22,8 +22,7 @@ pub trait Facts {
     ghost use Rattle.desk_types.specs.Judged.{IsJudged};
     ghost use Rattle.setup_sheets.specs.Names.{is_among};
     ghost use Rattle.setup_sheets.specs.Alternates.{AreAlternates};
-    ghost use Rattle.entry_search.specs.Life.{IsReelOf};
-    ghost use Rattle.judging.specs.Facts.{ArePlacedOn};
+    ghost use Rattle.judging.specs.Facts.{ArePlacedOn, IsReelOf};
 
     /// The histories that the facts represent.
     ghost Stands: { Self → History → Type 0 };

@@ -7,10 +7,10 @@ ghost use Rattle.desk_types.specs.Pieces.{front_of};
 ghost use Rattle.desk_types.specs.Front.{front_reel, fronts_of};
 
 use crate::facts::Facts;
+use crate::lives::life;
 use crate::placing::next_reel;
 use crate::setup::sheet_on;
 use desk_types::{Front, FrontReel, Fronts, Id, Listing, Minute};
-use entry_search::fronts::life;
 use std::alloc::{AllocError, Global};
 
 /// Returns the slot's first live reel.

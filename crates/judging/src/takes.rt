@@ -6,8 +6,7 @@ ghost use Rattle.desk_types.specs.declared.take.Pick.{Pick as Picking};
 ghost use Rattle.desk_types.specs.History.{History};
 ghost use Rattle.desk_types.specs.Outcome.{take_of, reels_of, pieces_of};
 ghost use Rattle.reels.specs.Reel.{StandsFor};
-ghost use Rattle.entry_search.specs.Floor.{IsKnownReel};
-ghost use Rattle.judging.specs.Facts.{IsBy};
+ghost use Rattle.judging.specs.Facts.{IsBy, IsKnownReel};
 
 use crate::facts::Facts;
 use desk_types::{Id, IdList, Listing, Minute, Pick, Take, Takes};

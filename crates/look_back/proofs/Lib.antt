@@ -1,3 +1,9 @@
 pub mod ByTwo
-pub mod FoundLive
-pub mod PlacedSets
+pub mod FreeReels
+pub mod HandledReels
+pub mod ListedReels
+pub mod Ranges
+pub mod ReelViews
+pub mod ReelsLater
+pub mod SumsOfTakes
+pub mod TapeLists

@@ -1,3 +1,5 @@
-pub mod Installs
+pub mod Kept
+pub mod Life
 pub mod Plain
 pub mod Searching
+pub mod Totals

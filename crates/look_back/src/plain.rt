@@ -1,6 +1,6 @@
 //! The desk that searches its history.
 
-ghost use Rattle.std.specs.Prelude.{◌≡◌, ◌+◌, ◌≤◌, [], length, reverse, OnOk, OnErr};
+ghost use Rattle.std.specs.Prelude.{◌≡◌, ◌+◌, ◌≤◌, [], length, reverse, IfOk, OnOk, OnErr};
 ghost use Rattle.std.specs.List.{find};
 ghost use Rattle.std.specs.Option.{option_copied};
 ghost use Rattle.desk_types.specs.declared.limits.TheConstants.{MOST_ENTRIES};
@@ -9,16 +9,16 @@ ghost use Rattle.desk_types.specs.Id.{same};
 ghost use Rattle.desk_types.specs.History.{accept};
 ghost use Rattle.desk_types.specs.Desk.{IsChange};
 
-use crate::searched::search;
+use crate::free::free_reels;
+use crate::searched::{Searched, search};
+use crate::setup::{desk_minute, selected_on, sheet_of};
+use crate::slots::slots_of;
+use crate::views::reel_view;
 use desk_types::{
     Change, Desk, Entry, Fronts, Id, JudgeFault, Minute, Mounts, ReelView, ReelViews, Rules,
     SheetRows, Stamped, Takes,
 };
-use entry_search::free::free_reels;
-use entry_search::fronts::fronts;
-use entry_search::setup::{desk_minute, selected_on, sheet_of};
-use entry_search::slots::slots_of;
-use entry_search::views::reel_view;
+use judging::fronts::fronts;
 use judging::judge;
 use std::alloc::{AllocError, Global};
 use std::marker::Model;
@@ -37,7 +37,7 @@ impl Model for PlainDesk {
     ghost use Rattle.std.specs.Prelude.{◌≤◌, length, reverse};
     ghost use Rattle.desk_types.specs.declared.limits.TheConstants.{MOST_ENTRIES};
     ghost use Rattle.desk_types.specs.Judged.{IsJudged};
-    ghost use Rattle.entry_search.specs.Kept.{AreTakes};
+    ghost use Rattle.look_back.specs.Kept.{AreTakes};
     ghost use Rattle.look_back.specs.Plain.{Plain};
 
     ghost Value = { Plain };
@@ -82,6 +82,14 @@ impl PlainDesk {
         ensures { option_copied result ≡ find (λ e. same e.stamped.uid uid.now) self.now.history }
     {
         earlier(self.entries.as_slice(), uid)
+    }
+
+    /// Returns the facts for judging.
+    #[tactic(auto, using(crate::proofs::ByTwo::by_two))]
+    fn facts(&self) -> Result<Searched<'_>, AllocError>
+        ensures { IfOk result (λ facts. facts ≡ self.now.history) }
+    {
+        search(self.alloc, self.entries.as_slice(), self.takes.as_slice())
     }
 
     /// Accepts a judged command. Out of memory leaves the desk unchanged.
@@ -134,9 +142,7 @@ impl Desk for PlainDesk {
     }
 
     fn judge(&self, stamped: &Stamped) -> Result<Change, JudgeFault> {
-        let entries = self.entries.as_slice();
-        let found = search(self.alloc, entries, self.takes.as_slice(), &stamped.command)?;
-        judge(self.alloc, self.rules, &found, stamped)
+        judge(self.alloc, self.rules, &self.facts()?, stamped)
     }
 
     fn settle(&mut self, change: Change) -> Result<(), AllocError> {
@@ -159,12 +165,7 @@ impl Desk for PlainDesk {
     }
 
     fn fronts(&self, machine: &Id) -> Result<Fronts, AllocError> {
-        fronts(
-            self.alloc,
-            self.entries.as_slice(),
-            self.takes.as_slice(),
-            machine,
-        )
+        fronts(self.alloc, &self.facts()?, machine)
     }
 
     fn reel(&self, reel: &Id) -> Option<ReelView> {

@@ -2,103 +2,78 @@
 
 ghost use Rattle.std.specs.Prelude.{◌≡◌, reverse, IfOk};
 ghost use Rattle.desk_types.specs.declared.rules.Rules.TheVariants.{Two};
-ghost use Rattle.std.specs.List.{list_any};
-ghost use Rattle.desk_types.specs.Id.{same};
-ghost use Rattle.desk_types.specs.Setup.{slot_on};
-ghost use Rattle.desk_types.specs.Work.{places, is_placed_on};
 ghost use Rattle.desk_types.specs.Judged.{IsJudged};
-ghost use Rattle.entry_search.specs.Kept.{AreTakes};
-ghost use Rattle.look_back.specs.Searching.{IsSearched};
+ghost use Rattle.look_back.specs.Kept.{AreTakes};
 
 use crate::alternates::alternates_of;
-use crate::installs::{Install, install_of};
+use crate::floor_life::reel_of;
+use crate::mounts::is_mounted;
 use crate::parts::parts_of;
-use desk_types::{Command, Designator, Entry, Id, Minute, SheetRow, SheetRows, Takes};
-use entry_search::floor::{Floor, floor_of, is_mounted, pieces, reel_on};
-use entry_search::setup::{desk_minute, row_on, selected_on, sheet_of, sheet_on};
-use entry_search::work::{in_work_on, is_in_work, product_of};
+use crate::pieces::left_of;
+use crate::setup::{desk_minute, row_on, selected_on, sheet_of, slot_on};
+use crate::tapes::{reel_at, reel_count};
+use crate::work::{in_work_on, is_in_work, is_placed_on, product_of};
+use desk_types::{Designator, Entry, Id, Minute, SheetRow, SheetRows, Takes};
 use judging::Facts;
 use reels::Reel;
-use setup_sheets::{Alternates, Parts, slot_of};
+use setup_sheets::{Alternates, Parts};
 use std::alloc::{AllocError, Global};
+use std::marker::Model;
 
-/// The entries, with the shop floor, parts, alternates and install lookups found in one pass.
+/// The entries with their takes, and the parts and alternates that they name. Contracts see it as
+/// the history.
 #[derive(Drop)]
 pub struct Searched<'a> {
     entries: &'a [Entry],
-    floor: Floor,
+    takes: &'a [Takes],
     parts: Parts,
     alternates: Alternates,
-    install: Option<Install>,
 }
 
-/// Searches the entries for judging the command.
+impl<'a> Model for Searched<'a> {
+    ghost use Rattle.std.specs.Prelude.{reverse};
+    ghost use Rattle.desk_types.specs.History.{History};
+    ghost use Rattle.look_back.specs.Searching.{IsSearched};
+
+    ghost Value = { History };
+
+    ghost view = { λ a. reverse a.entries.now };
+
+    ghost invariant = { λ a.
+        IsSearched (reverse a.entries.now) (reverse a.takes.now) a.parts a.alternates };
+}
+
+/// Returns the facts of these entries and takes.
 pub fn search<'a>(
     alloc: Global,
     entries: &'a [Entry],
-    takes: &[Takes],
-    command: &Command,
+    takes: &'a [Takes],
 ) -> Result<Searched<'a>, AllocError>
     requires judged { IsJudged Two (reverse entries.now) }
     requires takes { AreTakes (reverse entries.now) (reverse takes.now) }
-    ensures { IfOk result (IsSearched (reverse entries.now)) }
+    ensures { IfOk result (λ found. found ≡ reverse entries.now) }
 {
     Ok(Searched {
         entries,
-        floor: floor_of(alloc, entries, takes)?,
+        takes,
         parts: parts_of(alloc, entries)?,
         alternates: alternates_of(alloc, entries)?,
-        install: install_of(alloc, entries, command)?,
     })
 }
 
-fn slot_on(entries: &[Entry], machine: &Id, designator: &Designator) -> Option<Id>
-    ensures { result ≡ slot_on (reverse entries.now) machine.now designator.now }
-{
-    let rows = sheet_on(entries, machine)?;
-    slot_of(rows, designator)
-}
-
-fn is_among(designators: &[Designator], designator: &Designator) -> bool
-    ensures { result ≡ list_any (same designator.now) designators.now }
-{
-    designators.iter().any(|d| *designator == *d)
-}
-
-fn places(board: &Id, designator: &Designator, command: &Command) -> bool
-    ensures { result ≡ places board.now designator.now command.now }
-{
-    match command {
-        Command::MaterialsInstalled {
-            board: b,
-            designators,
-            ..
-        } => *b == *board && is_among(designators.as_slice(), designator),
-        _ => false,
-    }
-}
-
-/// Returns whether the designator is placed on the board. It searches the commands, because an
-/// accepted install places each of its designators.
-fn is_placed_on(entries: &[Entry], board: &Id, designator: &Designator) -> bool
-    ensures { result ≡ is_placed_on (reverse entries.now) board.now designator.now }
-{
-    entries
-        .iter()
-        .rev()
-        .any(|entry| places(board, designator, &entry.stamped.command))
-}
-
 impl<'a> Facts for Searched<'a> {
-    ghost use Rattle.entry_search.specs.Floor.{tape_at};
-    ghost use Rattle.look_back.specs.Searching.{IsSearched};
+    ghost use Rattle.std.specs.Prelude.{◌≡◌};
+    ghost use Rattle.desk_types.specs.Tape.{tape_of};
 
-    ghost Stands = { λ searched H. IsSearched H searched };
+    ghost Stands = { λ found H. H ≡ found };
 
-    ghost reels_on = { λ searched machine slot. tape_at searched.floor.tapes machine slot };
+    ghost reels_on = { λ found. tape_of found };
 
-    fn is_judged(&self) {}
+    fn is_judged(&self) {
+        let _ = &self.parts;
+    }
 
+    #[tactic(auto, unfolding(desk_types::specs::Pieces::live_on))]
     fn tells_live(&self) {}
 
     fn minute(&self) -> Option<Minute> {
@@ -126,37 +101,27 @@ impl<'a> Facts for Searched<'a> {
     }
 
     fn slot_on(&self, machine: &Id, designator: &Designator) -> Option<Id> {
-        match &self.install {
-            Some(install) if install.machine == *machine => install.slot(designator),
-            _ => slot_on(self.entries, machine, designator),
-        }
+        slot_on(self.entries, machine, designator)
     }
 
     fn reel(&self, reel: &Id) -> Option<Reel> {
-        reel_on(&self.floor, reel)
+        reel_of(self.entries, reel)
     }
 
     fn left_of(&self, reel: &Id) -> u64 {
-        pieces(&self.floor.stock, reel)
+        left_of(self.entries, self.takes, reel)
     }
 
     fn is_mounted(&self, reel: &Id) -> bool {
-        is_mounted(&self.floor, reel)
+        is_mounted(self.entries, self.takes, reel)
     }
 
     fn reel_count(&self, machine: &Id, slot: &Id) -> usize {
-        match self.floor.tapes.get(&(*machine, *slot)) {
-            Some(tape) => tape.reels.len(),
-            None => 0,
-        }
+        reel_count(self.entries, machine, slot)
     }
 
     fn reel_at(&self, machine: &Id, slot: &Id, index: usize) -> Option<Id> {
-        let tape = self.floor.tapes.get(&(*machine, *slot))?;
-        if index < tape.reels.len() {
-            return Some(tape.reels[index]);
-        }
-        None
+        reel_at(self.entries, machine, slot, index)
     }
 
     fn in_work_on(&self, machine: &Id) -> Option<Id> {
@@ -172,9 +137,6 @@ impl<'a> Facts for Searched<'a> {
     }
 
     fn is_placed_on(&self, board: &Id, designator: &Designator) -> bool {
-        match &self.install {
-            Some(install) if install.board == *board => install.placed.contains(designator),
-            _ => is_placed_on(self.entries, board, designator),
-        }
+        is_placed_on(self.entries, board, designator)
     }
 }

@@ -9,7 +9,7 @@ use Rattle.desk_types.specs.Wire.{inner_of}
 use Rattle.desk_types.specs.History.{History}
 use Rattle.desk_answers.specs.Ledger.{Ledger}
 use Rattle.served.specs.Sent.{SendsFront}
-use Rattle.desk_import.specs.declared.options.Import.{Import}
+use Rattle.imports.specs.declared.import.Import.{Import}
 use Rattle.desk_words.specs.CommandLine.{AsksForAudit}
 use Rattle.desk_runs.specs.Clients.{Ended, Serving}
 use Rattle.desk_runs.specs.Runs.{AnswersAll, AnswersImport, AnswersReport, AnswersUpTo, CutsImport, StaysSame}

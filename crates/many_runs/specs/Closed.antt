@@ -21,7 +21,7 @@ use Rattle.desk_commands.specs.Closed.{RunsTo, whole}
 use Rattle.desk_commands.specs.Runs.{RunsOn, ServesEach}
 use Rattle.desk_runs.specs.Clients.{Ended, Exchange}
 use Rattle.desk_runs.specs.Runs.{AnswersReport, StaysSame}
-use Rattle.desk_import.specs.declared.options.Import.{Import}
+use Rattle.imports.specs.declared.import.Import.{Import}
 use Rattle.http_stream.specs.Answers.{Told}
 use Rattle.gateway_http.specs.Reports.{report_of}
 use Rattle.headline.specs.Calls.{Call, Feeds, ImportEnded, Imports}

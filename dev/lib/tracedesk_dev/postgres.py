@@ -1,7 +1,7 @@
-"""A PostgreSQL of its own folder, for examples/plant/try and ops/tests/three-ways-test, and what psql prints.
+"""A PostgreSQL of its own folder, for ops/plant/try and ops/tests/three-ways-test, and what psql prints.
 
     with postgres.Server(folder):
-        postgres.asked("-f", "examples/plant/schema.sql")
+        postgres.asked("-f", "ops/plant/schema.sql")
 
 It is reached by a socket in the folder and by no port. As root it runs as the user postgres, which Debian's package
 postgresql makes.
@@ -13,7 +13,7 @@ import subprocess
 
 from tracedesk_dev import program
 
-SQL = program.ROOT / "examples/plant"
+SQL = program.ROOT / "ops/plant"
 
 
 class Fault(Exception):
@@ -56,6 +56,11 @@ class Server:
 
     def stop(self):
         self.run("pg_ctl", "-D", str(self.data), "-m", "fast", "-w", "stop")
+
+    def copy(self, name, to):
+        """Copies the folder of the data, or back, with its owner; the server has stopped."""
+        subprocess.run(["rm", "-rf", self.folder / to], check=True)
+        subprocess.run(["cp", "-a", self.folder / name, self.folder / to], check=True)
 
     def processor_seconds(self):
         """What all sessions that ended have taken of the processor, since the start of the server."""

@@ -1,4 +1,4 @@
-"""The reports of a desk, by queries on its tables: for dev/ask, examples/day and examples/plant.
+"""The reports of a desk, by queries on its tables: for dev/ask, examples/day and ops/plant.
 
 A target is that of the reports (`/slots?machine=M1`), and the text is the CSV of docs/definitions.md, or one JSON
 object that says what was not found. Everything is read by Python's sqlite3 off a copy of the file and its log

@@ -1,6 +1,6 @@
 """A shift of a surface-mount line as the messages that its machines, its store, its oven and its host send.
 
-Used by dev/day, dev/faults/run kills, dev/faults/run damage, dev/bench/run day and examples/plant. The same words give the same bytes.
+Used by dev/day, dev/faults/run kills, dev/faults/run damage, dev/bench/run day and ops/plant. The same words give the same bytes.
 
 A line has a chip shooter of 40 slots and a second machine of 38, and makes two products with one changeover. The
 day before, the host tells parts and sheets and the store receives reels. From 05:40 on reels are baked and loaded,

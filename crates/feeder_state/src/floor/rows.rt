@@ -4,14 +4,14 @@ ghost use Rattle.std.specs.Prelude.{◌≡◌, Some, ◌++◌, ◌∷◌, [], if
 ghost use Rattle.desk_types.specs.Id.{Name, same};
 ghost use Rattle.desk_types.specs.History.{History};
 ghost use Rattle.desk_types.specs.Pieces.{live_on};
-ghost use Rattle.entry_search.specs.Floor.{tape_at};
+ghost use Rattle.feeder_state.specs.Tape.{tape_at};
 ghost use Rattle.feeder_state.specs.Floor.{IsFloor};
 ghost use Rattle.feeder_state.specs.Restored.{AreRowsOf};
 
 use crate::floor::Floor;
 use crate::resting::resting_of;
+use crate::tape::Tape;
 use desk_types::{Id, MountRow};
-use entry_search::floor::Tape;
 use state_rows::RowSet;
 use std::alloc::{AllocError, Global};
 use std::collections::{BTreeMap, VecDeque};

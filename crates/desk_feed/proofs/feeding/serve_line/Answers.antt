@@ -4,6 +4,7 @@ use Rattle.desk_types.specs.Wire.{inner_of}
 use Rattle.desk_feed.specs.LineAnswers.{line_told}
 use Rattle.desk_feed.specs.Lines.{without_return}
 use Rattle.desk_feed.specs.Stream.{Answered}
+use Rattle.desk_feed.specs.Verdicts.{is_refused}
 use Rattle.desk_feed.proofs.AnsweredLines.{one_answered}
 use Rattle.desk_feed.proofs.feeding.serve_line.Goals as goal
 
@@ -16,7 +17,7 @@ returns-in_ok-send_line-clause-answers g c = λ bytes holds G stands trusts.
     let out' = g.W.Write.contents (inner_of c.send_line.new.wire) in
     let went = subst (λ (l : List ℕ). Appends out out' (l ++ 10 ∷ [])) c.text.ensures c.in_ok-send_line.ensures.ok in
     let n = c.args.served.now.refused in
-    let counted : c.count.new.self.refused ≡ cond (line_told c.in-Some.answer).refused (n + 1) n = subst (λ (b : Bool). c.count.new.self.refused ≡ cond b (n + 1) n) c.is_refused.ensures c.count.ensures.refused in (
+    let counted : c.count.new.self.refused ≡ cond (is_refused (line_told c.in-Some.answer)) (n + 1) n = subst (λ (b : Bool). c.count.new.self.refused ≡ cond b (n + 1) n) c.is_refused.ensures c.count.ensures.refused in (
       H',
       a.1,
       (

@@ -2,7 +2,8 @@ use Rattle.std.proofs.Common.{rules, ◌≡◌, ℕ, Bool, true, false, List, re
 use Rattle.desk_types.specs.Wire.{inner_of}
 use Rattle.desk_answers.specs.Ledger.{ForLists}
 use Rattle.desk_import.specs.Folder.{IsRead}
-use Rattle.desk_import.specs.Import.{command_said, IsAnswered, IsCutOff}
+use Rattle.desk_import.specs.Import.{IsAnswered, IsCutOff}
+use Rattle.imports.specs.Import.{command_said}
 use Rattle.desk_runs.proofs.ImportsOfFiles.{says_all}
 use Rattle.desk_runs.proofs.import.import_rows.Goals as goal
 

@@ -2,7 +2,7 @@ use Rattle.std.proofs.Common.{filter_map, sym, ap, subst, ◌∙◌}
 use Rattle.desk_types.specs.declared.view.Left.{Left}
 use Rattle.desk_types.specs.Id.{Name}
 use Rattle.desk_types.specs.View.{reel_view}
-use Rattle.entry_search.proofs.FreeReels.{free_among, views-of_turns}
+use Rattle.judging.proofs.FreeReels.{free_among, views-of_turns}
 use Rattle.feeder_state.specs.Rows.{AreRowsAt}
 use Rattle.feeder_state.proofs.FloorTells.{none-free}
 use Rattle.feeder_state.proofs.free.free_reels.Goals as goal

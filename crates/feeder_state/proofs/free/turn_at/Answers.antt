@@ -1,7 +1,7 @@
 use Rattle.std.proofs.Common.{sym, ap, subst}
 use Rattle.std.specs.Option.{option_map}
-use Rattle.entry_search.specs.Turns.{turn_of}
-use Rattle.entry_search.proofs.FreeReels.{untold-free}
+use Rattle.judging.specs.Turns.{turn_of}
+use Rattle.judging.proofs.FreeReels.{untold-free}
 use Rattle.feeder_state.specs.Held.{IsHeldOf}
 use Rattle.feeder_state.proofs.FloorTells.{told-now, absent-view}
 use Rattle.feeder_state.proofs.free.turn_at.Goals as goal

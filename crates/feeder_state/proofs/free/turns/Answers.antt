@@ -6,7 +6,7 @@ use Rattle.std.specs.declared.cmp.Ordering.{Ordering}
 use Rattle.desk_types.specs.declared.view.Left.{Left}
 use Rattle.desk_types.specs.Id.{by_name}
 use Rattle.desk_types.proofs.Lives.{left-order}
-use Rattle.entry_search.specs.Turns.{turn_of, by_life}
+use Rattle.judging.specs.Turns.{turn_of, by_life}
 use Rattle.feeder_state.proofs.FreeReels.{free_in, turn-next, free-resting}
 use Rattle.feeder_state.proofs.free.turns.Goals as goal
 

@@ -2,7 +2,7 @@ use Rattle.std.proofs.Common.{◌≡◌, Some, List, ◌++◌, map}
 use Rattle.desk_types.specs.Id.{Name}
 use Rattle.desk_types.specs.History.{History}
 use Rattle.setup_sheets.specs.Alternates.{AreAlternates}
-use Rattle.entry_search.specs.Turns.{turn_of}
+use Rattle.judging.specs.Turns.{turn_of}
 use Rattle.feeder_state.specs.Floor.{IsFloor}
 use Rattle.feeder_state.specs.Rows.{AreRowsAt}
 use Rattle.feeder_state.proofs.FreeReels.{free_in}

@@ -1,5 +1,5 @@
 use Rattle.std.proofs.Common.{false, sym, ap, ◌∙◌}
-use Rattle.entry_search.specs.Floor.{tape_at}
+use Rattle.feeder_state.specs.Tape.{tape_at}
 use Rattle.feeder_state.specs.Resting.{is_resting, resting_after}
 use Rattle.feeder_state.proofs.NameSets.{changed, put}
 use Rattle.feeder_state.proofs.resting.note_resting.Goals as goal

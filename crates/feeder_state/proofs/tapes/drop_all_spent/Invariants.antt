@@ -1,7 +1,7 @@
 use Rattle.std.proofs.Common.{◌≡◌, not, take}
 use Rattle.std.specs.List.{filter, list_any}
 use Rattle.desk_types.specs.Id.{Name}
-use Rattle.entry_search.specs.Floor.{tape_at}
+use Rattle.feeder_state.specs.Tape.{tape_at}
 use Rattle.feeder_state.specs.Rows.{left_at}
 use Rattle.feeder_state.specs.Spending.{is_spent_by}
 use Rattle.feeder_state.proofs.tapes.drop_all_spent.Given as goal

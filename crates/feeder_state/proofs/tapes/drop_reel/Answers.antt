@@ -3,7 +3,7 @@ use Rattle.std.specs.Prelude.{◌&&◌}
 use Rattle.std.specs.List.{filter}
 use Rattle.desk_types.specs.Id.{same}
 use Rattle.desk_types.proofs.Keys.{pair-written, pair-changed}
-use Rattle.entry_search.specs.Floor.{tape_at}
+use Rattle.feeder_state.specs.Tape.{tape_at}
 use Rattle.feeder_state.proofs.ReelsOffTapes.{drop-there, drop-absent}
 use Rattle.feeder_state.proofs.tapes.drop_reel.Goals as goal
 

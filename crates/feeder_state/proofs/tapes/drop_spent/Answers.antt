@@ -1,6 +1,6 @@
 use Rattle.std.proofs.Common.{rules, ◌≡◌, false, sym}
 use Rattle.std.specs.Prelude.{◌==◌}
-use Rattle.entry_search.specs.Floor.{tape_at}
+use Rattle.feeder_state.specs.Tape.{tape_at}
 use Rattle.feeder_state.specs.Rows.{left_at}
 use Rattle.feeder_state.proofs.ReelsOffTapes.{filter-kept, unspent-stay, counted-stay}
 use Rattle.feeder_state.proofs.tapes.drop_spent.Goals as goal

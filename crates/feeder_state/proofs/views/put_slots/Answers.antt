@@ -7,7 +7,7 @@ use Rattle.std.proofs.lemmas.Map.Iter.{btree_map_turn}
 use Rattle.desk_types.specs.Pieces.{live_on}
 use Rattle.desk_types.specs.View.{slot_mounts, mount_of}
 use Rattle.desk_types.proofs.Keys.{same-true}
-use Rattle.entry_search.specs.Floor.{tape_at}
+use Rattle.feeder_state.specs.Tape.{tape_at}
 use Rattle.feeder_state.proofs.SlotsOfMachines.{by_pair-total, slots_among, told-loaded}
 use Rattle.feeder_state.proofs.FloorTells.{all-received}
 use Rattle.feeder_state.proofs.views.put_slots.Goals as goal

@@ -5,7 +5,7 @@ use Rattle.desk_types.specs.History.{History}
 use Rattle.desk_types.specs.Setup.{receipt_of}
 use Rattle.desk_types.specs.View.{mount_of}
 use Rattle.feeder_state.specs.Held.{IsHeldOf}
-use Rattle.entry_search.proofs.ListedReels.{place-next}
+use Rattle.judging.proofs.MountLists.{place-next}
 use Rattle.feeder_state.proofs.FloorTells.{told-now}
 use Rattle.feeder_state.proofs.views.put_tape.Goals.{in-Some+in_ok-push, in_default}
 use Rattle.feeder_state.proofs.views.put_tape.Goals as goal

@@ -1,5 +1,5 @@
 use Rattle.std.proofs.Common.{sym, ◌∙◌}
-use Rattle.entry_search.proofs.ReelViews.{no-reel}
+use Rattle.judging.proofs.EmptyHistory.{no-reel}
 use Rattle.feeder_state.proofs.views.reel_view.Goals as goal
 
 pub returns-in-None : goal.returns-in-None

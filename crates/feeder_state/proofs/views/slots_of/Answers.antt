@@ -1,5 +1,5 @@
 use Rattle.std.proofs.Common.{sym, ◌∙◌}
-use Rattle.entry_search.proofs.ListedReels.{no-mounts}
+use Rattle.judging.proofs.EmptyHistory.{no-mounts}
 use Rattle.feeder_state.proofs.views.slots_of.Goals as goal
 
 pub returns-in_default : goal.returns-in_default

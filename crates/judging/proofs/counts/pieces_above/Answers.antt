@@ -4,7 +4,7 @@ use Rattle.desk_types.specs.Setup.{receipt_of}
 use Rattle.desk_types.specs.Pieces.{left_of, is_mounted}
 use Rattle.desk_types.specs.Refusals.{is_above}
 use Rattle.setup_sheets.proofs.SeenNames.{HasSeen-push, was-new}
-use Rattle.entry_search.specs.Life.{IsReelOf}
+use Rattle.judging.specs.Facts.{IsReelOf}
 use Rattle.judging.proofs.counts.pieces_above.Goals as goal
 
 pub returns : goal.returns

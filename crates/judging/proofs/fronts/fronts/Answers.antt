@@ -1,5 +1,5 @@
 use Rattle.std.proofs.Common.{sym, ◌∙◌}
-use Rattle.entry_search.proofs.FirstFronts.{no-fronts}
+use Rattle.judging.proofs.EmptyHistory.{no-fronts}
 use Rattle.judging.proofs.fronts.fronts.Goals as goal
 
 pub returns-in_default : goal.returns-in_default

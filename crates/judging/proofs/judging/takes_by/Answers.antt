@@ -2,7 +2,7 @@ use Rattle.std.proofs.Common.{map, subst, sym, ap, ◌∙◌}
 use Rattle.std.specs.List.{AllByRecursion}
 use Rattle.desk_types.specs.declared.take.Pick.{Pick}
 use Rattle.desk_types.specs.Outcome.{take_of}
-use Rattle.entry_search.specs.Floor.{IsKnownReel}
+use Rattle.judging.specs.Facts.{IsKnownReel}
 use Rattle.judging.proofs.PicksOfCommands.{picks-known}
 use Rattle.judging.proofs.judging.takes_by.Goals as goal
 

@@ -3,7 +3,7 @@ use Rattle.std.specs.List.{AllByRecursion}
 use Rattle.desk_types.specs.declared.take.Pick.{Pick}
 use Rattle.desk_types.specs.History.{History}
 use Rattle.desk_types.specs.Outcome.{take_of}
-use Rattle.entry_search.specs.Floor.{IsKnownReel}
+use Rattle.judging.specs.Facts.{IsKnownReel}
 use Rattle.judging.proofs.takes.takes_for.Given as goal
 
 abbrev pub invariant-loop-pick : goal.invariant-loop-pick

@@ -1,5 +1,5 @@
 use Rattle.std.proofs.Common.{None, refl, sym, subst, ◌∙◌}
-use Rattle.entry_search.specs.Life.{IsReelOf}
+use Rattle.judging.specs.Facts.{IsReelOf}
 use Rattle.feeder_state.specs.Rows.{AreRowsAt}
 use Rattle.feeder_state.proofs.AcceptedChanges.{none-accepted, state-told}
 use Rattle.feeder_state.proofs.RowReels.{held-reel}

@@ -2,7 +2,7 @@ use Rattle.std.proofs.Common.{List, sym, ap, ◌∙◌}
 use Rattle.desk_types.specs.Id.{Name}
 use Rattle.desk_types.specs.Pieces.{live_on}
 use Rattle.desk_types.specs.Tape.{tape_after}
-use Rattle.entry_search.specs.Floor.{tape_at}
+use Rattle.feeder_state.specs.Tape.{tape_at}
 use Rattle.feeder_state.specs.Noted.{may_take}
 use Rattle.feeder_state.specs.Resting.{is_resting, resting_after}
 use Rattle.feeder_state.proofs.AtRest.{rests-next}

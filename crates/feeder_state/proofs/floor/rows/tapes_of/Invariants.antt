@@ -3,7 +3,7 @@ use Rattle.desk_types.specs.Id.{Name}
 use Rattle.desk_types.specs.History.{History}
 use Rattle.desk_types.specs.Pieces.{live_on}
 use Rattle.state_rows.proofs.SlotRows.{slot_reels}
-use Rattle.entry_search.specs.Floor.{tape_at}
+use Rattle.feeder_state.specs.Tape.{tape_at}
 use Rattle.feeder_state.specs.Restored.{AreRowsOf}
 use Rattle.feeder_state.proofs.floor.rows.tapes_of.Given as goal
 

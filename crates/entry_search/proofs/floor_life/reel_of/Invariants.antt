@@ -1,6 +1,0 @@
-use Rattle.std.proofs.Common.{reverse, take}
-use Rattle.entry_search.specs.Life.{IsReelOf}
-use Rattle.entry_search.proofs.floor_life.reel_of.Given as goal
-
-abbrev pub invariant-loop-entry : goal.invariant-loop-entry
-invariant-loop-entry l = IsReelOf (reverse (take l.entry-index l.entries)) l.name l.reel

@@ -1,8 +1,0 @@
-use Rattle.std.proofs.Common.{◌≡◌, map, filter, reverse, take}
-use Rattle.desk_types.specs.Free.{reels_received, is_free, by_turn, in_order}
-use Rattle.entry_search.specs.Turns.{turn_of}
-use Rattle.entry_search.proofs.free.turns.Given as goal
-
-abbrev pub invariant-loop-entry : goal.invariant-loop-entry
-invariant-loop-entry l = l.turns.keys ≡ map (turn_of (reverse l.entries))
-    (in_order (by_turn (reverse l.entries)) (filter (is_free (reverse l.entries) l.part) (reels_received (reverse (take l.entry-index l.entries)))))

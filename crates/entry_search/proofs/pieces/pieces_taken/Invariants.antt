@@ -1,6 +1,0 @@
-use Rattle.std.proofs.Common.{◌≡◌, ◌-◌, ◌^◌, min, take}
-use Rattle.entry_search.specs.Kept.{pieces_taken}
-use Rattle.entry_search.proofs.pieces.pieces_taken.Given as goal
-
-abbrev pub invariant-loop-take : goal.invariant-loop-take
-invariant-loop-take l = l.pieces ≡ min (pieces_taken (take l.take-index l.takes) l.reel) (2 ^ 64 - 1)

@@ -1,9 +1,0 @@
-use Rattle.std.proofs.Common.{◌≡◌, reverse, length}
-use Rattle.desk_types.specs.Setup.{receipt_of}
-use Rattle.entry_search.proofs.setup.receipt.Given as goal
-
-abbrev pub invariant-loop-entry : goal.invariant-loop-entry
-invariant-loop-entry l = receipt_of (reverse l.rest) l.reel ≡ receipt_of (reverse l.entries) l.reel
-
-abbrev pub decreases-loop-entry : goal.decreases-loop-entry
-decreases-loop-entry l = length l.rest

@@ -1,6 +1,0 @@
-use Rattle.std.proofs.Common.{◌≡◌, reverse, take}
-use Rattle.desk_types.specs.View.{loaded_slots}
-use Rattle.entry_search.proofs.slots.loaded_slots.Given as goal
-
-abbrev pub invariant-loop-entry : goal.invariant-loop-entry
-invariant-loop-entry l = l.slots.keys ≡ loaded_slots (reverse (take l.entry-index l.entries)) l.machine

@@ -1,7 +1,0 @@
-use Rattle.std.proofs.Common.{◌≡◌, reverse, take}
-use Rattle.std.specs.List.{flat_map}
-use Rattle.desk_types.specs.View.{slot_mounts}
-use Rattle.entry_search.proofs.slots.slots_of.Given as goal
-
-abbrev pub invariant-loop-slot : goal.invariant-loop-slot
-invariant-loop-slot l = l.mounts.items ≡ flat_map (slot_mounts (reverse l.entries) l.machine) (take l.slot-index l.slot-items)

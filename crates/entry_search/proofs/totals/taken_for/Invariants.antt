@@ -1,6 +1,0 @@
-use Rattle.std.proofs.Common.{◌≡◌, ◌-◌, ◌^◌, min, take}
-use Rattle.entry_search.specs.Totals.{taken_for}
-use Rattle.entry_search.proofs.totals.taken_for.Given as goal
-
-abbrev pub invariant-loop-take : goal.invariant-loop-take
-invariant-loop-take l = l.pieces ≡ min (taken_for l.usage (take l.take-index l.takes) l.reel) (2 ^ 64 - 1)

@@ -1,6 +1,0 @@
-use Rattle.std.proofs.Common.{◌≡◌, ◌-◌, ◌^◌, min, take, sum_by}
-use Rattle.entry_search.specs.Totals.{taken_for}
-use Rattle.entry_search.proofs.totals.total.Given as goal
-
-abbrev pub invariant-loop-last : goal.invariant-loop-last
-invariant-loop-last l = l.pieces ≡ min (sum_by (λ takes. taken_for l.usage takes l.reel) (take l.last-index l.takes)) (2 ^ 64 - 1)

@@ -1,5 +1,0 @@
-pub mod Floor
-pub mod Kept
-pub mod Life
-pub mod Totals
-pub mod Turns

@@ -1,0 +1,11 @@
+use Rattle.std.proofs.Common.{List, unwrap_or, cond, [], ap, ◌∙◌}
+use Rattle.std.specs.Prelude.{◌&&◌}
+use Rattle.desk_types.specs.Id.{Name, same}
+use Rattle.desk_types.proofs.Keys.{pair-written}
+use Rattle.feeder_state.specs.Tape.{tape_at}
+use Rattle.feeder_state.proofs.tape.load.Goals as goal
+
+pub returns : goal.returns
+returns c = λ m s.
+    pair-written _ _ (c.args.machine, c.args.slot) _ (λ o. unwrap_or o []) c.in_ok-insert.ensures.updates.0 m s
+    ∙ ap (λ (reels : List Name). cond (same c.args.machine m && same c.args.slot s) reels (tape_at c.args.tapes.now m s)) c.in_ok-tape.ensures

@@ -1,0 +1,79 @@
+-- The effect of an entry on a reel.
+use Rattle.std.proofs.Common.{◌≡◌, ℕ, ◌+◌, ◌<◌, ◌≤◌, Bool, true, false, cond, Option, Some, None, List, [], ◌∷◌, ◌++◌, reverse, length, take, drop, get_or, refl, sym, ap, ◌∙◌, arith}
+use Rattle.std.specs.Option.{option_map_or}
+use Rattle.std.proofs.Math.Nat.{le-max_right}
+use Rattle.std.proofs.lemmas.List.{reverse-append, append_assoc, take-append-drop}
+use Rattle.desk_types.specs.declared.command.Command.{Command}
+use Rattle.desk_types.specs.declared.command.Command.TheVariants.{ReelReceived, ReelOpened, ReelSealed, MaterialsLoaded, MaterialsSpliced}
+use Rattle.desk_types.specs.declared.command.Entry.{Entry}
+use Rattle.desk_types.specs.declared.command.Receipt.{Receipt}
+use Rattle.desk_types.specs.declared.rules.Rules.TheVariants.{Two}
+use Rattle.desk_types.specs.Id.{Name, same}
+use Rattle.desk_types.specs.History.{History, now_of}
+use Rattle.desk_types.specs.Setup.{receipt_by, receipt_of}
+use Rattle.desk_types.specs.FloorLife.{open_by}
+use Rattle.desk_types.specs.Judged.{IsNext, IsJudged}
+use Rattle.desk_laws.proofs.Accepted.{received-once}
+use Rattle.desk_laws.proofs.Judgements.{judged-prefix}
+use Rattle.desk_types.proofs.Keys.{same-true}
+use Rattle.desk_types.proofs.LoopSteps.{take-next, drop-next}
+use Rattle.reels.specs.declared.reel.Reel.{Reel}
+use Rattle.look_back.proofs.ReelsLater.{reverse-last}
+use Rattle.judging.specs.Facts.{IsReelOf}
+use Rattle.look_back.specs.Life.{is_bake}
+
+is-true : {X : Type 0} (b : Bool) (x y : X) → cond b (Some x) None ≡ Some y → b ≡ true
+is-true true x y is = refl
+is-true false x y is = cc
+
+out-of-bag : {P : Type 0} (b : Bool) → cond b (Some true) None ≡ Some false → P
+out-of-bag true is = cc
+out-of-bag false is = cc
+
+pub sealed : (H : History) (e : Entry) (name : Name) (receipt : Receipt) → IsNext Two H e → receipt_of H name ≡ Some receipt → open_by name e.stamped.command ≡ Some false
+    → is_bake e.stamped.command ≡ false → e.stamped.command ≡ ReelSealed name
+sealed H e name receipt next was says no_bake = by e.stamped.command refl says no_bake
+  where
+    by : (command : Command) → e.stamped.command ≡ command → open_by name command ≡ Some false → is_bake command ≡ false → e.stamped.command ≡ ReelSealed name
+    by (ReelReceived r part lot moisture quantity) is says no_bake =
+        let new : Receipt = record { part = part; lot = lot; moisture = moisture; quantity = quantity; effective = e.effective } in
+        let none = received-once H e name new next (ap (receipt_by name e.effective) is ∙ ap (λ b. cond b (Some new) None) (is-true (same r name) false false says)) in
+        cc
+    by (ReelSealed r) is says no_bake = is ∙ ap ReelSealed (same-true r name (is-true (same r name) false false says))
+    by (ReelOpened r) is says no_bake = out-of-bag (same r name) says
+    by (MaterialsLoaded m s r) is says no_bake = out-of-bag (same r name) says
+    by (MaterialsSpliced m s r) is says no_bake = out-of-bag (same r name) says
+    by _ is says no_bake = cc
+
+some-if : {X : Type 0} (b : Bool) (x y : X) → cond b (Some x) None ≡ Some y → x ≡ y
+some-if true x y is = cc
+some-if false x y is = cc
+
+pub received : (name : Name) (minute : ℕ) (command : Command) (receipt : Receipt) → receipt_by name minute command ≡ Some receipt
+    → command ≡ ReelReceived name receipt.part receipt.lot receipt.moisture receipt.quantity
+received name minute (ReelReceived r part lot moisture quantity) receipt is =
+    let new : Receipt = record { part = part; lot = lot; moisture = moisture; quantity = quantity; effective = minute } in
+    let it = some-if (same r name) new receipt is in
+    ap (λ n. ReelReceived n part lot moisture quantity) (same-true r name (is-true (same r name) new receipt is))
+    ∙ ap (λ (x : Receipt). ReelReceived name x.part x.lot x.moisture x.quantity) it
+received name minute _ receipt is = cc
+
+pub so-far : (entries : List Entry) (i : ℕ) (e : Entry) → i < length entries → e ≡ get_or entries i e → reverse (take (i + 1) entries) ≡ e ∷ reverse (take i entries)
+so-far entries i e inside is = reverse-last (take (i + 1) entries) (take i entries) e (take-next entries i e inside is)
+
+pub split-at : {X : Type 0} (xs : List X) (i : ℕ) (x : X) → i < length xs → x ≡ get_or xs i x → reverse xs ≡ reverse (drop (i + 1) xs) ++ x ∷ reverse (take i xs)
+split-at xs i x inside is =
+    ap reverse split ∙ reverse-append (take i xs) (x ∷ drop (i + 1) xs)
+    ∙ ap (λ later. later ++ reverse (take i xs)) (reverse-append (x ∷ []) (drop (i + 1) xs))
+    ∙ append_assoc (reverse (drop (i + 1) xs)) (x ∷ []) (reverse (take i xs))
+  where
+    split : xs ≡ take i xs ++ x ∷ drop (i + 1) xs
+    split = sym (take-append-drop i xs) ∙ ap (λ rest. take i xs ++ rest) (drop-next xs i x inside is)
+
+pub judged-next : (entries : List Entry) (i : ℕ) (e : Entry) → i < length entries → e ≡ get_or entries i e → IsJudged Two (reverse entries) → IsJudged Two (e ∷ reverse (take i entries))
+judged-next entries i e inside is judged =
+    judged-prefix (e ∷ reverse (take i entries)) (reverse entries) (reverse (drop (i + 1) entries), split-at entries i e inside is) judged
+
+pub by-then : (H : History) (e : Entry) (name : Name) (found : Option Reel) → IsJudged Two (e ∷ H) → IsReelOf H name found → (reel : Reel) → found ≡ Some reel → reel.last ≤ e.effective
+by-then H e name None judged is_reel reel is = cc
+by-then H e name (Some found) judged is_reel reel is = omega (arith, is_reel.1, judged.0.effective, le-max_right e.stamped.minute (now_of H), ap (λ (o : Option Reel). option_map_or (λ (r : Reel). r.last) o 0) is)

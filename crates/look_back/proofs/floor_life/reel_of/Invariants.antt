@@ -1,0 +1,6 @@
+use Rattle.std.proofs.Common.{reverse, take}
+use Rattle.judging.specs.Facts.{IsReelOf}
+use Rattle.look_back.proofs.floor_life.reel_of.Given as goal
+
+abbrev pub invariant-loop-entry : goal.invariant-loop-entry
+invariant-loop-entry l = IsReelOf (reverse (take l.entry-index l.entries)) l.name l.reel

@@ -1,0 +1,8 @@
+use Rattle.std.proofs.Common.{◌≡◌, ◌++◌, nat_lt, filter, reverse, drop}
+use Rattle.desk_types.specs.Tape.{tape_of}
+use Rattle.desk_types.specs.Pieces.{left_of}
+use Rattle.look_back.proofs.tapes.live_on.Given as goal
+
+abbrev pub invariant-loop-index : goal.invariant-loop-index
+invariant-loop-index l = l.live.items ++ filter (λ reel. nat_lt 0 (left_of (reverse l.entries) reel)) (drop l.index (tape_of (reverse l.entries) l.machine l.slot))
+    ≡ filter (λ reel. nat_lt 0 (left_of (reverse l.entries) reel)) (tape_of (reverse l.entries) l.machine l.slot)

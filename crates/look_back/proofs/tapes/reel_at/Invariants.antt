@@ -1,0 +1,8 @@
+use Rattle.std.proofs.Common.{◌≡◌, ◌≤◌, length, reverse, take}
+use Rattle.std.specs.Prelude.{slice_get}
+use Rattle.desk_types.specs.Tape.{tape_of}
+use Rattle.look_back.proofs.tapes.reel_at.Given as goal
+
+abbrev pub invariant-loop-entry : goal.invariant-loop-entry
+invariant-loop-entry l = (l.count ≡ length (tape_of (reverse (take l.entry-index l.entries)) l.machine l.slot)) × (l.count ≤ l.entry-index)
+    × (l.reel ≡ slice_get (tape_of (reverse (take l.entry-index l.entries)) l.machine l.slot) l.index)

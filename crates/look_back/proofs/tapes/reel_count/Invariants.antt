@@ -1,0 +1,6 @@
+use Rattle.std.proofs.Common.{◌≡◌, ◌≤◌, length, reverse, take}
+use Rattle.desk_types.specs.Tape.{tape_of}
+use Rattle.look_back.proofs.tapes.reel_count.Given as goal
+
+abbrev pub invariant-loop-entry : goal.invariant-loop-entry
+invariant-loop-entry l = (l.count ≡ length (tape_of (reverse (take l.entry-index l.entries)) l.machine l.slot)) × (l.count ≤ l.entry-index)

@@ -1,0 +1,6 @@
+use Rattle.std.proofs.Common.{◌≡◌, ◌-◌, ◌^◌, min, take, sum_by}
+use Rattle.look_back.specs.Totals.{taken_for}
+use Rattle.look_back.proofs.totals.total.Given as goal
+
+abbrev pub invariant-loop-last : goal.invariant-loop-last
+invariant-loop-last l = l.pieces ≡ min (sum_by (λ takes. taken_for l.usage takes l.reel) (take l.last-index l.takes)) (2 ^ 64 - 1)
