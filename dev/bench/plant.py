@@ -2,7 +2,7 @@
 
 usage: dev/bench/run plant [--program FILE] [--folder FOLDER] [--archives N] [--minutes N] [--boards BOARDS] [--parts N]
        dev/bench/run plant --recall [--program FILE] [--folder FOLDER] [--archives N] [--pieces N]
-       dev/bench/run plant --small N [--pieces N]
+       dev/bench/run plant --small N [--pieces N] [--minutes N]
 
 examples:
   dev/bench/run plant                              40 archives of a million pieces: 20 GB of disk at most, and an hour
@@ -11,7 +11,7 @@ examples:
   dev/bench/run plant --small 10000                10,000 files of 200 pieces that SQL makes up: six minutes and 1 GB
   dev/bench/run plant --small 1000 --pieces 200000      24 GB of disk
 
-One shift of dev/lib/tracedesk_dev/shift.py is fed to the program: that is the first archive, of ten lines in turn. The others are its
+One shift of dev/lib/tracedesk_dev/shift.py is fed to the program: that is the first archive. The others, each of a line of its own, are its
 bytes with other names of boards, machines, reels and lots of the same length; the audit of the second has to be lawful.
 A lot has ten reels in five archives. Each archive is loaded by ops/plant-load, by a catalogue of its own, and then
 removed. PostgreSQL has fsync on and 512 MB of shared buffers. Cold is after a new start of it, with its files out of
@@ -24,7 +24,7 @@ reading, so that is compared. tracedesk-chain is the one next to the program, or
 With --small nothing is loaded by ops/plant-load, and PostgreSQL has its default settings: files.sql and drop.sql are timed too.
 
 --folder   where all of it lies; it is new, and is removed at the end
---minutes  nothing more is loaded after so many; what is there is asked
+--minutes  nothing more is loaded or made up after so many; what is there is asked
 --boards   of the shift; 5,180 place a million pieces
 --pieces   of each archive: 800,000 of --recall, and 200 of --small
 """
@@ -46,7 +46,7 @@ from tracedesk_dev import postgres, program, shift
 from tracedesk_dev.program import ROOT
 from tracedesk_ops import catalogue, chains, plant
 
-LINES, TURNS = 10, 5
+TURNS = 5
 MEMORY = "/dev/shm"
 LOT = "LOT-RECALL"
 BASE = "ZQZQ"  # no part of another name, and longer than two numbers of a row: so its bytes in a file are those of the names that begin with it
@@ -148,7 +148,7 @@ def loaded(asked, server, room):
     for number, file in made(asked, room, folder_of):
         if time.monotonic() > end:
             break
-        its, at, size = line_of(file, f"L{number % LINES + 1}"), file.parent, file.stat().st_size
+        its, at, size = line_of(file, f"L{number + 1}"), file.parent, file.stat().st_size
         catalogue.add(at / catalogue.FILE_NAME, its)
         began = taken(server)
         subprocess.run([ROOT / "ops/plant-load", at / catalogue.FILE_NAME], check=True, stdout=subprocess.DEVNULL)
@@ -300,10 +300,12 @@ def small_bench(asked):
     count, told = asked.small, {}
     with tempfile.TemporaryDirectory(prefix="plant-", dir=asked.folder) as folder, postgres.Server(pathlib.Path(folder), fsync="on") as server:
         postgres.asked("-f", postgres.SQL / "schema.sql")
-        began, ticks = taken(None), program.Ticks()
-        for first in range(1, count + 1, 100):
-            postgres.asked("-c", SMALL.format(first=first, last=min(first + 99, count), pieces=asked.pieces, fifth=max(2, count // 5), lot=LOT))
-            ticks.tell(f"{first + 99} files")
+        began, ticks, last, fifth = taken(None), program.Ticks(), 0, max(2, count // 5)
+        while last < count and time.monotonic() < began[0] + 60 * asked.minutes:
+            first, last = last + 1, min(count, last + max(1, 100_000 // asked.pieces))
+            postgres.asked("-c", SMALL.format(first=first, last=last, pieces=asked.pieces, fifth=fifth, lot=LOT))
+            ticks.tell(f"{last} files")
+        count = last
         postgres.asked("-c", "ANALYZE plant.file; ANALYZE plant.reel; ANALYZE plant.start")
         told["made, by the clock"] = since(None, began)[0]
         told["bytes of the database"] = int(postgres.asked("-At", "-c", "SELECT pg_database_size('postgres')"))
