@@ -1,2 +1,2 @@
-// Messages about what was done: after a refusal they are not sent again. Made by dev/api from docs/api/messages.json.
-export const REPORTS_OF_WORK = ["TraceDesk.WorkStarted", "TraceDesk.WorkCompleted", "TraceDesk.MaterialsInstalled", "TraceDesk.MaterialsScrapped"];
+// Messages about what was done, or handled: their refusals are recorded. Made by dev/api from docs/api/messages.json.
+export const RECORDED = ["TraceDesk.MaterialsLoaded", "TraceDesk.MaterialsSpliced", "TraceDesk.MaterialsUnloaded", "TraceDesk.WorkStarted", "TraceDesk.WorkCompleted", "TraceDesk.MaterialsInstalled", "TraceDesk.MaterialsScrapped"];

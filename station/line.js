@@ -42,7 +42,7 @@ export class LineScreen {
     this.urgent = el("ol", { class: "urgent" });
     this.machines = el("div", { class: "machines" });
     this.shown = null;
-    return [el("div", { class: "top" }, this.alarms, this.orders), this.first, this.urgent, this.machines, el("p", { class: "legend" }, filled(TEXTS.line.low, { boards: this.station.setup.boards, minutes: this.station.setup.expires }))];
+    return [this.first, el("div", { class: "top" }, this.alarms, this.orders), this.urgent, this.machines, el("p", { class: "legend" }, filled(TEXTS.line.low, { boards: this.station.setup.boards, minutes: this.station.setup.expires }))];
   }
 
   /** Shows what is known; without a change nothing is touched. */

@@ -1,5 +1,6 @@
 // Untraced work: a report of work that the desk refused isn't sent again. Its record goes to the line's inbox, where a person decides.
-import { REPORTS_OF_WORK } from "./kinds.js";
+// So does that of a refused load, splice or unload, since the reel may be on the slot all the same.
+import { RECORDED } from "./kinds.js";
 
 function sorted(it) {
   const isGroup = it && typeof it === "object" && !Array.isArray(it);
@@ -9,7 +10,7 @@ function sorted(it) {
 /** The record of a refusal: {id, text}, of which the same refusal has the same; null where nothing was done that a record is needed for. */
 export async function recordOf({ text, source }, answer, at) {
   const message = JSON.parse(text);
-  if (answer.Answer !== "Refused" || !REPORTS_OF_WORK.includes(message.MessageName)) {
+  if (answer.Answer !== "Refused" || !RECORDED.includes(message.MessageName)) {
     return null;
   }
   const told = sorted({ Answer: answer, At: at, By: `station ${source}`, Kind: "refused", Message: message, Version: 1 });

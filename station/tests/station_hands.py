@@ -147,13 +147,17 @@ def untraced_work_is_red(site):
         wait_for("the refusal", lambda: all(word in it.script(first) for word in ("M1", "WorkStarted", "SN-7", "Expired", "Put the board aside")))
         (status / "untraced.json").write_text(json.dumps({"Decided": ["a" * 32], "Undecided": [], "Version": 1}))
         wait_for("it is decided", lambda: "SN-7" not in it.script(first))
+        it.does("S/M1/1", "K-2", kind="refused")
+        it.seen()
+        inbox = lambda: [json.loads(file.read_bytes())["Message"]["MessageBody"] for file in (site.room / "line/untraced").glob("*.json")]
+        wait_for("the refused load is recorded", lambda: inbox() == [{"Machine": "M1", "Slot": "1", "Reel": "K-2"}])
         site.kill_desk()
         it.does("S/M1/1", "K-3", kind="asked", holds=("NOT VERIFIED", "don't run this slot"))
         it.seen()
         wait_for("it is not verified", lambda: "M1 1: K-3 NOT VERIFIED" in it.script(first))
         site.start_desk()
         wait_for("it is verified", lambda: it.script(first) == "")
-    return "a refusal that is decided, and a load that is answered"
+    return "a refusal that is decided, a refused load that is recorded, and a load that is answered"
 
 
 def ambiguous_codes_are_reported(site):

@@ -4,8 +4,8 @@
 usage: clients/python/tests/interlocked.py [--kills N] [--refusals N] [--seed N]
 
 The plant's command writes each call with its time. The machine of the test takes `go` only while the last call says so and is
-younger than half a second. A killed sender calls nothing more, so that the machine stops; a sender that is started again must
-say `stop` until a start of work is accepted.
+younger than half a second. A killed sender calls nothing more, so that the machine stops; one of five hangs before it is killed. A
+sender that is started again must say `stop` until a start of work is accepted.
 
 examples:
   clients/python/tests/interlocked.py --refusals 100
@@ -14,10 +14,13 @@ examples:
 A line every 20 rounds has the figures so far. Exit status: 0 each kill ended in stop; 1 one did not; 2 bad command line.
 """
 import argparse
+import contextlib
 import http.server
 import json
 import pathlib
+import os
 import random
+import signal
 import subprocess
 import sys
 import tempfile
@@ -26,7 +29,7 @@ import time
 
 SENDER = pathlib.Path(__file__).resolve().parents[1] / "tracedesk-send"
 YOUNG = 0.5  # seconds that a call permits for
-PATIENCE = 30  # seconds for what must come
+PATIENCE = 600  # seconds for what must come: a machine may be busy
 
 
 class Desk(http.server.BaseHTTPRequestHandler):
@@ -73,11 +76,16 @@ class Plant:
                       "--follow", str(self.out), "--interlock", str(command), "--machine", "M1", "--every", "0.1", "--silence", "3"]
 
     def start(self):
-        self.sender = subprocess.Popen(self.words, stderr=subprocess.DEVNULL)
+        self.sender = subprocess.Popen(self.words, stderr=subprocess.DEVNULL, start_new_session=True)
 
     def kill(self):
+        """Kills the sender, and waits for a call of its command that goes on."""
         self.sender.kill()
         self.sender.wait()
+        with contextlib.suppress(ProcessLookupError):
+            while True:
+                os.killpg(self.sender.pid, 0)
+                time.sleep(0.01)
 
     def say(self, word, kind="good"):
         """The machine sends a message; its UniqueID."""
@@ -126,6 +134,9 @@ class Plant:
         if chance.random() < 0.3:
             self.say("MaterialsInstalled", chance.choice(("good", "bad")))
         time.sleep(chance.uniform(0, 0.15))
+        if chance.random() < 0.2:
+            self.sender.send_signal(signal.SIGSTOP)
+            self.wait_for(lambda: not self.is_permitted())
         self.kill()
         end = time.time()
         time.sleep(YOUNG + 0.1)

@@ -80,6 +80,14 @@ class Spools(unittest.TestCase):
                 with spool.Spool(self.folder).sending():
                     pass
 
+    def test_a_run_leaves_no_file_open(self):
+        def files():
+            return len(os.listdir("/proc/self/fd"))
+        its, before = spool.Spool(self.folder / "m1"), files()
+        with its.sending():
+            its.done(its.put(b"{}"), accepted(1))
+        self.assertEqual(before, files())
+
     def test_a_put_that_ends_anywhere_is_whole_or_none(self):
         seen = set()
         for number in range(1, 12):

@@ -83,6 +83,14 @@ class Untraced(test_send.Sending):
         self.send()
         self.assertEqual((self.uids(), len(self.records())), (["bad5"], 4))
 
+    def test_a_refused_reel_is_recorded_and_may_be_sent_again(self):
+        given = [work("bad1", "MaterialsSpliced", Slot="1", Reel="K"), work("bad2", "MaterialsUnloaded", Slot="1"), test_send.line("bad3")]
+        self.send("--follow", "-", "--untraced", self.inbox, "--status", self.status, "--name", "m1", given=b"\n".join(given))
+        self.assertEqual({it["Message"]["UniqueID"] for it in self.records()}, {"bad1", "bad2"})
+        self.assertEqual(json.loads((self.status / "m1.json").read_text())["Machines"]["M1"]["LastRefused"], None)
+        self.assertEqual(self.send("--again", "all").returncode, 0)
+        self.assertEqual(len(self.waits()), 3)
+
     def test_a_person_decides(self):
         self.refuse()
         self.assertEqual(len(self.records(self.spool / "untraced")), 4)

@@ -1,4 +1,4 @@
-"""Records of untraced work: reports of work that the desk did not take, and what a person decided about each.
+"""Records of what the desk did not take: reports of work, and loads, splices and unloads; and what a person decided about each.
 
 A record is one line of JSON. Its id is made of its bytes, and its file is ID.json, so the same record is there once, whatever is
 killed. A spool makes records in its folder `untraced`. From there they are handed on to the inbox of the line.
@@ -31,3 +31,8 @@ def record(kind: str, by: str, at: str, **more: Any) -> Tuple[str, bytes]:
 def is_report(told: Dict[str, Any]) -> bool:
     """Whether a message says what was done, and not what somebody asks for."""
     return told.get("MessageName") in words.REPORTS_OF_WORK
+
+
+def is_recorded(told: Dict[str, Any]) -> bool:
+    """Whether a record is made of a message that isn't taken: a report of work, or a load, splice or unload, which may be sent again."""
+    return told.get("MessageName") in words.RECORDED

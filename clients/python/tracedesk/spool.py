@@ -4,7 +4,7 @@
     answers/2026-03-02.jsonl      a line for each answer, in the order sent: {"Answer":{..},"Message":"000000000012"}
     sent/000000000011.json        a message that was accepted, kept for some days; .refused is a copy of one that was refused
     aside/000000000007.json       a message that was not taken, and beside it
-    aside/000000000007.why        what was wrong, and what to do; of a report of work the id of its record too
+    aside/000000000007.why        what was wrong, and what to do; and the id of its record, if one is made
     aside/000000000007.slots      the reels on the machine when a report of work was refused
     untraced/ID.json              a record of untraced work that isn't handed on yet
 
@@ -257,6 +257,7 @@ class Spool:
                 raise
             self.write_state(Runs=self.is_unanswered)
         finally:
+            self.close_log()
             os.close(handle)
 
     def names(self) -> List[str]:
@@ -310,9 +311,7 @@ class Spool:
         """Adds an answer to the file of the day; of a message that was not taken with the time, so that its record is the same each time it is made."""
         today = f"{datetime.date.today()}.jsonl"
         if self.log is None or self.log[0] != today:
-            if self.log is not None:
-                os.close(self.log[1])
-                self.log = None
+            self.close_log()
             self.log = today, os.open(self.answered / today, os.O_WRONLY | os.O_CREAT | os.O_APPEND, 0o600)
             sync_folder(self.answered)
         if self.state.get("Answers") != today:
@@ -327,6 +326,11 @@ class Spool:
             with contextlib.suppress(OSError):
                 os.ftruncate(self.log[1], size)
             raise
+
+    def close_log(self) -> None:
+        if self.log is not None:
+            os.close(self.log[1])
+            self.log = None
 
     def finish(self, name: str, answer: answers.Answer, at: str = "") -> None:
         """Moves a message that is answered: to those that were sent, or aside. Done once more it does nothing."""
@@ -343,7 +347,7 @@ class Spool:
                 write_synced(kept, place.read_bytes())
             why = f"{answers.why(answer)}\n{answer.text.decode()}\n"
             told = self.message(name) if size <= MOST_READ else {}
-            if records.is_report(told):
+            if records.is_recorded(told):
                 why += self.keep_record(told, answer, at or records.utc())
             write_synced(self.aside / f"{name}.why", why.encode())
             os.rename(place, self.aside / place.name)
@@ -352,20 +356,20 @@ class Spool:
         self.drop_old(kept, size)
 
     def keep_record(self, told: Dict[str, Any], answer: answers.Answer, at: str) -> str:
-        """Keeps a record of a report of work that was not taken: the line of it for the file .why."""
+        """Keeps a record of a message that was not taken: the line of it for the file .why."""
         made, text = records.record("refused", f"tracedesk-send {self.name}", at, Answer=answers.read_object(answer.text), Message=told)
         write_synced(self.untraced / f"{made}.json", text)
         sync_folder(self.untraced)
         return json.dumps({"At": at, "Id": made}) + "\n"
 
     def record_old(self) -> None:
-        """Makes the records of reports of work that were set aside by a version that made none."""
+        """Makes the records of messages that were set aside by a version that made none."""
         for name in self.set_aside():
             place = self.aside / f"{name}.why"
             with contextlib.suppress(OSError, IndexError):
                 why, answer, told = self.why(name)
-                if not told and self.is_report(name):
-                    line = self.keep_record(self.message(name), answer, records.utc(place.stat().st_mtime))
+                if not told and records.is_recorded(message := self.message(name)):
+                    line = self.keep_record(message, answer, records.utc(place.stat().st_mtime))
                     write_synced(place, f"{why}\n{answer.text.decode()}\n{line}".encode())
 
     # --- What was sent
@@ -434,7 +438,7 @@ class Spool:
         return records.is_report(self.message(name))
 
     def why(self, name: str) -> Tuple[str, answers.Answer, Dict[str, Any]]:
-        """Why a message was set aside, the answer, and of a report of work when that was and the id of its record."""
+        """Why a message was set aside, the answer, and when that was and the id of its record, if one is made."""
         lines = (self.aside / f"{name}.why").read_text().split("\n")
         answer = answers.read(lines[1].encode()) or answers.LINE_TOO_LONG
         return lines[0], answer, answers.read_object(lines[2].encode())
@@ -445,8 +449,8 @@ class Spool:
         for name in self.set_aside():
             with contextlib.suppress(OSError, IndexError):
                 _, answer, told = self.why(name)
-                if told:
-                    message = self.message(name)
+                message = self.message(name)
+                if told and records.is_report(message):
                     found[str(answers.body_of(message).get("Machine"))] = {"Answer": answers.read_object(answer.text), "Message": message, **told}
         return found
 

@@ -261,6 +261,8 @@ MESSAGES: Tuple[Type[forms.Command], ...] = (
 
 # Messages about what was done: after a refusal they are not sent again.
 REPORTS_OF_WORK: Tuple[str, ...] = ('TraceDesk.WorkStarted', 'TraceDesk.WorkCompleted', 'TraceDesk.MaterialsInstalled', 'TraceDesk.MaterialsScrapped')
+# These, and messages that handle reels: their refusals are recorded.
+RECORDED: Tuple[str, ...] = ('TraceDesk.MaterialsLoaded', 'TraceDesk.MaterialsSpliced', 'TraceDesk.MaterialsUnloaded', 'TraceDesk.WorkStarted', 'TraceDesk.WorkCompleted', 'TraceDesk.MaterialsInstalled', 'TraceDesk.MaterialsScrapped')
 
 # What to do about a refusal, and about a fault.
 REFUSALS: Dict[str, str] = {

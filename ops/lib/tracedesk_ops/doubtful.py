@@ -1,11 +1,13 @@
 """Pieces of a line that may be of another reel than the desk has it: for ops/recall, ops/untraced and ops/plant-load.
 
-A desk attributes a piece to the reel that feeds its slot when the install is accepted. Two things can make that the wrong reel:
+A desk attributes a piece to the reel that feeds its slot when the install is accepted. Three things can make that the wrong reel:
 
 - The reel was changed at another moment than the desk heard of it: a load, splice or unload and an install on its slot were
   accepted in the other order than they were done in, by their own minutes. Minutes are whole, so within one minute nothing is seen.
+- A load, splice or unload was refused, and done all the same. That concerns the slot's pieces until it is loaded or unloaded; of a
+  splice only those of reels that were spliced after it. It ends where somebody decides that the refused reel was taken off.
 - The desk's count of a reel is not what is on it: pieces were placed that are in no trace (untraced.py), or are counted on another
-  reel for the first reason. So the last pieces of a reel, and the first ones of a reel that is spliced to it, as many as those were
+  reel for one of these reasons. So the last pieces of a reel, and the first ones of a reel that is spliced to it, as many as those were
   on the machine until then, may be of another one.
 
 All files of a line are read as one story, in the order of their chain. What a desk was begun with is no story of its own.
@@ -13,6 +15,7 @@ All files of a line are read as one story, in the order of their chain. What a d
 import bisect
 import contextlib
 import datetime
+import functools
 import json
 import pathlib
 import re
@@ -23,13 +26,17 @@ from typing import NamedTuple
 
 from tracedesk_ops import catalogue, untraced
 
-WORDS = ("MaterialsLoaded", "MaterialsSpliced", "MaterialsUnloaded", "MaterialsInstalled", "MaterialsScrapped")
+WORDS = (*untraced.HANDLING, "MaterialsInstalled", "MaterialsScrapped")
+LOADED, SPLICED, UNLOADED = untraced.HANDLING
+# refusals of a slot without a reel: what was accepted of the slot in that minute came later
+OF_AN_EMPTY_SLOT = {LOADED: ("UnknownReel", "ReelMounted", "ReelEmpty", "WrongPart", "NotBaked", "Expired"), SPLICED: ("SlotEmpty",), UNLOADED: ("SlotEmpty",)}
 CARRIED = re.compile(r"begin-[0-9a-f]+-\d+")
 STORY = f"""SELECT number, uid, source, own, effective, iif(command GLOB 'MaterialsInstalled*', substr(command, 1, 90), command) FROM accepted
     WHERE {' OR '.join(f"command GLOB '{it}*'" for it in WORDS)} ORDER BY number"""
 HEADER = ("board", "designator", "machine", "slot", "minute", "reel", "lot", "other_reels", "other_lots", "why", "file")
 LATE, SHORT, LONG = "handled in another order than accepted", "the reel may have ended before", "the reel before it may have ended later"
-AFTER = "after such an order, on the same tape"
+AFTER, REFUSED = "after such an order, on the same tape", "a refused reel may be on the slot"
+TAKEN_OFF = "taken off"  # what became of a refused reel from which nothing was placed
 STATUS = "status"  # beside the archives: what senders say of themselves
 TRIES = 5  # of a copy of a running desk's file
 
@@ -43,6 +50,22 @@ class Handling(NamedTuple):
     machine: str
     slot: str
     reel: str
+
+
+class Refusal(NamedTuple):
+    """A load, splice or unload that a desk refused; the reel is empty where it is an unload. It is of a tape that was loaded before `since`."""
+    own: int
+    since: int
+    word: str
+    reel: str
+    id: str
+
+
+class Tape(NamedTuple):
+    """What was accepted of a slot from a load or unload on, and what was refused meanwhile. It ends before a turn."""
+    handled: list
+    refused: list
+    end: tuple
 
 
 class Piece(NamedTuple):
@@ -75,11 +98,52 @@ class Work(NamedTuple):
 class Story:
     """The handling and the installs of a line, file by file in the order of their chain."""
 
-    def __init__(self, works=()):
-        """`works` are the line's untraced work."""
+    def __init__(self, works=(), refused=()):
+        """`works` are the line's untraced work, and `refused` the records of loads, splices and unloads that were refused."""
         self.works = [it for it in works if it.pieces]
         self.slots, self.installs, self.late, self.lots, self.names, self.tables = {}, {}, {}, {}, [], []
-        self.machines, self.parts, self.scraps = {}, {}, {}
+        self.machines, self.parts, self.scraps, self.refusals = {}, {}, {}, {}
+        for it in refused:
+            self.refuse(it)
+
+    def refuse(self, record):
+        """Takes in handling that was refused. Its reel was on the machine in any case."""
+        work, word, reel = work_of(record), untraced.word_of(record), str(untraced.body_of(record).get("Reel", ""))
+        self.machines.setdefault(reel, set()).add(work.machine)
+        own = minute_of(str(record.told["Message"].get("TimeStamp")))
+        own = work.last if own is None else own
+        since = own + (record.told["Answer"].get("Refusal") not in OF_AN_EMPTY_SLOT[word])
+        self.refusals.setdefault((work.machine, work.slot), []).append(Refusal(own, since, word, reel, record.id))
+
+    @functools.cached_property
+    def mixed(self):
+        """By machine and slot the tapes on which a refused reel may have been, once all files were read."""
+        found = {}
+        for on, refusals in self.refusals.items():
+            tapes = tapes_of(self.slots.get(on, ()))
+            for tape, following in zip(tapes, [*tapes[1:], None]):
+                first, last = -1 if tape[0].word == SPLICED else tape[0].own, following[0].own if following else 1 << 40
+                its = [it for it in refusals if first < it.since and it.own <= last and (it.word != SPLICED or is_overtaken(it, tape[1:]))]
+                if its:
+                    found.setdefault(on, []).append(Tape(tape, its, following[0].turn if following else (len(self.names), 0)))
+        return found
+
+    def unsure(self, turn, machine, slot, reel, own):
+        """The reels of which a piece may be since they were refused, and the first digits of those records."""
+        tapes = self.mixed.get((machine, slot), [])
+        at = bisect.bisect_right(tapes, turn, key=lambda it: it.handled[0].turn) - 1
+        reels, ids = set(), set()
+        for it in tapes[at].refused if at >= 0 and turn < tapes[at].end else ():
+            put = next((one.own for one in reversed(tapes[at].handled) if one.reel == reel), own)
+            others = {it.reel, *(one.reel for one in tapes[at].handled if it.word == SPLICED and one.own >= it.own)} - {reel}
+            if it.own <= (put if it.word == SPLICED else own) and others:
+                reels |= others - {""}
+                ids.add(it.id[:8])
+        return reels, ids
+
+    def refused_on(self, machine, slot, first, last):
+        """The reels that were refused on a slot from a minute to another."""
+        return {it.reel for it in self.refusals.get((machine, slot), ()) if first <= it.own <= last} - {""}
 
     def read(self, name, database):
         """Takes a file in: what is late in it is found on the way."""
@@ -120,7 +184,7 @@ class Story:
                 if effective <= it.own:
                     break
                 if own > it.own and slot in ("", it.slot):
-                    self.doubt(turn, own, many, it, {it.reel} - {""})
+                    self.doubt(turn, own, many, it, {it.reel} - {""} | self.refused_on(it.machine, it.slot, it.own, own))
 
     def doubt(self, turn, own, many, handling, reels):
         if many:
@@ -130,26 +194,28 @@ class Story:
 
     def tape_before(self, handling, own):
         """The reels that were on a slot before this handling, as far as they were put there by that minute."""
-        found = set()
+        found, begun = set(), -1
         for it in reversed(self.slots[handling.machine, handling.slot]):
             if it.turn < handling.turn and it.reel and it.own <= own:
                 found.add(it.reel)
-                if it.word == "MaterialsLoaded":
+                if it.word == LOADED:
+                    begun = it.own
                     break
-        return found
+        return found | self.refused_on(handling.machine, handling.slot, begun, own)
 
     def placed(self, place, database):
         """The pieces of each install that is in doubt by its order, and those of machines whose reels may have other pieces left than the desk has."""
         numbers = [[turn[1]] for turn in self.late if turn[0] == place]
-        machines = {it.machine for it in self.works} | {machine for machine, its in self.installs.items() if any(turn in self.late or turn in self.scraps for turn, *_ in its)}
+        machines = {it.machine for it in self.works} | {machine for machine, _ in self.mixed} | {machine for machine, its in self.installs.items() if any(turn in self.late or turn in self.scraps for turn, *_ in its)}
         if not numbers and not machines:
             return []
         database.execute("CREATE TEMP TABLE IF NOT EXISTS late (number INTEGER PRIMARY KEY)")
         database.execute("CREATE TEMP TABLE IF NOT EXISTS drifted (machine TEXT PRIMARY KEY)")
         database.executemany("INSERT INTO late VALUES (?)", numbers)
         database.executemany("INSERT INTO drifted VALUES (?)", [[it] for it in machines])
-        return database.execute("""SELECT number, board, designator, placement.machine, slot, reel, own FROM placement JOIN accepted USING (number)
-            WHERE number IN (SELECT number FROM temp.late) OR placement.machine IN (SELECT machine FROM temp.drifted) ORDER BY number, place""").fetchall()
+        rows = database.execute("""SELECT number, board, designator, placement.machine, slot, reel, own FROM placement JOIN accepted USING (number)
+            WHERE number IN (SELECT number FROM temp.late) OR placement.machine IN (SELECT machine FROM temp.drifted) ORDER BY number, place""")
+        return [(*row, *self.unsure((place, row[0]), *row[3:])) for row in rows]
 
     def left(self, database):
         """How many pieces are left of each reel."""
@@ -173,8 +239,15 @@ class Story:
         refused may have been on the slot all the same."""
         if kind == "board":
             return piece.board == name
-        own = self.lots if kind == "lot" else {it: it for it in self.parts}
-        return name in (piece.lot, *piece.other_lots, piece.reel, *piece.other_reels) or self.parts.get(piece.reel) in {self.parts[it] for it, its in own.items() if its == name}
+        parts, machines = self.looked_for(kind, name)
+        return name in (piece.lot, *piece.other_lots, piece.reel, *piece.other_reels) or self.parts.get(piece.reel) in parts or piece.machine in machines
+
+    @functools.lru_cache(1)
+    def looked_for(self, kind, name):
+        """The parts of a lot or reel. If the desk knows none of it, the machines on which such a reel was refused."""
+        parts = {self.parts[it] for it, lot in self.lots.items() if name == (lot if kind == "lot" else it)}
+        refused = [machines for it, machines in self.machines.items() if it and it not in self.parts and (kind == "lot" or it == name)]
+        return parts, set() if parts else set().union(*refused)
 
     def reels_of(self, work):
         """The reels that were on a machine while it did this work, as a text."""
@@ -183,62 +256,95 @@ class Story:
 
     def pieces(self):
         """The pieces that may be of another reel, from the oldest on."""
-        lacking, moved, found = {}, {}, []  # by machine: minutes and how many pieces since
-        for work in self.works:
-            lacking.setdefault(work.machine, []).append((work.first, work.pieces))
-        for place, placed, _ in self.tables:
-            for number, _, _, machine, slot, _, own in placed:
-                if slot in self.late.get((place, number), {}):
-                    moved.setdefault(machine, []).append((own, 1))
-        for machine, own, many in self.scraps.values():
-            moved.setdefault(machine, []).append((own, many))
-        late = {}
-        for place, placed, _ in self.tables:
-            for number, _, _, machine, slot, _, _ in placed:
-                if slot in self.late.get((place, number), {}):
-                    late.setdefault((machine, slot), []).append((place, number))
-        begun = {on: [it.turn for it in its if it.word != "MaterialsSpliced"] for on, its in self.slots.items()}
-        until = lambda counts, reel, minute: sum(many for machine in self.machines.get(reel, ()) for since, many in counts.get(machine, ()) if since <= minute)
-        before = {reel: front for its in self.slots.values() for reel, front in spliced_onto(its)}
+        moved, late = self.moved()
+        lacking, moved, found = steps((it.machine, it.first, it.pieces) for it in self.works), steps(moved), []
+        begun = {on: [(it.turn, it.own) for it in its if it.word != SPLICED] for on, its in self.slots.items()}
+        until = lambda counts, reel, minute: sum(counts[it][1][bisect.bisect_right(counts[it][0], minute)] for it in self.machines.get(reel, ()) if it in counts)
+        before, following = self.spliced(), {}
+        for reel, its in before.items():
+            for _, front in its:
+                following.setdefault(front, set()).add(reel)
         for place, placed, left in self.tables:
-            after, first = dict(left), {}
+            after, turns = dict(left), {}
             for piece in placed:
-                first[piece[5]] = first.get(piece[5], 0) + 1
-            for number, board, designator, machine, slot, reel, own in reversed(placed):
+                turns.setdefault(piece[5], []).append((place, piece[0]))
+            for number, board, designator, machine, slot, reel, own, refused, ids in reversed(placed):
                 its, whys = self.late.get((place, number), {}), []
                 others = set(its.get(slot, ())) - {reel}
+                at = bisect.bisect_right(begun.get((machine, slot), []), (place, number), key=lambda it: it[0]) - 1
+                tape = begun[machine, slot][at] if at >= 0 else ((-1, 0), -1)
                 if slot in its and (others or not its[slot]):
                     whys.append(LATE)
-                elif self.follows((place, number), late.get((machine, slot), []), begun.get((machine, slot), [])):
+                elif (before_it := bisect.bisect_right(late.get((machine, slot), []), (place, number))) and late[machine, slot][before_it - 1] > tape[0]:
                     whys.append(AFTER)
                 if after.get(reel, 0) < until(lacking, reel, own) + until(moved, reel, own):
+                    others |= following.get(reel, set())
                     whys.append(SHORT)
-                first[reel] -= 1
-                if reel in before and first[reel] < until(moved, reel, own):
-                    others.add(before[reel])
+                if ids:
+                    others |= refused
+                    whys.append(f"{REFUSED} ({', '.join(sorted(ids))})")
+                at = bisect.bisect_left(before.get(reel, []), ((place, number), "")) - 1
+                if at >= 0 and bisect.bisect_left(turns[reel], (place, number)) - bisect.bisect_left(turns[reel], before[reel][at][0]) < until(moved, reel, own):
+                    others.add(before[reel][at][1])
                     whys.append(LONG)
                 after[reel] = after.get(reel, 0) + 1
                 if whys:
+                    others |= self.refused_on(machine, slot, tape[1], own) - {reel}
                     names = tuple(sorted(others))
                     lots = tuple(sorted({self.lots.get(it, "") for it in names}))
                     found.append(Piece(board, designator, machine, slot, own, reel, self.lots.get(reel, ""), names, lots, "; ".join(whys), self.names[place]))
         return sorted(found, key=lambda it: (it.minute, it.board, it.designator))
 
+    def moved(self):
+        """The machines on which pieces were taken off a reel that may be another one, when, and how many; and by machine and slot the turns of those that are late."""
+        moved, late = [], {}
+        for place, placed, _ in self.tables:
+            for number, _, _, machine, slot, _, own, _, ids in placed:
+                if is_late := slot in self.late.get((place, number), {}):
+                    late.setdefault((machine, slot), []).append((place, number))
+                if is_late or ids:
+                    moved.append((machine, own, 1))
+        for machine, slot in self.mixed:
+            for turn, own, _, at, many in self.installs.get(machine, ()):
+                if at == slot and turn not in self.scraps and self.unsure(turn, machine, slot, None, own)[1]:
+                    self.scraps[turn] = machine, own, many
+        return [*moved, *self.scraps.values()], late
 
-    @staticmethod
-    def follows(turn, late, begun):
-        """Whether a piece in doubt by its order was placed off the same tape before; a tape begins with a load."""
-        before, since = bisect.bisect_right(late, turn), bisect.bisect_right(begun, turn)
-        return before > 0 and (since == 0 or late[before - 1] > begun[since - 1])
+    def spliced(self):
+        """Of each reel that was spliced to another one the turns of that, each with the other one."""
+        found = {}
+        for its in self.slots.values():
+            for tape in tapes_of(its):
+                for front, it in zip(tape, tape[1:]):
+                    found.setdefault(it.reel, []).append((it.turn, front.reel))
+        return {reel: sorted(its) for reel, its in found.items()}
 
 
-def spliced_onto(handled):
-    """Of a slot's reels, each that was spliced to another one, with that one."""
-    tape = []
+def steps(counts):
+    """Of counts with their machines and minutes, by machine the minutes and the sum up to each of them."""
+    found = {}
+    for machine, minute, many in sorted(counts):
+        minutes, sums = found.setdefault(machine, ([], [0]))
+        minutes.append(minute)
+        sums.append(sums[-1] + many)
+    return found
+
+
+def tapes_of(handled):
+    """The handling of a slot tape by tape: each begins with a load or an unload."""
+    tapes = []
     for it in handled:
-        if it.word == "MaterialsSpliced" and tape:
-            yield it.reel, tape[-1]
-        tape = [it.reel] if it.word == "MaterialsLoaded" else [*tape, it.reel] if it.reel else []
+        if it.word == SPLICED and tapes:
+            tapes[-1].append(it)
+        else:
+            tapes.append([it])
+    return tapes
+
+
+def is_overtaken(refusal, spliced):
+    """Whether another reel was spliced to a tape since one was refused, and before that one was accepted, if ever it was."""
+    accepted = next((it.turn for it in spliced if it.reel == refusal.reel), None)
+    return any(it.own >= refusal.own and it.reel != refusal.reel and (accepted is None or it.turn < accepted) for it in spliced)
 
 
 def minute_of(text):
@@ -299,8 +405,9 @@ class Line(NamedTuple):
 def look(path, archives, is_running=False):
     """Looks at what is around a catalogue. The archives are in the order of their chain; the running desk's file lies beside their folder."""
     book, faults, notes, pieces = untraced.read(path.parent), [], [], []
-    refused = [it for it in book.records if it.told["Kind"] == "refused"]
-    story, desk, decided = Story(map(work_of, refused)), path.parent.parent / "desk", untraced.decisions(book.records)
+    refused, desk, decided = untraced.refused(book.records), path.parent.parent / "desk", untraced.decisions(book.records)
+    works = [it for it in refused if untraced.is_work(it)]
+    story = Story(map(work_of, works), [it for it in refused if not untraced.is_work(it) and not (it.id in decided and decided[it.id].told["Became"] == TAKEN_OFF)])
     try:
         with contextlib.ExitStack() as held:
             files = {it.file: held.enter_context(catalogue.unchanged(path, it, False)) for it in archives}
@@ -315,13 +422,11 @@ def look(path, archives, is_running=False):
         pieces = story.pieces()
     except (catalogue.CatalogueError, OSError, sqlite3.Error) as fault:
         faults.append(f"{path}: whether pieces may be of other reels isn't known: {fault}")
-    works = [(it, decided.get(it.id), story.reels_of(work_of(it))) for it in refused]
-    return Line(works, pieces, [*book.faults, *faults, *waiting(path.parent.parent / STATUS)], notes, story)
+    return Line([(it, decided.get(it.id), story.reels_of(work_of(it))) for it in works], pieces, [*book.faults, *faults, *waiting(path.parent.parent / STATUS)], notes, story)
 
 
 def work_of(record):
-    message = record.told["Message"]
-    body = message.get("MessageBody") if isinstance(message.get("MessageBody"), dict) else {}
+    message, body = record.told["Message"], untraced.body_of(record)
     count = len(body["Designators"]) if isinstance(body.get("Designators"), list) else body.get("Quantity") if type(body.get("Quantity")) is int else 0
     minutes = sorted(it for it in map(minute_of, (str(message.get("TimeStamp")), record.told["At"])) if it is not None) or [0, 1 << 40]
     return Work(str(body.get("Machine")), str(body.get("Slot", "")), count, minutes[0], minutes[-1])

@@ -162,9 +162,9 @@ class Restoring:
                 continue
             for it in both:
                 it.unlink()
-            if is_untold(aside) and not self.asked.db.exists():
+            if is_untold(aside, self.asked.db) and not self.asked.db.exists():
                 self.put_back(aside)
-            elif is_untold(aside):
+            elif is_untold(aside, self.asked.db):
                 self.untold.append(aside)
 
     def put_all_back(self):
@@ -179,6 +179,8 @@ class Restoring:
         self.clear()
         if (aside / backups.ARCHIVE).exists():
             if self.asked.archive.exists():
+                if not (self.asked.archive / (said_of(aside).get("entry") or ".")).exists():
+                    raise plant.Fault(f"{self.asked.archive} was made since a restore was cut off that had put {aside / backups.ARCHIVE} aside: move its archives there, and take the folder away. Then tracedesk-settle --catalogue")
                 os.rename(self.asked.archive, self.archive)  # the copy's
             os.rename(aside / backups.ARCHIVE, self.asked.archive)
         for tail in (*catalogue.LOGS, ""):
@@ -194,11 +196,18 @@ class Restoring:
             aside.rmdir()
 
 
-def is_untold(aside):
-    """Whether a run was killed before it knew what the copy lacks that lies there."""
-    with contextlib.suppress(OSError, ValueError, KeyError, TypeError):
-        return json.loads((aside / catalogue.LACKS).read_text(encoding="utf-8"))["archives"] is None
-    return False
+def said_of(aside):
+    """What a restore has written down of what it put aside; nothing where that can't be read."""
+    with contextlib.suppress(OSError, ValueError):
+        if isinstance(told := json.loads((aside / catalogue.LACKS).read_text(encoding="utf-8")), dict):
+            return told
+    return {}
+
+
+def is_untold(aside, db):
+    """Whether a run of this desk was killed before it knew what the copy lacks that lies there."""
+    told = said_of(aside)
+    return told.get("archives", "") is None and told.get("desk", str(db)) == str(db)
 
 
 def settled(asked, service, may_be_damaged=False):

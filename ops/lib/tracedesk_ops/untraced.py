@@ -1,5 +1,6 @@
 """Untraced work of a line: reports of work that its desk refused, and what a person decided about each. For ops/untraced, ops/recall
-and those that copy a line's files.
+and those that copy a line's files. Refused loads, splices and unloads have records too, but nobody has to decide about them: a recall
+says which pieces they make doubtful (doubtful.py).
 
 Senders put records into the line's inbox, the folder `untraced` beside that of the archives. `collect` appends each of them to
 `untraced.csv`, beside the catalogue, once:
@@ -27,6 +28,7 @@ from tracedesk_ops import catalogue, plant
 FILE_NAME, INBOX, COLLECTED, STATUS = "untraced.csv", "untraced", "collected.json", "untraced.json"
 HEADER = ("id", "kind", "at", "machine", "board", "what", "refusal", "place", "source", "by", "of", "became", "reason", "record", "chain")
 RECORD = re.compile(r"[0-9a-f]{32}\.json")
+HANDLING = ("MaterialsLoaded", "MaterialsSpliced", "MaterialsUnloaded")
 BEGIN = "0" * 64
 MOST_DECIDED = 1_000  # ids that the status file names
 LONGEST = 2 << 20  # bytes of a record: a message has 1,048,576 at most
@@ -65,13 +67,26 @@ def said(record):
     told = record.told
     if told["Kind"] == "decided":
         return [record.id, "decided", told["At"], "", "", "", "", "", "", told["By"], told["Of"], told["Became"], told["Reason"]]
-    message, answer = told["Message"], told["Answer"]
-    body = message.get("MessageBody") if isinstance(message.get("MessageBody"), dict) else {}
+    message, answer, body = told["Message"], told["Answer"], body_of(record)
     names = body.get("Designators") if isinstance(body.get("Designators"), list) else []
-    what = " ".join(map(str, names)) or (f"slot {body['Slot']}, {body.get('Quantity')} pieces" if "Slot" in body else "")
-    work = f"{str(message.get('MessageName', '')).removeprefix('TraceDesk.')} {what}".strip()
+    of_slot = f"slot {body.get('Slot')}, " + (f"{body.get('Quantity')} pieces" if is_work(record) else f"reel {body.get('Reel', 'none')}")
+    work = f"{word_of(record)} {' '.join(map(str, names)) or of_slot * ('Slot' in body)}".strip()
     return [record.id, "refused", told["At"], str(body.get("Machine", "")), str(body.get("Board", "")), work, str(answer.get("Refusal", answer.get("Answer", ""))), str(answer.get("At", "")),
             str(message.get("Source", "")), str(told.get("By", "")), "", "", ""]
+
+
+def body_of(record):
+    body = record.told["Message"].get("MessageBody")
+    return body if isinstance(body, dict) else {}
+
+
+def word_of(record):
+    return str(record.told["Message"].get("MessageName", "")).removeprefix("TraceDesk.")
+
+
+def is_work(record):
+    """Whether a record of a refusal is about work, and not about a load, splice or unload."""
+    return word_of(record) not in HANDLING
 
 
 def chained(before, record):
@@ -168,10 +183,14 @@ def decisions(records):
     return {it.told["Of"]: it for it in records if it.told["Kind"] == "decided"}
 
 
+def refused(records):
+    return [it for it in records if it.told["Kind"] == "refused"]
+
+
 def undecided(records):
     """The reports of work about which nobody decided."""
     decided = decisions(records)
-    return [it for it in records if it.told["Kind"] == "refused" and it.id not in decided]
+    return [it for it in refused(records) if is_work(it) and it.id not in decided]
 
 
 # --- Writing
@@ -247,7 +266,7 @@ def now():
 def decide(archive, of, by, became, reason):
     """Puts a decision into the inbox and collects it. Returns its record; a Fault where there is no such report of work."""
     records, _, _ = collect(archive)
-    if of not in {it.id for it in records if it.told["Kind"] == "refused"}:
+    if of not in {it.id for it in refused(records)}:
         raise plant.Fault(f"there is no untraced work {of}: tracedesk-untraced list has the ids")
     told = {"At": now(), "Became": became, "By": by, "Kind": "decided", "Of": of, "Reason": reason, "Version": 1}
     record = record_of(json.dumps(told, sort_keys=True, separators=(",", ":")).encode() + b"\n")
@@ -258,7 +277,8 @@ def decide(archive, of, by, became, reason):
 
 def write_status(folder, records):
     """Writes what the station's screens read: what is undecided, and the ids of what was decided last."""
-    open_ones = [dict(zip(("Id", "At", "Machine", "Board", "Work", "Refusal", "Place"), [row[0], *row[2:8]])) for row in map(said, undecided(records))]
+    names = ("Id", "At", "Machine", "Board", "MessageName", "Refusal", "Place")
+    open_ones = [dict(zip(names, [row[0], *row[2:5], f"TraceDesk.{word_of(it)}", *row[6:8]])) for it in undecided(records) for row in [said(it)]]
     told = {"At": now(), "Decided": list(decisions(records))[-MOST_DECIDED:], "Undecided": open_ones, "Version": 1}
     catalogue.put(pathlib.Path(folder) / STATUS, json.dumps(told) + "\n", 0o644)
 
