@@ -19,7 +19,7 @@ day:           ## feeds a made-up shift to a desk, and prints what is asked of i
 	@examples/day
 plant-recall:  ## three lines in one PostgreSQL, and a recall over them, compared with docs/plant.md; and the same recalls three ways | 3 min | postgresql
 	$(say)
-	@ops/plant/try --check
+	@ops/plant/try
 	@ops/tests/three-ways-test >&2
 
 #: test

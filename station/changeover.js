@@ -26,7 +26,7 @@ export class ChangeoverScreen {
     this.form = el("form", { class: "changeover", on: { submit: (event) => this.show(event) } }, el("h2", null, texts.title),
       field("product", texts.product, { value: this.product, maxlength: "200" }), field("boards", texts.boards, { value: this.boards, inputmode: "numeric" }),
       el("p", { class: "buttons" }, el("button", { type: "submit" }, texts.show), model.lines.map(({ machine }) => button(filled(texts.select, { machine }), () => this.select(machine))),
-        model.lines.length > 1 ? button(texts.selectAll, () => this.selectAll()) : null), this.said);
+        model.lines.length > 1 ? button(texts.selectAll, () => this.selectAll()) : null, button(texts.pick, () => this.pick())), this.said);
     return [this.form, this.now, el("p", { class: "legend" }, texts.work), this.kits];
   }
 
@@ -34,9 +34,13 @@ export class ChangeoverScreen {
     this.now.replaceChildren(...this.station.model.lines.map(({ machine }) => el("li", null, el("b", null, machine), " ", productText(this.station.model, machine).join(", "))));
   }
 
+  boardsAsked() {
+    return numberIn(this.form.elements.boards.value.trim(), 1, MOST_BOARDS);
+  }
+
   /** What the fields ask for, or null. */
   asked() {
-    const { elements } = this.form, boards = numberIn(elements.boards.value.trim(), 1, MOST_BOARDS);
+    const { elements } = this.form, boards = this.boardsAsked();
     this.product = elements.product.value.trim();
     this.boards = elements.boards.value.trim();
     this.said.hidden = isName(this.product) && boards !== null;
@@ -63,12 +67,28 @@ export class ChangeoverScreen {
     if (!asked) {
       return;
     }
+    const lines = await this.readAll(() => asked), rows = await this.allotted(lines.filter((it) => !it.fault), asked.boards);
+    this.kits.replaceChildren(...lines.map((it) => (it.fault ? this.fault(it, asked) : this.kit(it, asked, rows.filter((row) => row.machine === it.machine)))));
+  }
+
+  /** Shows what to bring for what each machine makes now, over the line, the slot that ends next first. */
+  async pick() {
+    const { model } = this.station, texts = TEXTS.changeover, boards = this.boardsAsked() ?? this.station.setup.boards, { pickHead: head } = texts;
+    const products = (machine) => ({ product: model.product(machine)?.product ?? "", boards }), lines = await this.readAll(products), had = lines.filter((it) => !it.fault);
+    const rows = (await this.allotted(had, boards)).filter((it) => it.bring.length || it.missing || it.unsure).map((it) => ({ ...it, lasts: Math.floor(((it.mounted + it.other) * boards) / it.needed), minutes: model.minutes(it) }));
+    rows.sort((a, b) => (a.minutes ?? Infinity) - (b.minutes ?? Infinity) || a.lasts - b.lasts);
+    const cells = rows.map((it) => [[`${it.machine} ${it.slot}`, "slot"], [it.part, "name"], filled(it.minutes === null ? texts.lasts : texts.lastsMinutes, { boards: piecesText(it.lasts), minutes: it.minutes }), ...this.brought(it)]);
+    const made = table(texts.pick, [[head.where], [head.part], [head.lasts], [head.bring], [head.missing, "n"]], cells, (at) => (rows[at].missing ? "EMPTY" : ""));
+    this.kits.replaceChildren(el("section", { class: "pick" }, el("h2", null, filled(texts.pickTitle, { boards: piecesText(boards), time: clock.shown(Math.min(...had.map((it) => it.had ?? clock.now()))) })),
+      lines.filter((it) => it.fault).map((it) => this.fault(it, products(it.machine))), rows.length ? made : el("p", { class: "note" }, texts.pickNone)));
+  }
+
+  async readAll(asked) {
     const lines = [];
     for (const { machine } of this.station.model.lines) {
-      lines.push(await this.read(machine, asked));
+      lines.push(await this.read(machine, asked(machine)));
     }
-    const had = lines.filter((it) => !it.fault), rows = await this.allotted(had, asked.boards);
-    this.kits.replaceChildren(...lines.map((it) => (it.fault ? this.fault(it, asked) : this.kit(it, asked, rows.filter((row) => row.machine === it.machine)))));
+    return lines;
   }
 
   /** What the desk says of a machine: its slots and its kit lists, or why there are none. */
@@ -100,13 +120,18 @@ export class ChangeoverScreen {
     const texts = TEXTS.changeover, count = (test) => rows.filter(test).length, missing = count((it) => it.missing), { head } = texts;
     const told = [["unsure", count((it) => it.unsure)], ["empty", count((it) => it.isEmpty)], ["expired", count((it) => it.expired.length)], ["other", count((it) => it.other)]];
     const columns = [[head.slot], [head.part], [head.needed, "n"], [head.mounted, "n"], [head.bring], [head.missing, "n"]];
-    const cells = rows.map((it) => [[it.slot, "slot"], [it.part, "name"], piecesText(it.needed), this.onSlot(it), [it.bring.map((reel) => this.bring(reel)).join("; "), "name"],
-      it.missing ? piecesText(it.missing) : it.unsure ? filled(texts.orMissing, { unsure: piecesText(it.unsure), parts: it.otherParts.join(", ") }) : ""]);
+    const cells = rows.map((it) => [[it.slot, "slot"], [it.part, "name"], piecesText(it.needed), this.onSlot(it), ...this.brought(it)]);
     const isReady = !missing && !told[0][1];
     return el("section", { class: "machine" }, el("h2", null, machine, el("small", null, filled(texts.asked, { product, machine, boards, time: clock.shown(had ?? clock.now()) }))),
       missing || isReady ? el("p", { class: missing ? "note wrong" : "note" }, missing ? filled(texts.missing, { count: missing }) : texts.ready) : null,
       told.filter(([, number]) => number).map(([name, number]) => el("p", { class: "note" }, filled(texts[name], { count: number }))),
-      table(columns, cells, (at) => (rows[at].missing ? "EMPTY" : rows[at].other || rows[at].expired.length ? "OTHER" : "")), el("p", { class: "legend" }, texts.how));
+      table(machine, columns, cells, (at) => (rows[at].missing ? "EMPTY" : rows[at].other || rows[at].expired.length ? "OTHER" : "")), el("p", { class: "legend" }, texts.how));
+  }
+
+  /** The cells of what to bring to a slot, and of what is missing. */
+  brought({ bring, missing, unsure, otherParts }) {
+    const lacks = missing ? piecesText(missing) : unsure ? filled(TEXTS.changeover.orMissing, { unsure: piecesText(unsure), parts: otherParts.join(", ") }) : "";
+    return [[bring.map((reel) => this.bring(reel)).join("; "), "name"], lacks];
   }
 
   onSlot({ mounted, other, otherParts, expired }) {

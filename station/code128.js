@@ -20,11 +20,14 @@ export function symbolsOf(text) {
   return [START_B, ...letters, check, STOP];
 }
 
-const WIDE = 0.33, LEAST_WIDE = 85; // millimetres: of the narrowest bar of a long code, and of a code
+const WIDE = 0.33, LEAST_WIDE = 85, MOST_WIDE = 190, LEAST_BAR = 0.19; // millimetres: the narrowest bar of a long code, a code, one across a page of A4, and the narrowest bar that scanners read
 
-/** The bars of a text as a picture, with quiet zones, in a length that is read. */
+/** The bars of a text as a picture, with quiet zones, in a length that is read; null if no page is that wide. */
 export function bars(text, height = 40) {
-  const widths = symbolsOf(text).map((it) => WIDTHS[it]).join("");
+  const widths = symbolsOf(text).map((it) => WIDTHS[it]).join(""), modules = [...widths].reduce((sum, it) => sum + Number(it), 2 * QUIET);
+  if (modules * LEAST_BAR > MOST_WIDE) {
+    return null;
+  }
   let x = QUIET;
   const rects = [];
   [...widths].forEach((digit, at) => {
@@ -33,5 +36,5 @@ export function bars(text, height = 40) {
     }
     x += Number(digit);
   });
-  return el("svg", { viewBox: `0 0 ${x + QUIET} ${height}`, class: "bars", width: `${Math.max(LEAST_WIDE, (x + QUIET) * WIDE)}mm`, preserveAspectRatio: "none" }, rects);
+  return el("svg", { viewBox: `0 0 ${modules} ${height}`, class: "bars", width: `${Math.min(MOST_WIDE, Math.max(LEAST_WIDE, modules * WIDE))}mm`, preserveAspectRatio: "none" }, rects);
 }

@@ -9,7 +9,7 @@ import * as setup from "./setup.js";
 import { ACTIONS } from "./scan.js";
 
 function card(text, code) {
-  return el("figure", null, bars(code), el("figcaption", null, el("b", null, text), el("small", null, code)));
+  return el("figure", null, bars(code) ?? el("p", { class: "wrong" }, TEXTS.codesPage.tooLong), el("figcaption", null, el("b", null, text), el("small", null, code)));
 }
 
 function group(title, cards) {

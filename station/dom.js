@@ -24,14 +24,14 @@ export function el(tag, attributes, ...children) {
   return made;
 }
 
-/** A table: its head as pairs of a name and a class, its rows as lists of cells. A cell is a text, or a pair of a text and a class. */
-export function table(head, rows, classes = () => "") {
+/** A table with its name: its head as pairs of a name and a class, its rows as lists of cells. A cell is a text, or a pair of a text and a class. */
+export function table(name, head, rows, classes = () => "") {
   const names = head.map(([name, mark]) => el("th", { class: mark ?? "", scope: "col" }, name));
   const lines = rows.map((row, at) => el("tr", { class: classes(at) }, row.map((it, column) => {
     const [text, mark] = Array.isArray(it) ? it : [it, ""];
     return el("td", { class: `${head[column][1] ?? ""} ${mark}`.trim() }, text);
   })));
-  return el("table", null, el("thead", null, el("tr", null, names)), el("tbody", null, lines));
+  return el("table", { "aria-label": name }, el("thead", null, el("tr", null, names)), el("tbody", null, lines));
 }
 
 const TWICE = 700; // milliseconds: a second touch within them is the end of the first
@@ -49,12 +49,22 @@ export function button(text, act, attributes = {}, repeats = false) {
   return el("button", { type: "button", ...attributes, on: { click: (event) => (repeats || !isTwice(event, last)) && act(event) } }, text);
 }
 
-/** Puts children into an element, where they are others than it has: who listens to a page hears only what is new. */
+/** Puts children into an element, each where it is another than was there: who listens to a page hears only what is new, and what has the focus keeps it. */
 export function put(place, ...children) {
-  const made = place.cloneNode(false);
+  const made = document.createDocumentFragment();
   made.append(...children.flat());
-  if (!place.isEqualNode(made)) {
-    place.replaceChildren(...made.childNodes);
+  const count = made.childNodes.length;
+  [...made.childNodes].forEach((it, at) => {
+    const was = place.childNodes[at], hadFocus = was?.contains(document.activeElement);
+    if (!was) {
+      place.append(it);
+    } else if (!was.isEqualNode(it)) {
+      was.replaceWith(it);
+      (hadFocus && it.matches("button") ? it : null)?.focus();
+    }
+  });
+  while (place.childNodes.length > count) {
+    place.lastChild.remove();
   }
 }
 

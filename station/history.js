@@ -47,6 +47,6 @@ export class ScanScreen {
       const answer = !words ? texts.waiting : words.kind === "accepted" ? filled(TEXTS.verdict.accepted, { done: words.title }) : `${TEXTS.verdict.refused}: ${words.title}`;
       return [clock.shown(it.at), whatOf(it), [answer, words?.kind ?? "asked"]];
     });
-    this.list.replaceChildren(rows.length ? table([[texts.head.time], [texts.head.what], [texts.head.answer]], rows) : el("p", null, texts.noHistory));
+    this.list.replaceChildren(rows.length ? table(texts.history, [[texts.head.time], [texts.head.what], [texts.head.answer]], rows) : el("p", null, texts.noHistory));
   }
 }

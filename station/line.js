@@ -1,62 +1,63 @@
-// The screen Line: what needs a person on top, in letters for two metres, and below it all slots of each machine.
+// The screen Line: what needs a person on top, in letters for two metres, and below it all slots of each machine. Of many slots
+// there is a tile for each machine, and a touch shows its slots.
 import { TEXTS } from "./words.js";
 import { button, el, put, table } from "./dom.js";
 import { filled } from "./names.js";
 import { lifeText, piecesText } from "./life.js";
 import { dayAnd, productText, sheetText } from "./known.js";
-import { shownRows } from "./model.js";
-import { layout } from "./fit.js";
 import { WORDS } from "./scan.js";
 
 const URGENT = ["EXPIRED", "EMPTY", "LOW", "EXPIRES"]; // a person has to come
 const COUNTED = [...URGENT, "OTHER", "OFF", "NOSHEET"];
+const MOST_TILES = 10, MOST_ABOVE = 4; // of what needs a person: above the slots, and above the overview, which names the worst slot of each machine
+const MOST_ROWS = 100; // slots that are all shown; of more there is an overview
+const SIZES = [30, 28, 26, 24, 22, 20, 19, 18, 17, 16, 15, 14]; // of the slots' letters, in pixels of a screen of 1080 lines
+const SCROLLED = 17; // the letters if the slots don't fit anyway, as on a tablet
 const SORTS = {
   sheet: () => 0,
   pieces: (a, b) => (a.boards ?? Infinity) - (b.boards ?? Infinity),
   life: (a, b) => (a.life ?? -1) - (b.life ?? -1),
 };
+const rank = (row) => URGENT.findIndex((it) => row.states.includes(it));
 
 /** The slots that need a person, the most urgent first: expired, empty, then the next to run out, then the next to expire. */
 export function urgentOf(lines) {
-  const rank = (row) => URGENT.findIndex((it) => row.states.includes(it));
-  const rows = lines.flatMap(({ line, rows: all }) => all.map((row) => ({ ...row, machine: line.machine }))).filter((it) => rank(it) >= 0);
-  return rows.sort((a, b) => rank(a) - rank(b) || (rank(a) === 2 ? a.boards - b.boards : rank(a) === 3 ? a.life - b.life : 0));
+  const rows = lines.flatMap(({ line, rows: all }) => all.filter((it) => rank(it) >= 0).map((row) => ({ ...row, machine: line.machine })));
+  const runsOut = (a, b) => (a.minutes ?? Infinity) - (b.minutes ?? Infinity) || a.boards - b.boards;
+  return rows.sort((a, b) => rank(a) - rank(b) || (rank(a) === 2 ? runsOut(a, b) : rank(a) === 3 ? a.life - b.life : 0));
 }
 
 export class LineScreen {
   constructor(station) {
     this.station = station;
     this.sort = "sheet";
-    this.watch = new ResizeObserver(() => {
-      if (this.machines?.isConnected) {
-        this.update(true);
-      }
-    });
-    this.watch.observe(document.getElementById("main"));
+    new ResizeObserver(() => this.machines?.isConnected && this.fit(true)).observe(document.getElementById("main"));
   }
 
   parts() {
+    const { boards, expires, splice } = this.station.setup;
+    this.open = null; // the machine whose slots are shown in place of the overview
     this.alarms = el("p", { class: "alarms", role: "status" });
     this.orders = el("p", { class: "orders" });
     this.first = el("ol", { class: "urgent first", role: "status" });
     this.urgent = el("ol", { class: "urgent" });
-    this.machines = el("div", { class: "machines" });
-    this.shown = null;
-    return [el("div", { class: "top" }, this.alarms, this.orders), this.first, this.urgent, this.machines, el("p", { class: "legend" }, filled(TEXTS.line.low, { boards: this.station.setup.boards, minutes: this.station.setup.expires }))];
+    this.overview = el("div", { class: "overview" });
+    this.machines = el("div", { class: "slots" });
+    this.fitted = null;
+    return [this.first, el("div", { class: "top" }, this.alarms, this.orders), this.urgent, this.overview, this.machines, el("p", { class: "legend" }, filled(TEXTS.line.low, { boards, minutes: expires, splice }))];
   }
 
-  /** Shows what is known; without a change nothing is touched. */
-  update(isResized = false) {
-    const { model, setup } = this.station, lines = model.lines.map((line) => ({ line, rows: shownRows(line, setup).sort(SORTS[this.sort]), head: [...productText(model, line.machine), sheetText(line)], notes: this.notes(line) }));
+  /** Shows what is known; what has not changed is not touched. */
+  update() {
+    const { model } = this.station, lines = model.lines.map((line) => ({ line, rows: model.rows(line), head: [...productText(model, line.machine), sheetText(line)], notes: this.notes(line) }));
+    const isMany = lines.length > 1 && lines.reduce((sum, { rows }) => sum + rows.length, 0) > MOST_ROWS, shown = isMany ? lines.filter(({ line }) => line.machine === this.open) : lines;
     put(this.first, ...this.firstTiles());
-    const shown = JSON.stringify([this.first.childElementCount, this.sort, model.overdue, model.overdueHad, lines.map(({ line, rows, head, notes }) => [line.machine, Boolean(line.slots && line.kit), rows, head, notes])]);
-    if (shown !== this.shown || isResized) {
-      this.shown = shown;
-      this.counts(lines);
-      this.order();
-      layout({ tiles: urgentOf(lines).map((it) => this.tile(it)), more: (count) => el("li", { class: "more" }, filled(TEXTS.line.more, { count })), urgent: this.urgent,
-        machines: this.machines, lines, draw: (columns) => columns.map((pieces) => el("div", { class: "column" }, pieces.map((it) => this.machine(it)))) });
-    }
+    this.counts(lines);
+    this.order(isMany && shown.length > 0);
+    this.tiles(urgentOf(lines), isMany ? shown.length ? 0 : MOST_ABOVE : MOST_TILES);
+    put(this.overview, ...(shown.length ? [] : lines.map((it) => this.machineTile(it))));
+    put(this.machines, ...shown.map((it) => this.machine(it)));
+    this.fit();
   }
 
   /** What goes before all else: refused reports of work that nobody has decided about, and loads without an answer. */
@@ -66,31 +67,52 @@ export class LineScreen {
     return [...model.refused.map((it) => of(words(it), texts.untracedDo)), ...waiting.filter((it) => [WORDS.LOAD, WORDS.SPLICE].includes(it.word)).map(({ body }) => of(filled(texts.unverified, { machine: body.Machine, slot: body.Slot, reel: body.Reel }), texts.unverifiedDo))];
   }
 
-  counts(lines) {
+  /** How many slots are in each state that needs somebody, as marks. */
+  marks(lines) {
     const counts = COUNTED.map((state) => [state, lines.reduce((sum, { rows }) => sum + rows.filter((it) => it.states.includes(state)).length, 0)]).filter(([, count]) => count);
-    const marks = counts.map(([state, count]) => el("span", { class: `mark ${state}` }, filled(TEXTS.line.alarms, { count, state: TEXTS.line.states[state] })));
-    const isKnown = lines.every(({ line }) => line.slots && line.kit), { overdue, overdueHad } = this.station.model;
-    const late = overdue ? [el("span", { class: "mark LATE" }, filled(TEXTS.line.overdue, { count: overdue, time: overdueHad ? dayAnd(overdueHad) : "" }))] : [];
-    put(this.alarms, ...(counts.length || !isKnown ? marks : [el("span", null, TEXTS.line.calm)]), ...late);
+    return counts.map(([state, count]) => el("span", { class: `mark ${state}` }, filled(TEXTS.line.alarms, { count, state: TEXTS.line.states[state] })));
   }
 
-  order() {
-    const hadFocus = this.orders.contains(document.activeElement);
-    this.orders.replaceChildren(`${TEXTS.line.sort}: `, ...Object.keys(SORTS).map((name) => button(TEXTS.line.sorts[name], () => {
+  counts(lines) {
+    const marks = this.marks(lines), isKnown = lines.every(({ line }) => line.slots && line.kit), { overdue, overdueHad } = this.station.model;
+    const late = overdue ? [el("span", { class: "mark LATE" }, filled(TEXTS.line.overdue, { count: overdue, time: overdueHad ? dayAnd(overdueHad) : "" }))] : [];
+    put(this.alarms, ...(marks.length || !isKnown ? marks : [el("span", null, TEXTS.line.calm)]), ...late);
+  }
+
+  order(isOpen) {
+    const back = isOpen ? [button(TEXTS.line.allMachines, () => this.show(null))] : [];
+    put(this.orders, ...back, `${TEXTS.line.sort}: `, ...Object.keys(SORTS).map((name) => button(TEXTS.line.sorts[name], () => {
       this.sort = name;
       this.update();
     }, { "aria-pressed": String(this.sort === name) })));
-    if (hadFocus) {
-      [...this.orders.children].find((it) => it.getAttribute("aria-pressed") === "true").focus();
-    }
+  }
+
+  /** Shows the slots of one machine, or of `null` the overview. */
+  show(machine) {
+    this.open = machine;
+    this.update();
+    document.getElementById("scan").focus();
+  }
+
+  tiles(urgent, most) {
+    const count = urgent.length > most ? Math.max(0, most - 1) : urgent.length, rest = most ? urgent.length - count : 0;
+    put(this.urgent, ...urgent.slice(0, count).map((it) => el("li", { class: it.states[0] }, this.tile(it, filled(TEXTS.line.urgent.where, it)))), ...(rest ? [el("li", { class: "more" }, filled(TEXTS.line.more, { count: rest }))] : []));
   }
 
   /** A slot that needs a person: where, what is wrong, and with which reel. */
-  tile({ machine, slot, part, front, worst, boards, states }) {
-    const texts = TEXTS.line.urgent, isFront = worst === front || worst?.reel === front?.reel;
+  tile({ part, front, worst, boards, minutes, states }, where) {
+    const texts = TEXTS.line.urgent, isFront = worst === front || worst?.reel === front?.reel, isSoon = minutes !== null && states.includes("LOW");
     const words = states.filter((it) => it !== "OTHER").map((it) => filled(texts[it === "EXPIRED" && !isFront ? "BEHIND" : it] ?? TEXTS.line.states[it], { boards, life: worst ? lifeText(worst.minutes_left) : "" }));
     const reel = states.includes("EXPIRED") || states.includes("EXPIRES") ? worst.reel : front ? front.reel : part;
-    return el("li", { class: states[0] }, el("b", null, filled(texts.where, { machine, slot })), el("b", null, words.join(" · ")), el("span", null, reel));
+    return [el("b", null, where), el("b", null, [...words, ...(isSoon ? [filled(texts.soon, { minutes })] : [])].join(" · ")), el("span", null, reel)];
+  }
+
+  /** A machine of the overview: its product, the board in work if a sender reports one, what is wrong, and the worst slot. */
+  machineTile({ line, rows, head, notes }) {
+    const [worst] = urgentOf([{ line, rows }]), board = this.station.model.boards.get(line.machine), texts = TEXTS.line;
+    const marks = this.marks([{ rows }]), state = worst?.states[0] ?? (marks.length || notes.length ? "OTHER" : "OK"), calm = line.slots && line.kit ? texts.states.OK : "";
+    return button([el("span", { class: "head" }, el("b", { class: "name" }, line.machine), el("span", { class: "product" }, [head[0], board ? filled(texts.board, { board }) : ""].filter(Boolean).join(" · "))),
+      el("span", { class: "marks" }, marks.length ? marks : calm), ...notes.map((it) => el("span", { class: "wrong" }, it)), worst ? el("span", { class: "worst" }, this.tile(worst, worst.slot)) : null], () => this.show(line.machine), { class: `machine ${state}` });
   }
 
   notes(line) {
@@ -100,25 +122,21 @@ export class LineScreen {
     } else if (line.noSheet) {
       notes.push(filled(texts.unknownSheet, this.station.model.product(line.machine)));
     }
-    const rows = line.kit ? shownRows(line, this.station.setup) : [], odd = rows.filter((it) => it.others.length || it.off).length;
+    const rows = line.kit ? this.station.model.rows(line) : [], odd = rows.filter((it) => it.others.length || it.off).length;
     if (odd > rows.length / 4) {
       notes.push(filled(texts.differs, { count: odd }));
     }
     return notes;
   }
 
-  /** A machine, or what stands of it in one column. */
-  machine({ line, rows, head, notes, isFirst }) {
-    const [product, ...from] = head, name = isFirst ? [line.machine, el("span", null, product), el("small", null, from.filter(Boolean).join(", "))] : [filled(TEXTS.line.goesOn, { machine: line.machine })];
-    return el("section", { class: "machine" }, el("h2", null, name), isFirst ? notes.map((it) => el("p", { class: "note wrong" }, it)) : null, rows.length ? this.table(line, rows) : null);
-  }
-
-  table(line, rows) {
+  /** A machine with all its slots. Its name stands in the table's head, which is repeated in each column. */
+  machine({ line, rows, head: [product, ...from], notes }) {
     const { head } = TEXTS.line, columns = [[head.slot], [head.part], [head.reel], [head.left, "n"], [head.all, "n"], [head.boards, "n"], [head.behind], [head.life, "n"], [head.state]];
-    const made = table(columns, rows.map((it) => this.cells(it)), (at) => rows[at].states[0] ?? "OK");
+    const name = [el("b", null, line.machine), ` ${product} `, el("small", null, from.filter(Boolean).join(", "))], sorted = [...rows].sort(SORTS[this.sort]);
+    const made = table(line.machine, columns, sorted.map((it) => this.cells(it)), (at) => sorted[at].states[0] ?? "OK");
     made.dataset.machine = line.machine;
-    made.setAttribute("aria-label", line.machine);
-    return made;
+    made.tHead.prepend(el("tr", null, el("th", { class: "machine", colspan: "9", scope: "colgroup" }, name)));
+    return el("section", { class: "machine" }, notes.map((it) => el("p", { class: "note wrong" }, it)), made);
   }
 
   cells({ slot, part, front, behind, pieces, boards, worst, others, states }) {
@@ -126,5 +144,32 @@ export class LineScreen {
     const words = states.length ? states.map((it) => texts.states[it]).join(" · ") : texts.states.OK, life = front ? lifeText(worst.minutes_left) : "";
     return [[slot, "slot"], [others.length ? `${part} (${others.join(", ")})` : part, "name"], [front?.reel ?? "", "name"], front ? piecesText(front.remaining) : "", behind.length ? piecesText(pieces) : "",
       boards === null ? "" : piecesText(boards), [waits, "name"], worst && worst !== front ? filled(texts.lifeOf, { life, reel: worst.reel }) : life, [words, "state"]];
+  }
+
+  /** The slots in the largest letters in which all are on the screen: anew if the room or the number of rows is another, or they no longer fit. The columns are the style's. */
+  fit(isResized = false) {
+    const { machines } = this, main = machines.parentElement, fitted = [machines.querySelectorAll("tr").length, this.urgent.childElementCount, this.first.childElementCount].join();
+    const set = (size) => machines.style.setProperty("--letters", `${size / 16}rem`), isNarrow = () => main.scrollWidth <= main.clientWidth;
+    const fits = (size) => {
+      set(size);
+      return main.scrollHeight <= main.clientHeight + 1 && isNarrow();
+    };
+    if (!machines.hasChildNodes() || (!isResized && fitted === this.fitted && main.scrollHeight <= main.clientHeight + 1)) {
+      return;
+    }
+    this.fitted = fitted;
+    set(SIZES[0]);
+    machines.classList.add("measured");
+    const width = Math.max(...[...machines.querySelectorAll("table")].map((it) => it.offsetWidth)) / parseFloat(getComputedStyle(machines).fontSize);
+    machines.classList.remove("measured");
+    machines.style.setProperty("--width", `${width}em`);
+    let least = 0, most = SIZES.length - 1;
+    while (least < most) { // to the first that fits
+      const middle = (least + most) >> 1;
+      [least, most] = fits(SIZES[middle]) ? [least, middle] : [middle + 1, most];
+    }
+    if (!fits(SIZES[least])) {
+      SIZES.filter((it) => it <= SCROLLED).find((it) => set(it) ?? isNarrow());
+    }
   }
 }

@@ -3,11 +3,13 @@
 import * as clock from "./clock.js";
 import * as desk from "./desk.js";
 import * as store from "./store.js";
+import { rowsOf } from "./csv.js";
 import { lifeOrder } from "./life.js";
 
 const LEAST_PERIOD = 3; // seconds
 const KIT_PERIOD = 300; // of sheets, free reels and the overdue list, which seldom change
 const ALL_BOARDS = "100000";
+const PACE_WINDOW = 20 * 60_000, PACE_LEAST = 2 * 60_000; // milliseconds over which a machine's pace is reckoned
 const ENOUGH = 6, CARDS = 24; // free reels that are enough to choose from, and cards that are asked for at most to find more
 
 /** Every how many seconds the slots are asked for, so that all stations together use up so many connections a day at most. */
@@ -27,13 +29,15 @@ export class Model {
     this.setup = setup;
     this.changed = changed;
     this.period = period(setup.machines.length, setup.connectionsADay) * 1000;
-    this.lines = setup.machines.map(({ machine, product }) => ({ machine, configured: product ?? null, slots: null, kit: null, kitHad: null, missing: null }));
+    this.lines = setup.machines.map(({ machine, product }) => ({ machine, configured: product ?? null, slots: null, text: null, kit: null, kitHad: null, missing: null, looks: [], rows: null }));
     this.overdue = null;
     this.overdueHad = null;
     this.parts = new Map(); // of reels, as the desk's reports told them
     this.answers = new Map(); // of slots: what the last answer to a scan said, {isLive, at}
+    this.unfit = new Set(); // own parts of reels that were refused for a slot's part
     this.selected = {}; // of each machine: what this station's accepted selection said
     this.state = { had: null, age: null, at: 0, old: false, ok: false, status: 0 };
+    this.boards = new Map(); // of each machine: the board in work, as a sender reports it
     this.refused = []; // reports of work that were refused and that nobody has decided about: {Id, Machine, MessageName, Board, Place, Refusal, At}
     this.kitTurn = null; // which of the server's periods the kits are of
   }
@@ -69,6 +73,7 @@ export class Model {
   /** Takes an accepted selection of this station. */
   async select(machine, product, number, at) {
     this.selected[machine] = { product, number, at };
+    this.line(machine).looks = [];
     await store.setNote("selected", this.selected);
     await this.kits();
   }
@@ -86,6 +91,7 @@ export class Model {
   /** Reads what the senders and the collector say of refused reports of work: of each machine the last one that nobody has decided about. */
   async untraced() {
     const files = await desk.lineStatus(""), told = Array.isArray(files) ? await Promise.all(files.filter((it) => it.type === "file" && it.name.endsWith(".json")).map((it) => desk.lineStatus(it.name))) : [];
+    this.boards = new Map(told.flatMap((it) => Object.entries(it?.Machines ?? {}).filter(([, { Board }]) => typeof Board === "string").map(([machine, { Board }]) => [machine, Board])));
     const decided = new Set(told.flatMap((it) => it?.Decided ?? [])), found = new Map();
     const last = told.flatMap((it) => Object.entries(it?.Machines ?? {}).filter(([, { LastRefused }]) => LastRefused).map(([Machine, { LastRefused: { Id, At, Answer, Message } }]) => ({
       Id, At, Machine, MessageName: Message.MessageName, Board: Message.MessageBody?.Board, Place: Answer.At, Refusal: Answer.Refusal ?? Answer.Fault })));
@@ -140,33 +146,44 @@ export class Model {
   }
 
   async slots(line) {
-    await this.had(desk.rows("slots", { machine: line.machine }), (told) => {
-      line.slots = told.rows;
-      line.had = told.had;
-      line.missing = null;
-      told.rows.forEach((it) => this.parts.set(it.reel, it.part));
-    }, (kind, had) => {
-      line.slots = [];
-      line.had = had;
-      line.missing = kind;
-    });
+    await this.had(desk.report("slots", { machine: line.machine }), (told) => {
+      if (told.text !== line.text) {
+        line.slots = rowsOf(told.text);
+        line.slots.forEach((it) => this.parts.set(it.reel, it.part));
+      }
+      Object.assign(line, { text: told.text, had: told.had, missing: null, rows: null });
+      if (told.had !== null) {
+        line.looks = [...line.looks.filter((it) => told.had - it.at < PACE_WINDOW), { at: told.had, slots: line.slots }];
+      }
+    }, (kind, had) => Object.assign(line, { slots: [], text: null, had, missing: kind, rows: null }));
   }
 
   async kit(line) {
     const product = this.product(line.machine)?.product;
     if (!product) {
-      line.kit = null;
+      line.kit = line.rows = null;
       return true;
     }
     return this.had(desk.rows("kit", { product, machine: line.machine, boards: "1" }), (told) => {
-      line.kit = sheetOf(told.rows);
-      line.kitHad = told.had;
-      line.noSheet = false;
-    }, (kind, had) => {
-      line.kit = null;
-      line.kitHad = had;
-      line.noSheet = true;
-    });
+      Object.assign(line, { kit: sheetOf(told.rows), kitHad: told.had, noSheet: false, rows: null });
+    }, (kind, had) => Object.assign(line, { kit: null, kitHad: had, noSheet: true, rows: null }));
+  }
+
+  /** A machine's rows as they are shown: reckoned once for each report. */
+  rows(line) {
+    line.rows ??= shownRows(line, this.setup);
+    return line.rows;
+  }
+
+  /** How many minutes a slot's reels last, or null. */
+  minutes({ machine, slot }) {
+    return this.rows(this.line(machine)).find((it) => it.slot === slot)?.minutes ?? null;
+  }
+
+  /** The slots whose reels end within the minutes of the set-up, the next one first. */
+  ending() {
+    const rows = this.lines.flatMap((line) => this.rows(line).filter((it) => it.isEnding).map((row) => ({ ...row, machine: line.machine })));
+    return rows.sort((a, b) => a.minutes - b.minutes);
   }
 
   /** Asks for a machine's slots at once. */
@@ -191,7 +208,10 @@ export class Model {
   }
 
   /** Takes what an answer to a scan says of a slot: it holds until a later slot list says it. */
-  heard({ word, body, answer }) {
+  heard({ word, body, answer, about }) {
+    if (answer.Refusal === "WrongPart" && about?.part) {
+      this.unfit.add(JSON.stringify([this.parts.get(body.Reel), about.part]));
+    }
     const isLive = answer.Answer === "Accepted" ? { MaterialsLoaded: true, MaterialsSpliced: true, MaterialsUnloaded: false }[word] : { SlotTaken: true, SlotEmpty: false }[answer.Refusal];
     if (body.Slot && isLive !== undefined) {
       this.answers.set(JSON.stringify([body.Machine, body.Slot]), { isLive, at: clock.now() });
@@ -235,11 +255,11 @@ export class Model {
     }
     found.forEach((_, reel) => earlier.delete(reel));
     const sorted = (reels) => [...reels].sort((a, b) => lifeOrder(a.minutes_left) - lifeOrder(b.minutes_left) || (a.reel < b.reel ? -1 : 1));
-    return { part, reels: sorted(found.values()), alternates: part !== null && found.size < ENOUGH ? sorted(await this.alternates(earlier)) : [] };
+    return { part, reels: sorted(found.values()), alternates: part !== null && found.size < ENOUGH ? sorted(await this.alternates(earlier, part)) : [] };
   }
 
-  /** Those of some rows' reels whose own part is another than the row's: the kit has an alternate at one slot only, whatever parts it stands for. */
-  async alternates(rows) {
+  /** Those of some rows' reels whose own part is another than the row's: the kit has an alternate at one slot only, whatever parts it stands for. One that was refused for this part is none. */
+  async alternates(rows, part) {
     const found = [];
     let cards = 0;
     for (const row of rows.values()) {
@@ -248,7 +268,7 @@ export class Model {
         await this.card(row.reel);
       }
       const own = this.parts.get(row.reel);
-      if (own !== undefined && own !== row.part) {
+      if (own !== undefined && own !== row.part && !this.unfit.has(JSON.stringify([own, part]))) {
         found.push({ ...row, own });
       }
     }
@@ -263,35 +283,51 @@ function sheetOf(rows) {
   return [...found.values()];
 }
 
+/** How many boards of a slot's pieces were used between two slot lists. A reel that is gone was used up. */
+function usedOf({ slot, needed }, before, now) {
+  const left = new Map(now.filter((it) => it.slot === slot).map((it) => [it.reel, it.remaining]));
+  return sumOf(before.filter((it) => it.slot === slot).map((it) => ({ remaining: it.remaining - (left.get(it.reel) ?? 0) }))) / needed;
+}
+
+/** How many boards a machine makes a minute: that of the slot in the middle, so that no count, scrap or unloading decides. 0 if it isn't known. */
+function paceOf({ looks, kit }) {
+  const first = looks[0], last = looks.at(-1), minutes = (last?.at - first?.at) / 60_000, of = (list) => list.sort((a, b) => a - b)[list.length >> 1] ?? 0;
+  if (!kit || !(last?.at - first?.at >= PACE_LEAST) || first.slots === last.slots) {
+    return 0;
+  }
+  return Math.max(0, of(kit.filter((it) => it.needed && first.slots.some(({ slot }) => slot === it.slot)).map((it) => usedOf(it, first.slots, last.slots)))) / minutes;
+}
+
 /** The rows of a machine as they are shown: its sheet's, then the slots that are on no row of it. Without a slot list there are none. */
-export function shownRows(line, setup) {
+function shownRows(line, setup) {
   if (!line.slots) {
     return [];
   }
-  const bySlot = new Map();
+  const bySlot = new Map(), pace = paceOf(line);
   line.slots.forEach((it) => bySlot.set(it.slot, [...(bySlot.get(it.slot) ?? []), it]));
-  const sheet = (line.kit ?? []).map((row) => rowOf(row, bySlot.get(row.slot) ?? [], setup));
+  const sheet = (line.kit ?? []).map((row) => rowOf(row, bySlot.get(row.slot) ?? [], setup, pace));
   const named = new Set(sheet.map((it) => it.slot)), off = line.kit ? "OFF" : "NOSHEET";
   const rest = [...bySlot].filter(([slot]) => !named.has(slot)).sort(([a], [b]) => a.localeCompare(b, "en", { numeric: true }));
-  return [...sheet, ...rest.map(([slot, reels]) => rowOf({ slot, part: reels[0].part, needed: 0 }, reels, setup, off))];
+  return [...sheet, ...rest.map(([slot, reels]) => rowOf({ slot, part: reels[0].part, needed: 0 }, reels, setup, 0, off))];
 }
 
 /**
- * A slot as it is shown. `boards` are those of the reels before the first that is expired; `worst` is the reel whose floor
- * life ends first, wherever it stands on the tape; `off` says that no row of the sheet names the slot, or that no sheet is known.
+ * A slot as it is shown. `boards` are those of the reels before the first that is expired, and `minutes` how long they last at
+ * the machine's pace; `worst` is the reel whose floor life ends first, wherever it is on the tape; `off` says that no row of the
+ * sheet names the slot, or that no sheet is known.
  */
-function rowOf({ slot, part, needed }, reels, setup, off = null) {
+function rowOf({ slot, part, needed }, reels, setup, pace, off = null) {
   const front = reels[0] ?? null, pieces = sumOf(reels), expired = reels.findIndex((it) => it.minutes_left === "0");
-  const boards = needed ? Math.floor(sumOf(expired < 0 ? reels : reels.slice(0, expired)) / needed) : null;
+  const boards = needed ? Math.floor(sumOf(expired < 0 ? reels : reels.slice(0, expired)) / needed) : null, minutes = pace && boards !== null ? Math.floor(boards / pace) : null;
   const worst = reels.reduce((least, it) => (least === null || lifeOrder(it.minutes_left) < lifeOrder(least.minutes_left) ? it : least), null);
   const life = worst && lifeOrder(worst.minutes_left), others = [...new Set(reels.map((it) => it.part).filter((it) => it !== part))], states = [];
-  const isLow = front && expired !== 0 && boards !== null && boards < setup.boards;
-  [["EMPTY", !front], ["EXPIRED", expired >= 0], ["LOW", isLow], ["EXPIRES", expired < 0 && front && life < setup.expires], ["OTHER", others.length], [off, off]].forEach(([state, holds]) => {
+  const isUsed = front && expired !== 0 && boards !== null, isEnding = Boolean(isUsed && minutes !== null && minutes < setup.splice);
+  [["EMPTY", !front], ["EXPIRED", expired >= 0], ["LOW", isEnding || (isUsed && boards < setup.boards)], ["EXPIRES", expired < 0 && front && life < setup.expires], ["OTHER", others.length], [off, off]].forEach(([state, holds]) => {
     if (holds) {
       states.push(state);
     }
   });
-  return { slot, part, front, behind: reels.slice(1), pieces, boards, worst, life, others, off, states };
+  return { slot, part, front, behind: reels.slice(1), pieces, boards, minutes, isEnding, worst, life, others, off, states };
 }
 
 function sumOf(reels) {

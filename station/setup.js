@@ -7,6 +7,7 @@ export const USUAL = {
   title: "Line",
   boards: 10,
   expires: 60,
+  splice: 10, // minutes before the end of a slot's reels at which somebody is called
   heldSeconds: 120, // without a scan: then a slot, a reel or an action that is held is forgotten
   badgeMinutes: 60, // without a message: then the badge is
   badgeWanted: false, // whether nothing is sent without a badge
@@ -33,6 +34,7 @@ function faultOf(setup) {
     title: isText(setup.title) && setup.title !== "",
     boards: whole(setup.boards, MOST_BOARDS),
     expires: whole(setup.expires, 525_600),
+    splice: whole(setup.splice, 1_440),
     heldSeconds: whole(setup.heldSeconds, 3_600),
     badgeMinutes: whole(setup.badgeMinutes, 1_440),
     badgeWanted: typeof setup.badgeWanted === "boolean",

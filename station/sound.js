@@ -1,6 +1,6 @@
-// A sound for each verdict: two rising notes, a long low one, a short one.
+// A sound for each verdict: two rising notes, a long low one, a short one; and three equal ones for a splice that is due.
 
-const NOTES = { accepted: [[880, 0.12], [1320, 0.18]], refused: [[196, 0.5], [165, 0.5]], waiting: [[520, 0.08]] };
+const NOTES = { accepted: [[880, 0.12], [1320, 0.18]], refused: [[196, 0.5], [165, 0.5]], waiting: [[520, 0.08]], splice: [[660, 0.15], [0, 0.1], [660, 0.15], [0, 0.1], [660, 0.15]] };
 let context = null;
 
 /** Plays the notes of a kind, where the browser lets it. */

@@ -24,6 +24,7 @@ const JUMP = 3_600_000; // milliseconds: so far the server's clock may move agai
 const SOON = 3; // seconds that a scan waits for the server's time
 const ANEW = 5; // seconds: so often it is asked whether this log-in may send, until that is known, and looked for refusals that no page shows
 const TAKES = [WORDS.SCRAP, WORDS.COUNT]; // a second one does another thing than the first
+const LOADS = [WORDS.LOAD, WORDS.SPLICE]; // the same two codes, by what is on the slot
 const MINUTE = 60_000, TOGETHER = 100, UNDER = 2_000; // milliseconds
 const at = (id) => document.getElementById(id);
 
@@ -45,6 +46,7 @@ class Station {
     this.drawing = this.since = null; // the timer that draws a screen anew, and since when that is wanted
     this.problem = null;
     this.mine = new Set(); // scans of this page without an answer
+    this.called = new Set(); // slots whose end somebody was called for
     this.model = new Model(read, () => this.changed());
     this.outbox = new Outbox((told) => this.told(told));
     this.verdict = new Verdict(this.model, at("verdict"), (scan) => store.see(scan.uid).catch(() => {}), (scan) => this.outbox.keepNotSent(scan).catch(() => {}), () => this.scanned());
@@ -161,8 +163,19 @@ class Station {
     this.drawing = isEarly ? setTimeout(() => this.draw(), 2 * TOGETHER) : null;
     if (!isEarly) {
       this.since = null;
+      this.ending();
       this.screens[this.screen].update?.();
     }
+  }
+
+  /** Says which slot's reels end soon, with a tone once for each. */
+  ending() {
+    const ending = this.model.ending(), names = ending.map(({ machine, slot }) => `${machine} ${slot}`), texts = TEXTS.line;
+    put(at("ending"), ending.length ? filled(texts.splice, ending[0]) : "", ending.length > 1 ? ` ${filled(texts.spliceMore, { count: ending.length - 1 })}` : "");
+    if (names.some((it) => !this.called.has(it))) {
+      play("splice");
+    }
+    this.called = new Set(names);
   }
 
   head() {
@@ -230,7 +243,8 @@ class Station {
   /** Whether the last scan without an answer about the same slot or reel is this very one. */
   isAsked(word, body) {
     const about = aboutOf(body), last = this.waiting.findLast((it) => aboutOf(it.body).some((what) => about.includes(what)));
-    return last?.word === word && JSON.stringify(last.body) === JSON.stringify(body);
+    const isSame = last?.word === word || (LOADS.includes(last?.word) && LOADS.includes(word));
+    return isSame && JSON.stringify(last.body) === JSON.stringify(body);
   }
 
   /** Keeps a message and has it sent; its answer comes to `told`. False where it isn't kept. `isMeant` is one that was asked for a second time. */

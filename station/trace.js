@@ -125,6 +125,6 @@ export class TraceScreen {
     const shown = chosen.slice(0, most).map((row) => el("tr", null, row.map((it) => el("td", { class: "name" }, it))));
     const count = chosen.length > most ? filled(texts.more, { shown: most, count: chosen.length }) : filled(texts.shown, { shown: chosen.length, count: rows.length });
     this.proof.replaceChildren(...this.evidence(chosen.length).map((it) => el("p", null, it)));
-    this.rows.replaceChildren(el("p", { class: "count" }, count), el("table", null, el("thead", null, el("tr", null, heads)), el("tbody", null, shown)));
+    this.rows.replaceChildren(el("p", { class: "count" }, count), el("table", { "aria-label": texts[this.answer.question] }, el("thead", null, el("tr", null, heads)), el("tbody", null, shown)));
   }
 }

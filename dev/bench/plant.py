@@ -1,31 +1,32 @@
 """Loads made-up archives into a PostgreSQL of its own folder and asks for a lot and a board: how long, how large?
 
 usage: dev/bench/run plant [--program FILE] [--folder FOLDER] [--archives N] [--minutes N] [--boards BOARDS] [--parts N]
-       dev/bench/run plant --recall [--program FILE] [--folder FOLDER] [--archives N] [--boards BOARDS]
-       dev/bench/run plant --small N [--pieces N]
+       dev/bench/run plant --recall [--program FILE] [--folder FOLDER] [--archives N] [--pieces N]
+       dev/bench/run plant --small N [--pieces N] [--minutes N]
 
 examples:
   dev/bench/run plant                              40 archives of a million pieces: 20 GB of disk at most, and an hour
   dev/bench/run plant --archives 4 --boards 300    a minute
-  dev/bench/run plant --recall                     52 archives of 830,000 pieces by ops/recall: 7 GB of disk, and ten minutes
+  dev/bench/run plant --recall                     52 archives of 800,000 pieces: 10 GB of disk, and an hour
   dev/bench/run plant --small 10000                10,000 files of 200 pieces that SQL makes up: six minutes and 1 GB
   dev/bench/run plant --small 1000 --pieces 200000      24 GB of disk
 
-One shift of dev/lib/tracedesk_dev/shift.py is fed to the program: that is the first archive, of ten lines in turn. The others are its
+One shift of dev/lib/tracedesk_dev/shift.py is fed to the program: that is the first archive. The others, each of a line of its own, are its
 bytes with other names of boards, machines, reels and lots of the same length; the audit of the second has to be lawful.
 A lot has ten reels in five archives. Each archive is loaded by ops/plant-load, by a catalogue of its own, and then
 removed. PostgreSQL has fsync on and 512 MB of shared buffers. Cold is after a new start of it, with its files out of
 the system's cache. At the end empty parts are added, up to --parts, and it is asked once more.
 
-With --recall the archives stay, as those of one line in one catalogue, and ops/recall asks them for the lot and for a
-board, with checksums and without. PostgreSQL isn't needed then. Cold is with the archives out of the system's cache;
-warm is the median of five calls behind that.
+With --recall they are the archives of one line that rolls over, each begun by ops/begin from the one before. A lot with
+pieces in two of them is asked for, and a board, by tracedesk-chain and by ops/recall, and each file is audited: the same
+reading, so that is compared. tracedesk-chain is the one next to the program, or that of CHAIN. PostgreSQL isn't needed then.
 
 With --small nothing is loaded by ops/plant-load, and PostgreSQL has its default settings: files.sql and drop.sql are timed too.
 
 --folder   where all of it lies; it is new, and is removed at the end
---minutes  nothing more is loaded after so many; what is there is asked
---boards   of the shift; 5,180 place a million pieces, and 4,144, of --recall, 829,000
+--minutes  nothing more is loaded or made up after so many; what is there is asked
+--boards   of the shift; 5,180 place a million pieces
+--pieces   of each archive: 800,000 of --recall, and 200 of --small
 """
 import contextlib
 import json
@@ -40,11 +41,12 @@ import sys
 import tempfile
 import time
 
+import starts
 from tracedesk_dev import postgres, program, shift
 from tracedesk_dev.program import ROOT
-from tracedesk_ops import catalogue, plant
+from tracedesk_ops import catalogue, chains, plant
 
-LINES, TURNS = 10, 5
+TURNS = 5
 MEMORY = "/dev/shm"
 LOT = "LOT-RECALL"
 BASE = "ZQZQ"  # no part of another name, and longer than two numbers of a row: so its bytes in a file are those of the names that begin with it
@@ -146,7 +148,7 @@ def loaded(asked, server, room):
     for number, file in made(asked, room, folder_of):
         if time.monotonic() > end:
             break
-        its, at, size = line_of(file, f"L{number % LINES + 1}"), file.parent, file.stat().st_size
+        its, at, size = line_of(file, f"L{number + 1}"), file.parent, file.stat().st_size
         catalogue.add(at / catalogue.FILE_NAME, its)
         began = taken(server)
         subprocess.run([ROOT / "ops/plant-load", at / catalogue.FILE_NAME], check=True, stdout=subprocess.DEVNULL)
@@ -157,37 +159,69 @@ def loaded(asked, server, room):
     return seconds, pieces, size
 
 
-# --- By ops/recall
+# --- A line's chain of archives, by tracedesk-chain and by ops/recall
+
+
+def chain_of(asked, at):
+    """Makes the archives of one line that rolls over, and its catalogue; the path of each, and how many pieces there are."""
+    messages, files, pieces, ticks = starts.Line().messages(), [], 0, program.Ticks()
+    for number in range(asked.archives):
+        with tempfile.TemporaryDirectory(dir=MEMORY if os.path.isdir(MEMORY) else None) as room:
+            desk = pathlib.Path(room, "desk")
+            feed = subprocess.Popen([asked.program, "feed", "--db", desk], stdin=subprocess.PIPE, stdout=subprocess.DEVNULL)
+            if files:
+                feed.stdin.write(subprocess.run([ROOT / "ops/begin", files[-1]], check=True, stdout=subprocess.PIPE, stderr=subprocess.DEVNULL).stdout)
+            placed = 0
+            for text, some in messages:
+                feed.stdin.write(text)
+                placed += some
+                if placed >= asked.pieces and b"WorkCompleted" in text and f"-M{starts.MACHINES}".encode() in text:
+                    break  # no board is in work
+            feed.stdin.close()
+            if feed.wait():
+                sys.exit(f"{plant.NAME}: feed ended with status {feed.returncode}")
+            whole(desk)
+            files.append(at / f"archive-{number}")
+            shutil.move(desk, files[-1])
+        catalogue.add(at / catalogue.FILE_NAME, line_of(files[-1], "L1", files[-2].name if number else ""))
+        pieces += placed
+        ticks.tell(f"{number + 1} archives")
+    return files, pieces
+
+
+def measured(*words):
+    """Seconds of a call by the clock and of the processor, the most memory that it had in bytes, and how many lines it printed."""
+    began = time.monotonic()
+    with tempfile.TemporaryFile() as out:
+        call = subprocess.Popen([*map(str, words)], stdout=out, stderr=subprocess.DEVNULL)
+        _, status, used = os.wait4(call.pid, 0)
+        call.returncode = os.waitstatus_to_exitcode(status)
+        if call.returncode not in (0, 3):  # 3: a first look
+            sys.exit(f"{plant.NAME}: {words[0]} ended with status {call.returncode}")
+        out.seek(0)
+        return round(time.monotonic() - began, 2), round(used.ru_utime + used.ru_stime, 2), 1024 * used.ru_maxrss, out.read().count(b"\n")
 
 
 def recall_bench(asked, room):
-    """The archives of one line in one catalogue, and what ops/recall takes for the lot and for a board of the middle one."""
-    at, pieces, before, ticks = room / "archive", 0, "", program.Ticks()
+    """A lot of a reel that was carried over amid the chain, and a board, by each road; and the audit of each file, which reads the same."""
+    at = room / "archive"
     at.mkdir()
-    for number, file in made(asked, room, lambda _: at):
-        its = line_of(file, "L1", before)
-        catalogue.add(at / catalogue.FILE_NAME, its)
-        pieces, before = pieces + its.pieces, file.name
-        if number == asked.archives // 2:
-            with catalogue.opened(file) as database:
-                ((board,),) = database.execute("SELECT board FROM placement ORDER BY number DESC LIMIT 1")
-        ticks.tell(f"{number + 1} archives")
-    (room / "first").unlink()
-    size = sum(it.stat().st_size for it in at.iterdir())
-    print(json.dumps({"pieces": pieces, "archives": asked.archives, "bytes of them": size, "program": asked.program}, indent=1), flush=True)
-    for name, words in (("lot", ["lot", LOT]), ("board", ["board", board])):
-        for how, more in (("with checksums", []), ("unchecked", ["--unchecked"])):
-            out_of_cache(at)
-            call = [ROOT / "ops/recall", *words, "--line", "L1", "-", at / catalogue.FILE_NAME, "--show", "pieces", "--program", asked.program, *more]
-            cold, rows = recalled(call)
-            told = {"rows": rows, "cold": cold, "warm": medians(recalled(call)[0] for _ in range(TURNS)), "load of the machine": os.getloadavg()[0]}
-            print(json.dumps({f"{name}, {how}, by the clock and of the processor": told}, indent=1), flush=True)
-
-
-def recalled(call):
-    began = taken(None)
-    done = subprocess.run([*map(str, call)], stdout=subprocess.PIPE, stderr=subprocess.DEVNULL, check=True)
-    return since(None, began), done.stdout.count(b"\n") - 1
+    files, pieces = chain_of(asked, at)
+    with catalogue.opened(files[len(files) // 2]) as database:
+        ((lot, board),) = database.execute("SELECT lot, board FROM placement JOIN reel USING (reel) WHERE remaining > 0 ORDER BY placement.number DESC LIMIT 1")
+    print(json.dumps({"pieces": pieces, "archives": len(files), "bytes of them": sum(it.stat().st_size for it in files), "load of the machine": os.getloadavg()[0]}), flush=True)
+    copies = [shutil.copy(it, room / it.name) for it in files]  # an audit leaves a log
+    audits = [measured(asked.program, "audit", "--db", it) for it in copies]
+    told = {"the sum of their audits": (round(sum(it[0] for it in audits), 2), round(sum(it[1] for it in audits), 2), max(it[2] for it in audits), len(audits)),
+            "check": measured(asked.chain, "check", *copies), "lot": measured(asked.chain, "lot", lot, *copies), "check, of two": measured(asked.chain, "check", *copies[:2])}
+    for it in room.glob("archive-*"):
+        it.unlink()
+    line = ["--line", "L1", "-", at / catalogue.FILE_NAME, "--archives-only", "--program", asked.program]
+    for name, words in (("lot", ["lot", lot]), ("board", ["board", board])):
+        for how, more in (("", []), (" --quick", ["--quick"])):
+            told[f"ops/recall {name}{how}"] = measured(ROOT / "ops/recall", *words, *line, *more)
+    for name, it in told.items():
+        print(json.dumps({f"{name}, by the clock, of the processor, bytes of memory, lines": it, "load": round(os.getloadavg()[0], 1)}), flush=True)
 
 
 # --- By PostgreSQL
@@ -266,10 +300,12 @@ def small_bench(asked):
     count, told = asked.small, {}
     with tempfile.TemporaryDirectory(prefix="plant-", dir=asked.folder) as folder, postgres.Server(pathlib.Path(folder), fsync="on") as server:
         postgres.asked("-f", postgres.SQL / "schema.sql")
-        began, ticks = taken(None), program.Ticks()
-        for first in range(1, count + 1, 100):
-            postgres.asked("-c", SMALL.format(first=first, last=min(first + 99, count), pieces=asked.pieces, fifth=max(2, count // 5), lot=LOT))
-            ticks.tell(f"{first + 99} files")
+        began, ticks, last, fifth = taken(None), program.Ticks(), 0, max(2, count // 5)
+        while last < count and time.monotonic() < began[0] + 60 * asked.minutes:
+            first, last = last + 1, min(count, last + max(1, 100_000 // asked.pieces))
+            postgres.asked("-c", SMALL.format(first=first, last=last, pieces=asked.pieces, fifth=fifth, lot=LOT))
+            ticks.tell(f"{last} files")
+        count = last
         postgres.asked("-c", "ANALYZE plant.file; ANALYZE plant.reel; ANALYZE plant.start")
         told["made, by the clock"] = since(None, began)[0]
         told["bytes of the database"] = int(postgres.asked("-At", "-c", "SELECT pg_database_size('postgres')"))
@@ -289,7 +325,7 @@ def words(reader):
     reader.add_argument("--folder", type=pathlib.Path)
     reader.add_argument("--recall", action="store_true")
     reader.add_argument("--small", type=int)
-    reader.add_argument("--pieces", type=int, default=200)
+    reader.add_argument("--pieces", type=int)
     reader.add_argument("--archives", type=int)
     reader.add_argument("--minutes", type=float, default=600)
     reader.add_argument("--boards", type=int)
@@ -297,11 +333,15 @@ def words(reader):
 
 
 def main(asked, reader):
+    asked.pieces = asked.pieces or (800_000 if asked.recall else 200)
     if asked.small:
         return small_bench(asked)
     asked.program = program.to_use(asked.program)
+    asked.chain = chains.program_of(asked.program)
+    if asked.recall and not asked.chain:
+        program.stop("there is no tracedesk-chain next to the program: CHAIN names it")
     asked.archives = asked.archives or (52 if asked.recall else 40)
-    asked.boards = asked.boards or (4_144 if asked.recall else 5_180)
+    asked.boards = asked.boards or 5_180
     if asked.folder and asked.folder.exists():
         reader.error(f"{asked.folder} is there already: name a new folder")
     if not asked.recall and not postgres.is_here():

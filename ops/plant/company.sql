@@ -12,8 +12,14 @@ CREATE TABLE IF NOT EXISTS company.plant (
     name   text PRIMARY KEY,
     oldest interval NOT NULL DEFAULT '1 day'
 );
-CREATE OR REPLACE FUNCTION company.answer(kind text, wanted text, schema_wanted integer)
-RETURNS TABLE (plant text, fault text, known boolean, copied timestamptz, board text, designator text, part text, lot text, reel text, machine text, slot text,
-               overdue text, minute bigint, line text, file text, as_of bigint)
+-- the state in which a plant's tables were when it answered last
+CREATE TABLE IF NOT EXISTS company.seen (
+    plant text PRIMARY KEY,
+    state uuid NOT NULL
+);
+DROP FUNCTION IF EXISTS company.answer(text, text, integer);
+CREATE OR REPLACE FUNCTION company.answer(kind text, wanted text, schema_wanted integer, seen uuid[])
+RETURNS TABLE (plant text, fault text, known boolean, copied timestamptz, state uuid, went_on boolean, board text, designator text, part text, lot text, reel text, machine text,
+               slot text, overdue text, minute bigint, line text, file text, as_of bigint)
 LANGUAGE plproxy AS $$ CLUSTER 'plants'; RUN ON ALL; TARGET plant.answer; $$;
 RESET client_min_messages;

@@ -1,6 +1,6 @@
 -- Which boards of which lines hold a piece of a lot, how many, and where were they last in work?
 -- usage: psql -v lot=LOT-C7731 -f recall.sql
--- Exit status 3: not all files are loaded, or no file knows the lot, as standard error says.
+-- Exit status 3: the answer is not exact, or no file knows the lot, as standard error says.
 \set ON_ERROR_STOP on
 \set QUIET on
 SET search_path TO plant;
@@ -14,6 +14,7 @@ WITH held AS (
 )
 SELECT board, lines, files, pieces, overdue, line AS last_line, machine AS last_machine, spelled(minute) AS since
 FROM held JOIN last USING (board) ORDER BY board COLLATE "C";
-SELECT EXISTS (SELECT FROM reel WHERE lot = :'lot') AS known \gset
+\set kind lot
+\set wanted :lot
 \ir whole.sql
 COMMIT;

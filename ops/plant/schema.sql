@@ -34,12 +34,76 @@ CREATE TABLE IF NOT EXISTS command (
 ALTER TABLE command ADD COLUMN IF NOT EXISTS places boolean NOT NULL DEFAULT true;
 CREATE INDEX IF NOT EXISTS command_identity ON command (identity);
 CREATE INDEX IF NOT EXISTS command_file ON command (file);
--- what a catalogue or a copy names and is not loaded, and why
-CREATE TABLE IF NOT EXISTS missing (
+-- lines that an answer has to have files of, and how old the newest copy of a running desk may be; none where that is not looked at
+CREATE TABLE IF NOT EXISTS line (
+    name   text PRIMARY KEY,
+    oldest interval
+);
+-- what a catalogue or a copy names and is not loaded, and why; up to 0.3.0 this was the table missing
+DO $$ BEGIN
+    IF EXISTS (SELECT FROM pg_class WHERE oid = to_regclass('plant.missing') AND relkind = 'r') THEN
+        ALTER TABLE missing RENAME TO lacking;
+    END IF;
+END $$;
+CREATE TABLE IF NOT EXISTS lacking (
     line text NOT NULL,
     name text NOT NULL,
     why  text NOT NULL,
     PRIMARY KEY (line, name)
+);
+ALTER TABLE lacking ADD COLUMN IF NOT EXISTS taken_out text NOT NULL DEFAULT '';  -- the checksum of a file that drop.sql took out
+CREATE OR REPLACE FUNCTION moment(taken text) RETURNS timestamptz LANGUAGE sql STABLE SET timezone = 'UTC' AS
+$$ SELECT to_timestamp(nullif(taken, ''), 'YYYY-MM-DD"T"HH24MISS') $$;
+-- all that keeps an answer from having every piece, but files that were dropped
+CREATE OR REPLACE VIEW missing AS
+    SELECT line, name, why FROM lacking
+    UNION ALL SELECT name, 'all of it', 'no file of the line is loaded' FROM line WHERE NOT EXISTS (SELECT FROM file WHERE file.line = line.name)
+    UNION ALL SELECT line.name, 'newer pieces', CASE WHEN taken IS NULL THEN 'no copy of its running desk is loaded' ELSE 'the newest copy of its running desk is of ' || taken END
+        FROM line LEFT JOIN file ON file.line = line.name AND file.name = 'running desk'
+        WHERE oldest IS NOT NULL AND coalesce(moment(taken) < now() - oldest, true);
+-- work that the desk of a line refused: it is in no trace, and it counts until a person decided what became of it
+CREATE TABLE IF NOT EXISTS untraced (
+    line       text NOT NULL,                   -- or several, as 'L1; L2', where they share a catalogue
+    id         text NOT NULL,                   -- of its record
+    at         text NOT NULL,
+    machine    text NOT NULL,
+    board      text NOT NULL,
+    work       text NOT NULL,
+    refusal    text NOT NULL,
+    place      text NOT NULL,
+    source     text NOT NULL,
+    reels      text NOT NULL,                   -- those that the desk had on the machine
+    decided    text NOT NULL,                   -- when; empty where nobody decided
+    became     text NOT NULL,
+    decided_by text NOT NULL,
+    reason     text NOT NULL,
+    PRIMARY KEY (line, id)
+);
+-- pieces that may be of another reel than placement says, as ops/recall has them
+CREATE TABLE IF NOT EXISTS doubtful (
+    line        text NOT NULL,
+    board       text NOT NULL,
+    designator  text NOT NULL,
+    machine     text NOT NULL,
+    slot        text NOT NULL,
+    minute      bigint NOT NULL,
+    reel        text NOT NULL,
+    lot         text NOT NULL,
+    other_reels text[] NOT NULL,
+    other_lots  text[] NOT NULL,
+    why         text NOT NULL,
+    file        text NOT NULL,
+    part        text NOT NULL
+);
+-- of which files and records of a line untraced work and doubtful pieces were looked for
+CREATE TABLE IF NOT EXISTS looked (
+    line text PRIMARY KEY,
+    at   text NOT NULL                          -- a checksum of all of them
+);
+-- a row for each change of the tables by a tool: a company knows by it whether a plant went back to an older state
+CREATE TABLE IF NOT EXISTS state (
+    token  uuid PRIMARY KEY DEFAULT gen_random_uuid(),
+    number bigint GENERATED ALWAYS AS IDENTITY
 );
 -- reels as they were received: by lot and by reel they say which files have pieces of them
 CREATE TABLE IF NOT EXISTS reel (
@@ -112,12 +176,33 @@ SELECT p.board, p.designator, r.part, r.lot, r.reel, p.machine, p.slot, CASE WHE
        p.minute, f.line, f.name AS file, f.last_minute AS as_of, f.id
 FROM placement p JOIN reel r ON r.file = p.file AND r.reel = p.reel JOIN file f ON f.id = p.file;
 
--- What a company asks of a plant, in one snapshot: each piece, or what keeps the answer from being whole. The last row has neither: it
--- says that the plant answered, whether it knows the name, and when a running desk of it was last copied.
+CREATE OR REPLACE FUNCTION knows(kind text, wanted text) RETURNS boolean LANGUAGE sql STABLE SET search_path FROM CURRENT AS $$
+    SELECT CASE kind WHEN 'board' THEN EXISTS (SELECT FROM start WHERE board = wanted) WHEN 'lot' THEN EXISTS (SELECT FROM reel WHERE lot = wanted)
+           ELSE EXISTS (SELECT FROM reel WHERE reel = wanted) END
+$$;
+
+-- What keeps an answer from being exact, in the same snapshot: files that are not loaded, work that is in no trace, pieces in doubt. A piece
+-- in doubt may be of any reel of its part: one that the desk refused may have been on the slot all the same.
+CREATE OR REPLACE FUNCTION faults(kind text, wanted text) RETURNS SETOF text LANGUAGE sql STABLE SET search_path FROM CURRENT AS $$
+    SELECT format('without %s: %s', concat_ws(' ', nullif(line, ''), name), why) FROM missing
+    UNION ALL SELECT format('without %s files up to %s, which were dropped: tracedesk-recall asks them', count(*), spelled(max(last_minute))) FROM file WHERE dropped HAVING count(*) > 0
+    UNION ALL SELECT format('untraced work of %s, %s: %s of board %s on %s was refused, %s; on the machine was %s; nobody decided about %s', line, at, work, board, machine, refusal, reels, id)
+        FROM untraced WHERE became = ''
+    UNION ALL SELECT format('doubtful piece of %s: %s of board %s, %s, may not be of %s of lot %s%s: %s', line, designator, board, spelled(minute), reel, lot,
+        CASE other_reels WHEN '{}' THEN '' ELSE format(', but of %s of lot %s', array_to_string(other_reels, ' or '), array_to_string(other_lots, ' or ')) END, why)
+        FROM doubtful d WHERE CASE kind WHEN 'board' THEN board = wanted WHEN 'lot' THEN wanted = ANY (lot || other_lots) ELSE wanted = ANY (reel || other_reels) END
+        OR kind <> 'board' AND EXISTS (SELECT FROM reel r JOIN file ON file.id = r.file
+            WHERE CASE kind WHEN 'lot' THEN r.lot ELSE r.reel END = wanted AND r.part = d.part AND file.line = ANY (string_to_array(d.line, '; ')))
+$$;
+
+-- What a company asks of a plant, in one snapshot: each piece, and what keeps the answer from being exact. The last row has neither: it
+-- says that the plant answered, whether it knows the name, when the running desk was copied whose copy is the oldest, which state the
+-- tables have, and whether they had one of the states that the company saw.
 CREATE TABLE IF NOT EXISTS own_name (name text PRIMARY KEY);  -- of the plant, by which a company knows it: one row
-CREATE OR REPLACE FUNCTION answer(kind text, wanted text, schema_wanted integer)
-RETURNS TABLE (plant text, fault text, known boolean, copied timestamptz, board text, designator text, part text, lot text, reel text, machine text, slot text,
-               overdue text, minute bigint, line text, file text, as_of bigint)
+DROP FUNCTION IF EXISTS answer(text, text, integer);
+CREATE OR REPLACE FUNCTION answer(kind text, wanted text, schema_wanted integer, seen uuid[])
+RETURNS TABLE (plant text, fault text, known boolean, copied timestamptz, state uuid, went_on boolean, board text, designator text, part text, lot text, reel text, machine text,
+               slot text, overdue text, minute bigint, line text, file text, as_of bigint)
 LANGUAGE plpgsql STABLE SECURITY DEFINER SET search_path = plant, pg_temp AS $$
 #variable_conflict use_column
 DECLARE
@@ -128,14 +213,15 @@ BEGIN
     ELSIF schema_wanted <> 1 THEN
         RAISE EXCEPTION 'the plant % has the schema 1, and % is asked for: run the same schema.sql and company.sql everywhere', own, schema_wanted;
     END IF;
-    RETURN QUERY SELECT own, NULL, NULL::boolean, NULL::timestamptz, p.board, p.designator, p.part, p.lot, p.reel, p.machine, p.slot, p.overdue, p.minute, p.line, p.file, p.as_of
-        FROM pieces_of(kind, wanted) p;
-    RETURN QUERY SELECT own, format('without %s %s: %s', line, name, why), NULL::boolean, NULL::timestamptz, NULL, NULL, NULL, NULL, NULL, NULL, NULL, NULL, NULL::bigint, NULL, NULL, NULL::bigint
-        FROM missing UNION ALL SELECT own, format('without %s files that were dropped', count(*)), NULL, NULL, NULL, NULL, NULL, NULL, NULL, NULL, NULL, NULL, NULL, NULL, NULL, NULL
-        FROM file WHERE dropped HAVING count(*) > 0;
-    RETURN QUERY SELECT own, NULL, CASE kind WHEN 'board' THEN EXISTS (SELECT FROM start WHERE board = wanted) WHEN 'lot' THEN EXISTS (SELECT FROM reel WHERE lot = wanted)
-        ELSE EXISTS (SELECT FROM reel WHERE reel = wanted) END, (SELECT to_timestamp(nullif(max(taken), ''), 'YYYY-MM-DD"T"HH24MISS') FROM file), NULL, NULL, NULL, NULL, NULL, NULL,
-        NULL, NULL, NULL::bigint, NULL, NULL, NULL::bigint;
+    plant := own;
+    FOR board, designator, part, lot, reel, machine, slot, overdue, minute, line, file, as_of IN
+        SELECT p.board, p.designator, p.part, p.lot, p.reel, p.machine, p.slot, p.overdue, p.minute, p.line, p.file, p.as_of FROM pieces_of(kind, wanted) p LOOP
+        RETURN NEXT;
+    END LOOP;
+    RETURN QUERY SELECT own, f, NULL::boolean, NULL::timestamptz, NULL::uuid, NULL::boolean, NULL, NULL, NULL, NULL, NULL, NULL, NULL, NULL, NULL::bigint, NULL, NULL, NULL::bigint FROM faults(kind, wanted) f;
+    RETURN QUERY SELECT own, NULL, knows(kind, wanted), (SELECT min(moment(taken)) FROM file WHERE name = 'running desk'),
+        (SELECT token FROM state ORDER BY number DESC LIMIT 1), EXISTS (SELECT FROM state WHERE token = ANY (seen)),
+        NULL, NULL, NULL, NULL, NULL, NULL, NULL, NULL, NULL::bigint, NULL, NULL, NULL::bigint;
 END $$;
 REVOKE EXECUTE ON FUNCTION answer FROM PUBLIC;  -- a role that may only ask gets this one, and no table
 RESET client_min_messages;

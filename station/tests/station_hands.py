@@ -10,6 +10,7 @@ from station_site import Difference, Operator, wait_for
 
 DAY = 86_400_000  # milliseconds
 SIZES = [(800, 480), (1024, 600), (1280, 800), (1920, 1080), (800, 1280)]
+SMALLEST = [(360, 640), (512, 300)]  # a telephone, and 1024 by 600 enlarged to twice its size
 TOUCHED = 48  # pixels that a finger in a glove needs
 CLOCKS = """window.asleep = 0; window.later = 0;
 const steady = performance.now.bind(performance), wall = Date.now.bind(Date);
@@ -147,7 +148,7 @@ def untraced_work_is_red(site):
         wait_for("the refusal", lambda: all(word in it.script(first) for word in ("M1", "WorkStarted", "SN-7", "Expired", "Put the board aside")))
         (status / "untraced.json").write_text(json.dumps({"Decided": ["a" * 32], "Undecided": [], "Version": 1}))
         wait_for("it is decided", lambda: "SN-7" not in it.script(first))
-        refused(it, "S/M1/1", "K-2")
+        it.does("S/M1/1", "K-2", kind="refused")
         it.seen()
         inbox = lambda: [json.loads(file.read_bytes())["Message"]["MessageBody"] for file in (site.room / "line/untraced").glob("*.json")]
         wait_for("the refused load is recorded", lambda: inbox() == [{"Machine": "M1", "Slot": "1", "Reel": "K-2"}])
@@ -551,7 +552,16 @@ def each_size_of_a_screen(site):
             each_verdict_at(it, size, "M1", "3", "K-1", "K-2")
             each_verdict_at(it, size, LONG["MA"], LONG["SLOT"], LONG["REEL"], LONG["OTHER"])
             touched = each_screen_at(it, size, touched)
-    return f"{len(SIZES)} sizes, 20 verdicts and {touched} things to touch"
+        for size in SMALLEST:
+            view(it, *size)
+            for screen in ("line", "scan", "receive", "changeover", "trace"):
+                it.go(screen)
+                time.sleep(0.2)
+                inside, outside, room = it.script("const m = document.getElementById('main'); return [m.scrollWidth - m.clientWidth, document.documentElement.scrollWidth - innerWidth, m.clientHeight]")
+                pictured(it, f"{size[0]}x{size[1]}-{screen}")
+                if inside > 0 or outside > 0 or room < 200:
+                    raise Difference(f"{screen} at {size}: beyond by {inside}, {outside}; {room} pixels for it")
+    return f"{len(SIZES)} sizes, 20 verdicts and {touched} things to touch; {len(SMALLEST)} smaller ones"
 
 
 FLOWS = [a_servers_clock_that_jumps, a_tablet_that_slept, what_is_held_is_forgotten, untraced_work_is_red, ambiguous_codes_are_reported, a_disk_that_fails_once, whether_it_may_send_is_asked_again, a_sheet_is_asked_for_again, a_refusal_stays, a_late_refusal_stays, a_mounted_reel_is_said_to_be_where_it_is,

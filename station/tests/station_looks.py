@@ -7,7 +7,7 @@ import time
 
 import station_flows
 import station_line
-from station_site import Difference, Operator, Site, wait_for
+from station_site import SETUP, Difference, Operator, Site, wait_for
 
 SCREENS = ("line", "scan", "receive", "changeover", "trace")
 SCREEN, TABLET = (1920, 1080), (800, 1280)
@@ -120,19 +120,26 @@ def the_keyboard_alone(site):
 
 
 def printed_codes_are_read_back(site):
-    """The sheet of action codes, as it is printed, read by zbar."""
+    """The sheet of action codes and of slots with long names, as it is printed, read by zbar."""
+    machine, slot = "M1-" + "LONG-NAME-" * 4, "SLOT-" + "LONG-" * 4
+    for long in (slot, slot * 2):
+        site.say("SheetDefined", {"Product": f"CTRL-{len(long)}", "Machine": machine[:-1], "Rows": [{"Slot": long[:-1], "PartNumber": "RES", "Designators": ["R1"]}]})
+    site.set_up({**SETUP, "machines": [*SETUP["machines"], *({"machine": machine[:-1], "product": f"CTRL-{len(it)}"} for it in (slot, slot * 2))]})
     if not shutil.which("zbarimg"):
         return "SKIPPED: there is no zbarimg here: apt-get install zbar-tools"
     with Operator(site) as it:
         it.page.get(f"{site.url}/station/codes.html?station=W1")
-        wanted = wait_for("the codes", lambda: it.script("return document.querySelectorAll('.cards').length > 3 && [...document.querySelectorAll('figcaption small')].map((it) => it.textContent)"))
+        wait_for("the codes", lambda: it.script("return document.querySelectorAll('.cards').length > 7"))
+        wanted, longer = it.script("return [':has(svg)', ':has(p)'].map((has) => [...document.querySelectorAll(`figure${has} small`)].map((it) => it.textContent))")
         printed = base64.b64decode(it.page.execute_cdp_cmd("Page.printToPDF", {"printBackground": True})["data"])
         (site.room / "codes.pdf").write_bytes(printed)
-        subprocess.run(["pdftoppm", "-r", "200", "-png", site.room / "codes.pdf", site.room / "codes"], check=True)
+        subprocess.run(["pdftoppm", "-r", "300", "-png", site.room / "codes.pdf", site.room / "codes"], check=True)
         read = subprocess.run(["zbarimg", "--quiet", "--raw", *sorted(site.room.glob("codes-*.png"))], capture_output=True, text=True).stdout.split("\n")
+    if max(map(len, wanted)) < 60 or len(longer) != 1:
+        raise Difference(f"long codes: {wanted}; too long: {longer}")
     if sorted(set(wanted)) != sorted({it for it in read if it}):
         raise Difference(f"printed {sorted(wanted)}, read {sorted(read)}")
-    return f"{len(wanted)} codes"
+    return f"{len(wanted)} codes of {max(map(len, wanted))} letters at most; {len(longer)} is said to be too long"
 
 
 FLOWS = [letters_stand_out, all_is_on_the_screen, the_keyboard_alone, printed_codes_are_read_back]

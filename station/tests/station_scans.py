@@ -1,5 +1,7 @@
 """What holds of a scan wherever it is made and whatever fails then, and what ten stations cost: each flow on a desk of its own."""
 import concurrent.futures
+import hashlib
+import json
 import re
 import subprocess
 import sys
@@ -136,6 +138,11 @@ def receive_keeps_what_it_has(site):
         it.scan("R-2")
         it.does("A/ENTER", holds=("RECEIVED", "R-2", "LED"))
         wait_for("the fields are empty", lambda: it.script(FIELDS) == [""] * 4)
+        type_label(it, part % ("LED", "R-4"))
+        wait_for("a second reel of the part", lambda: it.script(FIELDS)[0] == "R-4")
+        if it.script("return document.querySelector('form.receive').elements.level.value"):
+            raise Difference("the level of a bag was taken from another one")
+        it.script("document.querySelectorAll('form.receive button')[1].click()")
         it.scan("A/LINE", "A/RECEIVE", part % ("CAP", "R-3"), "A/LEVEL-6", "A/1", "A/2", "A/0")
         it.does("A/ENTER", holds=("RECEIVED", "R-3"))
         if (card := report(site, "/reel?reel=R-3")[0])["level"] != "6":
@@ -193,6 +200,8 @@ def each_refused_load_says_what_to_bring(site):
             raise Difference(f"letters of a verdict: {sizes}")
         it.does("S/M1/77", "K-3", kind="refused", holds=("not on the sheet",))
         wait_for("the sheet of the page", lambda: "on no row of the sheet" in it.text("verdict"))
+        if "Scan the reel" in it.text("verdict"):
+            raise Difference(f"a slot that is on no sheet: {it.text('verdict')}")
         if min(sizes := letters(it, "word", "where", "todo", "part")) < READ:
             raise Difference(f"letters of a refusal: {sizes}")
     return f"{len(saw)} refused loads with part, sheet, source and reels; one alternate at two slots; a splice right after a refusal"
@@ -280,6 +289,102 @@ def a_tone_for_each_verdict(site):
     if heard != {"accepted": [wait, *yes], "refused": [wait, *no], "fault": no}:
         raise Difference(f"{heard}")
     return "3 verdicts: " + "; ".join(f"{kind} {len(tones)} tones" for kind, tones in heard.items())
+
+
+def what_is_dropped_is_said(site):
+    """Without the desk the third of OPEN, SEAL, OPEN is kept, and the same scan again isn't; a second SCRAP is asked about; NOT SENT outlives a reload."""
+    with Operator(site) as it:
+        it.ready()
+        site.kill_desk()
+        for codes in (("A/OPEN", "K-1"), ("A/SEAL", "K-1"), ("A/OPEN", "K-1"), ("S/M1/1", "K-3"), ("S/M1/1", "A/UNLOAD"), ("S/M1/1", "K-3")):
+            it.does(*codes, kind="asked")
+        it.does("S/M1/1", "K-3", kind="fault", holds=("DROPPED", "K-3 on slot 1", "scan it again"))
+        it.does("S/M1/1", "A/SCRAP", "5", kind="asked")
+        it.does("S/M1/1", "A/SCRAP", "5", kind="ask", holds=("meant a second time",))
+        it.scan("S/M1/2")
+        wait_for("what was scanned meanwhile", lambda: "A question is open" in it.text("held") and "S/M1/2 was NOT taken" in it.text("held"))
+        it.does("A/ENTER", kind="asked")
+        site.start_desk()
+        whole(site, it, 8)
+        if report(site, "/reel?reel=K-3")[0]["remaining"] != "290":
+            raise Difference(f"5 pieces scrapped twice: {report(site, '/reel?reel=K-3')}")
+        it.seen()
+        it.does("S/M1/1", "A/SCRAP", "9000", kind="refused")
+        records = wait_for("the record of untraced work", lambda: list((site.room / "line/untraced").iterdir()))
+        told = records[0].read_bytes()
+        if len(records) != 1 or hashlib.sha256(told).hexdigest()[:32] != records[0].stem or json.dumps(json.loads(told), sort_keys=True, separators=(",", ":")).encode() + b"\n" != told:
+            raise Difference(f"a record: {records} {told}")
+        it.seen()
+        site.set_up({**SETUP, "badgeWanted": True})
+        it.load()
+        it.ready().does("A/OPEN", "K-8", kind="refused", holds=("NOT SENT",))
+        it.load()
+        it.does(kind="refused", holds=("NOT SENT", "K-8"))
+        it.seen()
+    return "8 scans without the desk, 1 dropped and said so, 1 asked about; 1 record of untraced work; NOT SENT outlives a reload"
+
+
+def the_end_of_a_code(site):
+    """By silence, by Tab, and the same action code twice within a second."""
+    from selenium.webdriver.common.keys import Keys
+    with Operator(site) as it:
+        it.ready()
+
+        def by_silence():
+            it.script("document.getElementById('scan').value = ''")
+            it.keys("S/M1/2")
+            time.sleep(1.5)
+            return "M1 slot 2" in it.text("held")
+        wait_for("a slot that ended by silence", by_silence)
+        after = it.turn()
+        it.keys("K-2", Keys.TAB)
+        if "LOADED" not in it.verdict(("accepted",), after=after)[1]:
+            raise Difference(f"Tab: {it.text('verdict')}")
+
+        def read_twice():
+            it.keys("S/M1/2", Keys.ENTER, "A/UNLOAD", Keys.ENTER, "A/UNLOAD", Keys.ENTER)
+            return wait_for("it is taken", lambda: it.script("return !Number(document.body.dataset.untaken)")) and "read twice" in it.text("held")
+        wait_for("an action read twice", read_twice)
+        it.scan("S/M1/1")
+        wait_for("a slot that waits for a reel", lambda: "M1 slot 1" in it.text("held"))
+        it.scan("A/CANCEL")
+        unloads = [scan["word"] for scan in it.scans()].count("MaterialsUnloaded")
+        it.does("S/M1/2", "K-2")
+    return f"silence, Tab, and a code read twice: {unloads} unloaded, and no action that waits"
+
+
+def a_refusal_of_a_closed_tab_is_shown(site):
+    """The tab that made the scan is closed before the answer, while another one is open."""
+    with Operator(site) as it:
+        it.ready()
+        first = it.page.current_window_handle
+        it.page.switch_to.new_window("tab")
+        it.load()
+        it.ready()
+        site.pause_desk()
+        it.scan("S/M1/2", "K-1")
+        wait_for("it is kept", lambda: len(it.scans()) == 1)
+        it.page.close()
+        it.page.switch_to.window(first)
+        site.resume_desk()
+        it.does(kind="refused", holds=("WRONG PART", "K-1"))
+        it.seen()
+    return "1 refusal, shown in the tab that is left"
+
+
+def from_right_to_left(site):
+    """Texts of a language that is written so: nothing goes beyond the sides, and names stay as they are. Each table has a name."""
+    (site.room / "etc/station/texts.js").write_text('export const TEXTS = { lang: "ar", screens: { line: "\u0627\u0644\u062e\u0637" } };', encoding="utf-8")
+    with Operator(site) as it:
+        it.agrees = False
+        it.ready()
+        for screen in SCREENS:
+            it.go(screen)
+            if it.script("return [document.documentElement.dir, document.documentElement.scrollWidth - innerWidth]") != ["rtl", 0]:
+                raise Difference(f"{screen} from right to left")
+            if it.script("return [...document.querySelectorAll('#main table')].some((it) => !it.getAttribute('aria-label'))"):
+                raise Difference(f"a table of {screen} without a name")
+    return f"{len(SCREENS)} screens"
 
 
 def tab_to(it, what, holds, most=150):
@@ -452,5 +557,5 @@ def a_station_works(numbered):
         page.does(("S/M1/1", "S/M1/3", "S/M2/1", "S/M2/3")[number], f"T-{number}", holds=("LOADED",))
 
 
-FLOWS = [a_scan_whatever_has_the_focus, receive_keeps_what_it_has, each_refused_load_says_what_to_bring, an_id_that_was_used_before, a_scan_over_a_roll_over, a_kill_of_nginx_in_mid_scan, a_tone_for_each_verdict,
+FLOWS = [what_is_dropped_is_said, the_end_of_a_code, a_refusal_of_a_closed_tab_is_shown, from_right_to_left, a_scan_whatever_has_the_focus, receive_keeps_what_it_has, each_refused_load_says_what_to_bring, an_id_that_was_used_before, a_scan_over_a_roll_over, a_kill_of_nginx_in_mid_scan, a_tone_for_each_verdict,
          each_form_by_the_keyboard, a_plants_own_texts, a_slow_desk_is_not_said_to_be_away, a_million_connections_last_thirty_days, ten_pages_that_scan_at_once]

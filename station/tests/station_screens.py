@@ -1,14 +1,19 @@
 """The screens against the program's `report`: every state of a slot, a line of a plant's size, who gets which reel, and what is printed."""
 import base64
 import csv
+import datetime
 import io
 import json
+import re
 import shutil
+import statistics
 import subprocess
+import time
 
 from tracedesk_dev import layout
 import station_flows
 from station_line import line_is_as_reported, real_line, report, shown_rows, shown_tiles, slots_of, tiles_are_as_reported, view
+from station_looks import SIZES
 from station_site import ROOT, SETUP, Difference, Operator, wait_for
 
 DAY_AND_AN_HOUR = 1500  # minutes: a reel of level 5a, which has 1,440, is expired then
@@ -126,6 +131,137 @@ def a_real_line_is_on_one_screen(site):
     return f"78 slots at 1920 by 1080 and none below the fold, {few} that need a person in letters of {TWO_METRES} pixels; of {many} the first {large}, and all marked below"
 
 
+MACHINES, SLOTS, SECONDS = 12, 120, 0.3  # of a long line; of the page's processor time, from a scan to its verdict and after it
+
+
+def long_line(site):
+    """Twelve machines with 120 slots each, most of them loaded."""
+    lines = []
+
+    def say(word, body):
+        at = datetime.datetime.now(datetime.timezone.utc) - datetime.timedelta(minutes=5)
+        lines.append(json.dumps({"MessageName": f"TraceDesk.{word}", "UniqueID": f"f{len(lines)}", "Source": "host", "TimeStamp": at.strftime("%Y-%m-%dT%H:%M:%SZ"), "MessageBody": body}).encode())
+    for part in range(60):
+        say("PartDefined", {"PartNumber": f"RES-0402-{part:03}"})
+    machines = [f"SIPLACE-{number + 1}" for number in range(MACHINES)]
+    for at, machine in enumerate(machines):
+        slots = [(f"{number // 60 + 1}-{number % 60 + 1}", f"RES-0402-{number % 60:03}") for number in range(SLOTS)]
+        say("SheetDefined", {"Product": "LONG", "Machine": machine, "Rows": [{"Slot": slot, "PartNumber": part, "Designators": [f"R{number}"]} for number, (slot, part) in enumerate(slots)]})
+        say("ProductSelected", {"Machine": machine, "Product": "LONG"})
+        for number, (slot, part) in enumerate(slots):
+            say("ReelReceived", {"Reel": f"R{at:02}{number:03}", "PartNumber": part, "Lot": "L", "Level": "3", "Quantity": 20 if number % 40 == at else 5000})
+            if number % 30 != 7 or at % 2:
+                say("MaterialsLoaded", {"Machine": machine, "Slot": slot, "Reel": f"R{at:02}{number:03}"})
+    site.kill_desk()
+    site.feed(lines)
+    site.start_desk()
+    site.set_up({**SETUP, "machines": [{"machine": machine, "product": "LONG"} for machine in machines]})
+    return machines
+
+
+def processor_seconds(it):
+    return next(told["value"] for told in it.page.execute_cdp_cmd("Performance.getMetrics", {})["metrics"] if told["name"] == "TaskDuration")
+
+
+def a_line_of_twelve_machines(site):
+    """A tile for each machine with what is wrong as `report` has it, its slots after a touch, and a scan that costs the page little."""
+    machines = long_line(site)
+    status = {"Machines": {machines[0]: {"Board": "SN-4711", "LastRefused": None, "State": "go"}}, "Version": 1}
+    (site.room / "line/status/m1.json").write_text(json.dumps(status))
+    with Operator(site) as it:
+        it.agrees = False
+        it.ready()
+        wait_for("twelve tiles", lambda: len(it.script(TILES)) == MACHINES and "SN-4711" in it.script(TILES)[0])
+        for at, machine in enumerate(machines):
+            slots = slots_of(site, machine, "LONG", 50, 60)
+            counts = {state: sum(state in slot.states for slot in slots) for state in ("EMPTY", "LOW")}
+            worst = min((slot for slot in slots if slot.states), key=lambda slot: slot.tile()[0])
+            wanted = [f"{count} {state}" for state, count in counts.items() if count] + [worst.slot, *worst.tile()[1][1:]]
+            got = wait_for("a tile with its counts", lambda: (told := it.script(TILES)[at]) and (all(text in told for text in wanted) and told))  # noqa: B023
+            if machine not in got or "LONG" not in got:
+                raise Difference(f"the tile of {machine}: {got}")
+        if it.script(SIZES)[1:] != [0, 0]:
+            raise Difference(f"the overview: beyond the screen by {it.script(SIZES)}")
+        it.page.execute_cdp_cmd("Performance.enable", {"timeDomain": "threadTicks"})
+        took = []
+        for turn in range(6):
+            machine, before = turn % 4 * 2, processor_seconds(it)
+            it.does(f"S/{machines[machine]}/1-8", "A/UNLOAD" if turn > 3 else f"R{machine:02}007")
+            time.sleep(4)
+            took.append(processor_seconds(it) - before)
+        if statistics.median(took) > SECONDS:
+            raise Difference(f"processor seconds of the page for a scan: {took}")
+        it.seen()
+        it.script("document.querySelectorAll('.overview button')[2].click()")
+        wait_for("its slots", lambda: len(shown_rows(it, machines[2])) == SLOTS)
+        line_is_as_reported(site, it, machines[2], "LONG")
+        it.script("document.querySelector('.orders button').click()")
+        wait_for("the overview again", lambda: len(it.script(TILES)) == MACHINES)
+    return f"{MACHINES} tiles as `report` has them, {SLOTS} slots after a touch; a scan takes {statistics.median(took):.2f} s of the page's processor time"
+
+
+TILES = "return [...document.querySelectorAll('.overview button')].map((it) => it.innerText.split('\\n').join(' '))"
+LATER = """window.later = 0;
+const fetched = window.fetch;
+window.fetch = async (...how) => {
+  const told = await fetched(...how);
+  if (!window.later || !String(how[0]).includes("/slots?")) { return told; }
+  const headers = new Headers(told.headers);
+  ["X-Desk-Answered", "X-Station-Now"].forEach((name) => headers.set(name, Number(headers.get(name)) + window.later));
+  return new Response(await told.text(), { status: told.status, headers });
+};
+window.tones = [];
+const start = OscillatorNode.prototype.start;
+OscillatorNode.prototype.start = function (...at) { window.tones.push(Math.round(this.frequency.value)); return start.apply(this, at); };"""
+PACES = """const [looks, kit] = arguments;
+return import("/station/model.js").then(({ Model }) => {
+  const model = new Model({ machines: [{ machine: "M1" }], connectionsADay: 26000, boards: 5, expires: 60, splice: 10 }, () => {}), [line] = model.lines;
+  Object.assign(line, { kit, slots: looks.at(-1).slots, looks });
+  return model.rows(line).map((it) => [it.slot, it.boards, it.minutes, it.isEnding]);
+});"""
+
+
+def used(*reels):
+    return [{"slot": slot, "reel": reel, "part": "P", "lot": "L", "remaining": str(left), "minutes_left": "unlimited"} for slot, reel, left in reels]
+
+
+# the slot lists of two moments, five minutes apart, for a sheet with one piece a board at slots 1 to 3: of each slot its boards, minutes and whether somebody is called
+PACED = {
+    "ten boards in five minutes": (used(("1", "A", 100), ("2", "B", 25), ("3", "C", 500)), used(("1", "A", 90), ("2", "B", 15), ("3", "C", 490)), [["1", 90, 45, False], ["2", 15, 7, True], ["3", 490, 245, False]]),
+    "a count and a new reel decide nothing": (used(("1", "A", 100), ("2", "B", 400), ("3", "C", 500)), used(("1", "A", 90), ("2", "B", 15), ("3", "C", 490), ("3", "D", 700)), [["1", 90, 45, False], ["2", 15, 7, True], ["3", 1190, 595, False]]),
+    "a reel that ran out was used": (used(("1", "A", 10), ("1", "E", 50), ("2", "B", 100), ("3", "C", 500)), used(("1", "E", 50), ("2", "B", 90), ("3", "C", 490)), [["1", 50, 25, False], ["2", 90, 45, False], ["3", 490, 245, False]]),
+    "a line that stands still": (used(("1", "A", 3), ("2", "B", 3), ("3", "C", 3)), used(("1", "A", 3), ("2", "B", 3), ("3", "C", 3)), [["1", 3, None, False], ["2", 3, None, False], ["3", 3, None, False]]),
+}
+
+
+def a_splice_is_called_for(site):
+    """By the pace of the last minutes, with a tone once, on whatever screen is shown; and the pace by cases that were worked out by hand."""
+    for slot, reel in (("1", "K-1"), ("2", "K-2"), ("10", "K-5"), ("3", "K-3")):
+        site.say("MaterialsLoaded", {"Machine": "M1", "Slot": slot, "Reel": reel})
+    site.set_up({**SETUP, "boards": 5})
+    with Operator(site, begin=False) as it:
+        it.agrees = False
+        it.open(before=LATER)
+        it.ready().go("receive")
+        sheet = [{"slot": slot, "part": "P", "needed": 1} for slot in "123"]
+        for name, (before, after, wanted) in PACED.items():
+            if (got := it.script(PACES, [{"at": 0, "slots": before}, {"at": 300_000, "slots": after}], sheet)) != wanted:
+                raise Difference(f"{name}: wanted {wanted}, got {got}")
+        for board in range(5):
+            for word, more in (("WorkStarted", {}), ("MaterialsInstalled", {"Designators": ["C1", "C2", "R1", "D1", "D2", "D3", "C3"]}), ("WorkCompleted", {})):
+                if site.say(word, {"Machine": "M1", "Board": f"SN-{board}", **more})["Answer"] != "Accepted":
+                    raise Difference(f"{word} of board {board} was refused")
+        it.script("window.later = 300")
+        wait_for("the call", lambda: re.search(r"SPLICE M1 10 in \d min", it.text("ending")), 60)
+        wait_for("the tone", lambda: it.script("return window.tones.filter((it) => it === 660).length") == 3)
+        it.go("line")
+        wait_for("the tile", lambda: any(re.fullmatch(r"LOW: 8 · \d min", tile[1]) for tile in shown_tiles(it)))
+        time.sleep(8)
+        if it.script("return window.tones.filter((it) => it === 660).length") != 3:
+            raise Difference("a second tone for the same slot")
+    return f"{len(PACED)} cases of a pace; one call with one tone"
+
+
 # --- Changeover
 
 
@@ -198,6 +334,27 @@ def a_changeover_of_two_machines(site):
         if got != wanted:
             raise Difference(f"to bring: {json.dumps(got)}, wanted {json.dumps(wanted)}")
     return f"{len(promised)} reels for 8 slots of two machines, none twice, and what is missing is what `report` leaves"
+
+
+def a_pick_list_over_the_line(site):
+    """What each machine makes now: the reels to bring, the slot that ends next first; and both machines' selections by one touch."""
+    for machine, slot, reel in (("M1", "1", "K-1"), ("M1", "10", "K-5"), ("M2", "10", "K-8"), ("M2", "1", "K-7")):
+        site.say("MaterialsLoaded", {"Machine": machine, "Slot": slot, "Reel": reel})
+    with Operator(site) as it:
+        it.ready().go("changeover")
+        it.script("const form = document.querySelector('form.changeover'); form.elements.boards.value = '100'; [...form.querySelectorAll('button')].at(-1).click()")
+        rows = wait_for("the list", lambda: it.rows())
+        lasts = [int(row[2].split(" ")[0].replace(",", "")) for row in rows]
+        free = {row["reel"] for row in report(site, "/kit?product=CTRL-A&machine=M1&boards=100000") if row["reel"]}
+        brought = [text.split(" (")[0] for row in rows for text in row[3].split("; ") if text]
+        if lasts != sorted(lasts) or not set(brought) <= free or len(set(brought)) != len(brought) or not {"M1 2", "M1 3", "M1 10", "M2 1"} <= {row[0] for row in rows} or "M1 1" in {row[0] for row in rows}:
+            raise Difference(f"to bring: {rows}, free {free}")
+        it.script("[...document.querySelectorAll('form.changeover button')].at(-2).click()")
+        scans = wait_for("two selections", lambda: (told := it.scans()) and len(told) == 2 and all(scan["state"] == "answered" for scan in told) and told)
+        if [(scan["body"], scan["answer"]["Answer"]) for scan in scans] != [({"Machine": machine, "Product": "CTRL-A"}, "Accepted") for machine in ("M1", "M2")]:
+            raise Difference(f"selected on all: {scans}")
+        it.seen()
+    return f"{len(rows)} slots by urgency, {len(brought)} reels, none twice; 2 selections by one touch"
 
 
 # --- Trace, and what is printed
@@ -277,4 +434,4 @@ def the_operators_sheet_is_one_page(site):
     return f"one page, with {len(words)} words of the screen"
 
 
-FLOWS = [every_state_of_a_slot, a_real_line_is_on_one_screen, who_gets_which_reel, a_changeover_of_two_machines, the_overdue_list, a_trace_is_printed_whole, the_operators_sheet_is_one_page]
+FLOWS = [every_state_of_a_slot, a_real_line_is_on_one_screen, a_pick_list_over_the_line, who_gets_which_reel, a_changeover_of_two_machines, the_overdue_list, a_trace_is_printed_whole, the_operators_sheet_is_one_page]

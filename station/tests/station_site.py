@@ -230,6 +230,7 @@ class Site:
 def browser(room, name, size=(1920, 1080)):
     """A headless Chromium with a profile of its own, which outlives it."""
     from selenium import webdriver
+    from selenium.common.exceptions import SessionNotCreatedException
     from selenium.webdriver.chrome.service import Service
     options = webdriver.ChromeOptions()
     options.binary_location = shutil.which("chromium")
@@ -238,7 +239,13 @@ def browser(room, name, size=(1920, 1080)):
         options.add_argument(it)
     options.set_capability("goog:loggingPrefs", {"browser": "ALL"})
     options.accept_insecure_certs = True
-    page = webdriver.Chrome(service=Service(shutil.which("chromedriver"), log_path=os.devnull), options=options)
+    for tries_left in range(4, -1, -1):  # a machine that has much to do may not begin it within the driver's minute
+        try:
+            page = webdriver.Chrome(service=Service(shutil.which("chromedriver"), log_path=os.devnull), options=options)
+            break
+        except SessionNotCreatedException:
+            if not tries_left:
+                raise
     page.set_script_timeout(PATIENCE * slower)
     return page
 

@@ -173,6 +173,7 @@ class Untraced(test_send.Sending):
         self.assertEqual(it.look()["M1"][0], "stop")
         self.judge(it, work("u1"))
         self.assertEqual(it.look()["M1"], ("go", "board B1 was started"))
+        self.assertEqual(it.told()["M1"]["Board"], "B1")
         return it
 
     def judge(self, it, text, says="Accepted", is_tried=False):

@@ -135,7 +135,7 @@ class Interlock:
         """The machines, as the status has them."""
         self.look()
         with self.lock:
-            return {name: {"LastRefused": it.last_refused, "Reason": it.reason, "Since": it.since, "State": it.state} for name, it in self.machines.items()}
+            return {name: {"Board": it.board, "LastRefused": it.last_refused, "Reason": it.reason, "Since": it.since, "State": it.state} for name, it in self.machines.items()}
 
     # --- The plant's command
 

@@ -1,5 +1,5 @@
--- What was found over a chain is its recall.
-use Rattle.std.proofs.Common.{◌≡◌, ◌↔◌, ◌∙◌, ℕ, Bool, true, Contains, List, [], ◌∷◌, ◌++◌, length, map, refl, sym, ap}
+-- The rows over a chain are its recall.
+use Rattle.std.proofs.Common.{◌≡◌, ◌↔◌, ◌∙◌, ℕ, Bool, true, Contains, List, [], ◌∷◌, ◌++◌, length, get_or, map, refl, sym, ap}
 use Rattle.std.specs.Prelude.{Any, ◌||◌}
 use Rattle.std.specs.Cmp.Lexicographic.{nat_list_eq_equiv}
 use Rattle.std.specs.List.{list_any}
@@ -9,13 +9,15 @@ use Rattle.std.proofs.lemmas.List.Folds.{list_any-append, Any-from_list_any, lis
 use Rattle.std.proofs.lemmas.Map.Views.{Contains-from_any, list_any-from_Contains}
 use Rattle.desk_types.specs.Id.{Name, same}
 use Rattle.desk_types.specs.History.{History}
-use Rattle.desk_types.specs.Placements.{boards_of}
+use Rattle.desk_types.specs.Placements.{lots_of, boards_of}
 use Rattle.desk_types.proofs.Keys.{same-true}
 use Rattle.desk_laws.proofs.Mounts.{has}
-use Rattle.alike.specs.Chain.{DeskFile, IsChain, boards_over}
-use Rattle.alike.proofs.ChainLots.{boards-union}
-use Rattle.chain_check.specs.declared.recall.Found.{Found}
-use Rattle.chain_check.specs.Recalled.{found_in, found_over}
+use Rattle.alike.specs.Chain.{DeskFile, IsChain, boards_over, lots_over}
+use Rattle.alike.proofs.ChainLots.{boards-union, lots-union}
+use Rattle.chain_check.specs.declared.question.Question.TheVariants.{Names}
+use Rattle.chain_check.specs.declared.question.Subject.{Subject}
+use Rattle.chain_check.specs.declared.question.Subject.TheVariants.{Board, Lot}
+use Rattle.chain_check.specs.Rows.{first_field, name_row, names_of, pieces_of, rows_over}
 
 has-from : (names : List Name) (name : Name) → Contains names name → has names name ≡ true
 has-from names name there = list_any-from_Contains nat_list_eq_equiv name names there
@@ -23,33 +25,49 @@ has-from names name there = list_any-from_Contains nat_list_eq_equiv name names 
 from-has : (names : List Name) (name : Name) → has names name ≡ true → Contains names name
 from-has names name is = Contains-from_any same-true name names is
 
-abbrev boards-found : List Found → List Name
-boards-found found = map (λ (f : Found). f.name) found
+-- The names of a file, and those in the rows of all files.
+abbrev names-in : Subject → DeskFile → List Name
+names-in subject file = names_of subject (pieces_of subject file.whole)
 
-has-in : (place : ℕ) (boards : List Name) (board : Name) → has (boards-found (found_in place boards)) board ≡ has boards board
-has-in place [] board = refl
-has-in place (b ∷ boards) board = ap (λ x. same board b || x) (has-in place boards board)
+abbrev names-over : Subject → List (List ℕ) → List DeskFile → List Name
+names-over subject paths files = map first_field (rows_over (Names subject) paths files)
 
-has-found : (files : List DeskFile) (lot board : Name) → has (boards-found (found_over files (λ H. boards_of H lot))) board ≡ list_any (λ (f : DeskFile). has (boards_of f.whole lot) board) files
-has-found [] lot board = refl
-has-found (file ∷ older) lot board =
-    let here = found_in (length older) (boards_of file.whole lot) in
-    ap (λ (names : List Name). has names board) (map-append (λ (f : Found). f.name) (found_over older (λ H. boards_of H lot)) here)
-    ∙ list_any-append (λ b. same board b) (boards-found (found_over older (λ H. boards_of H lot))) (boards-found here)
-    ∙ (λ j. has-found older lot board j || has-in (length older) (boards_of file.whole lot) board j)
-    ∙ or_comm (list_any (λ (f : DeskFile). has (boards_of f.whole lot) board) older) (has (boards_of file.whole lot) board)
+first-fields : (path : List ℕ) (names : List Name) → map first_field (map (name_row path) names) ≡ names
+first-fields path [] = refl
+first-fields path (name ∷ names) = ap (λ (ns : List Name). name ∷ ns) (first-fields path names)
 
-pub found-boards : (files : List DeskFile) (lot board : Name) → IsChain files → Contains (boards_over files lot) board ↔ Contains (map (λ (f : Found). f.name) (found_over files (λ H. boards_of H lot))) board
-found-boards files lot board chain = (
+has-over : (subject : Subject) (paths : List (List ℕ)) (files : List DeskFile) (name : Name) → has (names-over subject paths files) name ≡ list_any (λ (f : DeskFile). has (names-in subject f) name) files
+has-over subject paths [] name = refl
+has-over subject paths (file ∷ older) name =
+    let path = get_or paths (length older) [] in
+    let here = map (name_row path) (names-in subject file) in
+    ap (λ (names : List Name). has names name) (map-append first_field (rows_over (Names subject) paths older) here ∙ ap (λ (names : List Name). names-over subject paths older ++ names) (first-fields path (names-in subject file)))
+    ∙ list_any-append (λ n. same name n) (names-over subject paths older) (names-in subject file)
+    ∙ ap (λ b. b || has (names-in subject file) name) (has-over subject paths older name)
+    ∙ or_comm (list_any (λ (f : DeskFile). has (names-in subject f) name) older) (has (names-in subject file) name)
+
+-- What some file names is in the rows.
+over-rows : (subject : Subject) (paths : List (List ℕ)) (files : List DeskFile) (all : List Name) (name : Name)
+    → Contains all name ↔ Any (λ (f : DeskFile). Contains (names-in subject f) name) files
+    → Contains all name ↔ Contains (names-over subject paths files) name
+over-rows subject paths files all name union = (
   λ there.
-      let some = (boards-union files lot board chain).0 there in
-      from-has (boards-found (found_over files (λ H. boards_of H lot))) board (
-      has-found files lot board
-      ∙ list_any-from_Any (λ (f : DeskFile). has (boards_of f.whole lot) board) files (some.0, some.1, some.2, some.3, has-from (boards_of some.1.whole lot) board some.4)),
+      let some = union.0 there in
+      from-has (names-over subject paths files) name (
+      has-over subject paths files name
+      ∙ list_any-from_Any (λ (f : DeskFile). has (names-in subject f) name) files (some.0, some.1, some.2, some.3, has-from (names-in subject some.1) name some.4)),
   λ there.
-      let some = Any-from_list_any (λ (f : DeskFile). has (boards_of f.whole lot) board) files (sym (has-found files lot board) ∙ has-from (boards-found (found_over files (λ H. boards_of H lot))) board there) in
-      (boards-union files lot board chain).1 (some.0, some.1, some.2, some.3, from-has (boards_of some.1.whole lot) board some.4),
+      let some = Any-from_list_any (λ (f : DeskFile). has (names-in subject f) name) files (sym (has-over subject paths files name) ∙ has-from (names-over subject paths files) name there) in
+      union.1 (some.0, some.1, some.2, some.3, from-has (names-in subject some.1) name some.4),
 )
+
+pub found-boards : (files : List DeskFile) (paths : List (List ℕ)) (lot board : Name) → IsChain files
+    → Contains (boards_over files lot) board ↔ Contains (map first_field (rows_over (Names (Lot lot)) paths files)) board
+found-boards files paths lot board chain = over-rows (Lot lot) paths files (boards_over files lot) board (boards-union files lot board chain)
+
+pub found-lots : (files : List DeskFile) (paths : List (List ℕ)) (board lot : Name) → IsChain files
+    → Contains (lots_over files board) lot ↔ Contains (map first_field (rows_over (Names (Board board)) paths files)) lot
+found-lots files paths board lot chain = over-rows (Board board) paths files (lots_over files board) lot (lots-union files board lot chain)
 
 -- ---- the begins don't matter
 
@@ -57,19 +75,16 @@ any-whole : (q : History → Bool) (files : List DeskFile) → list_any (λ (f :
 any-whole q [] = refl
 any-whole q (f ∷ files) = ap (λ b. q f.whole || b) (any-whole q files)
 
-named-by : (files : List DeskFile) (lot board : Name) → has (boards-found (found_over files (λ H. boards_of H lot))) board ≡ list_any (λ (H : History). has (boards_of H lot) board) (map (λ (f : DeskFile). f.whole) files)
-named-by files lot board = has-found files lot board ∙ any-whole (λ (H : History). has (boards_of H lot) board) files
-
 one-way : (files others : List DeskFile) (lot board : Name) → IsChain files → IsChain others
     → map (λ (f : DeskFile). f.whole) files ≡ map (λ (f : DeskFile). f.whole) others
     → Contains (boards_over files lot) board → Contains (boards_over others lot) board
 one-way files others lot board chain chain' same there =
-    let found = has-from (boards-found (found_over files (λ H. boards_of H lot))) board ((found-boards files lot board chain).0 there) in
-    (found-boards others lot board chain').1 (
-    from-has (boards-found (found_over others (λ H. boards_of H lot))) board (
-    named-by others lot board
-    ∙ ap (λ (Hs : List History). list_any (λ (H : History). has (boards_of H lot) board) Hs) (sym same)
-    ∙ sym (named-by files lot board) ∙ found))
+    let named : History → Bool = λ H. has (boards_of H lot) board in
+    let some = (boards-union files lot board chain).0 there in
+    let has_one : list_any (λ (f : DeskFile). named f.whole) files ≡ true = list_any-from_Any (λ (f : DeskFile). named f.whole) files (some.0, some.1, some.2, some.3, has-from (boards_of some.1.whole lot) board some.4) in
+    let other = Any-from_list_any (λ (f : DeskFile). named f.whole) others (
+    any-whole named others ∙ ap (list_any named) (sym same) ∙ sym (any-whole named files) ∙ has_one) in
+    (boards-union others lot board chain').1 (other.0, other.1, other.2, other.3, from-has (boards_of other.1.whole lot) board other.4)
 
 pub any-begin : (files others : List DeskFile) (lot board : Name) → IsChain files → IsChain others
     → map (λ (f : DeskFile). f.whole) files ≡ map (λ (f : DeskFile). f.whole) others

@@ -1,3 +1,4 @@
 pub mod Cases
 pub mod FoundBoards
 pub mod Gaps
+pub mod WrittenRows

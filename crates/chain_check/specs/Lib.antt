@@ -1,3 +1,4 @@
+pub mod Chained
 pub mod Counted
-pub mod Recalled
+pub mod Rows
 pub mod Texts

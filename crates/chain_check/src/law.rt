@@ -1,22 +1,28 @@
 //! The laws of a recall over a chain. They are for proofs, and do nothing when they run.
 
-ghost use Rattle.std.specs.Prelude.{◌≡◌, ◌↔◌, ◌+◌, ◌<◌, List, ◌∷◌, All, Contains, map};
+ghost use Rattle.std.specs.Prelude.{◌≡◌, ◌↔◌, ◌+◌, ◌<◌, ℕ, List, [], ◌∷◌, All, Contains, get_or, map};
 ghost use Rattle.desk_types.specs.Id.{Name};
 ghost use Rattle.desk_types.specs.History.{History, now_of, desk_minute};
 ghost use Rattle.desk_types.specs.Pieces.{left_of, found_of, placed_of, scrapped_of};
-ghost use Rattle.desk_types.specs.Placements.{boards_of};
-ghost use Rattle.alike.specs.Chain.{DeskFile, IsChain, Carries, boards_over, new_in};
-ghost use Rattle.chain_check.specs.declared.recall.Found.{Found};
+ghost use Rattle.alike.specs.Chain.{DeskFile, IsChain, Carries, boards_over, lots_over, new_in};
+ghost use Rattle.report_texts.specs.Sets.{Fields};
+ghost use Rattle.chain_check.specs.declared.question.Question.TheVariants.{Names};
+ghost use Rattle.chain_check.specs.declared.question.Subject.TheVariants.{Board, Lot};
 ghost use Rattle.chain_check.specs.Counted.{Moves};
-ghost use Rattle.chain_check.specs.Recalled.{found_over};
+ghost use Rattle.chain_check.specs.Rows.{first_field, rows_over};
 
-/// What was found over a chain is the recall over it: a board is named by some file exactly if it is among the boards of
-/// the lot over all files. Any begins by which the same whole histories are a chain give the same recall, so no fault in
-/// where a begin is said to end can lose a board.
+/// The rows over a chain are the recall over it: a board is in the first column exactly if it is among the boards of the
+/// lot over all files, and a lot exactly if it is among the lots of the board. Any begins by which the same whole
+/// histories are a chain give the same recall, so no fault in where a begin is said to end can lose a board.
 pub fn recalls_find_all_boards()
-    ensures all { (files : List DeskFile) (lot board : Name) → IsChain files
+    ensures all { (files : List DeskFile) (paths : List (List ℕ)) (lot board : Name)
+        → IsChain files
         → Contains (boards_over files lot) board
-        ↔ Contains (map (λ (f : Found). f.name) (found_over files (λ H. boards_of H lot))) board }
+        ↔ Contains (map first_field (rows_over (Names (Lot lot)) paths files)) board }
+    ensures lots { (files : List DeskFile) (paths : List (List ℕ)) (board lot : Name)
+        → IsChain files
+        → Contains (lots_over files board) lot
+        ↔ Contains (map first_field (rows_over (Names (Board board)) paths files)) lot }
     ensures any_begin { (files others : List DeskFile) (lot board : Name) → IsChain files
         → IsChain others
         → map (λ (f : DeskFile). f.whole) files ≡ map (λ (f : DeskFile). f.whole) others

@@ -1,16 +1,13 @@
--- The text of a recall is the answer over its files; and which statuses a run without an answer has.
-use Rattle.std.proofs.Common.{◌≡◌, ◌∙◌, ◌⊎◌, ℕ, Option, Some, None, List, [], sym, ap, subst, inl, inr, arith}
+-- The chain of an answer; and which statuses a run without an answer has.
+use Rattle.std.proofs.Common.{◌≡◌, ◌⊎◌, ℕ, Option, Some, None, List, sym, subst, inl, inr, arith}
 use Rattle.alike.specs.Chain.{DeskFile, IsChain}
-use Rattle.chain_check.specs.declared.recall.Recall.{Recall}
-use Rattle.line_prefix.specs.declared.looking.Question.{Question}
-use Rattle.chain_files.specs.Answer.{answer_over, rows_text}
-use Rattle.chain_files.specs.Files.{IsRecall}
-use Rattle.chain_files.specs.Whole.{IsStopped, recall_text}
+use Rattle.chain_check.specs.declared.chain.Chain.{Chain}
+use Rattle.chain_files.specs.Files.{Continues}
+use Rattle.chain_files.specs.Whole.{IsStopped}
 
-pub answers : (recall : Option Recall) (question : Question) (paths : List (List ℕ)) (files : List DeskFile) → IsRecall recall question files
-    → IsChain files × (recall_text question paths recall ≡ answer_over question paths files)
-answers None question paths files none = (subst (λ (fs : List DeskFile). IsChain fs) (sym none) tt, ap (answer_over question paths) (sym none))
-answers (Some recall) question paths files is = (is.chain, λ j. rows_text question paths (is.rows j) (is.found j))
+pub are-chain : (chain : Option Chain) (files : List DeskFile) → Continues chain files → IsChain files
+are-chain None files none = subst (λ (fs : List DeskFile). IsChain fs) (sym none) tt
+are-chain (Some chain) files is = is.is_chain
 
 pub only-three : (status : ℕ) → (status ≡ 0) ⊎ (status ≡ 3) ⊎ (status ≡ 4) → IsStopped status → status ≡ 3
 only-three status (inl zero) (inl one) = omega (arith, zero, one)

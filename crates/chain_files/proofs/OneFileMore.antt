@@ -1,5 +1,5 @@
 -- One more file of a chain, or one that ends it.
-use Rattle.std.proofs.Common.{◌≡◌, ◌∙◌, ◌+◌, ◌<◌, ℕ, All, Option, Some, List, [], ◌∷◌, ◌++◌, length, length-append, sym, ap, subst, inl, arith}
+use Rattle.std.proofs.Common.{◌≡◌, ◌∙◌, ◌+◌, ◌<◌, ℕ, All, Option, Some, List, [], ◌∷◌, ◌++◌, get_or, length, length-append, sym, ap, subst, inl, arith}
 use Rattle.std.specs.List.{AllByRecursion}
 use Rattle.std.proofs.lemmas.List.Elements.{All-from_recursion, recursion_from_All}
 use Rattle.sqlite_disk.specs.declared.Disk as disk
@@ -7,18 +7,25 @@ use Rattle.sqlite_disk.specs.declared.Files.{Files}
 use Rattle.sqlite_wal.specs.Reads.{AreClean}
 use Rattle.sqlite_wal.specs.Recovery.{Image}
 use Rattle.desk_types.specs.declared.rules.Rules.TheVariants.{Two}
-use Rattle.desk_types.specs.History.{History}
+use Rattle.desk_types.specs.History.{History, IsPrefix}
 use Rattle.feeder_state.specs.declared.desk.StateDesk.{StateDesk}
+use Rattle.feeder_state.specs.State.{IsState}
 use Rattle.feeder_state.specs.contracts.desk.StateDeskDesk.TheImpl.{ghosts as state}
 use Rattle.line_prefix.specs.declared.looking.Looked.{Looked}
-use Rattle.line_prefix.specs.declared.looking.Question.{Question}
 use Rattle.line_prefix.specs.Look.{Says}
 use Rattle.desk_file.specs.Files.{HasOursFirst}
 use Rattle.alike.specs.Chain.{DeskFile}
-use Rattle.chain_check.specs.declared.recall.Recall.{Recall}
+use Rattle.alike_check.specs.declared.difference.Difference.{Difference}
+use Rattle.report_texts.specs.Csv.{HasWritten}
+use Rattle.chain_check.specs.declared.chain.Chain.{Chain}
+use Rattle.chain_check.specs.declared.question.Question.{Question}
+use Rattle.chain_check.specs.Chained.{IsReason, IsSoFar}
+use Rattle.chain_check.specs.Rows.{answer_over}
+use Rattle.chain_check.proofs.WrittenRows.{answer-next}
 use Rattle.chain_files.specs.declared.chain.Fault.{Fault}
-use Rattle.chain_files.specs.declared.chain.Fault.TheVariants.{Refused, BegunFrom, Broken}
-use Rattle.chain_files.specs.Files.{Adds, AreHonest, BreaksChain, HoldHistory, HoldsSaid, IsRecall, IsStop, Recalled, SoFar, Stops, oldest_first}
+use Rattle.chain_files.specs.declared.chain.Fault.TheVariants.{Refused, BegunFrom, Differs}
+use Rattle.chain_files.specs.Files.{Adds, Answer, AreHonest, BreaksChain, Continues, HoldHistory, HoldsSaid, IsStop, Reaches, SoFar, Stops, oldest_first}
+use Rattle.chain_files.proofs.Answered.{are-chain}
 
 front : {X : Type 0} (P : X → Type 0) (xs : List X) (x : X) → AllByRecursion P (xs ++ x ∷ []) → AllByRecursion P xs × P x
 front P [] x all = (tt, all.0)
@@ -29,12 +36,18 @@ last-clean {D} g old after f is all =
     let P : Files D → Type 0 = λ f. AreClean g f.log f.db in
     (front P old f (recursion_from_All P (old ++ f ∷ []) (subst (λ (fs : List (Files D)). All P fs) is all))).1
 
-module _ {D : Type 0} (g : disk.Ghosts D) (image : ℕ → Image) (question : Question) (recall : Option Recall) (n : ℕ) (closed : List (Files D)) (f : Files D) (looked : Looked StateDesk) where
+-- A file that doesn't carry on the newest one.
+pub stops-next : (chain : Chain) (files : List DeskFile) (H B : History) (difference : Difference) → IsSoFar chain files → IsPrefix B H
+    → ((G : History) → IsState G chain.newest → IsReason G B difference) → Stops files H (Differs difference)
+stops-next chain [] H B difference is prefix why = absurd is.newest
+stops-next chain (before ∷ older) H B difference is prefix why = (B, prefix, why before.whole is.newest)
+
+module _ {D : Type 0} (g : disk.Ghosts D) (image : ℕ → Image) (question : Question) (paths : List (List ℕ)) (chain : Option Chain) (answer : Answer) (n : ℕ) (closed : List (Files D)) (f : Files D) (looked : Looked StateDesk) where
   record Both : Type 0 where
-    pub before : SoFar g image question closed n recall
+    pub before : SoFar g image question paths closed n chain answer
     pub said : HoldsSaid g (image n) question f looked
 
-  both-in : length closed ≡ n → Recalled g image question closed n recall → (AreClean g f.log f.db → HasOursFirst (image n) → HoldsSaid g (image n) question f looked)
+  both-in : length closed ≡ n → Reaches g image question paths closed n chain answer → (AreClean g f.log f.db → HasOursFirst (image n) → HoldsSaid g (image n) question f looked)
       → AreHonest g image (closed ++ f ∷ []) → Both
   both-in long was said honest =
       let P : Files D → Type 0 = λ f. AreClean g f.log f.db in
@@ -45,41 +58,48 @@ module _ {D : Type 0} (g : disk.Ghosts D) (image : ℕ → Image) (question : Qu
         said = said both.1 (honest.ours n (omega (arith, sum, long)));
       }
 
-  pub added : (after : List (Files D)) (next : Recall) → after ≡ closed ++ f ∷ [] → length closed ≡ n → Recalled g image question closed n recall
+  pub added : (after : List (Files D)) (next : Chain) (answer' : Answer) → after ≡ closed ++ f ∷ [] → length closed ≡ n → Reaches g image question paths closed n chain answer
       → (AreClean g f.log f.db → HasOursFirst (image n) → HoldsSaid g (image n) question f looked)
-      → ((files : List DeskFile) (question : Question) (H : History) → IsRecall recall question files → Says state.Stands state.kept_rules H question looked → Adds next question files H)
-      → Recalled g image question after (n + 1) (Some next)
-  added after next is long was said adds honest =
+      → (path : List ℕ) → path ≡ get_or paths n []
+      → ((files : List DeskFile) (H : History) (text : List ℕ) → Continues chain files → Says state.Stands state.kept_rules H question looked → HasWritten answer text → Adds next files H question path text answer')
+      → Reaches g image question paths after (n + 1) (Some next) answer'
+  added after next answer' is long was said path at adds honest =
       let it = both-in long was said (subst (λ (fs : List (Files D)). AreHonest g image fs) is honest) in
       let H = it.said.0 in
-      let more = adds it.before.files question H it.before.recalls it.said.2 in
+      let files = it.before.files in
+      let more = adds files H (answer_over question paths files) it.before.chained it.said.2 it.before.written in
+      let file : DeskFile = record { rules = Two; begun = more.begun; whole = H } in
       record {
         newest_first = f ∷ it.before.newest_first;
         order = is ∙ ap (λ (fs : List (Files D)). fs ++ f ∷ []) it.before.order;
-        files = record { rules = Two; begun = more.0; whole = H } ∷ it.before.files;
+        files = file ∷ files;
         count = omega (arith, it.before.count);
         held = (subst (λ (k : ℕ). HoldHistory g (image k) f H) (sym it.before.count) it.said.1, it.before.held);
-        recalls = more.1;
+        chained = more.adds;
+        written = subst (HasWritten answer') (answer-next question paths files file path (at ∙ ap (λ k. get_or paths k []) (sym it.before.count))) more.written;
       }
 
-  to-stop : (fault : Fault) → BreaksChain g image question n fault → IsStop g image question n fault
+  to-stop : (fault : Fault) → BreaksChain g image n fault → IsStop g image n fault
   to-stop (Refused fault) breaks = inl breaks.stops
   to-stop (BegunFrom mark) breaks = breaks
-  to-stop (Broken why) breaks = breaks
+  to-stop (Differs difference) breaks = breaks
 
-  pub stopped : (after : List (Files D)) (fault : Fault) → after ≡ closed ++ f ∷ [] → length closed ≡ n → Recalled g image question closed n recall
+  pub stopped : (after : List (Files D)) (fault : Fault) → after ≡ closed ++ f ∷ [] → length closed ≡ n → Reaches g image question paths closed n chain answer
       → (AreClean g f.log f.db → HasOursFirst (image n) → HoldsSaid g (image n) question f looked)
-      → ((files : List DeskFile) (question : Question) (H : History) → IsRecall recall question files → Says state.Stands state.kept_rules H question looked → Stops files H fault)
-      → AreHonest g image after → IsStop g image question n fault
+      → ((files : List DeskFile) (H : History) → Continues chain files → Says state.Stands state.kept_rules H question looked → Stops files H fault)
+      → AreHonest g image after → IsStop g image n fault
   stopped after fault is long was said stops honest =
       let it = both-in long was said (subst (λ (fs : List (Files D)). AreHonest g image fs) is honest) in
       let H = it.said.0 in
+      let files = it.before.files in
       to-stop fault (record {
-        recall = recall;
-        closed = closed;
-        before = it.before;
+        newest_first = it.before.newest_first;
+        before = files;
+        count = it.before.count;
+        held = it.before.held;
+        chain = are-chain chain files it.before.chained;
         f = f;
         history = H;
         holds = it.said.1;
-        stops = stops it.before.files question H it.before.recalls it.said.2;
+        stops = stops files H it.before.chained it.said.2;
       })

@@ -1,5 +1,5 @@
--- What a recall says of the files that it opened and closed.
-use Rattle.std.specs.Prelude.{◌≡◌, ◌<◌, ◌⊎◌, ⊤, ℕ, Option, Some, None, List, [], ◌∷◌, ◌++◌, length, All}
+-- The files of a recall: their contents, and why there is no answer.
+use Rattle.std.specs.Prelude.{◌≡◌, ◌<◌, ◌⊎◌, ⊤, ℕ, Bool, true, false, Option, Some, None, List, [], ◌∷◌, ◌++◌, length, All, Vec}
 use Rattle.sqlite_disk.specs.declared.Disk as disk
 use Rattle.sqlite_disk.specs.declared.Files.{Files}
 use Rattle.sqlite_disk.specs.declared.start.Start as start
@@ -7,8 +7,13 @@ use Rattle.sqlite_wal.specs.Files.{image_at, outcomes}
 use Rattle.sqlite_wal.specs.Reads.{AreClean}
 use Rattle.sqlite_wal.specs.Recovery.{Image}
 use Rattle.sqlite.specs.Files.{image_of}
+use Rattle.std.specs.Global.{Global}
+use Rattle.std.specs.Option.{option_to_list}
+use Rattle.csv.specs.declared.writer.Writer.{Writer}
 use Rattle.desk_types.specs.declared.rules.Rules.TheVariants.{Two}
 use Rattle.desk_types.specs.History.{History, IsPrefix}
+use Rattle.desk_types.specs.Judged.{IsLawful}
+use Rattle.desk_laws.specs.Consistent.{IsConsistent}
 use Rattle.feeder_state.specs.declared.desk.StateDesk.{StateDesk}
 use Rattle.feeder_state.specs.contracts.desk.StateDeskDesk.TheImpl.{ghosts as state}
 use Rattle.line_tables.specs.Rows.{Tables}
@@ -16,27 +21,28 @@ use Rattle.line_rows.specs.Rows.{ledger_tables}
 use Rattle.line_schema.specs.declared.fault.OpenFault.{OpenFault}
 use Rattle.line_schema.specs.declared.fault.OpenFault.TheVariants as open_fault
 use Rattle.line_prefix.specs.declared.looking.Looked.{Looked}
-use Rattle.line_prefix.specs.declared.looking.Question.{Question}
-use Rattle.line_prefix.specs.Look.{Says, names_in}
+use Rattle.line_prefix.specs.Look.{Says}
 use Rattle.desk_file.specs.Files.{HasOursFirst, HasTables, IsWhole}
 use Rattle.desk_file.specs.Refused.{IsFaultFor}
-use Rattle.alike.specs.Chain.{DeskFile}
-use Rattle.chain_check.specs.declared.recall.Broken.{Broken as Reason}
-use Rattle.chain_check.specs.declared.recall.Broken.TheVariants as reason
-use Rattle.chain_check.specs.declared.recall.Recall.{Recall}
-use Rattle.chain_check.specs.Recalled.{IsReason, Recalls}
+use Rattle.desk_commands.specs.Closed.{Close, whole, failed, RefusesTo}
+use Rattle.report_texts.specs.Csv.{HasWritten, csv_text}
+use Rattle.alike.specs.Chain.{DeskFile, IsChain}
+use Rattle.chain_check.specs.declared.chain.Chain.{Chain}
+use Rattle.chain_check.specs.declared.question.Question.{Question}
+use Rattle.chain_check.specs.Chained.{IsReason, IsSoFar}
+use Rattle.chain_check.specs.Rows.{answer_over, asked_of, facts_of, rows_in, rows_text}
 use Rattle.chain_files.specs.declared.chain.Fault.{Fault}
-use Rattle.chain_files.specs.declared.chain.Fault.TheVariants.{Refused, BegunFrom, Broken}
+use Rattle.chain_files.specs.declared.chain.Fault.TheVariants.{Refused, BegunFrom, Differs}
 use Rattle.chain_files.specs.declared.chain.Stopped.{Stopped}
 use Rattle.chain_files.specs.declared.closed.ClosedFiles.{ClosedFiles}
 
 -- ---- the closed files
 
--- What each file held when it was opened, by what is known of files of their type.
+-- The contents of each file when it was opened: the same for all files of a type.
 abbrev pub all_at : {T : Type 0} → start.Ghosts T → ℕ → Image
 all_at first place = image_at first
 
--- They are in the order in which they were closed.
+-- The first to be closed comes first.
 abbrev pub files_in : {D : Type 0} → ClosedFiles D → List (Files D)
 files_in closed = closed.files.items
 
@@ -46,15 +52,19 @@ pub record AreHonest {D : Type 0} (g : disk.Ghosts D) (image : ℕ → Image)
   pub clean : All (λ (f : Files D). AreClean g f.log f.db) closed
   pub ours : (place : ℕ) → place < length closed → HasOursFirst (image place)
 
+abbrev pub close_of : Bool → Close
+close_of true = whole
+close_of false = failed
+
 -- The files hold these tables without a log, now and after any crash.
 abbrev pub StillHold : {D : Type 0} → disk.Ghosts D → Files D → Tables → Type 0
 StillHold g f tables = (image : Image)
     → (image ≡ image_of g f) ⊎ outcomes g f.log f.db image → IsWhole tables image
 
--- They held the tables of this history when they were opened, and still do.
+-- They held the tables of this lawful history when they were opened, and still do.
 abbrev pub HoldHistory : {D : Type 0} → disk.Ghosts D → Image → Files D → History → Type 0
 HoldHistory g image f H = (greatest : ℕ) × HasTables image (ledger_tables greatest H)
-    × StillHold g f (ledger_tables greatest H)
+    × StillHold g f (ledger_tables greatest H) × IsLawful Two greatest H × IsConsistent H
 
 -- So did each of these, the newest first.
 abbrev pub HoldEach : {D : Type 0} → disk.Ghosts D → (ℕ → Image) → List (Files D) → List DeskFile
@@ -83,68 +93,91 @@ abbrev pub Takes : {D : Type 0} → disk.Ghosts D → Image → Question → Lis
 Takes {D} g image question closed closed' looked = (f : Files D) × (closed' ≡ closed ++ f ∷ [])
     × (AreClean g f.log f.db → HasOursFirst image → HoldsSaid g image question f looked)
 
+-- A file was refused for this fault. If its disk never lied, the fault is in its contents, and these are unchanged. Or it
+-- could not be read or closed.
+abbrev pub IsRefused : {T D : Type 0} → start.Ghosts T → disk.Ghosts D → List (Files D)
+    → List (Files D) → OpenFault → Type 0
+IsRefused {D = D} first g closed closed' fault = (fault ≡ open_fault.Unavailable)
+    ⊎ ((how : Close) × (files : Option (Files D)) × (closed' ≡ closed ++ option_to_list files)
+    × RefusesTo how first g files None fault)
+
 -- The fault of a file that was refused is in it. That a file is missing or empty is reported without one.
 abbrev pub IsFaultOf : Image → OpenFault → Type 0
 IsFaultOf image fault = (fault ≡ open_fault.Unavailable)
     ⊎ (fault ≡ open_fault.NotADesk) ⊎ IsFaultFor image None fault
 
-abbrev pub IsWhyRefused : {D : Type 0} → disk.Ghosts D → Image → List (Files D) → OpenFault → Type 0
-IsWhyRefused {D} g image closed fault =
-    All (λ (f : Files D). AreClean g f.log f.db) closed → IsFaultOf image fault
+-- ---- the chain
 
--- ---- the recall
+-- The writer of the answer.
+abbrev pub Answer : Type 0
+Answer = Writer (Vec ℕ Global)
 
-abbrev pub IsRecall : Option Recall → Question → List DeskFile → Type 0
-IsRecall None question files = files ≡ []
-IsRecall (Some recall) question files = Recalls recall (names_in question) files
+-- These files are the chain so far.
+abbrev pub Continues : Option Chain → List DeskFile → Type 0
+Continues None files = files ≡ []
+Continues (Some chain) files = IsSoFar chain files
 
--- A file with this history was added to those that were recalled.
-abbrev pub Adds : Recall → Question → List DeskFile → History → Type 0
-Adds recall question files H = (B : History)
-    × Recalls recall (names_in question) (record { rules = Two; begun = B; whole = H } ∷ files)
+-- A file with this history was added to the chain, and its rows to the text of the answer.
+pub record Adds (chain : Chain) (older : List DeskFile) (H : History) (question : Question)
+    (path : List ℕ) (text : List ℕ) (answer : Answer) : Type 0 where
+  pub begun : History
+  pub adds : IsSoFar chain (record { rules = Two; begun = begun; whole = H } ∷ older)
+  pub written : HasWritten answer (text ++ rows_text (rows_in question path
+      (facts_of (record { rules = Two; begun = begun; whole = H })) (asked_of question H)))
 
--- So many files, which were closed, are a chain, and this is the recall over them.
+-- So many files, which were closed, are a chain, and their rows were written.
 pub record SoFar {D : Type 0} (g : disk.Ghosts D) (image : ℕ → Image) (question : Question)
-    (closed : List (Files D)) (number : ℕ) (recall : Option Recall) : Type 0 where
+    (paths : List (List ℕ)) (closed : List (Files D)) (number : ℕ) (chain : Option Chain)
+    (answer : Answer) : Type 0 where
   pub newest_first : List (Files D)
   pub order : closed ≡ oldest_first newest_first
   pub files : List DeskFile
   pub count : length files ≡ number
   pub held : HoldEach g image newest_first files
-  pub recalls : IsRecall recall question files
+  pub chained : Continues chain files
+  pub written : HasWritten answer (answer_over question paths files)
 
-abbrev pub Recalled : {D : Type 0} → disk.Ghosts D → (ℕ → Image) → Question → List (Files D) → ℕ
-    → Option Recall → Type 0
-Recalled g image question closed number recall =
-    AreHonest g image closed → SoFar g image question closed number recall
+abbrev pub Reaches : {D : Type 0} → disk.Ghosts D → (ℕ → Image) → Question → List (List ℕ)
+    → List (Files D) → ℕ → Option Chain → Answer → Type 0
+Reaches g image question paths closed number chain answer =
+    AreHonest g image closed → SoFar g image question paths closed number chain answer
 
--- ---- why there is none
+-- All of them.
+abbrev pub Recalled : {D : Type 0} → disk.Ghosts D → (ℕ → Image) → Question → List (List ℕ)
+    → List (Files D) → ℕ → Answer → Type 0
+Recalled g image question paths closed number answer =
+    (chain : Option Chain) × Reaches g image question paths closed number chain answer
 
--- A file with history H is not added to these: it is none of a desk that was begun from another one, or it was begun with
--- a history that doesn't carry on the newest.
+-- ---- why there is no answer
+
+-- A file with history H is not added to these: it is the first, and its desk was begun from another file. Or it was begun
+-- with a history that doesn't carry on the newest.
 abbrev pub Stops : List DeskFile → History → Fault → Type 0
 Stops files H (Refused fault) = fault ≡ open_fault.Unavailable
 Stops files H (BegunFrom mark) = files ≡ []
-Stops [] H (Broken why) = why ≡ reason.Unavailable
-Stops (before ∷ older) H (Broken why) = (B : History) × IsPrefix B H × IsReason before.whole B why
+Stops [] H (Differs difference) = ⊥
+Stops (before ∷ older) H (Differs difference) =
+    (B : History) × IsPrefix B H × IsReason before.whole B difference
 
 -- The files before this place are a chain, and the file at it held a history that doesn't carry it on.
-pub record BreaksChain {D : Type 0} (g : disk.Ghosts D) (image : ℕ → Image) (question : Question)
+pub record BreaksChain {D : Type 0} (g : disk.Ghosts D) (image : ℕ → Image)
     (place : ℕ) (fault : Fault) : Type 0 where
-  pub recall : Option Recall
-  pub closed : List (Files D)
-  pub before : SoFar g image question closed place recall
+  pub newest_first : List (Files D)
+  pub before : List DeskFile
+  pub count : length before ≡ place
+  pub held : HoldEach g image newest_first before
+  pub chain : IsChain before
   pub f : Files D
   pub history : History
   pub holds : HoldHistory g (image place) f history
-  pub stops : Stops before.files history fault
+  pub stops : Stops before history fault
 
-abbrev pub IsStop : {D : Type 0} → disk.Ghosts D → (ℕ → Image) → Question → ℕ → Fault → Type 0
-IsStop g image question place (Refused fault) = IsFaultOf (image place) fault
-IsStop g image question place fault = BreaksChain g image question place fault
+abbrev pub IsStop : {D : Type 0} → disk.Ghosts D → (ℕ → Image) → ℕ → Fault → Type 0
+IsStop g image place (Refused fault) = IsFaultOf (image place) fault
+IsStop g image place fault = BreaksChain g image place fault
 
--- Why the files are no chain: the first one at fault, and what is wrong with it.
-abbrev pub IsWhyStopped : {D : Type 0} → disk.Ghosts D → (ℕ → Image) → Question → List (Files D)
+-- Why the files are no chain: the first one at fault, and its fault.
+abbrev pub IsWhyStopped : {D : Type 0} → disk.Ghosts D → (ℕ → Image) → List (Files D)
     → Stopped → Type 0
-IsWhyStopped g image question closed stopped =
-    AreHonest g image closed → IsStop g image question stopped.place stopped.fault
+IsWhyStopped g image closed stopped =
+    AreHonest g image closed → IsStop g image stopped.place stopped.fault

@@ -1,4 +1,4 @@
-pub mod Answer
+pub mod Compared
 pub mod Files
 pub mod Stops
 pub mod Whole

@@ -1,22 +1,19 @@
 -- The text of a fault, and the exit status.
 use Rattle.std.specs.Prelude.{ℕ, List, [], ◌++◌, codes, get_or, string_bytes}
 use Rattle.line_schema.specs.Opening.{fault_text}
-use Rattle.chain_check.specs.declared.recall.Broken.TheVariants.{Differs, Unavailable}
 use Rattle.chain_check.specs.Texts.{difference_text}
 use Rattle.chain_files.specs.declared.chain.Fault.{Fault}
-use Rattle.chain_files.specs.declared.chain.Fault.TheVariants.{Refused, BegunFrom, Broken}
+use Rattle.chain_files.specs.declared.chain.Fault.TheVariants.{Refused, BegunFrom, Differs}
 
 abbrev pub stop_text : Fault → List ℕ
 stop_text (Refused fault) = fault_text fault
 stop_text (BegunFrom mark) = codes "begun from " ++ string_bytes mark
-stop_text (Broken (Differs difference)) = codes "differs " ++ difference_text difference
-stop_text (Broken Unavailable) = codes "Unavailable"
+stop_text (Differs difference) = codes "differs " ++ difference_text difference
 
 abbrev pub status_of : Fault → ℕ
 status_of (Refused fault) = 3
 status_of (BegunFrom mark) = 5
-status_of (Broken (Differs difference)) = 1
-status_of (Broken Unavailable) = 3
+status_of (Differs difference) = 1
 
 -- The line on standard error.
 abbrev pub stop_line : List (List ℕ) → ℕ → Fault → List ℕ

@@ -1,26 +1,22 @@
 -- The effect of a run of the program.
-use Rattle.std.specs.Prelude.{◌≡◌, ◌⊎◌, ℕ, Bool, Option, Some, None, List, [], ◌∷◌, ◌++◌, length, codes}
+use Rattle.std.specs.Prelude.{◌≡◌, ◌⊎◌, ℕ, Bool, Option, List, ◌∷◌, ◌++◌, length, codes}
 use Rattle.std.specs.Io.KnownBytes.{Appends}
 use Rattle.sqlite_disk.specs.declared.Disk as disk
 use Rattle.sqlite_disk.specs.declared.Files.{Files}
+use Rattle.sqlite_disk.specs.declared.start.Start as start
 use Rattle.sqlite_wal.specs.Recovery.{Image}
 use Rattle.desk_types.specs.declared.wire.Wire.{Wire}
 use Rattle.desk_types.specs.Wire.{inner_of}
-use Rattle.desk_runs.specs.Told.{unavailable_line, TellsLine}
-use Rattle.line_prefix.specs.declared.looking.Question.{Question}
+use Rattle.desk_runs.specs.Told.{unavailable_line, TellsLine, TellsUnwritten}
 use Rattle.alike.specs.Chain.{DeskFile, IsChain}
-use Rattle.chain_check.specs.declared.recall.Recall.{Recall}
+use Rattle.chain_check.specs.declared.question.Question.{Question}
+use Rattle.chain_check.specs.Rows.{answer_over}
 use Rattle.chain_files.specs.declared.chain.Fault.{Fault}
-use Rattle.chain_files.specs.Answer.{answer_over, rows_text}
+use Rattle.chain_files.specs.declared.compared.Compared.{Compared}
+use Rattle.chain_files.specs.Compared.{Finds, NoDesk, Shows}
 use Rattle.chain_files.specs.Files.{AreHonest, HoldEach, IsStop, oldest_first}
 use Rattle.chain_files.specs.Stops.{status_of, stop_line}
-use Rattle.chain_files.specs.Words.{question_words, middle_words}
-
--- The text of a recall.
-abbrev pub recall_text : Question → List (List ℕ) → Option Recall → List ℕ
-recall_text question paths None = rows_text question paths [] []
-recall_text question paths (Some recall) =
-    rows_text question paths recall.files.items recall.found.items
+use Rattle.chain_files.specs.Words.{alike_words, question_words, middle_words}
 
 -- The files of these paths held, and still hold, lawful histories that are a chain, and this is the answer over them.
 pub record IsAnswer {D : Type 0} (g : disk.Ghosts D) (image : ℕ → Image) (closed : List (Files D))
@@ -62,17 +58,40 @@ Done g image closed words writes output output' =
 abbrev pub IsStopped : ℕ → Type 0
 IsStopped status = (status ≡ 1) ⊎ (status ≡ 3) ⊎ (status ≡ 5)
 
--- Standard error names the first file at fault, and what is wrong with it. Or memory was refused.
-abbrev pub StopsAt : {D E : Type 0} → disk.Ghosts D → (ℕ → Image) → List (Files D) → Question
+-- Standard error names the first file at fault, and its fault. Or memory was refused.
+abbrev pub StopsAt : {D E : Type 0} → disk.Ghosts D → (ℕ → Image) → List (Files D)
     → List (List ℕ) → (E → Option (List ℕ)) → Wire E → ℕ → Type 0
-StopsAt {E = E} g image closed question paths writes errors' status =
+StopsAt {E = E} g image closed paths writes errors' status =
     (errors : Wire E) × (((place : ℕ) × (fault : Fault) × (status_of fault ≡ status)
     × TellsLine writes errors errors' (stop_line paths place fault)
-    × (AreHonest g image closed → IsStop g image question place fault))
+    × (AreHonest g image closed → IsStop g image place fault))
     ⊎ ((status ≡ 3) × TellsLine writes errors errors' unavailable_line))
 
 abbrev pub Stops : {D E : Type 0} → disk.Ghosts D → (ℕ → Image) → List (Files D) → List (List ℕ)
     → (E → Option (List ℕ)) → Wire E → ℕ → Type 0
 Stops g image closed words writes errors' status =
     (question : Question) × (paths : List (List ℕ)) × AsksOf words question paths
-    × StopsAt g image closed question paths writes errors' status
+    × StopsAt g image closed paths writes errors' status
+
+-- ---- a comparison
+
+-- The words ask for a comparison, which found this.
+abbrev pub Compares : {T U D E : Type 0} → start.Ghosts T → start.Ghosts U → disk.Ghosts D
+    → disk.Ghosts E → List (Files D) → List (Files E) → List (List ℕ) → Compared → Type 0
+Compares of_old of_new g g' closed closed' words found =
+    ((old : List ℕ) × (new : List ℕ) × (words ≡ alike_words old new))
+    × Finds of_old of_new g g' closed closed' found
+
+-- Status 1 or 3: the desks differ, or there is no desk.
+abbrev pub Unlike : {W E : Type 0} → (Compared → Type 0) → (W → Option (List ℕ))
+    → (E → Option (List ℕ)) → Wire W → Wire W → Wire E → Wire E → ℕ → Type 0
+Unlike Made writes tells output output' errors errors' status =
+    ((status ≡ 1) × Shows Made writes output output' 1)
+    ⊎ ((status ≡ 3) × NoDesk Made tells output output' errors errors')
+
+-- Status 4: the output failed. Standard error says so, unless the words ask for a recall.
+abbrev pub Fails : {W E : Type 0} → List (List ℕ) → (E → Option (List ℕ)) → Wire W → Wire W
+    → Wire E → Wire E → Type 0
+Fails words tells output output' errors errors' =
+    ((question : Question) × (paths : List (List ℕ)) × AsksOf words question paths)
+    ⊎ TellsUnwritten tells output output' errors errors'

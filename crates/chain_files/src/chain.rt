@@ -1,37 +1,37 @@
 //! A recall over the files of a chain.
 
-ghost use Rattle.std.specs.Prelude.{◌≡◌, ◌<◌, ◌^◌, [], None, List, IfOk, IfErr, length};
-ghost use Rattle.sqlite_wal.specs.Reads.{AreClean};
+ghost use Rattle.std.specs.Prelude.{◌≡◌, ◌<◌, ◌^◌, [], None, List, ℕ, IfOk, IfErr, length, map, string_bytes};
 ghost use Rattle.sqlite_wal.specs.Files.{image_at};
-ghost use Rattle.sqlite_wal.specs.Recovery.{Image};
-ghost use Rattle.sqlite.specs.Files.{file_state};
-ghost use Rattle.sqlite.specs.State.{HasCleanDisk};
+ghost use Rattle.desk_commands.specs.Closed.{ClosesConn};
 ghost use Rattle.desk_file.specs.Refused.{RefusesRun};
-ghost use Rattle.desk_types.specs.declared.rules.Rules.TheVariants.{Two};
 ghost use Rattle.desk_types.specs.History.{History};
 ghost use Rattle.desk_types.specs.Wire.{failures_of};
 ghost use Rattle.feeder_state.specs.contracts.desk.StateDeskDesk.TheImpl.{ghosts as state};
-ghost use Rattle.feeder_state.specs.State.{IsState, rules_of};
 ghost use Rattle.alike.specs.Chain.{DeskFile};
-ghost use Rattle.line_prefix.specs.Look.{Says, names_in};
-ghost use Rattle.chain_files.specs.Files.{Adds, IsRecall, IsWhyRefused, IsWhyStopped, Recalled, Stops, Takes, all_at, files_in};
+ghost use Rattle.report_texts.specs.Csv.{HasWritten};
+ghost use Rattle.chain_check.specs.Chained.{IsSoFar};
+ghost use Rattle.line_prefix.specs.Look.{Says};
+ghost use Rattle.chain_files.specs.Files.{Adds, Continues, IsRefused, IsWhyStopped, Recalled, Stops, Takes, all_at, close_of, files_in};
 
 use crate::closed::{ClosedFiles, add_closed};
 use crate::opener::Fresh;
-use chain_check::{Broken, Recall, ShownDifference};
+use crate::paths::path_at;
+use alike_check::Difference;
+use chain_check::{Chain, ChainFile, Question, ShownDifference, begin_rows, write_rows};
 use desk_file::{Refusal, close_file, open_desk};
 use desk_runs::tell_line;
-use desk_types::{Desk, Id, Wire};
+use desk_types::{Desk, Wire};
 use feeder_state::StateDesk;
-use line_prefix::{Begin, Looked, Question, look};
+use line_prefix::{Begin, Looked, look};
 use line_schema::OpenFault;
+use report_texts::TextWriter;
 use sqlite::{Connection, FileFrom, FileStore, Files};
 use sqlite_disk::Disk;
 use std::alloc::{AllocError, Global};
 use std::fmt;
 use std::io::Write;
 
-/// Why there is no recall.
+/// Why there is no answer.
 #[derive(Drop)]
 pub enum Fault {
     /// The file holds no desk, or it could not be read or closed.
@@ -39,7 +39,7 @@ pub enum Fault {
     /// The first file's desk was begun from the file with this checksum.
     BegunFrom(String),
     /// The desk does not carry on that of the file before it.
-    Broken(Broken),
+    Differs(Difference),
 }
 
 impl fmt::Display for Fault {
@@ -52,13 +52,13 @@ impl fmt::Display for Fault {
         match self {
             Fault::Refused(fault) => write!(f, "{fault}"),
             Fault::BegunFrom(mark) => write!(f, "begun from {mark}"),
-            Fault::Broken(Broken::Differs(difference)) => {
-                write!(f, "differs {}", ShownDifference(*difference))
-            }
-            Fault::Broken(Broken::Unavailable) => f.write_str("Unavailable"),
+            Fault::Differs(difference) => write!(f, "differs {}", ShownDifference(*difference)),
         }
     }
 }
+
+/// Memory was refused.
+const NO_MEMORY: Fault = Fault::Refused(OpenFault::Unavailable);
 
 /// A fault, and the place of its file.
 #[derive(Drop)]
@@ -68,7 +68,7 @@ pub struct Stopped {
 }
 
 /// Looks into the file at a place, and closes it.
-fn look_at<T: Fresh>(
+pub fn look_at<T: Fresh>(
     rt: &HostRuntime,
     place: u64,
     path: &str,
@@ -79,7 +79,7 @@ fn look_at<T: Fresh>(
         (Takes ⟦<FileFrom<T> as Disk>⟧ (image_at T.Start) question.now
         (files_in closed.old) (files_in closed.new)) }
     ensures refused { IfErr result
-        (IsWhyRefused ⟦<FileFrom<T> as Disk>⟧ (image_at T.Start) (files_in closed.new)) }
+        (IsRefused T.Start ⟦<FileFrom<T> as Disk>⟧ (files_in closed.old) (files_in closed.new)) }
 {
     match open_desk::<T, StateDesk>(rt, path, T::fresh(), None) {
         Ok(store) => {
@@ -101,44 +101,108 @@ fn look_at<T: Fresh>(
 
 /// Closes a file that was refused. Returns its fault.
 fn shut<T: Fresh>(refusal: Refusal<FileFrom<T>>, closed: &mut ClosedFiles<FileFrom<T>>) -> OpenFault
-    ensures why { (image : Image) → RefusesRun image None refusal
-        → IsWhyRefused ⟦<FileFrom<T> as Disk>⟧ image (files_in closed.new) result }
+    ensures { RefusesRun (image_at T.Start) None refusal
+        → IsRefused T.Start ⟦<FileFrom<T> as Disk>⟧ (files_in closed.old) (files_in closed.new)
+        result }
 {
     let Refusal { fault, file } = refusal;
     let Some(file) = file else {
         return fault;
     };
-    let files = close_any(file);
+    let (_is_whole, files) = close_any(file);
     match add_closed(closed, files) {
         Ok(()) => fault,
         Err(_) => OpenFault::Unavailable,
     }
 }
 
-/// Closes a file, or leaves what could not be closed.
-fn close_any<T: Fresh>(file: Connection<FileStore<FileFrom<T>>>) -> Files<FileFrom<T>>
-    ensures clean { AreClean ⟦<FileFrom<T> as Disk>⟧ result.log result.db
-        → HasCleanDisk (file_state file) }
+/// Closes a file, or leaves what could not be closed. Returns whether it was closed.
+fn close_any<T: Fresh>(file: Connection<FileStore<FileFrom<T>>>) -> (bool, Files<FileFrom<T>>)
+    ensures { ClosesConn (close_of result.0) file result.1 }
 {
     match close_file(file) {
-        Ok(files) => files,
-        Err((_, files)) => files,
+        Ok(files) => (true, files),
+        Err((_, files)) => (false, files),
     }
 }
 
-/// Adds what a file says to the recall over the older ones. The first file must not have been begun from another one,
-/// unless the chain is asked for from its middle.
+/// Adds a file to the chain of the older ones, and its rows to the answer. The first file must not have been begun from
+/// another one, unless the chain is asked for from its middle.
 fn add(
     alloc: Global,
-    recall: Option<Recall>,
+    chain: Option<Chain>,
     looked: Looked<StateDesk>,
     from_middle: bool,
-) -> Result<Recall, Fault>
-    ensures ok { (files : List DeskFile) (question : Question) (H : History)
-        → IsRecall recall question files → Says state.Stands state.kept_rules H question looked
-        → IfOk result (λ it. Adds it question files H) }
-    ensures err { (files : List DeskFile) (question : Question) (H : History)
-        → IsRecall recall question files → Says state.Stands state.kept_rules H question looked
+    question: &Question,
+    path: &str,
+    answer: &mut TextWriter,
+) -> Result<Chain, Fault>
+    ensures ok { (files : List DeskFile) (H : History) (text : List ℕ) → Continues chain files
+        → Says state.Stands state.kept_rules H question.now looked → HasWritten answer.old text
+        → IfOk result (λ it. Adds it files H question.now path.now text answer.new) }
+    ensures err { (files : List DeskFile) (H : History) → Continues chain files
+        → Says state.Stands state.kept_rules H question.now looked
+        → IfErr result (Stops files H) }
+{
+    match chain {
+        None => add_first(alloc, looked, from_middle, question, path, answer),
+        Some(chain) => add_next(alloc, chain, looked, question, path, answer),
+    }
+}
+
+fn add_first(
+    alloc: Global,
+    looked: Looked<StateDesk>,
+    from_middle: bool,
+    question: &Question,
+    path: &str,
+    answer: &mut TextWriter,
+) -> Result<Chain, Fault>
+    ensures ok { (H : History) (text : List ℕ)
+        → Says state.Stands state.kept_rules H question.now looked → HasWritten answer.old text
+        → IfOk result (λ it. Adds it [] H question.now path.now text answer.new) }
+    ensures err { (H : History) → IfErr result (Stops [] H) }
+{
+    let Looked {
+        begun: _begun,
+        begin,
+        whole,
+        commands,
+        pieces,
+    } = looked;
+    let Begin {
+        commands: _none,
+        mark,
+    } = begin;
+    if let Some(mark) = mark {
+        if !from_middle {
+            return Err(Fault::BegunFrom(mark));
+        }
+    }
+    let file = ChainFile {
+        begun: 0,
+        commands: u64::from(commands),
+        minute: whole.minute(),
+    };
+    match write_rows(alloc, answer, question, path, &file, pieces.as_slice()) {
+        Ok(()) => Ok(Chain::first(whole)),
+        Err(_) => Err(NO_MEMORY),
+    }
+}
+
+fn add_next(
+    alloc: Global,
+    chain: Chain,
+    looked: Looked<StateDesk>,
+    question: &Question,
+    path: &str,
+    answer: &mut TextWriter,
+) -> Result<Chain, Fault>
+    ensures ok { (files : List DeskFile) (H : History) (text : List ℕ) → IsSoFar chain files
+        → Says state.Stands state.kept_rules H question.now looked → HasWritten answer.old text
+        → IfOk result (λ it. Adds it files H question.now path.now text answer.new) }
+    ensures err { (files : List DeskFile) (H : History) → IsSoFar chain files
+        → Says state.Stands state.kept_rules H question.now looked
         → IfErr result (Stops files H) }
 {
     let Looked {
@@ -146,52 +210,23 @@ fn add(
         begin,
         whole,
         commands,
-        names,
+        pieces,
     } = looked;
-    let Begin {
-        commands: begun_with,
-        mark,
-    } = begin;
-    match recall {
-        None => first_of(alloc, whole, commands, names.as_slice(), mark, from_middle),
-        Some(recall) => match recall.next(
-            &begun,
-            u64::from(begun_with),
-            whole,
-            u64::from(commands),
-            names.as_slice(),
-        ) {
-            Ok(recall) => Ok(recall),
-            Err(broken) => Err(Fault::Broken(broken)),
-        },
+    let file = ChainFile {
+        begun: u64::from(begin.commands),
+        commands: u64::from(commands),
+        minute: whole.minute(),
+    };
+    let Ok(()) = write_rows(alloc, answer, question, path, &file, pieces.as_slice()) else {
+        return Err(NO_MEMORY);
+    };
+    match chain.next(&begun, whole) {
+        Ok(chain) => Ok(chain),
+        Err(difference) => Err(Fault::Differs(difference)),
     }
 }
 
-fn first_of(
-    alloc: Global,
-    whole: StateDesk,
-    commands: u32,
-    names: &[Id],
-    mark: Option<String>,
-    from_middle: bool,
-) -> Result<Recall, Fault>
-    ensures ok { (question : Question) (H : History) → IsState H whole → rules_of whole ≡ Two
-        → commands ≡ length H → names.now ≡ names_in question H
-        → IfOk result (λ it. Adds it question [] H) }
-    ensures err { (H : History) → IfErr result (Stops [] H) }
-{
-    if let Some(mark) = mark {
-        if !from_middle {
-            return Err(Fault::BegunFrom(mark));
-        }
-    }
-    match Recall::first(alloc, whole, u64::from(commands), names) {
-        Ok(recall) => Ok(recall),
-        Err(_) => Err(Fault::Broken(Broken::Unavailable)),
-    }
-}
-
-/// Recalls over these files, the oldest first, and prints a line for each. Returns the recall and, in `closed`, the
+/// Goes through these files, the oldest first, and prints a line for each. Returns the answer and, in `closed`, the
 /// files that it closed, which clauses name.
 pub fn recall_files<T: Fresh, E: Write>(
     rt: &HostRuntime,
@@ -200,21 +235,26 @@ pub fn recall_files<T: Fresh, E: Write>(
     from_middle: bool,
     errors: &mut Wire<E>,
     closed: &mut ClosedFiles<FileFrom<T>>,
-) -> Result<Option<Recall>, Stopped>
+) -> Result<TextWriter, Stopped>
     requires none { files_in closed.old ≡ [] }
     requires few { failures_of errors.old < 2 ^ 63 }
     ensures recalled { IfOk result
-        (Recalled ⟦<FileFrom<T> as Disk>⟧ (all_at T.Start) question.now (files_in closed.new)
-        (length paths.now)) }
+        (Recalled ⟦<FileFrom<T> as Disk>⟧ (all_at T.Start) question.now
+        (map string_bytes paths.now) (files_in closed.new) (length paths.now)) }
     ensures stopped { IfErr result
-        (IsWhyStopped ⟦<FileFrom<T> as Disk>⟧ (all_at T.Start) question.now
-        (files_in closed.new)) }
+        (IsWhyStopped ⟦<FileFrom<T> as Disk>⟧ (all_at T.Start) (files_in closed.new)) }
     ensures few { failures_of errors.new < 2 ^ 63 }
 {
-    let mut recall: Option<Recall> = None;
+    let Ok(mut answer) = begin_rows(rt.alloc(), question) else {
+        return Err(Stopped {
+            place: 0,
+            fault: NO_MEMORY,
+        });
+    };
+    let mut chain: Option<Chain> = None;
     for place in 0..paths.len() {
         let number = place as u64;
-        let path = paths[place].as_str();
+        let path = path_at(paths, number);
         let looked = match look_at(rt, number, path, question, closed) {
             Ok(looked) => looked,
             Err(fault) => {
@@ -225,8 +265,16 @@ pub fn recall_files<T: Fresh, E: Write>(
             }
         };
         tell_file(rt.alloc(), path, &looked, paths.len() - place, errors);
-        match add(rt.alloc(), recall, looked, from_middle) {
-            Ok(next) => recall = Some(next),
+        match add(
+            rt.alloc(),
+            chain,
+            looked,
+            from_middle,
+            question,
+            path,
+            &mut answer,
+        ) {
+            Ok(next) => chain = Some(next),
             Err(fault) => {
                 return Err(Stopped {
                     place: number,
@@ -235,7 +283,7 @@ pub fn recall_files<T: Fresh, E: Write>(
             }
         }
     }
-    Ok(recall)
+    Ok(answer)
 }
 
 /// The failures after which no line is printed for a file any more.

@@ -1,67 +1,92 @@
 //! A whole run of the program, over any files and output.
 
-ghost use Rattle.std.specs.Prelude.{◌≡◌, ◌⊎◌, ◌≤◌, ◌^◌, ◌<◌, map, string_bytes};
+ghost use Rattle.std.specs.Prelude.{◌≡◌, ◌⊎◌, ◌≤◌, ◌^◌, ◌<◌, List, ℕ, map, string_bytes};
 ghost use Rattle.std.specs.Io.KnownBytes.{Appends};
 ghost use Rattle.desk_types.specs.Wire.{inner_of, failures_of};
 ghost use Rattle.desk_runs.specs.Told.{unavailable_line, TellsLine};
 ghost use Rattle.desk_runs.specs.Wires.{HaveFewFailures};
+ghost use Rattle.report_texts.specs.Csv.{HasWritten};
+ghost use Rattle.chain_files.specs.Compared.{Shows};
 ghost use Rattle.chain_files.specs.Files.{all_at, files_in};
 ghost use Rattle.chain_files.specs.Stops.{status_of, stop_line};
-ghost use Rattle.chain_files.specs.Whole.{Answers, Done, IsStopped, Stops, StopsAt, recall_text};
+ghost use Rattle.chain_files.specs.Whole.{Answers, Compares, Done, Fails, IsStopped, Stops, StopsAt, Unlike};
 
-use crate::answer::{answer_text, path_at};
+use crate::alike::alike;
 use crate::chain::{Fault, Stopped, recall_files};
 use crate::closed::ClosedFiles;
 use crate::opener::Fresh;
+use crate::paths::path_at;
 use crate::words::{Asked, HELP, VERSION, read_words};
-use chain_check::{Broken, Recall};
+use chain_check::{Question, end_rows};
 use desk_runs::{Exit, send_text, tell, tell_line, unavailable};
 use desk_types::Wire;
-use line_prefix::Question;
+use report_texts::TextWriter;
 use served::send;
 use sqlite::FileFrom;
 use sqlite_disk::Disk;
 use std::alloc::Global;
 use std::io::Write;
 
-/// Runs the program with these arguments. Returns the exit status, and the files that it closed, which clauses name.
-pub fn program<T: Fresh, W: Write, E: Write>(
+/// Runs the program with these arguments. Returns the exit status, and the files that it closed, which clauses name: those
+/// of a recall, or the old file of a comparison, and its new file.
+pub fn program<T: Fresh, U: Fresh, W: Write, E: Write>(
     rt: &HostRuntime,
     words: &[String],
     output: &mut Wire<W>,
     errors: &mut Wire<E>,
-) -> (u8, ClosedFiles<FileFrom<T>>)
+) -> (u8, ClosedFiles<FileFrom<T>>, ClosedFiles<FileFrom<U>>)
     requires few { HaveFewFailures output.old errors.old }
     ensures status { result.0 ≤ 5 }
     ensures done { result.0 ≡ 0
         → Done ⟦<FileFrom<T> as Disk>⟧ (all_at T.Start) (files_in result.1)
-        (map string_bytes words.now) W.contents output.old output.new }
+        (map string_bytes words.now) W.contents output.old output.new
+        ⊎ Shows
+        (Compares T.Start U.Start ⟦<FileFrom<T> as Disk>⟧ ⟦<FileFrom<U> as Disk>⟧
+        (files_in result.1) (files_in result.2) (map string_bytes words.now)) W.contents
+        output.old output.new 0 }
     ensures stopped { IsStopped result.0
         → (output.new ≡ output.old)
         × Stops ⟦<FileFrom<T> as Disk>⟧ (all_at T.Start) (files_in result.1)
-        (map string_bytes words.now) E.contents errors.new result.0 }
+        (map string_bytes words.now) E.contents errors.new result.0
+        ⊎ Unlike
+        (Compares T.Start U.Start ⟦<FileFrom<T> as Disk>⟧ ⟦<FileFrom<U> as Disk>⟧
+        (files_in result.1) (files_in result.2) (map string_bytes words.now)) W.contents
+        E.contents output.old output.new errors.old errors.new result.0 }
     ensures bad { result.0 ≡ 2 → output.new ≡ output.old }
+    ensures failed { result.0 ≡ 4
+        → Fails (map string_bytes words.now) E.contents output.old output.new errors.old
+        errors.new }
 {
     match read_words(words) {
         Asked::Recall {
             question,
             from_middle,
             files,
-        } => answer(rt, &question, from_middle, files, output, errors),
+        } => {
+            let (status, closed) = answer(rt, &question, from_middle, files, output, errors);
+            (status, closed, ClosedFiles::new(rt.alloc()))
+        }
+        Asked::Alike { old, new } => alike(rt, old, new, output, errors),
         Asked::Help => (
             send_text(HELP, output, errors),
+            ClosedFiles::new(rt.alloc()),
             ClosedFiles::new(rt.alloc()),
         ),
         Asked::Version => (
             send_text(VERSION, output, errors),
             ClosedFiles::new(rt.alloc()),
+            ClosedFiles::new(rt.alloc()),
         ),
         Asked::Bad => {
             tell(
                 errors,
-                "usage: tracedesk-chain check|lot NAME [--from-middle] FILE.., or --help\n",
+                "usage: tracedesk-chain check|lot NAME|board NAME|reel NAME [--pieces] [--from-middle] FILE.., alike OLD NEW, or --help\n",
             );
-            (Exit::BadCommandLine as u8, ClosedFiles::new(rt.alloc()))
+            (
+                Exit::BadCommandLine as u8,
+                ClosedFiles::new(rt.alloc()),
+                ClosedFiles::new(rt.alloc()),
+            )
         }
     }
 }
@@ -82,15 +107,12 @@ fn answer<T: Fresh, W: Write, E: Write>(
         (map string_bytes paths.now) W.contents output.old output.new }
     ensures stopped { IsStopped result.0
         → (output.new ≡ output.old)
-        × StopsAt ⟦<FileFrom<T> as Disk>⟧ (all_at T.Start) (files_in result.1) question.now
+        × StopsAt ⟦<FileFrom<T> as Disk>⟧ (all_at T.Start) (files_in result.1)
         (map string_bytes paths.now) E.contents errors.new result.0 }
 {
     let mut closed = ClosedFiles::new(rt.alloc());
     match recall_files(rt, paths, question, from_middle, errors, &mut closed) {
-        Ok(recall) => {
-            let status = send_answer(rt.alloc(), question, paths, &recall, output, errors);
-            (status, closed)
-        }
+        Ok(answer) => (send_answer(answer, output, errors), closed),
         Err(stopped) => {
             let status = tell_stop(rt.alloc(), paths, &stopped, errors);
             (status, closed)
@@ -100,27 +122,21 @@ fn answer<T: Fresh, W: Write, E: Write>(
 
 /// Prints the answer.
 fn send_answer<W: Write, E: Write>(
-    alloc: Global,
-    question: &Question,
-    paths: &[String],
-    recall: &Option<Recall>,
+    answer: TextWriter,
     output: &mut Wire<W>,
     errors: &mut Wire<E>,
 ) -> u8
     requires few { HaveFewFailures output.old errors.old }
     ensures status { (result ≡ 0) ⊎ (result ≡ 3) ⊎ (result ≡ 4) }
     ensures done { result ≡ 0
-        → Appends (W.contents (inner_of output.old)) (W.contents (inner_of output.new))
-        (recall_text question.now (map string_bytes paths.now) recall.now) }
+        → (text : List ℕ)
+        × Appends (W.contents (inner_of output.old)) (W.contents (inner_of output.new)) text
+        × ((all : List ℕ) → HasWritten answer all → text ≡ all) }
     ensures untouched { result ≡ 3
         → (output.new ≡ output.old)
         × TellsLine E.contents errors.old errors.new unavailable_line }
 {
-    let text = match recall {
-        Some(recall) => answer_text(alloc, question, paths, recall.files(), recall.found()),
-        None => answer_text(alloc, question, paths, &[], &[]),
-    };
-    let Ok(text) = text else {
+    let Ok(text) = end_rows(answer) else {
         return unavailable(errors);
     };
     match send(output, text.as_slice()) {
@@ -161,7 +177,6 @@ fn status_of(fault: &Fault) -> u8
     match fault {
         Fault::Refused(_) => Exit::NoDesk as u8,
         Fault::BegunFrom(_) => 5,
-        Fault::Broken(Broken::Differs(_)) => Exit::Refused as u8,
-        Fault::Broken(Broken::Unavailable) => Exit::NoDesk as u8,
+        Fault::Differs(_) => Exit::Refused as u8,
     }
 }

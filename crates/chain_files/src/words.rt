@@ -1,10 +1,10 @@
 //! The command line.
 
-ghost use Rattle.std.specs.Prelude.{map, string_bytes};
-ghost use Rattle.chain_files.specs.Words.{Asks, AsksFiles, Recalls};
+ghost use Rattle.std.specs.Prelude.{◌≡◌, ◌∷◌, IfSome, codes, map, string_bytes};
+ghost use Rattle.chain_files.specs.Words.{Asks, AsksAbout, AsksFiles, Recalls};
 
+use chain_check::{Question, Subject};
 use desk_types::Id;
-use line_prefix::Question;
 
 /// The meaning of a command line.
 #[derive(Clone, Copy)]
@@ -16,6 +16,11 @@ pub enum Asked<'a> {
         from_middle: bool,
         files: &'a [String],
     },
+    /// Compare the desk in the old file with the one that follows it in the new file.
+    Alike {
+        old: &'a str,
+        new: &'a str,
+    },
     /// Print the help.
     Help,
     /// Print the version.
@@ -26,32 +31,48 @@ pub enum Asked<'a> {
 
 /// What the program does.
 pub const HELP: &str = "\
-Says whether desk files are the chain of one line, and recalls a lot over them.
+Says whether desk files are the chain of one line, and recalls a lot, a board or a reel over them.
 
 Usage:
   tracedesk-chain check [--from-middle] FILE..
-  tracedesk-chain lot NAME [--from-middle] FILE..
+  tracedesk-chain lot NAME [--pieces] [--from-middle] FILE..
+  tracedesk-chain board NAME [--pieces] [--from-middle] FILE..
+  tracedesk-chain reel NAME [--pieces] [--from-middle] FILE..
+  tracedesk-chain alike OLD NEW
 
-Name the files oldest first. Each is opened as an audit opens it, and not changed.
-`check` prints file,begun,commands,minute: with how many commands a desk was begun, how many it has, and its last
-minute. `lot` prints board,file: each board with a piece of the lot, once a file. Standard error has a line for each
-file, and names the archive from which its desk was begun.
+Name the files oldest first. Each is opened as an audit opens it, and not changed. Standard error has a line for each
+file, and names the archive from which its desk was begun. Standard output has a header, and then these columns:
 
+  check  file,begun,commands,minute: with how many commands a desk was begun, how many it has, and its last minute
+  lot    board,file: each board with a piece of the lot, once a file
+  board  lot,file: each lot with a piece on the board, once a file
+  reel   board,file: each board with a piece of the reel, once a file
+
+A name that no file knows is no error: only the header is printed.
+
+`alike` compares the desk in the file OLD, which was closed, with the one that follows it in NEW, right after its begin.
+It prints `alike <reels> <mounts>`, the reels and mounts of the new desk, if the desks are alike and the new one received
+the pieces that were left of each reel. Otherwise it prints the first difference, as `differs reel K1 remaining 47 46`.
+
+  --pieces       Print each piece: board,designator,part,lot,reel,machine,slot,overdue,minute,file
   --from-middle  The first file is one that was begun from an older file, which is left out
   --help         Print help
   --version      Print the version
 
 Exit status:
-  0  The files are a chain, and the answer was printed; or help or the version was
-  1  They are not: standard error names the first file that does not carry on the one before it, and a difference
+  0  The files are a chain, and the answer was printed; or two desks are alike; or help or the version was printed
+  1  They are not: standard error names the first file that does not carry on the one before it, and a difference.
+     Or two desks are not alike, and the output names the difference
   2  The command line asks for nothing that the program does
-  3  A file was refused, or memory was; standard error names the file and its fault
+  3  A file was refused, or memory was; standard error names the file, or `old` or `new`, and its fault
   4  The output failed
   5  The first file was begun from another: standard error names its archive
 
 Examples:
   tracedesk-chain check archive/L1-2026* desk.db
   tracedesk-chain lot L4711 archive/L1-2026* desk.db > boards.csv
+  tracedesk-chain board B1 --pieces archive/L1-2026* desk.db
+  tracedesk-chain alike line-1.db line-2.db
 ";
 
 /// The program's name and version.
@@ -66,19 +87,63 @@ pub fn read_words<'a>(words: &'a [String]) -> Asked<'a>
     };
     match verb.as_str() {
         "check" => files_of(Question::Chain, rest),
-        "lot" => {
-            let Some((name, rest)) = rest.split_first() else {
-                return Asked::Bad;
-            };
-            match Id::read(name.as_str().as_bytes()) {
-                Some(lot) => files_of(Question::Lot(lot), rest),
-                None => Asked::Bad,
-            }
-        }
+        "lot" => match name_in(rest) {
+            Some((lot, rest)) => about(Subject::Lot(lot), rest),
+            None => Asked::Bad,
+        },
+        "board" => match name_in(rest) {
+            Some((board, rest)) => about(Subject::Board(board), rest),
+            None => Asked::Bad,
+        },
+        "reel" => match name_in(rest) {
+            Some((reel, rest)) => about(Subject::Reel(reel), rest),
+            None => Asked::Bad,
+        },
+        "alike" => files_to_compare(rest),
         "--help" => Asked::Help,
         "--version" => Asked::Version,
         _ => Asked::Bad,
     }
+}
+
+/// Exactly two files, and no word that looks like an option.
+fn files_to_compare<'a>(words: &'a [String]) -> Asked<'a>
+    ensures { Asks (codes "alike" ∷ map string_bytes words.now) result }
+{
+    let [old, new] = words else {
+        return Asked::Bad;
+    };
+    if old.as_str().starts_with("-") || new.as_str().starts_with("-") {
+        return Asked::Bad;
+    }
+    Asked::Alike {
+        old: old.as_str(),
+        new: new.as_str(),
+    }
+}
+
+/// Returns the name that comes first, and the words after it.
+fn name_in<'a>(words: &'a [String]) -> Option<(Id, &'a [String])>
+    ensures { IfSome result (λ found.
+        map string_bytes words.now ≡ found.0 ∷ map string_bytes found.1.now) }
+{
+    let (name, rest) = words.split_first()?;
+    match Id::read(name.as_str().as_bytes()) {
+        Some(id) => Some((id, rest)),
+        None => None,
+    }
+}
+
+fn about<'a>(subject: Subject, rest: &'a [String]) -> Asked<'a>
+    ensures { AsksAbout subject (map string_bytes rest.now) result }
+{
+    let Some((first, files)) = rest.split_first() else {
+        return Asked::Bad;
+    };
+    if first.as_str() == "--pieces" {
+        return files_of(Question::Pieces(subject), files);
+    }
+    files_of(Question::Names(subject), rest)
 }
 
 fn files_of<'a>(question: Question, rest: &'a [String]) -> Asked<'a>

@@ -1,1 +1,2 @@
+mod AskedPieces
 pub mod NextOfFirst

@@ -1,4 +1,4 @@
-//! What a chain needs of one store: the desk of its first commands, its whole desk, and the answer to a question.
+//! What a chain needs of one store: the desk of its first commands, its whole desk, and the pieces that a question is about.
 #![tactic(auto)]
 
 mod begin;
@@ -7,4 +7,4 @@ mod looking;
 
 pub use begin::{Begin, begin_of};
 pub use first::first_desk;
-pub use looking::{Looked, Question, look};
+pub use looking::{Looked, look};

@@ -1,4 +1,4 @@
-//! The program that says whether desk files are the chain of one line, and recalls a lot over them.
+//! The program that says whether desk files are the chain of one line, and recalls a lot, a board or a reel over them.
 #![tactic(auto)]
 
 use chain_files::program;
@@ -21,7 +21,7 @@ fn main(rt: HostRuntime) -> ExitCode {
         return ExitCode::from(unavailable(&mut errors));
     };
     let mut output = Wire::new(rt.stdout());
-    let (status, _closed) = program::<Unknown, _, _>(
+    let (status, _files, _new_files) = program::<Unknown, Unknown, _, _>(
         &rt,
         words.as_slice(),
         &mut output,

@@ -57,11 +57,11 @@ def put(source, path, can_run=False):
     path.chmod(0o755 if can_run else 0o644)
 
 
-def lay(base, program, alike, date, version):
+def lay(base, programs, date, version):
     """All of it, with what stands below the prefix in base/prefix and the rest in base/etc."""
     below = base / "prefix"
-    put(program, below / "bin/tracedesk", True)
-    put(alike, below / "bin/tracedesk-alike", True)
+    for name, it in programs.items():
+        put(it, below / "bin" / name, True)
     subprocess.run([ROOT / "clients/python/bundle", below / "bin/tracedesk-send"], check=True)
     for folder, these in files():
         for it in these:

@@ -57,6 +57,11 @@ class Server:
     def stop(self):
         self.run("pg_ctl", "-D", str(self.data), "-m", "fast", "-w", "stop")
 
+    def copy(self, name, to):
+        """Copies the folder of the data, or back, with its owner; the server has stopped."""
+        subprocess.run(["rm", "-rf", self.folder / to], check=True)
+        subprocess.run(["cp", "-a", self.folder / name, self.folder / to], check=True)
+
     def processor_seconds(self):
         """What all sessions that ended have taken of the processor, since the start of the server."""
         number = (self.data / "postmaster.pid").read_text().split()[0]

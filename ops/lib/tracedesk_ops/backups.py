@@ -137,6 +137,20 @@ def compare_sums(copy):
         raise plant.Fault(f"{copy} is damaged: {', '.join(wrong) or SUMS} is not the file of its checksum. Look at the disk; an older copy may be whole")
 
 
+def is_whole(path, archive):
+    """Whether an archive of the catalogue in that file is there, as the file of its checksum."""
+    try:
+        catalogue.check(path, archive)
+        return True
+    except catalogue.CatalogueError:
+        return False
+
+
+def note_of(to, db):
+    """Where `tracedesk-backup --check` notes how it ended, for a desk by the path of its file."""
+    return to / f"checked-{os.path.realpath(db).strip('/').replace('/', '-')}.json"
+
+
 def whole_archives(copy):
     """The archives that a copy has, and its catalogue's; a Fault where one of its files is not that of its checksum."""
     compare_sums(copy)

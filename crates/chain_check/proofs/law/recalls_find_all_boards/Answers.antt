@@ -1,5 +1,5 @@
-use Rattle.chain_check.proofs.FoundBoards.{found-boards, any-begin}
+use Rattle.chain_check.proofs.FoundBoards.{found-boards, found-lots, any-begin}
 use Rattle.chain_check.proofs.law.recalls_find_all_boards.Goals as goal
 
 pub returns : goal.returns
-returns c = record { all = found-boards; any_begin = any-begin }
+returns c = record { all = found-boards; lots = found-lots; any_begin = any-begin }

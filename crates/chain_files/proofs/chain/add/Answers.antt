@@ -1,21 +1,22 @@
-use Rattle.std.proofs.Common.{◌≡◌, ◌∙◌, Option, [], List, sym, subst}
-use Rattle.std.specs.Prelude.{IfErr}
+use Rattle.std.proofs.Common.{◌≡◌, Option, [], List, sym, subst}
+use Rattle.std.specs.Prelude.{IfOk, IfErr}
 use Rattle.alike.specs.Chain.{DeskFile}
-use Rattle.chain_check.specs.declared.recall.Recall.{Recall}
-use Rattle.chain_check.specs.Recalled.{Recalls}
-use Rattle.line_prefix.specs.Look.{names_in}
-use Rattle.chain_files.specs.Files.{IsRecall, Stops}
+use Rattle.chain_check.specs.declared.chain.Chain.{Chain}
+use Rattle.chain_files.specs.Files.{Adds, Continues, Stops}
 use Rattle.chain_files.proofs.chain.add.Goals as goal
 
-pub returns-in-None-clause-err : goal.returns-in-None-clause-err
-returns-in-None-clause-err c files question H is says =
-    let none : files ≡ [] = subst (λ (r : Option Recall). IsRecall r question files) c.in-None.is is in
-    subst (λ (fs : List DeskFile). IfErr c.first_of.result (Stops fs H)) (sym none) (c.first_of.ensures.err H)
+pub returns-in-None-clause-ok : goal.returns-in-None-clause-ok
+returns-in-None-clause-ok c files H text is says written =
+    let none : files ≡ [] = subst (λ (o : Option Chain). Continues o files) c.in-None.is is in
+    subst (λ (fs : List DeskFile). IfOk c.add_first.result (λ it. Adds it fs H c.args.question.now c.args.path.now text c.add_first.new.answer)) (sym none) (c.add_first.ensures.ok H text says written)
 
-pub returns-in-Ok-clause-ok : goal.returns-in-Ok-clause-ok
-returns-in-Ok-clause-ok c files question H is says =
-    let recalls : Recalls c.in-Some.recall (names_in question) files = subst (λ (r : Option Recall). IsRecall r question files) c.in-Some.is is in (
-      says.first,
-      c.in-Ok.ensures.ok files says.first H (names_in question) recalls says.begun says.whole says.rules says.prefix (c.from.ensures ∙ says.begun_with) (c.from-in-Some.ensures ∙ says.count)
-          (c.as_slice-in-Some.ensures ∙ says.names),
-    )
+pub returns-in-None-clause-err : goal.returns-in-None-clause-err
+returns-in-None-clause-err c files H is says =
+    let none : files ≡ [] = subst (λ (o : Option Chain). Continues o files) c.in-None.is is in
+    subst (λ (fs : List DeskFile). IfErr c.add_first.result (Stops fs H)) (sym none) (c.add_first.ensures.err H)
+
+pub returns-in-Some-clause-ok : goal.returns-in-Some-clause-ok
+returns-in-Some-clause-ok c files H text is says written = c.add_next.ensures.ok files H text (subst (λ (o : Option Chain). Continues o files) c.in-Some.is is) says written
+
+pub returns-in-Some-clause-err : goal.returns-in-Some-clause-err
+returns-in-Some-clause-err c files H is says = c.add_next.ensures.err files H (subst (λ (o : Option Chain). Continues o files) c.in-Some.is is) says

@@ -1,8 +1,70 @@
-use Rattle.std.proofs.Common.{map, string_bytes}
+use Rattle.std.proofs.Common.{◌∙◌, map, string_bytes, inl, inr, arith}
 use Rattle.chain_files.proofs.whole.program.Goals as goal
 
 pub returns-in-Recall-clause-stopped : goal.returns-in-Recall-clause-stopped
 returns-in-Recall-clause-stopped g c stopped =
-    let is = c.answer.ensures.stopped stopped in
+    let is = c.answer-status.ensures.stopped stopped in
     let asked = c.in-Recall in
-    (is.0, (asked.question, map string_bytes asked.files.now, (asked.from_middle, asked.ensures), is.1))
+    inl (is.0, (asked.question, map string_bytes asked.files.now, (asked.from_middle, asked.ensures), is.1))
+
+pub returns-in-Recall-clause-failed : goal.returns-in-Recall-clause-failed
+returns-in-Recall-clause-failed g c failed =
+    let asked = c.in-Recall in
+    inl (asked.question, map string_bytes asked.files.now, (asked.from_middle, asked.ensures))
+
+pub returns-in-Alike-clause-status : goal.returns-in-Alike-clause-status
+returns-in-Alike-clause-status g c =
+    elim c.alike.ensures.status [
+      | inl is ↦ omega (arith, is)
+      | inr (inl is) ↦ omega (arith, is)
+      | inr (inr (inl is)) ↦ omega (arith, is)
+      | inr (inr (inr is)) ↦ omega (arith, is)
+    ]
+
+pub returns-in-Alike-clause-done : goal.returns-in-Alike-clause-done
+returns-in-Alike-clause-done g c zero =
+    let asked = c.in-Alike in
+    let shown = c.alike.ensures.shown (inl zero) in
+    inr (shown.0, shown.1 ∙ zero, ((asked.old.now, asked.new.now, asked.ensures), shown.2), shown.3)
+
+pub returns-in-Alike-clause-stopped : goal.returns-in-Alike-clause-stopped
+returns-in-Alike-clause-stopped g c stopped =
+    let asked = c.in-Alike in
+    elim stopped [
+      | inl one ↦ (
+          let shown = c.alike.ensures.shown (inr one) in
+          inr (inl (one, (shown.0, shown.1 ∙ one, ((asked.old.now, asked.new.now, asked.ensures), shown.2), shown.3))))
+      | inr (inl three) ↦ (
+          let told = c.alike.ensures.no_desk three in
+          inr (
+          inr (
+            three,
+            (
+              told.0,
+              elim told.1 [
+                | inl memory ↦ inl memory
+                | inr shown ↦ inr (shown.0, shown.1, ((asked.old.now, asked.new.now, asked.ensures), shown.2), shown.3)
+              ],
+            ),
+          )))
+      | inr (inr five) ↦ absurd (
+          elim c.alike.ensures.status [
+            | inl is ↦ omega (arith, is, five)
+            | inr (inl is) ↦ omega (arith, is, five)
+            | inr (inr (inl is)) ↦ omega (arith, is, five)
+            | inr (inr (inr is)) ↦ omega (arith, is, five)
+          ])
+    ]
+
+pub returns-in-Alike-clause-bad : goal.returns-in-Alike-clause-bad
+returns-in-Alike-clause-bad g c two =
+    absurd (
+    elim c.alike.ensures.status [
+      | inl is ↦ omega (arith, is, two)
+      | inr (inl is) ↦ omega (arith, is, two)
+      | inr (inr (inl is)) ↦ omega (arith, is, two)
+      | inr (inr (inr is)) ↦ omega (arith, is, two)
+    ])
+
+pub returns-in-Alike-clause-failed : goal.returns-in-Alike-clause-failed
+returns-in-Alike-clause-failed g c four = inr (c.alike.ensures.failed four)

@@ -1,0 +1,10 @@
+use Rattle.std.proofs.Common.{[], refl, sym, subst, append-nil}
+use Rattle.desk_types.specs.declared.rules.Rules.{Rules}
+use Rattle.desk_types.specs.Judged.{IsJudged}
+use Rattle.chain_check.proofs.chain.Chain.first.Goals as goal
+
+pub returns : goal.returns
+returns c = λ H stands rules. record {
+  is_chain = (subst (λ (r : Rules). IsJudged r H) rules stands.judged, (H, sym (append-nil H)), refl, tt);
+  newest = stands;
+}

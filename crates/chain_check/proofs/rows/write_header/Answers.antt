@@ -1,0 +1,13 @@
+use Rattle.std.proofs.Common.{◌++◌, OnOk, sym, subst}
+use Rattle.report_texts.specs.Csv.{record_text, HasWritten}
+use Rattle.chain_check.specs.declared.question.Question.{Question}
+use Rattle.chain_check.specs.Rows.{header_of}
+use Rattle.chain_check.proofs.rows.write_header.Goals as goal
+
+pub returns-in-Chain : goal.returns-in-Chain
+returns-in-Chain c text written =
+    subst (λ (q : Question). OnOk c.write_fields.result (HasWritten c.write_fields.new.writer (text ++ record_text (header_of q)))) (sym c.in-Chain.is) (c.write_fields.ensures text written)
+
+pub returns-in-Pieces : goal.returns-in-Pieces
+returns-in-Pieces c text written =
+    subst (λ (q : Question). OnOk c.write_fields-in-Pieces.result (HasWritten c.write_fields-in-Pieces.new.writer (text ++ record_text (header_of q)))) (sym c.in-Pieces.is) (c.write_fields-in-Pieces.ensures text written)

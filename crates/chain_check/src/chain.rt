@@ -1,0 +1,44 @@
+//! The chain so far, to which one file after the other is added.
+
+ghost use Rattle.std.specs.Prelude.{◌≡◌, [], ◌∷◌, IfOk, IfErr, List};
+ghost use Rattle.desk_types.specs.declared.rules.Rules.TheVariants.{Two};
+ghost use Rattle.desk_types.specs.History.{History, IsPrefix};
+ghost use Rattle.feeder_state.specs.State.{IsState, rules_of};
+ghost use Rattle.alike.specs.Chain.{DeskFile};
+ghost use Rattle.chain_check.specs.Chained.{IsReason, IsSoFar};
+
+use alike_check::{Difference, first_difference};
+use feeder_state::StateDesk;
+
+/// The files so far are a chain, and this is the desk of the newest one.
+#[derive(Drop)]
+pub struct Chain {
+    newest: StateDesk,
+}
+
+impl Chain {
+    /// Begins with the first file's desk.
+    pub fn first(whole: StateDesk) -> Chain
+        ensures { (H : History) → IsState H whole → rules_of whole ≡ Two
+            → IsSoFar result (record { rules = Two; begun = []; whole = H } ∷ []) }
+    {
+        Chain { newest: whole }
+    }
+
+    /// Adds the next file: the desk of the commands with which it was begun, and its whole desk. Returns a difference if
+    /// it doesn't carry on the newest file.
+    pub fn next(self, begun: &StateDesk, whole: StateDesk) -> Result<Chain, Difference>
+        ensures ok { (files : List DeskFile) (B H : History) → IsSoFar self files
+            → IsState B begun.now → IsState H whole → rules_of whole ≡ Two → IsPrefix B H
+            → IfOk result
+            (λ chain. IsSoFar chain (record { rules = Two; begun = B; whole = H } ∷ files)) }
+        ensures err { (G B : History) → IsState G self.newest → IsState B begun.now
+            → IfErr result (IsReason G B) }
+    {
+        let Chain { newest } = self;
+        match first_difference(&newest, begun) {
+            Some(difference) => Err(difference),
+            None => Ok(Chain { newest: whole }),
+        }
+    }
+}

@@ -1,0 +1,97 @@
+-- The comparison of two files, and its line.
+use Rattle.std.specs.Prelude.{◌≡◌, ◌⊎◌, ℕ, List, [], ◌∷◌, ◌++◌, Option, codes, decimal}
+use Rattle.std.specs.Io.KnownBytes.{Appends}
+use Rattle.sqlite_disk.specs.declared.Disk as disk
+use Rattle.sqlite_disk.specs.declared.Files.{Files}
+use Rattle.sqlite_disk.specs.declared.start.Start as start
+use Rattle.sqlite_wal.specs.Files.{image_at}
+use Rattle.sqlite_wal.specs.Reads.{AreClean}
+use Rattle.desk_types.specs.declared.wire.Wire.{Wire}
+use Rattle.desk_types.specs.Wire.{inner_of}
+use Rattle.desk_types.specs.History.{History}
+use Rattle.desk_runs.specs.Told.{unavailable_line, TellsLine}
+use Rattle.line_schema.specs.Opening.{fault_text}
+use Rattle.desk_file.specs.Files.{HasOursFirst}
+use Rattle.alike.specs.Chain.{Carries}
+use Rattle.alike_check.specs.Difference.{IsDifference, Refutes}
+use Rattle.chain_check.specs.Texts.{both, difference_text}
+use Rattle.chain_files.specs.declared.compared.Compared.{Compared}
+use Rattle.chain_files.specs.declared.compared.Compared.TheVariants.{Alike, Differs, Refused}
+use Rattle.chain_files.specs.declared.compared.Side.{Side}
+use Rattle.chain_files.specs.declared.compared.Side.TheVariants.{Old, New}
+use Rattle.chain_files.specs.Files.{HoldHistory, IsRefused}
+
+-- ---- the files
+
+-- The meaning of a comparison for an old history and a new one.
+abbrev pub SaysOf : Compared → History → History → Type 0
+SaysOf (Alike reels mounts) H H' = Carries H H'
+SaysOf (Differs difference) H H' = IsDifference H H' difference × Refutes H H' difference
+SaysOf (Refused side fault) H H' = ⊥
+
+-- Two files held lawful histories with this relation, and still hold them, if their disks never lied and each held only a
+-- desk's tables, or those first.
+abbrev pub HoldBoth : {T U D E : Type 0} → start.Ghosts T → start.Ghosts U → disk.Ghosts D
+    → disk.Ghosts E → Files D → Files E → (History → History → Type 0) → Type 0
+HoldBoth of_old of_new g g' old new Relates =
+    AreClean g old.log old.db → HasOursFirst (image_at of_old)
+    → (H : History) × HoldHistory g (image_at of_old) old H
+    × (AreClean g' new.log new.db → HasOursFirst (image_at of_new)
+    → (H' : History) × HoldHistory g' (image_at of_new) new H' × Relates H H')
+
+-- Both files were closed, and held such histories.
+abbrev pub FindsBoth : {T U D E : Type 0} → start.Ghosts T → start.Ghosts U → disk.Ghosts D
+    → disk.Ghosts E → List (Files D) → List (Files E) → Compared → Type 0
+FindsBoth {D = D} {E = E} of_old of_new g g' closed closed' found =
+    (old : Files D) × (new : Files E) × (closed ≡ old ∷ []) × (closed' ≡ new ∷ [])
+    × HoldBoth of_old of_new g g' old new (SaysOf found)
+
+-- The result of a comparison, by the files that it closed.
+abbrev pub Finds : {T U D E : Type 0} → start.Ghosts T → start.Ghosts U → disk.Ghosts D
+    → disk.Ghosts E → List (Files D) → List (Files E) → Compared → Type 0
+Finds of_old of_new g g' closed closed' (Refused Old fault) = IsRefused of_old g [] closed fault
+Finds of_old of_new g g' closed closed' (Refused New fault) = IsRefused of_new g' [] closed' fault
+Finds of_old of_new g g' closed closed' found = FindsBoth of_old of_new g g' closed closed' found
+
+-- ---- its line
+
+abbrev pub side_text : Side → List ℕ
+side_text Old = codes "old"
+side_text New = codes "new"
+
+-- The line of a comparison, without its line feed.
+abbrev pub compared_text : Compared → List ℕ
+compared_text (Alike reels mounts) = codes "alike " ++ both (decimal reels) (decimal mounts)
+compared_text (Differs difference) = codes "differs " ++ difference_text difference
+compared_text (Refused side fault) = both (side_text side) (fault_text fault)
+
+-- The line on the output.
+abbrev pub found_line : Compared → List ℕ
+found_line found = compared_text found ++ codes "\n"
+
+-- The line on standard error of a file that was refused.
+abbrev pub refused_line : Compared → List ℕ
+refused_line found = codes "tracedesk: " ++ compared_text found
+
+-- The exit status: the desks are alike, they differ, or a file was refused.
+abbrev pub found_status : Compared → ℕ
+found_status (Alike reels mounts) = 0
+found_status (Differs difference) = 1
+found_status (Refused side fault) = 3
+
+-- ---- a run
+
+-- A comparison with this status was made, and its line, and nothing else, was written.
+abbrev pub Shows : {W : Type 0} → (Compared → Type 0) → (W → Option (List ℕ))
+    → Wire W → Wire W → ℕ → Type 0
+Shows Made writes output output' status = (found : Compared) × (found_status found ≡ status)
+    × Made found × Appends (writes (inner_of output)) (writes (inner_of output')) (found_line found)
+
+-- A file was refused, or memory was, and nothing was written.
+abbrev pub NoDesk : {W E : Type 0} → (Compared → Type 0) → (E → Option (List ℕ)) → Wire W → Wire W
+    → Wire E → Wire E → Type 0
+NoDesk Made tells output output' errors errors' =
+    (output' ≡ output)
+    × (TellsLine tells errors errors' unavailable_line
+    ⊎ ((found : Compared) × (found_status found ≡ 3) × Made found
+    × TellsLine tells errors errors' (refused_line found)))
