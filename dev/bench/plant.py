@@ -337,7 +337,7 @@ def main(asked, reader):
     if asked.small:
         return small_bench(asked)
     asked.program = program.to_use(asked.program)
-    asked.chain = chains.program_of(asked.program)
+    asked.chain = plant.chain_of(asked.program)
     if asked.recall and not asked.chain:
         program.stop("there is no tracedesk-chain next to the program: CHAIN names it")
     asked.archives = asked.archives or (52 if asked.recall else 40)
