@@ -44,7 +44,7 @@ import time
 import starts
 from tracedesk_dev import postgres, program, shift
 from tracedesk_dev.program import ROOT
-from tracedesk_ops import catalogue, chains, plant
+from tracedesk_ops import catalogue, plant
 
 TURNS = 5
 MEMORY = "/dev/shm"
@@ -334,7 +334,7 @@ def main(asked, reader):
     if asked.small:
         return small_bench(asked)
     asked.program = program.to_use(asked.program)
-    asked.chain = chains.program_of(asked.program)
+    asked.chain = plant.chain_of(asked.program)
     if asked.recall and not shutil.which("time"):
         program.stop("there is no time: apt-get install time")
     if asked.recall and not asked.chain:

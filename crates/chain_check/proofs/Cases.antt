@@ -1,9 +1,8 @@
 -- Worked cases: lists of small files that are a chain, that are refused, and faults that no chain shows.
-use Rattle.std.proofs.Common.{◌≡◌, ◌∙◌, List, [], ◌∷◌, ◌++◌, length, take, refl, sym, ap, unwrap_or, arith}
+use Rattle.std.proofs.Common.{◌≡◌, ◌∙◌, List, [], ◌∷◌, length, take, refl, sym, ap, unwrap_or, arith}
 use Rattle.desk_types.specs.declared.command.Command.TheVariants.{MaterialsSpliced, MaterialsScrapped, WorkStarted, WorkCompleted, MaterialsInstalled}
 use Rattle.desk_types.specs.declared.command.Stamped.{Stamped}
 use Rattle.desk_types.specs.declared.rules.Rules.TheVariants.{Two}
-use Rattle.desk_types.specs.History.{desk_minute}
 use Rattle.desk_types.proofs.RowsCommon.{P, L2, M, S1, K2, B2, R1, R2, at, received}
 use Rattle.desk_laws.proofs.Judgements.{judged-prefix}
 use Rattle.alike.specs.Alike.{AreAlike}

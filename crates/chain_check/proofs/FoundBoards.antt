@@ -9,7 +9,7 @@ use Rattle.std.proofs.lemmas.List.Folds.{list_any-append, Any-from_list_any, lis
 use Rattle.std.proofs.lemmas.Map.Views.{Contains-from_any, list_any-from_Contains}
 use Rattle.desk_types.specs.Id.{Name, same}
 use Rattle.desk_types.specs.History.{History}
-use Rattle.desk_types.specs.Placements.{lots_of, boards_of}
+use Rattle.desk_types.specs.Placements.{boards_of}
 use Rattle.desk_types.proofs.Keys.{same-true}
 use Rattle.desk_laws.proofs.Mounts.{has}
 use Rattle.alike.specs.Chain.{DeskFile, IsChain, boards_over, lots_over}

@@ -1,14 +1,14 @@
 -- Older files of a chain end before a file that moved on.
-use Rattle.std.proofs.Common.{◌≡◌, ◌∙◌, ℕ, ◌+◌, ◌≤◌, ◌<◌, All, List, [], ◌∷◌, ◌++◌, max, unwrap_or, sym, ap, subst, arith}
+use Rattle.std.proofs.Common.{◌≡◌, ℕ, ◌+◌, ◌≤◌, All, List, [], ◌∷◌, ◌++◌, max, unwrap_or, sym, ap, subst, arith}
 use Rattle.std.specs.List.{AllByRecursion}
 use Rattle.std.proofs.Math.Nat.{le-max_right}
 use Rattle.std.proofs.lemmas.List.Elements.{All-from_recursion}
 use Rattle.std.proofs.lemmas.List.Sums.{sum_by-cons}
 use Rattle.desk_types.specs.declared.command.Entry.{Entry}
-use Rattle.desk_types.specs.History.{History, IsPrefix, desk_minute, now_of}
+use Rattle.desk_types.specs.History.{History, IsPrefix, now_of}
 use Rattle.desk_types.specs.Id.{Name}
 use Rattle.desk_types.specs.Pieces.{left_of, found_of, placed_of, scrapped_of}
-use Rattle.alike.specs.Chain.{DeskFile, Carries, IsChain, new_in, received_over, placed_over, scrapped_over, left_over}
+use Rattle.alike.specs.Chain.{DeskFile, Carries, IsChain, new_in, received_over, placed_over, scrapped_over}
 use Rattle.alike.proofs.ChainPieces.{balance-over}
 use Rattle.chain_check.specs.Counted.{Moves}
 

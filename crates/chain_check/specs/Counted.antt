@@ -1,5 +1,5 @@
 -- Files of a chain as a program finds them: whole histories, and the number of commands with which each desk was begun.
-use Rattle.std.specs.Prelude.{◌≡◌, ◌<◌, ◌≤◌, ◌-◌, ℕ, List, [], ◌∷◌, length, map, drop}
+use Rattle.std.specs.Prelude.{◌≡◌, ◌<◌, ◌-◌, ℕ, List, length, map, drop}
 use Rattle.desk_types.specs.declared.rules.Rules.TheVariants.{Two}
 use Rattle.desk_types.specs.History.{History, now_of}
 use Rattle.alike.specs.Chain.{DeskFile, IsChain}

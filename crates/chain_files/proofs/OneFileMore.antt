@@ -1,5 +1,5 @@
 -- One more file of a chain, or one that ends it.
-use Rattle.std.proofs.Common.{◌≡◌, ◌∙◌, ◌+◌, ◌<◌, ℕ, All, Option, Some, List, [], ◌∷◌, ◌++◌, get_or, length, length-append, sym, ap, subst, inl, arith}
+use Rattle.std.proofs.Common.{◌≡◌, ◌∙◌, ◌+◌, ℕ, All, Option, Some, List, [], ◌∷◌, ◌++◌, get_or, length, length-append, sym, ap, subst, inl, arith}
 use Rattle.std.specs.List.{AllByRecursion}
 use Rattle.std.proofs.lemmas.List.Elements.{All-from_recursion, recursion_from_All}
 use Rattle.sqlite_disk.specs.declared.Disk as disk
@@ -24,7 +24,7 @@ use Rattle.chain_check.specs.Rows.{answer_over}
 use Rattle.chain_check.proofs.WrittenRows.{answer-next}
 use Rattle.chain_files.specs.declared.chain.Fault.{Fault}
 use Rattle.chain_files.specs.declared.chain.Fault.TheVariants.{Refused, BegunFrom, Differs}
-use Rattle.chain_files.specs.Files.{Adds, Answer, AreHonest, BreaksChain, Continues, HoldHistory, HoldsSaid, IsStop, Reaches, SoFar, Stops, oldest_first}
+use Rattle.chain_files.specs.Files.{Adds, Answer, AreHonest, BreaksChain, Continues, HoldHistory, HoldsSaid, IsStop, Reaches, SoFar, Stops}
 use Rattle.chain_files.proofs.Answered.{are-chain}
 
 front : {X : Type 0} (P : X → Type 0) (xs : List X) (x : X) → AllByRecursion P (xs ++ x ∷ []) → AllByRecursion P xs × P x

@@ -1,5 +1,5 @@
 -- A file that was refused, once it is closed.
-use Rattle.std.proofs.Common.{◌≡◌, ◌∙◌, All, ℕ, Option, Some, None, List, [], ◌∷◌, ◌++◌, refl, sym, subst, append-nil, inl, inr}
+use Rattle.std.proofs.Common.{◌≡◌, ◌∙◌, All, Option, Some, None, List, [], ◌∷◌, ◌++◌, refl, sym, subst, append-nil, inl, inr}
 use Rattle.std.specs.Prelude.{IsSomeAnd, MatchOption}
 use Rattle.sqlite_disk.specs.declared.Disk as disk
 use Rattle.sqlite_disk.specs.declared.Files.{Files}

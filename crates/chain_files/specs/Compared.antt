@@ -42,8 +42,8 @@ HoldBoth of_old of_new g g' old new Relates =
 -- Both files were closed, and held such histories.
 abbrev pub FindsBoth : {T U D E : Type 0} → start.Ghosts T → start.Ghosts U → disk.Ghosts D
     → disk.Ghosts E → List (Files D) → List (Files E) → Compared → Type 0
-FindsBoth {D = D} {E = E} of_old of_new g g' closed closed' found = (old : Files D) × (new : Files E)
-    × (closed ≡ old ∷ []) × (closed' ≡ new ∷ [])
+FindsBoth {D = D} {E = E} of_old of_new g g' closed closed' found =
+    (old : Files D) × (new : Files E) × (closed ≡ old ∷ []) × (closed' ≡ new ∷ [])
     × HoldBoth of_old of_new g g' old new (SaysOf found)
 
 -- The result of a comparison, by the files that it closed.

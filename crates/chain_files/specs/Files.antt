@@ -25,7 +25,7 @@ use Rattle.line_prefix.specs.Look.{Says}
 use Rattle.desk_file.specs.Files.{HasOursFirst, HasTables, IsWhole}
 use Rattle.desk_file.specs.Refused.{IsFaultFor}
 use Rattle.desk_commands.specs.Closed.{Close, whole, failed, RefusesTo}
-use Rattle.report_texts.specs.Csv.{HasWritten, csv_text}
+use Rattle.report_texts.specs.Csv.{HasWritten}
 use Rattle.alike.specs.Chain.{DeskFile, IsChain}
 use Rattle.chain_check.specs.declared.chain.Chain.{Chain}
 use Rattle.chain_check.specs.declared.question.Question.{Question}

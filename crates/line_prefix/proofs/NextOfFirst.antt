@@ -1,8 +1,7 @@
 -- The row of the number that follows a first part of a history is that of its next entry.
-use Rattle.std.proofs.Common.{◌≡◌, ◌∙◌, ◌+◌, ◌<◌, ℕ, pos, Bool, true, false, List, [], ◌∷◌, ◌++◌, length, filter, refl, sym, ap, subst, subst₂, if◌then◌else◌, is_eq, Greater, Some, arith, length-append}
+use Rattle.std.proofs.Common.{◌≡◌, ◌∙◌, ◌+◌, ◌<◌, ℕ, pos, Bool, true, false, List, [], ◌∷◌, ◌++◌, length, filter, refl, sym, ap, subst, if◌then◌else◌, is_eq, Greater, Some, arith, length-append}
 use Rattle.std.proofs.lemmas.Bool.Decides.{nat_tests}
 use Rattle.std.proofs.lemmas.Int.{ints}
-use Rattle.std.proofs.lemmas.List.{append_assoc}
 use Rattle.std.specs.List.{AllByRecursion}
 use Rattle.std.specs.List.Sorted.{IsPermutation}
 use Rattle.std.proofs.lemmas.List.Sorted.{IsPermutation-refl}
@@ -19,8 +18,8 @@ use Rattle.desk_types.specs.declared.command.Entry.{Entry}
 use Rattle.desk_types.specs.declared.rules.Rules.{Rules}
 use Rattle.desk_types.specs.declared.rules.Rules.TheVariants.{Two}
 use Rattle.desk_types.specs.History.{History, IsPrefix}
-use Rattle.desk_types.specs.Judged.{IsJudged, IsNext}
-use Rattle.line_tables.specs.Calls.{Reads, has_number}
+use Rattle.desk_types.specs.Judged.{IsJudged}
+use Rattle.line_tables.specs.Calls.{has_number}
 use Rattle.line_tables.specs.Rows.{accepted_in}
 use Rattle.line_rows.specs.Rows.{entry_row, rows_of}
 use Rattle.line_replay.proofs.Tests.{other_number}

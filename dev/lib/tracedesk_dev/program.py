@@ -13,8 +13,8 @@ ROOT = pathlib.Path(__file__).resolve().parents[3]
 CRATES = ROOT / "crates"
 CRATE = "tracedesk"
 BUILT = CRATES / CRATE / "out" / CRATE
-# The second program, which compares two desk files.
-ALIKE, CHAIN = "tracedesk_alike", "tracedesk_chain"
+# The second program, over the desk files of a line.
+CHAIN = "tracedesk_chain"
 NAME = os.path.relpath(os.path.realpath(sys.argv[0]), ROOT)
 NONE = ("{}. `make build` proves and builds it, in some 35 minutes on four cores. To prove nothing, name a program that is there, as that of a "
         "package: PROGRAM=/usr/bin/tracedesk; or call `make demo`, which runs it before its proof")

@@ -56,13 +56,6 @@ class Answer(NamedTuple):
     options: list
 
 
-def program_of(program):
-    """tracedesk-chain, or none: CHAIN in the environment, else the one next to this program, installed or built."""
-    at = pathlib.Path(shutil.which(program) or program).resolve().parent
-    named = os.environ.get("CHAIN")
-    return next(filter(None, map(shutil.which, [named] if named else [f"{at}/tracedesk-chain", f"{at.parent.parent}/tracedesk_chain/out/tracedesk_chain"])), None)
-
-
 @functools.lru_cache
 def offers(chain, word):
     """Whether this program has a verb or an option, by its usage."""
@@ -74,7 +67,7 @@ class Asker:
     """The program, and the words by which it is asked a question: `check` where it has no verb of its kind yet."""
 
     def __init__(self, program, question):
-        self.program = program_of(program)
+        self.program = plant.chain_of(program)
         verb = self.program and offers(self.program, question.kind)
         self.words = ["check"] if not verb else [*question, "--pieces"] if offers(self.program, "--pieces") else [*question]
         self.has_pieces = "--pieces" in self.words

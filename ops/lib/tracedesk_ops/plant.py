@@ -88,11 +88,11 @@ def find_program(reader, asked):
         reader.error("there is no program: name it by --program, or PROGRAM in the environment")
 
 
-def alike_of(program):
-    """The program that compares two desks, or none: ALIKE in the environment, else the one next to this program, installed or built."""
-    at = pathlib.Path(program).resolve().parent
-    beside = [f"{at}/tracedesk-alike", f"{at.parent.parent}/tracedesk_alike/out/tracedesk_alike"]
-    named = os.environ.get("ALIKE")
+def chain_of(program):
+    """tracedesk-chain, or none: CHAIN in the environment, else the one next to this program, installed or built."""
+    at = pathlib.Path(shutil.which(program) or program).resolve().parent
+    beside = [f"{at}/tracedesk-chain", f"{at.parent.parent}/tracedesk_chain/out/tracedesk_chain"]
+    named = os.environ.get("CHAIN")
     return next(filter(None, map(shutil.which, [named] if named else beside)), None)
 
 

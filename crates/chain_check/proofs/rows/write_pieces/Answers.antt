@@ -1,4 +1,4 @@
-use Rattle.std.proofs.Common.{◌≡◌, ◌∙◌, ◌++◌, List, ℕ, map, take, subst}
+use Rattle.std.proofs.Common.{◌++◌, List, map, take, subst}
 use Rattle.std.proofs.lemmas.List.{take_all}
 use Rattle.desk_types.specs.declared.placement.Placement.{Placement}
 use Rattle.report_texts.specs.Csv.{HasWritten}

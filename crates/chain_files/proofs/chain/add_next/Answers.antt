@@ -1,4 +1,4 @@
-use Rattle.std.proofs.Common.{◌≡◌, ◌∙◌, ◌++◌, List, subst}
+use Rattle.std.proofs.Common.{◌≡◌, ◌∙◌, ◌++◌, subst}
 use Rattle.desk_types.specs.declared.rules.Rules.TheVariants.{Two}
 use Rattle.report_texts.specs.Csv.{HasWritten}
 use Rattle.chain_check.specs.Rows.{asked_of, facts_of, rows_in, rows_text}

@@ -1,7 +1,6 @@
 use Rattle.std.proofs.Common.{refl, inl}
-use Rattle.sqlite_std_file.specs.contracts.host.Host.{the_row}
 use Rattle.chain_files.specs.Files.{close_of, files_in}
-use Rattle.chain_files.proofs.RefusedFiles.{closed-again, not-opened}
+use Rattle.chain_files.proofs.RefusedFiles.{closed-again}
 use Rattle.chain_files.proofs.chain.shut.Goals as goal
 
 pub returns-in-Ok : goal.returns-in-Ok

@@ -1,4 +1,4 @@
-use Rattle.std.proofs.Common.{◌≡◌, ◌∙◌, map, string_bytes, refl, sym, inl, inr}
+use Rattle.std.proofs.Common.{◌∙◌, map, string_bytes, refl, sym, inl, inr}
 use Rattle.std.proofs.lemmas.List.{length-map}
 use Rattle.chain_check.specs.Rows.{answer_over}
 use Rattle.chain_files.proofs.Answered.{are-chain, only-three}

@@ -1,4 +1,4 @@
-use Rattle.std.proofs.Common.{◌≡◌, ◌∙◌, ◌∷◌, [], filter, ap}
+use Rattle.std.proofs.Common.{◌∙◌, ◌∷◌, [], filter, ap}
 use Rattle.sqlite.specs.Held.{state}
 use Rattle.sqlite_value.specs.Order.{Row}
 use Rattle.line_tables.specs.Calls.{has_number, only}

@@ -1,4 +1,4 @@
-use Rattle.std.proofs.Common.{[], refl, sym, subst, append-nil}
+use Rattle.std.proofs.Common.{refl, sym, subst, append-nil}
 use Rattle.desk_types.specs.declared.rules.Rules.{Rules}
 use Rattle.desk_types.specs.Judged.{IsJudged}
 use Rattle.chain_check.proofs.chain.Chain.first.Goals as goal

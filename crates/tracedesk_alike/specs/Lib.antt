@@ -1,4 +1,0 @@
-pub mod CommandLine
-pub mod Found
-pub mod Program
-pub mod Texts
