@@ -420,10 +420,10 @@ def a_changeover_counts_what_is_mounted(site):
         if "PRODUCT SELECTED" not in it.verdict()[1]:
             raise Difference("the product was not selected")
         it.go("line")
-        wait_for("it says where the product is from", lambda: "selected at this station at" in it.script("return document.querySelector('.machine h2').textContent"))
+        wait_for("it says where the product is from", lambda: "selected at this station at" in it.script("return document.querySelector('th.machine').textContent"))
         it.load()
         it.ready()
-        wait_for("also after a reload", lambda: "selected at this station at" in it.script("return document.querySelector('.machine h2').textContent"))
+        wait_for("also after a reload", lambda: "selected at this station at" in it.script("return document.querySelector('th.machine').textContent"))
         whole(site, it, 1)
     return "4 rows with 5,000 mounted pieces, 900 of another part and 960 missing; a selection, told with its command's number and kept over a reload"
 

@@ -121,10 +121,10 @@ def the_keyboard_alone(site):
 
 def printed_codes_are_read_back(site):
     """The sheet of action codes and of slots with long names, as it is printed, read by zbar."""
-    machine, slot = "M1-" + "LONG-NAME-" * 4, "SLOT-" + "LONG-" * 4
-    for long in (slot, slot * 2):
-        site.say("SheetDefined", {"Product": f"CTRL-{len(long)}", "Machine": machine[:-1], "Rows": [{"Slot": long[:-1], "PartNumber": "RES", "Designators": ["R1"]}]})
-    site.set_up({**SETUP, "machines": [*SETUP["machines"], *({"machine": machine[:-1], "product": f"CTRL-{len(it)}"} for it in (slot, slot * 2))]})
+    slots = {f"{name}-LONG-NAME-OF-A-MACHINE-OF-A-PLANT": "SLOT-OF-A-FEEDER-WITH-A-NAME" + more for name, more in (("A", ""), ("B", "-THAT-IS-TOO-LONG-TO-PRINT"))}
+    for machine, slot in slots.items():
+        site.say("SheetDefined", {"Product": "CTRL-A", "Machine": machine, "Rows": [{"Slot": slot, "PartNumber": "RES", "Designators": ["R1"]}]})
+    site.set_up({**SETUP, "machines": [*SETUP["machines"], *({"machine": machine, "product": "CTRL-A"} for machine in slots)]})
     if not shutil.which("zbarimg"):
         return "SKIPPED: there is no zbarimg here: apt-get install zbar-tools"
     with Operator(site) as it:

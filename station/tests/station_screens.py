@@ -434,4 +434,4 @@ def the_operators_sheet_is_one_page(site):
     return f"one page, with {len(words)} words of the screen"
 
 
-FLOWS = [every_state_of_a_slot, a_real_line_is_on_one_screen, a_pick_list_over_the_line, who_gets_which_reel, a_changeover_of_two_machines, the_overdue_list, a_trace_is_printed_whole, the_operators_sheet_is_one_page]
+FLOWS = [every_state_of_a_slot, a_real_line_is_on_one_screen, a_line_of_twelve_machines, a_splice_is_called_for, a_pick_list_over_the_line, who_gets_which_reel, a_changeover_of_two_machines, the_overdue_list, a_trace_is_printed_whole, the_operators_sheet_is_one_page]

@@ -28,9 +28,11 @@ too_long_text = compact_text (faulty (codes "LineTooLong"))
 -- The answer to a line after H: Unavailable if marked, LineTooLong over the limit, or else the
 -- message's answer.
 abbrev pub line_answer : Rules → ℕ → Bool → History → List ℕ → AnswerText
-line_answer rules greatest true H line = record { text = unavailable_text; verdict = verdict.Unavailable }
+line_answer rules greatest true H line =
+    record { text = unavailable_text; verdict = verdict.Unavailable }
 line_answer rules greatest false H line = if nat_lt LONGEST_INPUT (length line)
-    then record { text = too_long_text; verdict = verdict.Unreadable } else answer_to rules greatest H line
+    then record { text = too_long_text; verdict = verdict.Unreadable }
+    else answer_to rules greatest H line
 
 -- The history after the line, changed only by messages.
 abbrev pub line_after : Rules → ℕ → Bool → History → List ℕ → History

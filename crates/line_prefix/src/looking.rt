@@ -20,7 +20,7 @@ use crate::first::first_desk;
 use chain_check::{Question, Subject};
 use desk_types::{Desk, Id, Listing, MOST_ENTRIES, Placement, Rules};
 use line_schema::{LineStore, Unavailable};
-use line_traces::PlacedRows;
+use line_traces::{PlacedRows, Working};
 use sqlite::{Alter, Connection};
 use state_rows::KeepsRows;
 use std::alloc::{AllocError, Global};
@@ -176,11 +176,17 @@ pub fn look<S: Alter, D: KeepsRows + Drop>(
     let mut store = store;
     let commands = store.count();
     let pieces = asked_of(alloc, &mut store, question);
-    let (mut conn, whole) = store.into_parts();
+    let (mut conn, working) = store.into_parts();
     let Ok(pieces) = pieces else {
         return (conn, Err(Unavailable));
     };
-    let Some(whole) = whole else {
+    let Some(
+        Working {
+            desk: whole,
+            lists: _lists,
+        },
+    ) = working
+    else {
         return (conn, Err(Unavailable));
     };
     if u64::from(commands) > MOST_ENTRIES {

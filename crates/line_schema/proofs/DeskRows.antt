@@ -1,10 +1,11 @@
 -- The rows of the desk after the edits that were committed.
-use Rattle.std.proofs.Common.{◌≡◌, ◌∙◌, ℕ, List, [], ◌∷◌, Option, Some, None, IfSome, refl, sym, ap}
+use Rattle.std.proofs.Common.{◌≡◌, ◌∙◌, ℕ, List, [], ◌∷◌, Option, Some, None, IfSome, is_some, true, refl, sym, ap}
 use Rattle.desk_types.specs.declared.edit.RowEdit.{RowEdit}
 use Rattle.desk_types.specs.Edits.{with_edit, with_edits}
 use Rattle.desk_types.specs.History.{History}
 use Rattle.desk_types.specs.Tables.{tables_of as state_of}
 use Rattle.state_rows.specs.Kept.{KeptRows, tables_in, but_placements}
+use Rattle.line_traces.specs.declared.working.Working.{Working}
 use Rattle.line_tables.specs.declared.edit.Accepted.{Accepted}
 use Rattle.line_tables.specs.Edit.{row_edits, command_edits}
 use Rattle.line_tables.specs.Rows.{Tables, after_edits, columns_of}
@@ -20,8 +21,8 @@ pub lead_of : (greatest : ℕ) (G H : History) (row : Accepted) (edits : List Ro
 lead_of greatest G H row edits is =
     sym (state_edited edits (record { greatest = greatest; accepted = columns_of row ∷ rows_of G; state = state_of G })) ∙ ap (λ (t : Tables). t.state) is
 
-pub rows_settled : {D : Type 0} (K : D → KeptRows) (edits : List RowEdit) (old new : Option D) (d : D) (G H : History) → old ≡ Some d
-    → IfSome old (λ a. IfSome new (λ b. tables_in (K b) ≡ but_placements (with_edits edits (tables_in (K a))) (tables_in (K a)))) → with_edits edits (state_of G) ≡ state_of H → IfSome old (λ d. AreKept (K d) G) → IfSome new (λ d. AreKept (K d) H)
-rows_settled K edits None new d G H is made lead was = absurd cc
-rows_settled K edits (Some a) None d G H is made lead was = tt
-rows_settled K edits (Some a) (Some b) d G H is made lead was = kept_more edits (K a) (K b) G H made lead was
+pub rows_settled : {D : Type 0} (K : D → KeptRows) (edits : List RowEdit) (old new : Option (Working D)) (G H : History) → IfSome old (λ a. IfSome new (λ b. tables_in (K b.desk) ≡ but_placements (with_edits edits (tables_in (K a.desk))) (tables_in (K a.desk)))) → is_some old ≡ true
+    → with_edits edits (state_of G) ≡ state_of H → IfSome old (λ w. AreKept (K w.desk) G) → IfSome new (λ w. AreKept (K w.desk) H)
+rows_settled K edits None new G H made there lead was = absurd cc
+rows_settled K edits (Some a) None G H made there lead was = tt
+rows_settled K edits (Some a) (Some b) G H made there lead was = kept_more edits (K a.desk) (K b.desk) G H made lead was

@@ -89,11 +89,10 @@ none_found rules H judged is reel =
     ap (λ (n : ℕ). if n == 0 then None else Some n) (nothing-found H reel (subst (λ (r : Rules). IsJudged r H) is judged))
 
 pub opened_on : {D : Type 0} (F : D → History → Type 0) (K : D → Rules) (Before After : Type 0) (old mid : State) (rules : Rules) (desk : D) (expected : Expected) (count : ℕ) (opened : Opened D) (H : History) → (After → Before)
-    → IsReplayed F rules opened.greatest Before mid desk expected count H → IsListed opened.lists H → K desk ≡ rules → opened.desk ≡ desk → opened.count ≡ count → opened.greatest ≤ MOST_ENTRIES → (After → KeepsCommit old mid)
+    → IsReplayed F rules opened.greatest Before mid desk expected count H → IsListed opened.working.lists H → K desk ≡ rules → opened.working.desk ≡ desk → opened.count ≡ count → opened.greatest ≤ MOST_ENTRIES → (After → KeepsCommit old mid)
     → (After → Reads old (λ db. IsVersion db (pos (version_of rules)) opened.greatest)) → (After → Reads old (λ db. IsVerdict (state_tables rules) db (state_of H) None)) → (After → Reads old (λ db. AreAllApartBy rules db)) → IsOpened F K After old rules opened H
 opened_on F K Before After old mid rules desk expected count opened H early r listed kept_by is counted bound kept version state apart = record {
-  stands = subst (λ d. F d H) (sym is) r.stands;
-  lists = listed;
+  working = record { stands = subst (λ d. F d H) (sym is) r.stands; listed = listed };
   rules = ap K is ∙ kept_by;
   judged = r.judged;
   count = counted ∙ sym r.counted;

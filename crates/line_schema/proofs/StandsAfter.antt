@@ -32,22 +32,48 @@ use Rattle.line_tables.specs.Calls.{Edits, LeavesEdited}
 use Rattle.line_tables.specs.Frames.{ReadsOnly}
 use Rattle.line_rows.specs.Rows.{ledger_tables}
 use Rattle.line_rows.proofs.Judgements.{next_is, stamped_is}
+use Rattle.line_replay.specs.Expected.{AreKept}
 use Rattle.line_schema.specs.declared.store.LineStore.{LineStore}
 use Rattle.line_schema.specs.declared.unavailable.Unavailable.{Unavailable as Fault}
 use Rattle.line_schema.specs.Answered.{AnswersOrFails, Commits}
-use Rattle.line_schema.specs.Stands.{HasRows, Kept, Stands, StaysOpen, ShowsTables, with_command}
+use Rattle.line_schema.specs.Settling.{KeepsDesk}
+use Rattle.line_schema.specs.Stands.{Kept, Stands, StaysOpen, ShowsTables, WorksFor, with_command}
 use Rattle.state_rows.specs.Kept.{KeptRows}
 use Rattle.line_schema.specs.Frames.{ReadsStore}
-use Rattle.trace_lists.specs.declared.lists.TraceLists.{TraceLists}
-use Rattle.trace_lists.specs.Lists.{IsListed}
+use Rattle.line_traces.specs.declared.working.Working.{Working}
+use Rattle.line_traces.specs.Working.{IsWorking}
 
-pub judged_for : {D : Type 0} (F : D → History → Type 0) (K : D → Rules) (o : Option D) (H : History) (change : Change)
-    → IsSomeAnd o (λ d. (G : History) → F d G → IsChange (K d) G change.stamped change) → IfSome o (λ d. F d H × (K d ≡ Two)) → IsChange Two H change.stamped change
-judged_for F K None H change h desk = absurd h
-judged_for F K (Some d) H change h desk = subst (λ (r : Rules). IsChange r H change.stamped change) desk.1 (h H desk.0)
+pub judged_for : {D : Type 0} (F : D → History → Type 0) (K : D → Rules) (o : Option (Working D)) (H : History) (change : Change)
+    → IsSomeAnd o (λ w. (G : History) → F w.desk G → IsChange (K w.desk) G change.stamped change) → WorksFor F K o H → IsChange Two H change.stamped change
+judged_for F K None H change h works = absurd h
+judged_for F K (Some w) H change h works = subst (λ (r : Rules). IsChange r H change.stamped change) works.1 (h H works.0.stands)
 
-pub stood_for : {D : Type 0} (F : D → History → Type 0) (K : D → Rules) (o : Option D) (d : D) (H : History) → o ≡ Some d → IfSome o (λ d. F d H × (K d ≡ Two)) → F d H
-stood_for {D} F K o d H is desk = (subst (λ (o : Option D). IfSome o (λ d. F d H × (K d ≡ Two))) is desk).0
+pub works_for : {D : Type 0} (F : D → History → Type 0) (K : D → Rules) (o : Option (Working D)) (w : Working D) (H : History) → o ≡ Some w → WorksFor F K o H → IsWorking F w H × (K w.desk ≡ Two)
+works_for F K o w H is works = subst (λ o. WorksFor F K o H) is works
+
+-- ---- memory was taken for the trace indexes
+
+pub desk_still : {D : Type 0} (P : D → Type 0) (old new : Option (Working D)) → KeepsDesk old new → IfSome old (λ w. P w.desk) → IfSome new (λ w. P w.desk)
+desk_still P None None same holds = tt
+desk_still P (Some w) (Some v) same holds = subst P (sym same.0) holds
+desk_still P None (Some v) same holds = absurd same
+desk_still P (Some w) None same holds = absurd same
+
+pub works_still : {D : Type 0} (F : D → History → Type 0) (K : D → Rules) (old new : Option (Working D)) (H : History) → KeepsDesk old new → WorksFor F K old H → WorksFor F K new H
+works_still F K None None H same works = tt
+works_still F K (Some w) (Some v) H same works =
+    (record { stands = subst (λ d. F d H) (sym same.0) works.0.stands; listed = same.1 H works.0.listed }, subst (λ d. K d ≡ Two) (sym same.0) works.1)
+works_still F K None (Some v) H same works = absurd same
+works_still F K (Some w) None H same works = absurd same
+
+pub still_there : {D : Type 0} (old new : Option (Working D)) (w : Working D) → old ≡ Some w → KeepsDesk old new → is_some new ≡ true
+still_there None new w is same = absurd cc
+still_there (Some v) (Some u) w is same = refl
+still_there (Some v) None w is same = absurd same
+
+pub keeps_all : {D : Type 0} (working : Option (Working D)) → KeepsDesk working working
+keeps_all None = tt
+keeps_all (Some w) = (refl, λ H listed. listed)
 
 pub none_yet : IsDistinct same []
 unfolding IsDistinct
@@ -92,12 +118,6 @@ unless_shut true holds stays = inl (holds refl)
 unless_shut false holds (inl is_open) = absurd (cc)
 unless_shut false holds (inr failed) = inr (failed, refl)
 
--- The call failed, and the store still represents the history.
-pub fails : {S D : Type 0} (g : Ghosts S) (F : D → History → Type 0) (K : D → Rules) (R : D → KeptRows) (old new : LineStore S D) (L : Kept) (r : Result Answer Fault) (told : Answer) (next : History) (e : Fault)
-    → r ≡ Err e → Stands g F K new L → (HasRows R old L.history → HasRows R new L.history) → AnswersOrFails g F K R old new L r told next
-fails g F K R old new L r told next e is stands rows =
-    subst (λ (r : Result Answer Fault). AnswersOrFails g F K R old new L r told next) (sym is) (record { answer = tt; err = stands; rows = λ was. tt; rows_stay = rows })
-
 pub not_committed : {S D : Type 0} (g : Ghosts S) (F : D → History → Type 0) (K : D → Rules) (old new : LineStore S D) (L : Kept) (r : Result Answer Fault) (s : Stamped) (e : Fault)
     → r ≡ Err e → (IsTrue L.own → Survives (state g old.conn) (state g new.conn) (HoldsAt (ledger_tables L.greatest (accept L.history s)))) → Commits g F K old new L r s
 not_committed g F K old new L r s e is survives =
@@ -113,92 +133,74 @@ module _ {S D : Type 0} (g : Ghosts S) (F : D → History → Type 0) (K : D →
     within = s.within;
     judged = s.judged;
     consistent = s.consistent;
-    desk = s.desk;
-    lists = s.lists;
-    beside = s.beside;
+    working = s.working;
     mode = s.mode;
     stays_open = s.stays_open;
     lawful = λ clean own. absurd (true≢false (sym own));
     tables = λ clean own. absurd (true≢false (sym own));
   }
 
-  pub remade : {P : Trees → Type 0} (old new : LineStore S D) (d : D) (l : TraceLists) (H : History) → new.greatest ≡ old.greatest → new.count ≡ length H → new.desk ≡ Some d → new.lists ≡ Some l → new.conn.in_transaction ≡ false
-      → F d H → IsListed l H → K d ≡ Two → IsJudged Two H → Survives (state g old.conn) (state g new.conn) P
+  pub remade : {P : Trees → Type 0} (old new : LineStore S D) (H : History) → new.greatest ≡ old.greatest → new.count ≡ length H → WorksFor F K new.working H → new.conn.in_transaction ≡ false
+      → IsJudged Two H → Survives (state g old.conn) (state g new.conn) P
       → (L : Kept) → Stands g F K old L → length H ≤ L.greatest → Stands g F K new (record { greatest = L.greatest; history = H; own = false })
-  remade {P} old new d l H greatest count desk lists mode stands listed rules judged survives L s within = record {
+  remade {P} old new H greatest count working mode judged survives L s within = record {
     greatest = greatest ∙ s.greatest;
     bound = s.bound;
     count = count;
     within = within;
     judged = judged;
     consistent = consistent Two _ judged;
-    desk = subst (λ (o : Option D). IfSome o (λ d. F d H × (K d ≡ Two))) (sym desk) (stands, rules);
-    lists = subst (λ (o : Option TraceLists). IfSome o (λ l. IsListed l H)) (sym lists) listed;
-    beside = ap is_some lists ∙ sym (ap is_some desk);
+    working = working;
     mode = mode;
     stays_open = still_open P survives s.stays_open;
     lawful = λ clean own. absurd (true≢false (sym own));
     tables = λ clean own. absurd (true≢false (sym own));
   }
 
-  pub remade_same : {P : Trees → Type 0} (old new : LineStore S D) (d : D) (l : TraceLists) (L : Kept) → new.greatest ≡ old.greatest → new.count ≡ length L.history → new.desk ≡ Some d → new.lists ≡ Some l → new.conn.in_transaction ≡ false
-      → F d L.history → IsListed l L.history → K d ≡ Two
+  -- The committed contents stay, and the working state is of the same history if it is loaded.
+  pub stays : {P : Trees → Type 0} (old new : LineStore S D) (L : Kept) → new.greatest ≡ old.greatest → new.count ≡ length L.history → WorksFor F K new.working L.history → new.conn.in_transaction ≡ false
       → Survives (state g old.conn) (state g new.conn) P → (HasCleanDisk (state g new.conn) → KeepsCommit (state g old.conn) (state g new.conn)) → Stands g F K old L → Stands g F K new L
-  remade_same {P} old new d l L greatest count desk lists mode stands listed rules survives kept s = record {
+  stays {P} old new L greatest count working mode survives kept s = record {
     greatest = greatest ∙ s.greatest;
     bound = s.bound;
     count = count;
     within = s.within;
     judged = s.judged;
     consistent = s.consistent;
-    desk = subst (λ (o : Option D). IfSome o (λ d. F d L.history × (K d ≡ Two))) (sym desk) (stands, rules);
-    lists = subst (λ (o : Option TraceLists). IfSome o (λ l. IsListed l L.history)) (sym lists) listed;
-    beside = ap is_some lists ∙ sym (ap is_some desk);
+    working = working;
     mode = mode;
     stays_open = still_open P survives s.stays_open;
     lawful = λ clean own. s.lawful (clean_before P survives clean) own;
     tables = λ clean own is_open. subst (λ (db : Database). Holds db (ledger_tables L.greatest L.history)) (sym ((kept clean).committed is_open)) (s.tables (clean_before P survives clean) own ((kept clean).was_open is_open));
   }
 
-  -- A call failed: memory was taken for the trace indexes, and the committed contents stay.
-  pub failed_on : {P : Trees → Type 0} (old new : LineStore S D) (before after : TraceLists) → old.lists ≡ Some before → new.lists ≡ Some after → ((H : History) → IsListed before H → IsListed after H)
-      → new.greatest ≡ old.greatest → new.count ≡ old.count → new.desk ≡ old.desk → new.conn.in_transaction ≡ false
-      → Survives (state g old.conn) (state g new.conn) P → (HasCleanDisk (state g new.conn) → KeepsCommit (state g old.conn) (state g new.conn))
-      → (L : Kept) → Stands g F K old L → Stands g F K new L
-  failed_on {P} old new before after was is listed greatest count desk mode survives kept L s = record {
-    greatest = greatest ∙ s.greatest;
-    bound = s.bound;
-    count = count ∙ s.count;
-    within = s.within;
-    judged = s.judged;
-    consistent = s.consistent;
-    desk = subst (λ (o : Option D). IfSome o (λ d. F d L.history × (K d ≡ Two))) (sym desk) s.desk;
-    lists = subst (λ (o : Option TraceLists). IfSome o (λ l. IsListed l L.history)) (sym is) (listed L.history (subst (λ (o : Option TraceLists). IfSome o (λ l. IsListed l L.history)) was s.lists));
-    beside = ap is_some is ∙ sym (ap is_some was) ∙ s.beside ∙ sym (ap is_some desk);
-    mode = mode;
-    stays_open = still_open P survives s.stays_open;
-    lawful = λ clean own. s.lawful (clean_before P survives clean) own;
-    tables = λ clean own is_open. subst (λ (db : Database). Holds db (ledger_tables L.greatest L.history)) (sym ((kept clean).committed is_open)) (s.tables (clean_before P survives clean) own ((kept clean).was_open is_open));
-  }
+  -- A call failed: memory was taken for the trace indexes at most, and the committed contents stay.
+  pub fails : {P : Trees → Type 0} (R : D → KeptRows) (old new : LineStore S D) (L : Kept) (r : Result Answer Fault) (told : Answer) (next : History) (e : Fault) → r ≡ Err e
+      → KeepsDesk old.working new.working → new.greatest ≡ old.greatest → new.count ≡ old.count → new.conn.in_transaction ≡ false
+      → Survives (state g old.conn) (state g new.conn) P → (HasCleanDisk (state g new.conn) → KeepsCommit (state g old.conn) (state g new.conn)) → Stands g F K old L → AnswersOrFails g F K R old new L r told next
+  fails R old new L r told next e err same greatest count mode survives kept s =
+      subst (λ (r : Result Answer Fault). AnswersOrFails g F K R old new L r told next) (sym err) (record {
+        answer = tt;
+        err = stays old new L greatest (count ∙ s.count) (works_still F K old.working new.working L.history same s.working) mode survives kept s;
+        rows = λ rows. tt;
+        rows_stay = desk_still (λ d. AreKept (R d) L.history) old.working new.working same;
+      })
 
   pub stands_on : {P : Trees → Type 0} (old new : LineStore S D) (L : Kept) (change : Change) (edits : List Edit) → Stands g F K old L → old.count < old.greatest
       → IsChange Two L.history change.stamped change → IsStamped change.stamped → IsMinute change.minute
-      → new.count ≡ old.count + 1 → new.greatest ≡ old.greatest → new.conn.in_transaction ≡ false → IfSome new.desk (λ d. F d (accept L.history change.stamped) × (K d ≡ Two))
-      → IfSome new.lists (λ l. IsListed l (accept L.history change.stamped)) → is_some new.lists ≡ is_some new.desk
+      → new.count ≡ old.count + 1 → new.greatest ≡ old.greatest → new.conn.in_transaction ≡ false → WorksFor F K new.working (accept L.history change.stamped)
       → after_edits edits (ledger_tables L.greatest L.history) ≡ ledger_tables L.greatest (accept L.history change.stamped) → AreNew edits (ledger_tables L.greatest L.history)
       → Survives (state g old.conn) (state g new.conn) P → (HasCleanDisk (state g new.conn) → Edits edits (state g old.conn).committed (state g new.conn).committed)
       → (HasCleanDisk (state g new.conn) → IsTrue (state g old.conn).is_open) → (HasCleanDisk (state g new.conn) → IsTrue L.own → earlier_answer L.history change.stamped ≡ None)
       → Stands g F K new (with_command L change.stamped)
-  stands_on {P} old new L change edits s room is stamped minute count greatest mode desk lists beside after fresh survives done was_open first = record {
+  stands_on {P} old new L change edits s room is stamped minute count greatest mode working after fresh survives done was_open first = record {
     greatest = greatest ∙ s.greatest;
     bound = s.bound;
     count = omega (arith, count, s.count);
     within = omega (arith, room, s.count, s.greatest);
     judged = judged;
     consistent = consistent Two _ judged;
-    desk = desk;
-    lists = lists;
-    beside = beside;
+    working = working;
     mode = mode;
     stays_open = still_open P survives s.stays_open;
     lawful = λ clean own. lawful_on L.greatest L.history change.stamped (s.lawful (clean_before P survives clean) own) judged (first clean own) (omega (arith, room, s.count, s.greatest));
@@ -209,26 +211,13 @@ module _ {S D : Type 0} (g : Ghosts S) (F : D → History → Type 0) (K : D →
       judged : IsJudged Two (accept L.history change.stamped)
       judged = (next_is Two L.history change.stamped change stamped minute is, s.judged)
 
-  pub read_on : {P : Trees → Type 0} (old new : LineStore S D) → new.greatest ≡ old.greatest → new.count ≡ old.count → new.desk ≡ old.desk → new.lists ≡ old.lists → (old.conn.in_transaction ≡ false → new.conn.in_transaction ≡ false)
+  pub read_on : {P : Trees → Type 0} (old new : LineStore S D) → new.greatest ≡ old.greatest → new.count ≡ old.count → new.working ≡ old.working → (old.conn.in_transaction ≡ false → new.conn.in_transaction ≡ false)
       → Survives (state g old.conn) (state g new.conn) P → (HasCleanDisk (state g new.conn) → KeepsCommit (state g old.conn) (state g new.conn)) → (L : Kept) → Stands g F K old L → Stands g F K new L
-  read_on {P} old new greatest count desk lists mode survives kept L s = record {
-    greatest = greatest ∙ s.greatest;
-    bound = s.bound;
-    count = count ∙ s.count;
-    within = s.within;
-    judged = s.judged;
-    consistent = s.consistent;
-    desk = subst (λ (o : Option D). IfSome o (λ d. F d L.history × (K d ≡ Two))) (sym desk) s.desk;
-    lists = subst (λ (o : Option TraceLists). IfSome o (λ l. IsListed l L.history)) (sym lists) s.lists;
-    beside = ap is_some lists ∙ s.beside ∙ sym (ap is_some desk);
-    mode = mode s.mode;
-    stays_open = still_open P survives s.stays_open;
-    lawful = λ clean own. s.lawful (clean_before P survives clean) own;
-    tables = λ clean own is_open. subst (λ (db : Database). Holds db (ledger_tables L.greatest L.history)) (sym ((kept clean).committed is_open)) (s.tables (clean_before P survives clean) own ((kept clean).was_open is_open));
-  }
+  read_on old new greatest count working mode survives kept L s =
+      stays old new L greatest (count ∙ s.count) (subst (λ (o : Option (Working D)). WorksFor F K o L.history) (sym working) s.working) (mode s.mode) survives kept s
 
-  pub reads_on : (old new : LineStore S D) → new.greatest ≡ old.greatest → new.count ≡ old.count → new.desk ≡ old.desk → new.lists ≡ old.lists → ReadsOnly g old.conn new.conn → ReadsStore g F K old new
-  reads_on old new greatest count desk lists reads = record { stands = read_on old new greatest count desk lists reads.mode reads.survives reads.kept; desk = desk; reads = reads }
+  pub reads_on : (old new : LineStore S D) → new.greatest ≡ old.greatest → new.count ≡ old.count → new.working ≡ old.working → ReadsOnly g old.conn new.conn → ReadsStore g F K old new
+  reads_on old new greatest count working reads = record { stands = read_on old new greatest count working reads.mode reads.survives reads.kept; working = working; reads = reads }
 
   pub stands_still : (store : LineStore S D) (L : Kept) (s : Stamped) → (is_some (earlier_answer L.history s) || is_full L.greatest L.history) ≡ true → Stands g F K store L → Stands g F K store (record L { history = command_after Two L.greatest L.history s })
   stands_still store L s settled stands = subst (λ H. Stands g F K store (record L { history = H })) (sym (ap (λ b. if b then L.history else after_command Two L.history s) settled)) stands

@@ -14,14 +14,14 @@ use Rattle.line_schema.specs.declared.fault.OpenFault.{OpenFault}
 use Rattle.line_schema.specs.declared.fault.OpenFault.TheVariants.{NotBlank, Unavailable}
 use Rattle.line_schema.specs.declared.store.LineStore.{LineStore}
 use Rattle.line_schema.specs.Stands.{ForKept, Kept, Stands, conn_of, state_of, has_desk}
-use Rattle.line_schema.specs.Traces.{desk_of}
+use Rattle.line_schema.specs.Traces.{working_of}
 
--- A call that only reads: the store represents the same history, and its desk is unchanged.
+-- A call that only reads: the store represents the same history, and its working state is unchanged.
 pub record ReadsStore {S D : Type 0} (g : Ghosts S) (StandsFor : D → History → Type 0)
     (kept_rules : D → Rules) (old new : LineStore S D) : Type 0 where
   pub stands : (L : Kept) → Stands g StandsFor kept_rules old L
       → Stands g StandsFor kept_rules new L
-  pub desk : desk_of new ≡ desk_of old
+  pub working : working_of new ≡ working_of old
   pub reads : ReadsOnly g (conn_of old) (conn_of new)
 
 -- A call that loads the desk from the tables if it isn't loaded. The store represents a history:

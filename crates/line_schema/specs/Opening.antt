@@ -25,7 +25,7 @@ use Rattle.line_schema.specs.declared.fault.OpenFault.{OpenFault}
 use Rattle.line_schema.specs.declared.fault.OpenFault.TheVariants.{NotADesk, OtherVersion, NotLawful, TableDiffers, NotBlank, Unavailable}
 use Rattle.line_schema.specs.declared.opening.Opened.{Opened}
 use Rattle.line_audit.specs.declared.table.StateTable.{StateTable}
-use Rattle.trace_lists.specs.Lists.{IsListed}
+use Rattle.line_traces.specs.Working.{IsWorking}
 
 -- A fault of a replay, as a fault of opening.
 abbrev pub opening_fault : ReplayFault → OpenFault
@@ -118,15 +118,14 @@ fault_text (TableDiffers table) = codes "TableDiffers " ++ name_of table
 fault_text NotBlank = codes "NotBlank"
 fault_text Unavailable = codes "Unavailable"
 
--- The desk represents a judged history of this length by these rules, within the greatest number,
--- and the trace indexes list it. On a clean disk with our schema: `version` has that greatest
+-- The working state represents a judged history of this length by these rules, within the greatest
+-- number. On a clean disk with our schema: `version` has that greatest
 -- number, the history is lawful, its rows are committed, the other tables are the history's, and
 -- their rowids are distinct.
 pub record IsOpened {D : Type 0} (StandsFor : D → History → Type 0) (kept_rules : D → Rules)
     (Clean : Type 0) (old : State) (by : Rules) (opened : Opened D) (H : History) : Type 0 where
-  pub stands : StandsFor opened.desk H
-  pub lists : IsListed opened.lists H
-  pub rules : kept_rules opened.desk ≡ by
+  pub working : IsWorking StandsFor opened.working H
+  pub rules : kept_rules opened.working.desk ≡ by
   pub judged : IsJudged by H
   pub count : opened.count ≡ length H
   pub within : length H ≤ opened.greatest

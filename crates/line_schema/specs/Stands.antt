@@ -1,6 +1,6 @@
 -- The history that a store represents, its answer to a command, and the tables that a crash may
 -- leave.
-use Rattle.std.specs.Prelude.{◌≡◌, ◌⊎◌, ◌≤◌, ◌<◌, ℕ, Bool, false, None, is_some, IfSome, IsTrue, MatchBool, length, Result, Ok, Err}
+use Rattle.std.specs.Prelude.{◌≡◌, ◌⊎◌, ◌≤◌, ◌<◌, ℕ, Bool, false, None, is_some, Option, IfSome, IsTrue, MatchBool, length, Result, Ok, Err}
 use Rattle.sqlite_trees.specs.declared.store.Store.{Ghosts}
 use Rattle.sqlite_trees.specs.Tree.{Trees}
 use Rattle.sqlite.specs.State.{State, HasCleanDisk}
@@ -23,7 +23,8 @@ use Rattle.line_rows.specs.Rows.{ledger_tables}
 use Rattle.line_replay.specs.Expected.{AreKept}
 use Rattle.line_schema.specs.declared.store.LineStore.{LineStore}
 use Rattle.line_schema.specs.declared.unavailable.Unavailable.{Unavailable as Fault}
-use Rattle.trace_lists.specs.Lists.{IsListed}
+use Rattle.line_traces.specs.declared.working.Working.{Working}
+use Rattle.line_traces.specs.Working.{IsWorking}
 
 -- A store as contracts see it: the greatest number, the accepted entries, and whether the tables
 -- are its own, first in the file.
@@ -40,10 +41,15 @@ HasFailed s = 0 < s.faults
 abbrev pub StaysOpen : State → Type 0
 StaysOpen s = HasCleanDisk s → IsTrue s.is_open ⊎ HasFailed s
 
--- The store represents the history by rules Two, which is judged and consistent. So does its desk,
--- if it is loaded, and then its trace indexes list the history. Its connection is open, or the disk
--- has failed. If the tables are its own and the disk is honest, the history is lawful and the
--- committed tables are its tables.
+-- The working state is one of the history by rules Two, if it is loaded.
+abbrev pub WorksFor : {D : Type 0} → (D → History → Type 0) → (D → Rules) → Option (Working D)
+    → History → Type 0
+WorksFor StandsFor kept_rules working H =
+    IfSome working (λ w. IsWorking StandsFor w H × (kept_rules w.desk ≡ Two))
+
+-- The store represents the history by rules Two, which is judged and consistent. So does its
+-- working state, if it is loaded. Its connection is open, or the disk has failed. If the tables are
+-- its own and the disk is honest, the history is lawful and the committed tables are its tables.
 pub record Stands {S D : Type 0} (g : Ghosts S) (StandsFor : D → History → Type 0)
     (kept_rules : D → Rules) (store : LineStore S D) (L : Kept) : Type 0 where
   pub greatest : store.greatest ≡ L.greatest
@@ -52,9 +58,7 @@ pub record Stands {S D : Type 0} (g : Ghosts S) (StandsFor : D → History → T
   pub within : length L.history ≤ L.greatest
   pub judged : IsJudged Two L.history
   pub consistent : IsConsistent L.history
-  pub desk : IfSome store.desk (λ d. StandsFor d L.history × (kept_rules d ≡ Two))
-  pub lists : IfSome store.lists (λ l. IsListed l L.history)
-  pub beside : is_some store.lists ≡ is_some store.desk
+  pub working : WorksFor StandsFor kept_rules store.working L.history
   pub mode : store.conn.in_transaction ≡ false
   pub stays_open : StaysOpen (state g store.conn)
   pub lawful : HasCleanDisk (state g store.conn) → IsTrue L.own → IsLawful Two L.greatest L.history
@@ -87,14 +91,14 @@ abbrev pub ForKept : {S D : Type 0} → Ghosts S → (D → History → Type 0) 
 ForKept g StandsFor kept_rules old new Fact = (L : Kept) → Stands g StandsFor kept_rules old L
     → HasCleanDisk (state_of g new) → IsTrue L.own → Fact L
 
--- Whether the store has a loaded desk, or must rebuild it from its tables.
+-- Whether the working state is loaded, or the store must rebuild it from its tables.
 abbrev pub has_desk : {S D : Type 0} → LineStore S D → Bool
-has_desk store = is_some store.desk
+has_desk store = is_some store.working
 
 -- The rows of a loaded desk are those of the history's state tables, with the numbers of its
 -- commands. So they are the rows of a file that holds the history, apart from placements.
 abbrev pub HasRows : {S D : Type 0} → (D → KeptRows) → LineStore S D → History → Type 0
-HasRows kept_rows store H = IfSome store.desk (λ d. AreKept (kept_rows d) H)
+HasRows kept_rows store H = IfSome store.working (λ w. AreKept (kept_rows w.desk) H)
 
 -- The history with the command accepted.
 abbrev pub with_command : Kept → Stamped → Kept

@@ -17,15 +17,14 @@ use desk_types::{MOST_ENTRIES, Rules};
 use line_audit::audit;
 use line_replay::{Replayed, replay};
 use line_tables::{Version, are_apart, find_version, has_accepted, has_state, has_version};
+use line_traces::Working;
 use sqlite::{Alter, Connection};
 use state_rows::KeepsRows;
 use std::alloc::Global;
-use trace_lists::TraceLists;
 
-/// The desk of a history, its trace indexes, the history's length, and the greatest number.
+/// The working state of a history, the history's length, and the greatest number.
 pub struct Opened<D: KeepsRows + Drop> {
-    pub desk: D,
-    pub lists: TraceLists,
+    pub working: Working<D>,
     pub count: u32,
     pub greatest: u32,
 }
@@ -40,7 +39,7 @@ pub fn read_tables<S: Alter, D: KeepsRows + Drop>(
     ensures ok { IfOk result (λ r. (H : History)
         × IsOpened D.Stands D.kept_rules (HasCleanDisk (state S.Store conn.new))
         (state S.Store conn.old) rules r H
-        × AreKept (D.kept_rows r.desk) H) }
+        × AreKept (D.kept_rows r.working.desk) H) }
     ensures named { IfOk result (λ _. IsNamedBy rules (state S.Store conn.old)) }
     ensures told { IfErr result (IsToldBy rules (state S.Store conn.old)) }
     ensures never { IfErr result (λ f. f ≢ Fault.NotBlank) }
@@ -69,8 +68,7 @@ pub fn read_tables<S: Alter, D: KeepsRows + Drop>(
     let other = audit(alloc, conn, rules, desk.rows(), placed)?;
     match other {
         None => Ok(Opened {
-            desk,
-            lists,
+            working: Working { desk, lists },
             count,
             greatest,
         }),

@@ -18,7 +18,7 @@ ghost use Rattle.line_schema.specs.Stands.{Kept, ForKept, Stands, state_of, conn
 ghost use Rattle.line_schema.specs.Frames.{MakesDesk, LeavesFile, LeavesUnmade, LetsOthersBe};
 ghost use Rattle.line_schema.specs.Answered.{Answers, AnswersOrFails, Commits, IsFirst};
 ghost use Rattle.line_schema.specs.Opened.{MakesStore, OpensStore};
-ghost use Rattle.line_schema.specs.Traces.{desk_of};
+ghost use Rattle.line_schema.specs.Traces.{working_of};
 
 mod crash;
 mod migration;
@@ -27,13 +27,14 @@ mod view;
 
 use crate::fault::OpenFault;
 use crate::opening::{Opened, read_tables};
-use crate::settling::settle_both;
+use crate::settling::{reserve, settle};
 use crate::unavailable::Unavailable;
 use desk_answers::Answer;
 use desk_types::{Change, JudgeFault, Rules, Stamped};
 use line_replay::{Replayed, rebuild};
 use line_rows::{Acceptance, answer_under, prepare};
 use line_tables::{append, find, has_our_name, make};
+use line_traces::Working;
 use sqlite::{Alter, Connection};
 use state_rows::KeepsRows;
 use std::alloc::Global;
@@ -46,8 +47,7 @@ use trace_lists::TraceLists;
 pub struct LineStore<S: Alter, D: KeepsRows + Drop> {
     alloc: Global,
     conn: Connection<S>,
-    desk: Option<D>,
-    lists: Option<TraceLists>,
+    working: Option<Working<D>>,
     count: u32,
     greatest: u32,
 }
@@ -82,8 +82,10 @@ impl<S: Alter, D: KeepsRows + Drop> LineStore<S, D> {
             Ok(()) => Ok(LineStore {
                 alloc,
                 conn,
-                desk: Some(desk),
-                lists: Some(TraceLists::new(alloc)),
+                working: Some(Working {
+                    desk,
+                    lists: TraceLists::new(alloc),
+                }),
                 count: 0,
                 greatest,
             }),
@@ -111,16 +113,14 @@ impl<S: Alter, D: KeepsRows + Drop> LineStore<S, D> {
         match read_tables(alloc, &mut conn, Rules::Two) {
             Ok(
                 Opened {
-                    desk,
-                    lists,
+                    working,
                     count,
                     greatest,
                 },
             ) => Ok(LineStore {
                 alloc,
                 conn,
-                desk: Some(desk),
-                lists: Some(lists),
+                working: Some(working),
                 count,
                 greatest,
             }),
@@ -132,23 +132,22 @@ impl<S: Alter, D: KeepsRows + Drop> LineStore<S, D> {
     pub fn into_connection(self) -> Connection<S>
         ensures { result ≡ conn_of self }
     {
-        let (conn, _desk) = self.into_parts();
+        let (conn, _working) = self.into_parts();
         conn
     }
 
-    /// Returns the connection, and the desk if it is loaded. Takes no memory.
-    pub fn into_parts(self) -> (Connection<S>, Option<D>)
-        ensures { result ≡ (conn_of self, desk_of self) }
+    /// Returns the connection, and the working state if it is loaded. Takes no memory.
+    pub fn into_parts(self) -> (Connection<S>, Option<Working<D>>)
+        ensures { result ≡ (conn_of self, working_of self) }
     {
         let LineStore {
             alloc: _,
             conn,
-            desk,
-            lists: _lists,
+            working,
             count: _,
             greatest: _,
         } = self;
-        (conn, desk)
+        (conn, working)
     }
 
     /// Returns the number of accepted commands. Takes no memory.
@@ -165,10 +164,13 @@ impl<S: Alter, D: KeepsRows + Drop> LineStore<S, D> {
         ensures stands { (L : Kept) → Stands S.Store D.Stands D.kept_rules self.now L
             → IfSome result (λ desk. D.Stands desk.now L.history × (D.kept_rules desk.now ≡ Two)) }
     {
-        self.desk.as_ref()
+        match &self.working {
+            Some(working) => Some(&working.desk),
+            None => None,
+        }
     }
 
-    /// Loads the desk and its trace indexes from the tables if they aren't loaded.
+    /// Loads the working state from the tables if it isn't loaded.
     #[tactic(auto, using(crate::proofs::Others::let_be))]
     pub fn ready(&mut self) -> Result<(), Unavailable>
         requires stands { (L : Kept) × Stands S.Store D.Stands D.kept_rules self.old L }
@@ -179,7 +181,7 @@ impl<S: Alter, D: KeepsRows + Drop> LineStore<S, D> {
             (λ L. HasRows D.kept_rows self.old L.history → HasRows D.kept_rows self.new L.history) }
         ensures others { LetsOthersBe (state_of S.Store self.old) (state_of S.Store self.new) }
     {
-        if self.desk.is_some() {
+        if self.working.is_some() {
             return Ok(());
         }
         self.remake()
@@ -205,8 +207,7 @@ impl<S: Alter, D: KeepsRows + Drop> LineStore<S, D> {
                     placed: _placed,
                 },
             ) => {
-                self.desk = Some(desk);
-                self.lists = Some(lists);
+                self.working = Some(Working { desk, lists });
                 self.count = count;
                 Ok(())
             }
@@ -262,7 +263,7 @@ impl<S: Alter, D: KeepsRows + Drop> LineStore<S, D> {
         requires stands { (L : Kept) × Stands S.Store D.Stands D.kept_rules self.old L }
         ensures answer { ForKept S.Store D.Stands D.kept_rules self.old self.new
             (λ L. IfOk result (λ answer. answer ≡ earlier_answer L.history stamped.now)) }
-        ensures desk { desk_of self.new ≡ desk_of self.old }
+        ensures working { working_of self.new ≡ working_of self.old }
         ensures stands { (L : Kept) → Stands S.Store D.Stands D.kept_rules self.old L
             → Stands S.Store D.Stands D.kept_rules self.new L }
         ensures survives { Survives (state_of S.Store self.old)
@@ -321,10 +322,10 @@ impl<S: Alter, D: KeepsRows + Drop> LineStore<S, D> {
         if self.count >= self.greatest {
             return Err(Unavailable);
         }
-        let Some(desk) = &self.desk else {
+        let Some(working) = &self.working else {
             return Err(Unavailable);
         };
-        match desk.judge(stamped) {
+        match working.desk.judge(stamped) {
             Ok(change) => self.commit_change(change),
             Err(JudgeFault::Refused(refusal)) => Ok(Answer::Refused(refusal)),
             Err(JudgeFault::NoMemory) => Err(Unavailable),
@@ -338,8 +339,8 @@ impl<S: Alter, D: KeepsRows + Drop> LineStore<S, D> {
     fn commit_change(&mut self, change: Change) -> Result<Answer, Unavailable>
         requires stands { (L : Kept) × Stands S.Store D.Stands D.kept_rules self.old L }
         requires room { self.old.count < self.old.greatest }
-        requires judged { IsSomeAnd self.old.desk (λ d. (H : History) → D.Stands d H
-            → IsChange (D.kept_rules d) H change.stamped change) }
+        requires judged { IsSomeAnd self.old.working (λ w. (H : History) → D.Stands w.desk H
+            → IsChange (D.kept_rules w.desk) H change.stamped change) }
         ensures answers { (L : Kept) → Stands S.Store D.Stands D.kept_rules self.old L
             → AnswersOrFails S.Store D.Stands D.kept_rules D.kept_rows self.old self.new L result
             (judged_answer L.history change.stamped (Reply.Accepted change.detail))
@@ -351,25 +352,14 @@ impl<S: Alter, D: KeepsRows + Drop> LineStore<S, D> {
         change.stamped.ranges_hold();
         let _ = change.minute.get();
         let number = self.count + 1;
-        let Some(desk) = &self.desk else {
-            return Err(Unavailable);
+        let Some(working) = &self.working else {
+            unreachable!()
         };
-        let Acceptance { text, row, edits } = prepare(self.alloc, number, desk, &change)?;
-        let Some(lists) = &mut self.lists else {
-            return Err(Unavailable);
-        };
-        lists.reserve(&change)?;
+        let Acceptance { text, row, edits } = prepare(self.alloc, number, &working.desk, &change)?;
+        reserve(&mut self.working, &change)?;
         append(self.alloc, &mut self.conn, &row, edits.as_slice())?;
         self.count = number;
-        let (desk, lists) = settle_both(
-            self.desk.take(),
-            self.lists.take(),
-            number,
-            change,
-            edits.as_slice(),
-        );
-        self.desk = desk;
-        self.lists = lists;
+        settle(&mut self.working, number, change, edits.as_slice());
         Ok(Answer::Accepted(u64::from(number), text))
     }
 }

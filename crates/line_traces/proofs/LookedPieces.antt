@@ -9,10 +9,10 @@ use Rattle.desk_types.specs.History.{History}
 use Rattle.desk_types.specs.Placements.{set_of, boards_of}
 use Rattle.desk_types.proofs.LoopSteps.{take-next}
 use Rattle.trace_lists.specs.declared.lists.PieceKey.{PieceKey}
-use Rattle.trace_lists.specs.declared.lists.TraceLists.{TraceLists}
 use Rattle.trace_lists.specs.Lists.{IsListed, Key, key_of, keys_where}
 use Rattle.line_traces.specs.Pieces.{pieces_where, pieces_of_lot, piece_at}
-use Rattle.line_traces.specs.Beside.{FindsBeside}
+use Rattle.line_traces.specs.declared.working.Working.{Working}
+use Rattle.line_traces.specs.Working.{FindsOfBoth}
 use Rattle.line_traces.proofs.ByKey.{listed-pieces}
 
 -- ---- one run after another
@@ -43,19 +43,19 @@ one-added P before pieces new keys i key piece within is added told so_far =
 
 -- ---- the result
 
-module _ {D : Type 0} (Stands : D → History → Type 0) (lists : TraceLists) (desk : D) (old : State) where
-  pub listed-told : (test : Placement → Bool) (keys : List Key) → ((H : History) → IsListed lists H → keys ≡ keys_where test H) → (pieces : List Placement)
-      → FindsBeside Stands (Some lists) (Some desk) (λ H. map (piece_at H) keys) old (map Some pieces) → FindsBeside Stands (Some lists) (Some desk) (pieces_where test) old pieces
+module _ {D : Type 0} (Stands : D → History → Type 0) (working : Working D) (old : State) where
+  pub listed-told : (test : Placement → Bool) (keys : List Key) → ((H : History) → IsListed working.lists H → keys ≡ keys_where test H) → (pieces : List Placement)
+      → FindsOfBoth Stands (Some working) (λ H. map (piece_at H) keys) old (map Some pieces) → FindsOfBoth Stands (Some working) (pieces_where test) old pieces
   listed-told test keys are pieces told = record {
     was_open = told.was_open;
-    are = λ schema H beside. listed-pieces H beside.held.judged test keys pieces (are H beside.listed) (told.are schema H beside);
+    are = λ schema H both. listed-pieces H both.held.judged test keys pieces (are H both.working.listed) (told.are schema H both);
   }
 
-  pub boards-told : (lot : Name) (pieces : List Placement) (boards : List Name) → boards ≡ set_of (map (λ (p : Placement). p.board) pieces) → FindsBeside Stands (Some lists) (Some desk) (λ H. pieces_of_lot H lot) old pieces
-      → FindsBeside Stands (Some lists) (Some desk) (λ H. boards_of H lot) old boards
+  pub boards-told : (lot : Name) (pieces : List Placement) (boards : List Name) → boards ≡ set_of (map (λ (p : Placement). p.board) pieces) → FindsOfBoth Stands (Some working) (λ H. pieces_of_lot H lot) old pieces
+      → FindsOfBoth Stands (Some working) (λ H. boards_of H lot) old boards
   boards-told lot pieces boards is told = record {
     was_open = told.was_open;
-    are = λ schema H beside.
+    are = λ schema H both.
         is
-        ∙ ap (λ ps. set_of (map (λ (p : Placement). p.board) ps)) (told.are schema H beside);
+        ∙ ap (λ ps. set_of (map (λ (p : Placement). p.board) ps)) (told.are schema H both);
   }

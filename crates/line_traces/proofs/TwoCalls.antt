@@ -7,11 +7,11 @@ use Rattle.sqlite.specs.State.{State, KeepsCommit}
 use Rattle.desk_types.specs.declared.placement.Placement.{Placement}
 use Rattle.desk_types.specs.Id.{Name}
 use Rattle.desk_types.specs.History.{History}
-use Rattle.trace_lists.specs.declared.lists.TraceLists.{TraceLists}
 use Rattle.line_tables.specs.Calls.{Reads}
 use Rattle.line_tables.specs.StateRows.{flag}
 use Rattle.line_traces.specs.Committed.{FindsOfList, placed_columns, name_row}
-use Rattle.line_traces.specs.Beside.{FindsBeside}
+use Rattle.line_traces.specs.declared.working.Working.{Working}
+use Rattle.line_traces.specs.Working.{FindsOfBoth}
 use Rattle.line_tables.specs.Line.{IsOurs}
 
 -- ---- rows
@@ -80,18 +80,18 @@ pieces-told = placed_columns-told placed_columns placed_columns-one
 pub names-told : (of : History → List Name) (old : State) (rows : List Row) (names : List Name) → FindsOfList (λ H. map name_row (of H)) old rows → rows ≡ map name_row names → FindsOfList of old names
 names-told = placed_columns-told name_row placed_columns-name
 
--- ---- with trace indexes
+-- ---- with a working state
 
-module _ {D X : Type 0} (Stands : D → History → Type 0) (lists : Option TraceLists) (desk : Option D) (of : History → X) (old : State) where
+module _ {D X : Type 0} (Stands : D → History → Type 0) (working : Option (Working D)) (of : History → X) (old : State) where
   -- The facts that follow from the tables alone.
-  pub tells-beside : (found : X) → FindsOfList of old found → FindsBeside Stands lists desk of old found
-  tells-beside found told = record { was_open = told.was_open; are = λ schema H beside. told.are schema H beside.held }
+  pub told-of-both : (found : X) → FindsOfList of old found → FindsOfBoth Stands working of old found
+  told-of-both found told = record { was_open = told.was_open; are = λ schema H both. told.are schema H both.held }
 
-  pub there-told : (test : History → Bool) (found : X) → FindsOfList test old true → FindsBeside Stands lists desk of old found → FindsBeside Stands lists desk (λ H. if test H then Some (of H) else None) old (Some found)
+  pub there-told : (test : History → Bool) (found : X) → FindsOfList test old true → FindsOfBoth Stands working of old found → FindsOfBoth Stands working (λ H. if test H then Some (of H) else None) old (Some found)
   there-told test found holds told = record {
     was_open = told.was_open;
-    are = λ schema H beside. ap Some (told.are schema H beside) ∙ ap (λ b. if b then Some (of H) else None) (holds.are schema H beside.held);
+    are = λ schema H both. ap Some (told.are schema H both) ∙ ap (λ b. if b then Some (of H) else None) (holds.are schema H both.held);
   }
 
-  pub none-told : (test : History → Bool) → FindsOfList test old false → FindsBeside Stands lists desk (λ H. if test H then Some (of H) else None) old None
-  none-told test fails = record { was_open = fails.was_open; are = λ schema H beside. ap (λ b. if b then Some (of H) else None) (fails.are schema H beside.held) }
+  pub none-told : (test : History → Bool) → FindsOfList test old false → FindsOfBoth Stands working (λ H. if test H then Some (of H) else None) old None
+  none-told test fails = record { was_open = fails.was_open; are = λ schema H both. ap (λ b. if b then Some (of H) else None) (fails.are schema H both.held) }

@@ -1,3 +1,3 @@
 pub mod Pieces
 pub mod Committed
-pub mod Beside
+pub mod Working

@@ -1,4 +1,4 @@
-//! The pieces of the traces, by the trace indexes if they are loaded, or else by a query.
+//! The pieces of the traces, by the trace indexes of the working state if it is loaded, or else by a query.
 
 ghost use Rattle.std.specs.Prelude.{◌≡◌, ◌++◌, IfOk, OnOk, map, option_copied};
 ghost use Rattle.sqlite.specs.State.{HasCleanDisk};
@@ -7,38 +7,38 @@ ghost use Rattle.desk_types.specs.declared.placement.Placement.{Placement};
 ghost use Rattle.desk_types.specs.Placements.{overdue_of, boards_of, set_of};
 ghost use Rattle.trace_lists.specs.Lists.{key_of, keys_of_install, keys_of_installs};
 ghost use Rattle.line_traces.specs.Pieces.{pieces_on, pieces_of_lot};
-ghost use Rattle.line_traces.specs.Beside.{FindsBeside};
+ghost use Rattle.line_traces.specs.Working.{FindsOfBoth};
 ghost use Rattle.line_tables.specs.Frames.{ReadsOnly, IsRefusedInside};
 
 use crate::looked::pieces_at;
 use crate::pieces::{board_pieces, lot_names, lot_pieces, overdue};
 use crate::row::PlacedRows;
+use crate::working::Working;
 use desk_types::{Desk, Id, IdList, Listing, Placement};
 use sqlite::{Alter, Connection, Error};
 use std::alloc::{AllocError, Global};
 use std::collections::BTreeSet;
-use trace_lists::{Install, PieceKey, TraceLists};
+use trace_lists::{Install, PieceKey};
 
 /// Returns the pieces on the board by number, then place.
 pub fn pieces_of_board<S: Alter, D: Desk>(
     alloc: Global,
     conn: &mut Connection<S>,
-    lists: Option<&TraceLists>,
-    desk: Option<&D>,
+    working: Option<&Working<D>>,
     board: &Id,
 ) -> Result<PlacedRows, Error>
     ensures pieces { HasCleanDisk (state S.Store conn.new)
         → IfOk result
-        (FindsBeside D.Stands (option_copied lists.entry) (option_copied desk.entry)
+        (FindsOfBoth D.Stands (option_copied working.entry)
         (λ H. pieces_on H board.now)
         (state S.Store conn.old)) }
     ensures reads { ReadsOnly S.Store conn.old conn.new }
 {
-    let (Some(lists), Some(desk)) = (lists, desk) else {
+    let Some(working) = working else {
         return board_pieces(alloc, conn, board);
     };
-    let keys = keys_of(alloc, lists.of_board(board))?;
-    match pieces_at(alloc, conn, lists, desk, keys.as_slice())? {
+    let keys = keys_of(alloc, working.lists.of_board(board))?;
+    match pieces_at(alloc, conn, working, keys.as_slice())? {
         Some(pieces) => Ok(pieces),
         None => board_pieces(alloc, conn, board),
     }
@@ -48,22 +48,21 @@ pub fn pieces_of_board<S: Alter, D: Desk>(
 pub fn pieces_of_lot<S: Alter, D: Desk>(
     alloc: Global,
     conn: &mut Connection<S>,
-    lists: Option<&TraceLists>,
-    desk: Option<&D>,
+    working: Option<&Working<D>>,
     lot: &Id,
 ) -> Result<PlacedRows, Error>
     ensures pieces { HasCleanDisk (state S.Store conn.new)
         → IfOk result
-        (FindsBeside D.Stands (option_copied lists.entry) (option_copied desk.entry)
+        (FindsOfBoth D.Stands (option_copied working.entry)
         (λ H. pieces_of_lot H lot.now)
         (state S.Store conn.old)) }
     ensures reads { ReadsOnly S.Store conn.old conn.new }
 {
-    let (Some(lists), Some(desk)) = (lists, desk) else {
+    let Some(working) = working else {
         return lot_pieces(alloc, conn, lot);
     };
-    let keys = lists.of_lot(lot);
-    match pieces_at(alloc, conn, lists, desk, keys)? {
+    let keys = working.lists.of_lot(lot);
+    match pieces_at(alloc, conn, working, keys)? {
         Some(pieces) => Ok(pieces),
         None => lot_pieces(alloc, conn, lot),
     }
@@ -73,21 +72,20 @@ pub fn pieces_of_lot<S: Alter, D: Desk>(
 pub fn boards_of_lot<S: Alter, D: Desk>(
     alloc: Global,
     conn: &mut Connection<S>,
-    lists: Option<&TraceLists>,
-    desk: Option<&D>,
+    working: Option<&Working<D>>,
     lot: &Id,
 ) -> Result<IdList, Error>
     ensures boards { HasCleanDisk (state S.Store conn.new)
         → IfOk result
-        (FindsBeside D.Stands (option_copied lists.entry) (option_copied desk.entry)
+        (FindsOfBoth D.Stands (option_copied working.entry)
         (λ H. boards_of H lot.now)
         (state S.Store conn.old)) }
     ensures reads { ReadsOnly S.Store conn.old conn.new }
 {
-    let (Some(lists), Some(desk)) = (lists, desk) else {
+    let Some(working) = working else {
         return lot_names(alloc, conn, lot);
     };
-    match pieces_at(alloc, conn, lists, desk, lists.of_lot(lot))? {
+    match pieces_at(alloc, conn, working, working.lists.of_lot(lot))? {
         Some(pieces) => Ok(boards_among(alloc, pieces.as_slice())?),
         None => lot_names(alloc, conn, lot),
     }
@@ -97,21 +95,20 @@ pub fn boards_of_lot<S: Alter, D: Desk>(
 pub fn pieces_overdue<S: Alter, D: Desk>(
     alloc: Global,
     conn: &mut Connection<S>,
-    lists: Option<&TraceLists>,
-    desk: Option<&D>,
+    working: Option<&Working<D>>,
 ) -> Result<PlacedRows, Error>
     ensures pieces { HasCleanDisk (state S.Store conn.new)
         → IfOk result
-        (FindsBeside D.Stands (option_copied lists.entry) (option_copied desk.entry) overdue_of
+        (FindsOfBoth D.Stands (option_copied working.entry) overdue_of
         (state S.Store conn.old)) }
     ensures reads { ReadsOnly S.Store conn.old conn.new }
     ensures inside { IsRefusedInside result conn.old conn.new }
 {
-    let (Some(lists), Some(desk)) = (lists, desk) else {
+    let Some(working) = working else {
         return overdue(alloc, conn);
     };
-    let keys = lists.overdue();
-    match pieces_at(alloc, conn, lists, desk, keys)? {
+    let keys = working.lists.overdue();
+    match pieces_at(alloc, conn, working, keys)? {
         Some(pieces) => Ok(pieces),
         None => overdue(alloc, conn),
     }

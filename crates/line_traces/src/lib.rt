@@ -10,7 +10,9 @@ mod looked;
 mod pieces;
 mod row;
 mod traces;
+mod working;
 
 pub use law::rows_are_converse;
 pub use row::PlacedRows;
 pub use traces::{board_rows, lot_boards, lot_rows, overdue_rows};
+pub use working::Working;

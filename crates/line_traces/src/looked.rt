@@ -15,16 +15,17 @@ ghost use Rattle.line_tables.specs.StateRows.{rows_in};
 ghost use Rattle.line_tables.specs.Frames.{ReadsOnly, IsRefusedInside};
 ghost use Rattle.trace_lists.specs.Lists.{key_of};
 ghost use Rattle.line_traces.specs.Pieces.{piece_at};
-ghost use Rattle.line_traces.specs.Beside.{HoldsBeside, FindsBeside, AddsPieces};
+ghost use Rattle.line_traces.specs.Working.{HoldsBoth, FindsOfBoth, AddsPieces};
 
 use crate::decode::placement;
 use crate::row::PlacedRows;
+use crate::working::Working;
 use desk_types::{Desk, Listing, Placement};
 use line_tables::placements_between;
 use line_tables::select::select;
 use sqlite::{Alter, Connection, Error, Row};
 use std::alloc::Global;
-use trace_lists::{PieceKey, TraceLists};
+use trace_lists::PieceKey;
 
 /// The error for a connection that does not answer.
 fn ask<S: Alter>(conn: &mut Connection<S>) -> Result<(), Error>
@@ -85,24 +86,23 @@ fn is_next(last: PieceKey, piece: PieceKey) -> bool
 
 /// Returns the piece of a row of `placement` if the row has this number and place. Its part and lot are its reel's.
 fn piece_of<D: Desk>(
-    lists: &TraceLists,
-    desk: &D,
+    working: &Working<D>,
     key: PieceKey,
     row: &Row,
 ) -> Result<Option<Placement>, Error>
     ensures { IfOk result
         (λ found. IfSome found (λ piece. (db : Database) (H : History)
-        → HoldsBeside D.Stands (Some lists.now) (Some desk.now) db H
+        → HoldsBoth D.Stands (Some working.now) db H
         → Has (rows_in line.placement db) row.now → piece_at H (key_of key) ≡ Some piece)) }
 {
     let placed = placement(row)?;
     if placed.number != u64::from(key.number) || placed.place != u64::from(key.place) {
         return Ok(None);
     }
-    let Some(reel) = desk.reel(&placed.reel) else {
+    let Some(reel) = working.desk.reel(&placed.reel) else {
         return Ok(None);
     };
-    let Some(effective) = lists.minute(key.number) else {
+    let Some(effective) = working.lists.minute(key.number) else {
         return Ok(None);
     };
     Ok(Some(Placement {
@@ -123,14 +123,13 @@ fn piece_of<D: Desk>(
 /// Adds the pieces of the rows, if each row has its expected key. Returns whether it did: a row may be missing or
 /// belong to another piece.
 fn add_rows<D: Desk>(
-    lists: &TraceLists,
-    desk: &D,
+    working: &Working<D>,
     keys: &[PieceKey],
     rows: &[Row],
     pieces: &mut Vec<Placement>,
 ) -> Result<bool, Error>
     ensures { IfOk result (λ all. IsTrue all → (db : Database) (H : History)
-        → HoldsBeside D.Stands (Some lists.now) (Some desk.now) db H
+        → HoldsBoth D.Stands (Some working.now) db H
         → AreOf line.placement rows.now db
         → AddsPieces H (map key_of keys.now) pieces.old.items pieces.new.items) }
 {
@@ -138,7 +137,7 @@ fn add_rows<D: Desk>(
         let Some(row) = rows.get(at) else {
             return Ok(false); // A row is missing.
         };
-        let Some(piece) = piece_of(lists, desk, *key, row)? else {
+        let Some(piece) = piece_of(working, *key, row)? else {
             return Ok(false);
         };
         pieces.push(piece)?;
@@ -162,21 +161,20 @@ fn ends_of(run: &[PieceKey]) -> (i64, i64)
 /// Adds the pieces of a run, if the rows between its ends are theirs. Returns whether it did.
 fn add_run<S: Alter, D: Desk>(
     conn: &mut Connection<S>,
-    lists: &TraceLists,
-    desk: &D,
+    working: &Working<D>,
     run: &[PieceKey],
     pieces: &mut Vec<Placement>,
 ) -> Result<bool, Error>
     ensures added { HasCleanDisk (state S.Store conn.new)
         → IfOk result
         (λ all. Reads (state S.Store conn.old) (λ db. IsTrue all → (H : History)
-        → HoldsBeside D.Stands (Some lists.now) (Some desk.now) db H
+        → HoldsBoth D.Stands (Some working.now) db H
         → AddsPieces H (map key_of run.now) pieces.old.items pieces.new.items)) }
     ensures reads { ReadsOnly S.Store conn.old conn.new }
 {
     let (first, last) = ends_of(run);
     let rows = placements_between(conn, first, last)?;
-    add_rows(lists, desk, run, rows.as_slice(), pieces)
+    add_rows(working, run, rows.as_slice(), pieces)
 }
 
 /// Returns the pieces with these keys, in their order, by one query for each run of places. Returns `None` if a row is
@@ -184,14 +182,13 @@ fn add_run<S: Alter, D: Desk>(
 pub fn pieces_at<S: Alter, D: Desk>(
     alloc: Global,
     conn: &mut Connection<S>,
-    lists: &TraceLists,
-    desk: &D,
+    working: &Working<D>,
     keys: &[PieceKey],
 ) -> Result<Option<PlacedRows>, Error>
     ensures told { HasCleanDisk (state S.Store conn.new)
         → IfOk result
         (λ found. IfSome found
-        (λ pieces. FindsBeside D.Stands (Some lists.now) (Some desk.now)
+        (λ pieces. FindsOfBoth D.Stands (Some working.now)
         (λ H. map (piece_at H) (map key_of keys.now))
         (state S.Store conn.old) (map Some pieces))) }
     ensures reads { ReadsOnly S.Store conn.old conn.new }
@@ -202,7 +199,7 @@ pub fn pieces_at<S: Alter, D: Desk>(
     let mut left = keys;
     while !left.is_empty() {
         let (run, rest) = split_run(left);
-        if !add_run(conn, lists, desk, run, &mut pieces)? {
+        if !add_run(conn, working, run, &mut pieces)? {
             return Ok(None);
         }
         left = rest;

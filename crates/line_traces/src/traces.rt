@@ -1,35 +1,34 @@
 //! The pieces of a board, of a lot, and of overdue reels.
 //!
-//! If the desk and its trace indexes are loaded, the indexes locate the rows, and each row is checked. Otherwise, or if
-//! a row differs, a query finds them.
+//! If the working state is loaded, its trace indexes locate the rows, and each row is checked. Otherwise, or if a row
+//! differs, a query finds them.
 
 ghost use Rattle.std.specs.Prelude.{IfOk, option_copied};
 ghost use Rattle.sqlite.specs.State.{HasCleanDisk};
 ghost use Rattle.sqlite.specs.Held.{state};
 ghost use Rattle.desk_types.specs.Placements.{overdue_of};
 ghost use Rattle.line_traces.specs.Pieces.{board_trace, lot_trace, lot_board_names};
-ghost use Rattle.line_traces.specs.Beside.{FindsBeside};
+ghost use Rattle.line_traces.specs.Working.{FindsOfBoth};
 ghost use Rattle.line_tables.specs.Frames.{ReadsOnly, IsRefusedInside};
 
 use crate::by_lists::{boards_of_lot, pieces_of_board, pieces_of_lot, pieces_overdue};
 use crate::pieces::{has_board, has_lot};
 use crate::row::PlacedRows;
+use crate::working::Working;
 use desk_types::{Desk, Id, IdList};
 use sqlite::{Alter, Connection, Error};
 use std::alloc::Global;
-use trace_lists::TraceLists;
 
 /// Returns the pieces on a board by number, then place, or `None` if no entry started the board.
 pub fn board_rows<S: Alter, D: Desk>(
     alloc: Global,
     conn: &mut Connection<S>,
-    lists: Option<&TraceLists>,
-    desk: Option<&D>,
+    working: Option<&Working<D>>,
     board: &Id,
 ) -> Result<Option<PlacedRows>, Error>
     ensures trace { HasCleanDisk (state S.Store conn.new)
         → IfOk result
-        (FindsBeside D.Stands (option_copied lists.entry) (option_copied desk.entry)
+        (FindsOfBoth D.Stands (option_copied working.entry)
         (λ H. board_trace H board.now)
         (state S.Store conn.old)) }
     ensures reads { ReadsOnly S.Store conn.old conn.new }
@@ -38,20 +37,19 @@ pub fn board_rows<S: Alter, D: Desk>(
     if !has_board(conn, board)? {
         return Ok(None);
     }
-    Ok(Some(pieces_of_board(alloc, conn, lists, desk, board)?))
+    Ok(Some(pieces_of_board(alloc, conn, working, board)?))
 }
 
 /// Returns the pieces of a lot by number, then place, or `None` if no entry received a reel of the lot.
 pub fn lot_rows<S: Alter, D: Desk>(
     alloc: Global,
     conn: &mut Connection<S>,
-    lists: Option<&TraceLists>,
-    desk: Option<&D>,
+    working: Option<&Working<D>>,
     lot: &Id,
 ) -> Result<Option<PlacedRows>, Error>
     ensures trace { HasCleanDisk (state S.Store conn.new)
         → IfOk result
-        (FindsBeside D.Stands (option_copied lists.entry) (option_copied desk.entry)
+        (FindsOfBoth D.Stands (option_copied working.entry)
         (λ H. lot_trace H lot.now)
         (state S.Store conn.old)) }
     ensures reads { ReadsOnly S.Store conn.old conn.new }
@@ -60,24 +58,23 @@ pub fn lot_rows<S: Alter, D: Desk>(
     if !has_lot(conn, lot)? {
         return Ok(None);
     }
-    Ok(Some(pieces_of_lot(alloc, conn, lists, desk, lot)?))
+    Ok(Some(pieces_of_lot(alloc, conn, working, lot)?))
 }
 
 /// Returns the pieces of reels whose floor life was used up, by number, then place.
 pub fn overdue_rows<S: Alter, D: Desk>(
     alloc: Global,
     conn: &mut Connection<S>,
-    lists: Option<&TraceLists>,
-    desk: Option<&D>,
+    working: Option<&Working<D>>,
 ) -> Result<PlacedRows, Error>
     ensures rows { HasCleanDisk (state S.Store conn.new)
         → IfOk result
-        (FindsBeside D.Stands (option_copied lists.entry) (option_copied desk.entry) overdue_of
+        (FindsOfBoth D.Stands (option_copied working.entry) overdue_of
         (state S.Store conn.old)) }
     ensures reads { ReadsOnly S.Store conn.old conn.new }
     ensures inside { IsRefusedInside result conn.old conn.new }
 {
-    pieces_overdue(alloc, conn, lists, desk)
+    pieces_overdue(alloc, conn, working)
 }
 
 /// Returns the boards that hold a piece of a lot, each once and in byte order, or `None` if no entry received a reel of
@@ -85,13 +82,12 @@ pub fn overdue_rows<S: Alter, D: Desk>(
 pub fn lot_boards<S: Alter, D: Desk>(
     alloc: Global,
     conn: &mut Connection<S>,
-    lists: Option<&TraceLists>,
-    desk: Option<&D>,
+    working: Option<&Working<D>>,
     lot: &Id,
 ) -> Result<Option<IdList>, Error>
     ensures boards { HasCleanDisk (state S.Store conn.new)
         → IfOk result
-        (FindsBeside D.Stands (option_copied lists.entry) (option_copied desk.entry)
+        (FindsOfBoth D.Stands (option_copied working.entry)
         (λ H. lot_board_names H lot.now)
         (state S.Store conn.old)) }
     ensures reads { ReadsOnly S.Store conn.old conn.new }
@@ -100,5 +96,5 @@ pub fn lot_boards<S: Alter, D: Desk>(
     if !has_lot(conn, lot)? {
         return Ok(None);
     }
-    Ok(Some(boards_of_lot(alloc, conn, lists, desk, lot)?))
+    Ok(Some(boards_of_lot(alloc, conn, working, lot)?))
 }

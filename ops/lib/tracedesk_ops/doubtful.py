@@ -414,7 +414,7 @@ def look(path, archives, is_running=False):
             if is_running and desk.exists():
                 files[catalogue.RUNNING] = held.enter_context(copied(desk))
             elif is_running:
-                notes.append(f"{desk} is not here: whether pieces since the last archive may be of other reels was not looked at")
+                faults.append(f"{desk} is not here: whether pieces since the last archive may be of other reels isn't known")
             for name, database in files.items():
                 story.read(name, database)
             for place, database in enumerate(files.values()):

@@ -41,8 +41,7 @@ impl<S: Alter, D: KeepsRows + Drop> LineStore<S, D> {
             return Err(OpenFault::Unavailable);
         }
         let Opened {
-            desk: _desk,
-            lists: _lists,
+            working: _working,
             count,
             greatest: _greatest,
         } = read_tables::<S, D>(alloc, conn, Rules::One)?;

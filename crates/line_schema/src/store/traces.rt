@@ -1,5 +1,5 @@
-//! The pieces of a board, of a lot, and of overdue reels, from a store's tables. The desk and its
-//! trace indexes locate them if they are loaded; a trace does not load them.
+//! The pieces of a board, of a lot, and of overdue reels, from a store's tables. The trace indexes
+//! locate them if the working state is loaded; a trace does not load it.
 
 ghost use Rattle.std.specs.Prelude.{◌≡◌, IfOk};
 ghost use Rattle.desk_types.specs.Id.{Name};
@@ -27,9 +27,8 @@ impl<S: Alter, D: KeepsRows + Drop> LineStore<S, D> {
             (lot_board_names L.history lot))) }
         ensures reads { ReadsStore S.Store D.Stands D.kept_rules self.old self.new }
     {
-        let lists = self.lists.as_ref();
-        let desk = self.desk.as_ref();
-        Ok(line_traces::board_rows(self.alloc, &mut self.conn, lists, desk, board)?)
+        let working = self.working.as_ref();
+        Ok(line_traces::board_rows(self.alloc, &mut self.conn, working, board)?)
     }
 
     /// Returns the pieces of a lot by number, then place, or `None` if no accepted command received
@@ -39,9 +38,8 @@ impl<S: Alter, D: KeepsRows + Drop> LineStore<S, D> {
             (λ L. IfOk result (λ pieces. pieces ≡ lot_trace L.history lot.now)) }
         ensures reads { ReadsStore S.Store D.Stands D.kept_rules self.old self.new }
     {
-        let lists = self.lists.as_ref();
-        let desk = self.desk.as_ref();
-        Ok(line_traces::lot_rows(self.alloc, &mut self.conn, lists, desk, lot)?)
+        let working = self.working.as_ref();
+        Ok(line_traces::lot_rows(self.alloc, &mut self.conn, working, lot)?)
     }
 
     /// Returns the boards that hold a piece of a lot, each once and in byte order, or `None` if no
@@ -55,9 +53,8 @@ impl<S: Alter, D: KeepsRows + Drop> LineStore<S, D> {
             (board_trace L.history board) lot.now boards)) }
         ensures reads { ReadsStore S.Store D.Stands D.kept_rules self.old self.new }
     {
-        let lists = self.lists.as_ref();
-        let desk = self.desk.as_ref();
-        Ok(line_traces::lot_boards(self.alloc, &mut self.conn, lists, desk, lot)?)
+        let working = self.working.as_ref();
+        Ok(line_traces::lot_boards(self.alloc, &mut self.conn, working, lot)?)
     }
 
     /// Returns the pieces of reels whose floor life was used up, by number, then place.
@@ -66,8 +63,7 @@ impl<S: Alter, D: KeepsRows + Drop> LineStore<S, D> {
             (λ L. IfOk result (λ pieces. pieces ≡ overdue_of L.history)) }
         ensures reads { ReadsStore S.Store D.Stands D.kept_rules self.old self.new }
     {
-        let lists = self.lists.as_ref();
-        let desk = self.desk.as_ref();
-        Ok(line_traces::overdue_rows(self.alloc, &mut self.conn, lists, desk)?)
+        let working = self.working.as_ref();
+        Ok(line_traces::overdue_rows(self.alloc, &mut self.conn, working)?)
     }
 }

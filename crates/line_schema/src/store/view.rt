@@ -25,8 +25,8 @@ impl<S: Alter, D: KeepsRows + Drop> LineStore<S, D> {
         ensures at_hand { OnErr result (has_desk self.old ≡ false) }
     {
         self.ready()?;
-        match &self.desk {
-            Some(desk) => Ok(desk),
+        match &self.working {
+            Some(working) => Ok(&working.desk),
             None => Err(Unavailable),
         }
     }

@@ -5,7 +5,7 @@ use Rattle.sqlite.specs.State.{HasCleanDisk}
 use Rattle.sqlite.specs.Held.{Held, state}
 use Rattle.line_tables.specs.Rows.{Holds}
 use Rattle.line_rows.specs.Rows.{ledger_tables}
-use Rattle.line_schema.specs.Traces.{desk_of}
+use Rattle.line_schema.specs.Traces.{working_of}
 use Rattle.line_prefix.proofs.looking.look.Goals as goal
 
 of-some : {X : Type 0} (P : X → Type 0) (o : Option X) (x : X) → o ≡ Some x → IfSome o P → P x
@@ -25,7 +25,7 @@ returns-in-Some-first_desk-clause-says g c L stands own clean =
     let tables : IsTrue (state g.S.Store first).is_open → Holds (state g.S.Store first).committed (ledger_tables L.greatest L.history) =
     subst (λ (k : Held g.row.S.Denot). IsTrue (state g.S.Store k).is_open → Holds (state g.S.Store k).committed (ledger_tables L.greatest L.history)) (sym conn_is) (after.tables clean0 own) in
     let kept = c.begin_of.ensures.reads.kept clean2 in
-    let of_desk = of-some _ (desk_of store) c.in-Some.whole (sym (ap (λ p. p.1) parts) ∙ c.in-Some.is) after.desk in
+    let works = of-some _ (working_of store) c.in-Some.field-0 (sym (ap (λ p. p.1) parts) ∙ c.in-Some.is) after.working in
     let begun = c.in-Some-first_desk.ensures.first in
     record {
       first = begun.first;
@@ -36,7 +36,7 @@ returns-in-Some-first_desk-clause-says g c L stands own clean =
       begun_with = sym begun.counted;
       begun = begun.stands;
       count = c.count-commands.ensures L stands;
-      whole = of_desk.0;
-      rules = of_desk.1;
+      whole = works.0.stands;
+      rules = works.1;
       pieces = c.in-Ok.ensures.pieces L stands clean0 own;
     }

@@ -1,16 +1,15 @@
-use Rattle.std.proofs.Common.{map, sym, ap, subst₂, option_copied}
+use Rattle.std.proofs.Common.{map, sym, ap, subst, option_copied}
 use Rattle.sqlite.specs.Held.{state}
 use Rattle.desk_types.specs.Id.{same}
 use Rattle.trace_lists.specs.Lists.{key_of}
 use Rattle.line_traces.specs.Pieces.{pieces_of_lot}
-use Rattle.line_traces.specs.Beside.{FindsBeside}
+use Rattle.line_traces.specs.Working.{FindsOfBoth}
 use Rattle.line_traces.proofs.LookedPieces.{listed-told}
 use Rattle.line_traces.proofs.by_lists.pieces_of_lot.Goals as goal
 
-pub returns-in-Some-clause-pieces : goal.returns-in-Some-clause-pieces
-returns-in-Some-clause-pieces g c clean =
+pub returns-in-Some-2-clause-pieces : goal.returns-in-Some-2-clause-pieces
+returns-in-Some-2-clause-pieces g c clean =
     let old = state g.S.Store c.args.conn.now in
-    let lists = c.in-Some-Some.lists.now in
-    let desk = c.in-Some-Some.desk.now in
-    subst₂ (λ l d. FindsBeside g.D.Desk.Stands l d (λ H. pieces_of_lot H c.args.lot.now) old c.in-Some.pieces) (sym (ap option_copied c.in-Some-Some.is-0)) (sym (ap option_copied c.in-Some-Some.is-1)) (
-    listed-told g.D.Desk.Stands lists desk old (λ p. same p.lot c.args.lot.now) (map key_of c.of_lot-keys.result.now) (λ H listed. c.of_lot-keys.ensures.listed H listed) c.in-Some.pieces (rw c.in-Some.is at (c.in_ok-pieces.ensures.told clean)))
+    let working = c.in-Some.working.now in
+    subst (λ w. FindsOfBoth g.D.Desk.Stands w (λ H. pieces_of_lot H c.args.lot.now) old c.in-Some-2.pieces) (sym (ap option_copied c.in-Some.is)) (
+    listed-told g.D.Desk.Stands working old (λ p. same p.lot c.args.lot.now) (map key_of c.of_lot-keys.result.now) (λ H listed. c.of_lot-keys.ensures.listed H listed) c.in-Some-2.pieces (rw c.in-Some-2.is at (c.in_ok-pieces.ensures.told clean)))

@@ -8,7 +8,7 @@ use Rattle.line_traces.proofs.LookedRows.{piece_with, row-tells}
 use Rattle.line_traces.proofs.looked.piece_of.Goals as goal
 
 pub returns : goal.returns
-returns g c db H beside here =
+returns g c db H both here =
     let row = c.in_ok-placed.placed in
     let reel = c.in-Some.reel in
     let effective = c.in-Some-minute.effective in
@@ -16,5 +16,5 @@ returns g c db H beside here =
     let place : row.place ≡ c.args.key.place = search rules in
     let its : (row.number, row.place) ≡ key_of c.args.key = ap₂ (λ m n. (m, n)) number place in
     subst (λ (key : Key). piece_at H key ≡ Some (piece_with row reel effective)) its (
-    row-tells db H beside.held row (subst (Has (rows_in line.placement db)) c.in_ok-placed.ensures.ok here) reel (c.in-Some.ensures H beside.stands) effective
-    (c.in-Some-minute.ensures.listed H beside.listed ∙ ap (minute_of H) (sym number)))
+    row-tells db H both.held row (subst (Has (rows_in line.placement db)) c.in_ok-placed.ensures.ok here) reel (c.in-Some.ensures H both.working.stands) effective
+    (c.in-Some-minute.ensures.listed H both.working.listed ∙ ap (minute_of H) (sym number)))

@@ -6,7 +6,7 @@ use Rattle.line_tables.specs.Line.{IsOurs}
 use Rattle.line_tables.specs.Frames.{ReadsOnly}
 use Rattle.trace_lists.specs.Lists.{key_of}
 use Rattle.line_traces.specs.Pieces.{piece_at}
-use Rattle.line_traces.specs.Beside.{HoldsBeside}
+use Rattle.line_traces.specs.Working.{HoldsBoth}
 use Rattle.line_traces.proofs.looked.pieces_at.Given as goal
 
 abbrev pub invariant-loop-left : goal.invariant-loop-left
@@ -14,7 +14,7 @@ invariant-loop-left g l =
     let old = state g.S.Store l.fn.conn in
     let now = state g.S.Store l.conn in record {
       opened : HasCleanDisk now → IsTrue old.is_open;
-      told : HasCleanDisk now → IsOurs old.committed.schema → (H : History) → HoldsBeside g.D.Desk.Stands (Some l.lists) (Some l.desk) old.committed H
+      told : HasCleanDisk now → IsOurs old.committed.schema → (H : History) → HoldsBoth g.D.Desk.Stands (Some l.working) old.committed H
           → map Some l.pieces.items ++ map (piece_at H) (map key_of l.left) ≡ map (piece_at H) (map key_of l.keys);
       reads : ReadsOnly g.S.Store l.fn.conn l.conn;
     }

@@ -13,5 +13,5 @@ returns-clause-trace g c clean =
     let first : HasCleanDisk mid = omega (arith, c.pieces_of_board.ensures.reads.survives.clean) in
     let is : c.in_ok-has_board.field-0 ≡ true = search rules in
     let named = subst (FindsOfList (λ H. is_board H c.args.board.now) old) is (c.in_ok-has_board.ensures.found first) in
-    there-told g.D.Desk.Stands (option_copied c.args.lists) (option_copied c.args.desk) (λ H. pieces_on H c.args.board.now) old (λ H. is_board H c.args.board.now) _ named (
+    there-told g.D.Desk.Stands (option_copied c.args.working) (λ H. pieces_on H c.args.board.now) old (λ H. is_board H c.args.board.now) _ named (
     reads-before old mid (c.has_board.ensures.reads.kept first) _ (c.in_ok-pieces_of_board.ensures.pieces clean))

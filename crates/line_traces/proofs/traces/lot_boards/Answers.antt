@@ -14,5 +14,5 @@ returns-clause-boards g c clean =
     let first : HasCleanDisk mid = omega (arith, c.boards_of_lot.ensures.reads.survives.clean) in
     let is : c.in_ok-has_lot.field-0 ≡ true = search rules in
     let named = subst (FindsOfList (λ H. is_lot H c.args.lot.now) old) is (c.in_ok-has_lot.ensures.found first) in
-    there-told g.D.Desk.Stands (option_copied c.args.lists) (option_copied c.args.desk) (λ H. boards_of H c.args.lot.now) old (λ H. is_lot H c.args.lot.now) _ named (
+    there-told g.D.Desk.Stands (option_copied c.args.working) (λ H. boards_of H c.args.lot.now) old (λ H. is_lot H c.args.lot.now) _ named (
     reads-before old mid (c.has_lot.ensures.reads.kept first) _ (c.in_ok-boards_of_lot.ensures.boards clean))

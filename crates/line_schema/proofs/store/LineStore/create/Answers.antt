@@ -17,9 +17,7 @@ returns-in-Ok-clause-made g c = record {
     within = omega arith;
     judged = tt;
     consistent = consistent Two [] tt;
-    desk = (c.fresh-desk.ensures.stands, c.fresh-desk.ensures.rules);
-    lists = c.new.ensures.listed;
-    beside = refl;
+    working = (record { stands = c.fresh-desk.ensures.stands; listed = c.new.ensures.listed }, c.fresh-desk.ensures.rules);
     mode = search rules;
     stays_open = λ clean. inl (c.in-Ok.ensures.stays_open clean).1;
     lawful = λ clean own. record { judged = tt; uids = none_yet; numbers = omega arith };

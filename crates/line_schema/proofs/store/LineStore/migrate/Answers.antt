@@ -12,12 +12,12 @@ returns-clause-migrated g c =
     let new = state g.S.Store c.migrate_tables.new.conn in
     let early : HasCleanDisk new → HasCleanDisk mid = λ clean. omega (arith, c.migrate_tables.ensures.crash.clean, clean) in
     let auto : IsTrue c.is_autocommit.result = search rules in
-    let all = c.in_ok-_desk.ensures.ok in record {
-      named = c.in_ok-_desk.ensures.named;
+    let all = c.in_ok-_working.ensures.ok in record {
+      named = c.in_ok-_working.ensures.named;
       migrated = λ clean. (
         _,
         all.0,
-        migrated_on g.D.Desk.Stands g.D.Desk.kept_rules (HasCleanDisk mid) old mid new _ all.0 all.1 (early clean) c.in_ok-_desk.ensures.named (c.is_autocommit.ensures.settled auto) (c.read_tables.ensures.reads.kept (early clean))
+        migrated_on g.D.Desk.Stands g.D.Desk.kept_rules (HasCleanDisk mid) old mid new _ all.0 all.1 (early clean) c.in_ok-_working.ensures.named (c.is_autocommit.ensures.settled auto) (c.read_tables.ensures.reads.kept (early clean))
             (c.in_ok-migrate_tables.ensures.done clean) (c.in_ok-migrate_tables.ensures.stays_open clean) (c.in_ok-migrate_tables.ensures.alone clean),
       );
     }

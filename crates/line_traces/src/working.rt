@@ -1,0 +1,10 @@
+//! The working state of a line.
+
+use trace_lists::TraceLists;
+
+/// A desk, and the trace indexes of the same history.
+#[derive(Drop)]
+pub struct Working<D> {
+    pub desk: D,
+    pub lists: TraceLists,
+}
