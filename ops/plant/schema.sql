@@ -95,6 +95,13 @@ CREATE TABLE IF NOT EXISTS doubtful (
     file        text NOT NULL,
     part        text NOT NULL
 );
+-- reels that the desk of a line refused and does not know, and the machines on which they may have been
+CREATE TABLE IF NOT EXISTS refused (
+    line    text NOT NULL,
+    reel    text NOT NULL,
+    machine text NOT NULL,
+    PRIMARY KEY (line, reel, machine)
+);
 -- of which files and records of a line untraced work and doubtful pieces were looked for
 CREATE TABLE IF NOT EXISTS looked (
     line text PRIMARY KEY,
@@ -182,17 +189,23 @@ CREATE OR REPLACE FUNCTION knows(kind text, wanted text) RETURNS boolean LANGUAG
 $$;
 
 -- What keeps an answer from being exact, in the same snapshot: files that are not loaded, work that is in no trace, pieces in doubt. A piece
--- in doubt may be of any reel of its part: one that the desk refused may have been on the slot all the same.
+-- in doubt may be of any reel of its part: one that the desk refused may have been on the slot all the same. If the line knows no reel
+-- of the name, it may be on each machine on which such a reel was refused.
 CREATE OR REPLACE FUNCTION faults(kind text, wanted text) RETURNS SETOF text LANGUAGE sql STABLE SET search_path FROM CURRENT AS $$
+    WITH own AS (
+        SELECT line, part FROM reel JOIN file ON file.id = reel.file WHERE kind = 'lot' AND lot = wanted
+        UNION SELECT line, part FROM reel JOIN file ON file.id = reel.file WHERE kind = 'reel' AND reel = wanted
+    ), doubt AS (
+        SELECT *, ARRAY(SELECT part FROM own WHERE own.line = ANY (string_to_array(doubtful.line, '; '))) AS parts FROM doubtful
+    )
     SELECT format('without %s: %s', concat_ws(' ', nullif(line, ''), name), why) FROM missing
     UNION ALL SELECT format('without %s files up to %s, which were dropped: tracedesk-recall asks them', count(*), spelled(max(last_minute))) FROM file WHERE dropped HAVING count(*) > 0
     UNION ALL SELECT format('untraced work of %s, %s: %s of board %s on %s was refused, %s; on the machine was %s; nobody decided about %s', line, at, work, board, machine, refusal, reels, id)
         FROM untraced WHERE became = ''
     UNION ALL SELECT format('doubtful piece of %s: %s of board %s, %s, may not be of %s of lot %s%s: %s', line, designator, board, spelled(minute), reel, lot,
         CASE other_reels WHEN '{}' THEN '' ELSE format(', but of %s of lot %s', array_to_string(other_reels, ' or '), array_to_string(other_lots, ' or ')) END, why)
-        FROM doubtful d WHERE CASE kind WHEN 'board' THEN board = wanted WHEN 'lot' THEN wanted = ANY (lot || other_lots) ELSE wanted = ANY (reel || other_reels) END
-        OR kind <> 'board' AND EXISTS (SELECT FROM reel r JOIN file ON file.id = r.file
-            WHERE CASE kind WHEN 'lot' THEN r.lot ELSE r.reel END = wanted AND r.part = d.part AND file.line = ANY (string_to_array(d.line, '; ')))
+        FROM doubt WHERE CASE kind WHEN 'board' THEN board = wanted ELSE wanted = ANY (CASE kind WHEN 'lot' THEN lot || other_lots ELSE reel || other_reels END) OR part = ANY (parts)
+            OR parts = '{}' AND EXISTS (SELECT FROM refused WHERE refused.line = doubt.line AND refused.machine = doubt.machine AND (kind = 'lot' OR refused.reel = wanted)) END
 $$;
 
 -- What a company asks of a plant, in one snapshot: each piece, and what keeps the answer from being exact. The last row has neither: it
