@@ -17,10 +17,12 @@ build:         ## proves and builds the program, and prints its path | 35 min, t
 	@dev/build
 day:           ## feeds a made-up shift to a desk, and prints what is asked of it: docs/day.md | 10 s
 	@examples/day
-plant-recall:  ## three lines in one PostgreSQL, and a recall over them, compared with docs/plant.md; and the same recalls three ways | 3 min | postgresql
+plant-recall:  ## three lines in one PostgreSQL, and a recall over them, compared with docs/plant.md; the same recalls three ways, what a load can meet, and a company of three plants | 5 min | postgresql
 	$(say)
 	@ops/plant/try
 	@ops/tests/three-ways-test >&2
+	@ops/tests/plant-load-test >&2
+	@ops/tests/company-test >&2
 
 #: test
 test:          ## the tests: proves everything from nothing, tries wrong bodies, runs the tests and the worked rows, fails calls | 1 h | rt curl, and gcc libc6-dev, or failing calls are skipped

@@ -44,7 +44,7 @@ import time
 import starts
 from tracedesk_dev import postgres, program, shift
 from tracedesk_dev.program import ROOT
-from tracedesk_ops import catalogue, chains, plant
+from tracedesk_ops import catalogue, plant
 
 TURNS = 5
 MEMORY = "/dev/shm"
@@ -191,15 +191,12 @@ def chain_of(asked, at):
 
 def measured(*words):
     """Seconds of a call by the clock and of the processor, the most memory that it had in bytes, and how many lines it printed."""
-    began = time.monotonic()
-    with tempfile.TemporaryFile() as out:
-        call = subprocess.Popen([*map(str, words)], stdout=out, stderr=subprocess.DEVNULL)
-        _, status, used = os.wait4(call.pid, 0)
-        call.returncode = os.waitstatus_to_exitcode(status)
-        if call.returncode not in (0, 3):  # 3: a first look
-            sys.exit(f"{plant.NAME}: {words[0]} ended with status {call.returncode}")
-        out.seek(0)
-        return round(time.monotonic() - began, 2), round(used.ru_utime + used.ru_stime, 2), 1024 * used.ru_maxrss, out.read().count(b"\n")
+    with tempfile.NamedTemporaryFile("r") as used:  # by `time`: a child of this process has its memory too at first
+        done = subprocess.run(["time", "-q", "-o", used.name, "-f", "%e %U %S %M", *map(str, words)], stdout=subprocess.PIPE, stderr=subprocess.DEVNULL)
+        if done.returncode not in (0, 3):  # 3: a first look
+            sys.exit(f"{plant.NAME}: {words[0]} ended with status {done.returncode}")
+        clock, user, system, memory = map(float, used.read().split())
+    return clock, round(user + system, 2), int(1024 * memory), done.stdout.count(b"\n")
 
 
 def recall_bench(asked, room):
@@ -338,6 +335,8 @@ def main(asked, reader):
         return small_bench(asked)
     asked.program = program.to_use(asked.program)
     asked.chain = plant.chain_of(asked.program)
+    if asked.recall and not shutil.which("time"):
+        program.stop("there is no time: apt-get install time")
     if asked.recall and not asked.chain:
         program.stop("there is no tracedesk-chain next to the program: CHAIN names it")
     asked.archives = asked.archives or (52 if asked.recall else 40)

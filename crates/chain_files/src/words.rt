@@ -31,29 +31,29 @@ pub enum Asked<'a> {
 
 /// What the program does.
 pub const HELP: &str = "\
-Says whether desk files are the chain of one line, and recalls a lot, a board or a reel over them.
+Says whether desk files are the chain of one line, recalls a lot, a board or a reel over them, or compares two desks.
 
-Usage:
-  tracedesk-chain check [--from-middle] FILE..
-  tracedesk-chain lot NAME [--pieces] [--from-middle] FILE..
-  tracedesk-chain board NAME [--pieces] [--from-middle] FILE..
-  tracedesk-chain reel NAME [--pieces] [--from-middle] FILE..
-  tracedesk-chain alike OLD NEW
+Usage: tracedesk-chain check [--from-middle] FILE..
+       tracedesk-chain lot NAME [--pieces] [--from-middle] FILE..
+       tracedesk-chain board NAME [--pieces] [--from-middle] FILE..
+       tracedesk-chain reel NAME [--pieces] [--from-middle] FILE..
+       tracedesk-chain alike OLD NEW
 
 Name the files oldest first. Each is opened as an audit opens it, and not changed. Standard error has a line for each
-file, and names the archive from which its desk was begun. Standard output has a header, and then these columns:
+file, and names the archive from which its desk was begun. Standard output has a header and a row for each file, name
+or piece:
 
-  check  file,begun,commands,minute: with how many commands a desk was begun, how many it has, and its last minute
-  lot    board,file: each board with a piece of the lot, once a file
-  board  lot,file: each lot with a piece on the board, once a file
-  reel   board,file: each board with a piece of the reel, once a file
+check: file,begun,commands,minute. That is with how many commands a desk was begun, how many it has, and its last minute.
 
-A name that no file knows is no error: only the header is printed.
+lot: board,file. Each board with a piece of the lot, once a file. With `board` it is lot,file, each lot with a piece on
+the board; with `reel` board,file, each board with a piece of the reel. A name that no file knows is no error: only the
+header is printed.
 
-`alike` compares the desk in the file OLD, which was closed, with the one that follows it in NEW, right after its begin.
-It prints `alike <reels> <mounts>`, the reels and mounts of the new desk, if the desks are alike and the new one received
-the pieces that were left of each reel. Otherwise it prints the first difference, as `differs reel K1 remaining 47 46`.
+alike: compares the desk in OLD, which was closed, with the one that follows it in NEW, right after its begin. It prints
+`alike <reels> <mounts>`, the reels and mounts of the new desk, if the desks are alike and the new one received the
+pieces that were left of each reel. Otherwise it prints the first difference, as `differs reel K1 remaining 47 46`.
 
+Options:
   --pieces       Print each piece: board,designator,part,lot,reel,machine,slot,overdue,minute,file
   --from-middle  The first file is one that was begun from an older file, which is left out
   --help         Print help
@@ -61,10 +61,9 @@ the pieces that were left of each reel. Otherwise it prints the first difference
 
 Exit status:
   0  The files are a chain, and the answer was printed; or two desks are alike; or help or the version was printed
-  1  They are not: standard error names the first file that does not carry on the one before it, and a difference.
-     Or two desks are not alike, and the output names the difference
+  1  They are not: standard error names the first file that does not carry on the one before it, and a difference; or two desks are not alike, and the output names a difference
   2  The command line asks for nothing that the program does
-  3  A file was refused, or memory was; standard error names the file, or `old` or `new`, and its fault
+  3  A file was refused, or memory was; standard error names the file, or old or new, and its fault
   4  The output failed
   5  The first file was begun from another: standard error names its archive
 

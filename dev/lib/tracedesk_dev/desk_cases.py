@@ -28,7 +28,7 @@ def fields_of(value, name):
     elif name in NUMBERS:
         is_right = type(value) is int and NUMBERS[name][0] <= value <= NUMBERS[name][1]
     else:
-        is_right = isinstance(value, str) and re.fullmatch(FORMS.get(name, r"(?=.{1,64}\Z)[!-~](?:[ -~]*[!-~])?"), value)
+        is_right = isinstance(value, str) and bool(re.fullmatch(FORMS.get(name, r"(?=.{1,64}\Z)[!-~](?:[ -~]*[!-~])?"), value))
     if not is_right:
         raise ValueError(name)
     return [str(value)]
@@ -53,7 +53,7 @@ def text():
     """Returns the text of the table."""
     with open(ROOT / "docs/api/messages.json", encoding="utf-8") as it:
         kinds = {kind["word"]: kind["members"] for kind in json.load(it)["messages"]}
-    cases = {}
+    cases: dict = {}
     for folder in sorted(it for it in (ROOT / "rows").iterdir() if it.is_dir()):
         lines = [made for file in sorted(folder.glob("*.jsonl")) for line in file.read_bytes().decode("utf-8", "replace").split("\n") if (made := line_of(line, kinds))]
         if 1 < len(lines) <= MOST:

@@ -1,4 +1,4 @@
-"""A PostgreSQL of its own folder, for ops/plant/try and ops/tests/three-ways-test, and what psql prints.
+"""A PostgreSQL of its own folder, for ops/plant/try and the tests of the plant's tables, and what psql prints.
 
     with postgres.Server(folder):
         postgres.asked("-f", "ops/plant/schema.sql")
@@ -14,6 +14,7 @@ import subprocess
 from tracedesk_dev import program
 
 SQL = program.ROOT / "ops/plant"
+PATIENCE = "600"  # seconds that a start or a stop may take on a busy machine
 
 
 class Fault(Exception):
@@ -52,10 +53,10 @@ class Server:
 
     def start(self):
         options = " ".join(f"-c {name}={value}" for name, value in self.options.items())
-        self.run("pg_ctl", "-D", str(self.data), "-l", str(self.folder / "log"), "-w", "-o", options, "start")
+        self.run("pg_ctl", "-D", str(self.data), "-l", str(self.folder / "log"), "-w", "-t", PATIENCE, "-o", options, "start")
 
     def stop(self):
-        self.run("pg_ctl", "-D", str(self.data), "-m", "fast", "-w", "stop")
+        self.run("pg_ctl", "-D", str(self.data), "-m", "fast", "-w", "-t", PATIENCE, "stop")
 
     def copy(self, name, to):
         """Copies the folder of the data, or back, with its owner; the server has stopped."""

@@ -133,7 +133,7 @@ def said_of(run, words, files, about):
     ends, errors, due = [], [], time.monotonic() + SECONDS_BETWEEN_NOTES
     with tempfile.TemporaryFile("w+", encoding="utf-8", newline="") as out:
         with subprocess.Popen([run.program, *words, *files], stdin=subprocess.DEVNULL, stdout=out, stderr=subprocess.PIPE, text=True, **run.how) as running:
-            for line in running.stderr:
+            for line in running.stderr or ():
                 found = FILE.fullmatch(line.strip())
                 if not found:
                     errors.append(folders.sub("", line.strip().partition(": ")[2]))

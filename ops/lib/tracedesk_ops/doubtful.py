@@ -118,7 +118,7 @@ class Story:
     @functools.cached_property
     def mixed(self):
         """By machine and slot the tapes on which a refused reel may have been, once all files were read."""
-        found = {}
+        found: dict = {}
         for on, refusals in self.refusals.items():
             tapes = tapes_of(self.slots.get(on, ()))
             for tape, following in zip(tapes, [*tapes[1:], None]):
@@ -225,7 +225,8 @@ class Story:
         """The reels on a machine from a minute to another, by what the desk was told, then or later. Pairs of slot and reel."""
         found = []
         for (on, slot), handled in sorted(self.slots.items()):
-            tape, since = [], []
+            tape: list = []
+            since: list = []
             for it in handled if on == machine else ():
                 if it.effective < first:  # what came in the same minute may have come before or after
                     tape = [it.reel] if it.word == "MaterialsLoaded" else [*tape, it.reel] if it.reel else []
@@ -260,12 +261,14 @@ class Story:
         lacking, moved, found = steps((it.machine, it.first, it.pieces) for it in self.works), steps(moved), []
         begun = {on: [(it.turn, it.own) for it in its if it.word != SPLICED] for on, its in self.slots.items()}
         until = lambda counts, reel, minute: sum(counts[it][1][bisect.bisect_right(counts[it][0], minute)] for it in self.machines.get(reel, ()) if it in counts)
-        before, following = self.spliced(), {}
+        following: dict = {}
+        before = self.spliced()
         for reel, its in before.items():
             for _, front in its:
                 following.setdefault(front, set()).add(reel)
         for place, placed, left in self.tables:
-            after, turns = dict(left), {}
+            turns: dict = {}
+            after = dict(left)
             for piece in placed:
                 turns.setdefault(piece[5], []).append((place, piece[0]))
             for number, board, designator, machine, slot, reel, own, refused, ids in reversed(placed):
@@ -297,7 +300,8 @@ class Story:
 
     def moved(self):
         """The machines on which pieces were taken off a reel that may be another one, when, and how many; and by machine and slot the turns of those that are late."""
-        moved, late = [], {}
+        late: dict = {}
+        moved = []
         for place, placed, _ in self.tables:
             for number, _, _, machine, slot, _, own, _, ids in placed:
                 if is_late := slot in self.late.get((place, number), {}):
@@ -312,7 +316,7 @@ class Story:
 
     def spliced(self):
         """Of each reel that was spliced to another one the turns of that, each with the other one."""
-        found = {}
+        found: dict = {}
         for its in self.slots.values():
             for tape in tapes_of(its):
                 for front, it in zip(tape, tape[1:]):
@@ -322,7 +326,7 @@ class Story:
 
 def steps(counts):
     """Of counts with their machines and minutes, by machine the minutes and the sum up to each of them."""
-    found = {}
+    found: dict = {}
     for machine, minute, many in sorted(counts):
         minutes, sums = found.setdefault(machine, ([], [0]))
         minutes.append(minute)
@@ -332,7 +336,7 @@ def steps(counts):
 
 def tapes_of(handled):
     """The handling of a slot tape by tape: each begins with a load or an unload."""
-    tapes = []
+    tapes: list = []
     for it in handled:
         if it.word == SPLICED and tapes:
             tapes[-1].append(it)
@@ -404,7 +408,8 @@ class Line(NamedTuple):
 
 def look(path, archives, is_running=False):
     """Looks at what is around a catalogue. The archives are in the order of their chain; the running desk's file lies beside their folder."""
-    book, faults, notes, pieces = untraced.read(path.parent), [], [], []
+    notes: list = []
+    book, faults, pieces = untraced.read(path.parent), [], []
     refused, desk, decided = untraced.refused(book.records), path.parent.parent / "desk", untraced.decisions(book.records)
     works = [it for it in refused if untraced.is_work(it)]
     story = Story(map(work_of, works), [it for it in refused if not untraced.is_work(it) and not (it.id in decided and decided[it.id].told["Became"] == TAKEN_OFF)])

@@ -29,10 +29,10 @@ def told_by(database, line, archive, question, wants_pieces):
     rows = lambda query: database.execute(query, [question.name])
     known = rows(KNOWN_AS[question.kind]).fetchone() is not None
     placed = rows(PIECES.format(THOSE_OF[question.kind])) if known and wants_pieces else ()
-    return Told(known, [Piece(*map(sys.intern, row[:7]), "yes" if row[7] else "no", row[8], line.name, archive.file) for row in placed])
+    return Told(known, [Piece._make((*map(sys.intern, row[:7]), "yes" if row[7] else "no", row[8], line.name, archive.file)) for row in placed])
 
 
 def left_in(database, line, question, minute=None):
     """What is left of the lot or reel by the tables of a desk, as of a minute, none being now; and the machines of its sheets."""
     left = database.execute(LEFT.format(question.kind), [question.name]).fetchall() if question.kind != "board" else []
-    return [Reel(*row, line.name, minute) for row in left], {machine for (machine,) in database.execute("SELECT machine FROM sheet_row")}
+    return [Reel._make((*row, line.name, minute)) for row in left], {machine for (machine,) in database.execute("SELECT machine FROM sheet_row")}

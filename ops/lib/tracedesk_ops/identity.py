@@ -95,7 +95,7 @@ def first_uids(archive):
 
 def chain(path, archives, mark):
     """The archives behind a desk with this mark, from the newest to the oldest, by what their files say; and what is wrong."""
-    found = []
+    found: list = []
     while mark:
         it = next((it for it in archives if follows(mark, it)), None)
         if it is None or it in found:

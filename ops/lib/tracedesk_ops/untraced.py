@@ -115,9 +115,9 @@ def rows_of(archive):
         text = path.read_bytes() if path.exists() else b""
     except (OSError, ValueError) as fault:
         return [], [f"{getattr(fault, 'filename', None) or inbox / COLLECTED}: it can't be read, so it isn't known whether work was untraced: {fault}"]
-    records, chains, fault = parsed(path, text)
-    if fault:
-        return records, [fault]
+    records, chains, wrong = parsed(path, text)
+    if wrong:
+        return records, [wrong]
     if len(records) < count or (count and chains[count - 1] != chain):
         why = "is gone" if not text else "has fewer rows" if len(records) < count else "is another file"
         return records, [f"{path}: it {why}: {inbox / COLLECTED} names {count} rows and another last one. Take it from a copy"]
@@ -139,7 +139,9 @@ def collected_in(inbox):
 
 def parsed(path, text):
     """The records of a file's whole lines and their chains, and what is wrong; a last line without its end was cut off, and is none yet."""
-    records, chains, before = [], [], BEGIN
+    records: list = []
+    chains: list = []
+    before = BEGIN
     lines = text[: text.rfind(b"\n") + 1].decode("utf-8", "replace")
     rows = csv.reader(io.StringIO(lines, newline=""), strict=True)
     try:

@@ -5,7 +5,6 @@ use Rattle.sqlite.specs.State.{HasCleanDisk}
 use Rattle.sqlite.specs.Held.{Held, state}
 use Rattle.line_tables.specs.Rows.{Holds}
 use Rattle.line_rows.specs.Rows.{ledger_tables}
-use Rattle.line_schema.specs.Stands.{Kept}
 use Rattle.line_schema.specs.Traces.{working_of}
 use Rattle.line_prefix.proofs.looking.look.Goals as goal
 
