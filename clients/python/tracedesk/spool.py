@@ -22,7 +22,7 @@ import pathlib
 import re
 import time
 import uuid
-from typing import Any, BinaryIO, Deque, Dict, Iterable, Iterator, List, Optional, Tuple, Union
+from typing import Any, BinaryIO, Callable, Deque, Dict, Iterable, Iterator, List, Optional, Tuple, Union
 
 from . import answers, forms, records
 from .console import patiently
@@ -36,7 +36,7 @@ MOST_READ = 16 << 20  # bytes of a message of which a record is made
 ALWAYS_KEPT = 16 << 20  # bytes of sent messages, however old a wrong clock makes them
 
 
-STATE = {  # what the members of .sender may be
+STATE: Dict[str, Callable[[Any], bool]] = {  # what the members of .sender may be
     "Tried": lambda it: type(it) is int,
     "Runs": lambda it: type(it) is bool,
     "Answers": lambda it: it is None or isinstance(it, str),
