@@ -130,6 +130,7 @@ def each_refusal_in_words(site):
     def refused(refusal, *codes):
         text = it.does(*codes, kind="refused")
         title, todo = words[refusal]
+        todo = todo.partition(", or UNLOAD ")[0]  # the page names the slot if it knows it
         said = [part for part in re.split(r"\{\w+\}", title + "{at}" + todo) if part.strip() and part not in text]
         if said:
             raise Difference(f"{refusal}: {said} is not in {text!r}")
