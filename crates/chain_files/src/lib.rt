@@ -1,13 +1,13 @@
 //! A recall over the files of a line, opened one after the other: whether they are a chain, and what is in them.
 #![tactic(auto)]
 
-mod alike;
 mod chain;
 mod closed;
 mod compared;
 mod opener;
 mod paths;
 mod telling;
+mod two_files;
 mod whole;
 mod words;
 

@@ -11,11 +11,11 @@ ghost use Rattle.chain_files.specs.Files.{all_at, files_in};
 ghost use Rattle.chain_files.specs.Stops.{status_of, stop_line};
 ghost use Rattle.chain_files.specs.Whole.{Answers, Compares, Done, Fails, IsStopped, Stops, StopsAt, Unlike};
 
-use crate::alike::alike;
 use crate::chain::{Fault, Stopped, recall_files};
 use crate::closed::ClosedFiles;
 use crate::opener::Fresh;
 use crate::paths::path_at;
+use crate::two_files::alike;
 use crate::words::{Asked, HELP, VERSION, read_words};
 use chain_check::{Question, end_rows};
 use desk_runs::{Exit, send_text, tell, tell_line, unavailable};

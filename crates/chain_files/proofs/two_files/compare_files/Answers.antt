@@ -15,7 +15,7 @@ use Rattle.alike_check.specs.Difference.{IsDifference, Refutes}
 use Rattle.chain_check.specs.declared.question.Question.TheVariants.{Chain}
 use Rattle.chain_files.specs.Compared.{HoldBoth}
 use Rattle.chain_files.specs.Files.{Takes, files_in}
-use Rattle.chain_files.proofs.alike.compare_files.Goals as goal
+use Rattle.chain_files.proofs.two_files.compare_files.Goals as goal
 
 both-found : {T U D E : Type 0} (g : disks.Ghosts D) (g' : disks.Ghosts E) (of_old : start.Ghosts T) (of_new : start.Ghosts U) (closed after : List (Files D)) (closed' after' : List (Files E)) (first second : Looked StateDesk) (Relates : History → History → Type 0)
     → closed ≡ [] → closed' ≡ [] → Takes g (image_at of_old) Chain closed after first → Takes g' (image_at of_new) Chain closed' after' second
