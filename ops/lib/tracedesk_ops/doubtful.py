@@ -24,7 +24,7 @@ import sqlite3
 import tempfile
 from typing import NamedTuple
 
-from tracedesk_ops import catalogue, untraced
+from tracedesk_ops import catalogue, identity, untraced
 
 WORDS = (*untraced.HANDLING, "MaterialsInstalled", "MaterialsScrapped")
 LOADED, SPLICED, UNLOADED = untraced.HANDLING
@@ -416,10 +416,10 @@ def look(path, archives, is_running=False):
     try:
         with contextlib.ExitStack() as held:
             files = {it.file: held.enter_context(catalogue.unchanged(path, it, False)) for it in archives}
-            if is_running and desk.exists():
-                files[catalogue.RUNNING] = held.enter_context(copied(desk))
+            if is_running and (database := held.enter_context(copied(desk)) if desk.exists() else None) and goes_on(database, archives):
+                files[catalogue.RUNNING] = database
             elif is_running:
-                faults.append(f"{desk} is not here: whether pieces since the last archive may be of other reels isn't known")
+                faults.append(f"{desk} is not here, or is not the running desk's: whether pieces since the last archive may be of other reels isn't known")
             for name, database in files.items():
                 story.read(name, database)
             for place, database in enumerate(files.values()):
@@ -428,6 +428,12 @@ def look(path, archives, is_running=False):
     except (catalogue.CatalogueError, OSError, sqlite3.Error) as fault:
         faults.append(f"{path}: whether pieces may be of other reels isn't known: {fault}")
     return Line([(it, decided.get(it.id), story.reels_of(work_of(it))) for it in works], pieces, [*book.faults, *faults, *waiting(path.parent.parent / STATUS)], notes, story)
+
+
+def goes_on(database, archives):
+    """Whether a desk was begun from the newest archive of a line, or no line has any."""
+    ends, mark = [it for it in archives if not it.went_on_to], identity.read(database).mark
+    return not ends or any(identity.follows(mark, it) for it in ends)
 
 
 def work_of(record):
