@@ -1,5 +1,5 @@
 -- The meaning of the texts that create the tables.
-use Rattle.std.proofs.Common.{◌≡◌, Bool, true, false, List, ℕ, [], ◌∷◌, codes, pos, Ok, refl}
+use Rattle.std.proofs.Common.{◌≡◌, List, ℕ, [], ◌∷◌, pos, Ok, refl}
 use Rattle.sqlite.specs.Compile.{table_defined_by}
 use Rattle.sqlite.specs.Command.TheVariants.{CreateTable, Insert, Update}
 use Rattle.sqlite.specs.Source.TheVariants.{Values}
@@ -7,7 +7,6 @@ use Rattle.sqlite.specs.Term.{Term, lit, col}
 use Rattle.sqlite.specs.declared.types.Value.TheVariants.{Null, Int}
 use Rattle.sqlite.specs.Listing.{understood}
 use Rattle.sqlite_tied.specs.Compute.{everything}
-use Rattle.sqlite.specs.Change.{created}
 use Rattle.sqlite.specs.Schema.{Schema}
 use Rattle.sqlite.specs.Table.{Table}
 use Rattle.sqlite.proofs.Callers.{IsPlain, command_of, statement_of}
@@ -26,80 +25,46 @@ pub version_is : IsCreate (first_of_line 0 0) CREATE_VERSION.now version
 unfolding understood everything
 version_is = (refl, refl, (refl, refl), refl)
 
-pub version_makes : created (first_of_line 0 0) (record version { tree = 0 }) ≡ first_of_line 1 0
-version_makes = refl
-
 pub accepted_is : IsCreate (first_of_line 1 0) CREATE_ACCEPTED.now accepted
 unfolding understood everything
 accepted_is = (refl, refl, (refl, refl), refl)
-
-pub accepted_makes : created (first_of_line 1 0) (record accepted { tree = 0 }) ≡ first_of_line 2 1
-accepted_makes = refl
 
 pub part_is : IsCreate (first_of_line 2 1) CREATE_PART.now part
 unfolding understood everything
 part_is = (refl, refl, (refl, refl), refl)
 
-pub part_makes : created (first_of_line 2 1) (record part { tree = 0 }) ≡ first_of_line 3 2
-part_makes = refl
-
 pub alternate_is : IsCreate (first_of_line 3 2) CREATE_ALTERNATE.now alternate
 unfolding understood everything
 alternate_is = (refl, refl, (refl, refl), refl)
-
-pub alternate_makes : created (first_of_line 3 2) (record alternate { tree = 0 }) ≡ first_of_line 4 3
-alternate_makes = refl
 
 pub sheet_row_is : IsCreate (first_of_line 4 3) CREATE_SHEET_ROW.now sheet_row
 unfolding understood everything
 sheet_row_is = (refl, refl, (refl, refl), refl)
 
-pub sheet_row_makes : created (first_of_line 4 3) (record sheet_row { tree = 0 }) ≡ first_of_line 5 4
-sheet_row_makes = refl
-
 pub selected_is : IsCreate (first_of_line 5 4) CREATE_SELECTED.now selected
 unfolding understood everything
 selected_is = (refl, refl, (refl, refl), refl)
-
-pub selected_makes : created (first_of_line 5 4) (record selected { tree = 0 }) ≡ first_of_line 6 5
-selected_makes = refl
 
 pub reel_is : IsCreate (first_of_line 6 5) CREATE_REEL.now reel
 unfolding understood everything
 reel_is = (refl, refl, (refl, refl), refl)
 
-pub reel_makes : created (first_of_line 6 5) (record reel { tree = 0 }) ≡ first_of_line 7 6
-reel_makes = refl
-
 pub mount_is : IsCreate (first_of_line 7 6) CREATE_MOUNT.now mount
 unfolding understood everything
 mount_is = (refl, refl, (refl, refl), refl)
-
-pub mount_makes : created (first_of_line 7 6) (record mount { tree = 0 }) ≡ first_of_line 8 7
-mount_makes = refl
 
 pub board_is : IsCreate (first_of_line 8 7) CREATE_BOARD.now board
 unfolding understood everything
 board_is = (refl, refl, (refl, refl), refl)
 
-pub board_makes : created (first_of_line 8 7) (record board { tree = 0 }) ≡ first_of_line 9 8
-board_makes = refl
-
 pub placement_is : IsCreate (first_of_line 9 8) CREATE_PLACEMENT.now placement
 unfolding understood everything
 placement_is = (refl, refl, (refl, refl), refl)
-
-pub placement_makes : created (first_of_line 9 8) (record placement { tree = 0 }) ≡ first_of_line 10 9
-placement_makes = refl
 
 pub found_is : (indexed : Layout) → IsCreate (schema_of One indexed) CREATE_FOUND.now (found_by (alone indexed))
 unfolding understood everything
 found_is (Indexed others) = (refl, refl, (refl, refl), refl)
 found_is (Plain others) = (refl, refl, (refl, refl), refl)
-
-pub found_makes : (indexed : Layout) → created (schema_of One indexed) (record (found_by (alone indexed)) { tree = 0 }) ≡ schema_of Two (alone indexed)
-found_makes (Indexed others) = refl
-found_makes (Plain others) = refl
 
 abbrev pub version_terms : List Term
 version_terms = lit (Int (pos 1)) ∷ lit Null ∷ lit (Int (pos 2)) ∷ col 0 0 ∷ []

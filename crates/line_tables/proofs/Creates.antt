@@ -1,5 +1,5 @@
 -- The effect of CREATE TABLE and CREATE INDEX, for any schema that gives the text a meaning.
-use Rattle.std.proofs.Common.{◌≡◌, ◌≢◌, Bool, ◌∷◌, ◌++◌, ◌==◌, not, true, pos, map, ℕ, List, [], false, None, Ok, Result, refl, sym, ap, subst, ◌∙◌}
+use Rattle.std.proofs.Common.{◌≡◌, ◌≢◌, ◌∷◌, ◌++◌, ◌==◌, not, true, pos, map, ℕ, List, [], false, None, Ok, Result, refl, sym, ap, subst, ◌∙◌}
 use Rattle.std.specs.List.{AllByRecursion, list_all}
 use Rattle.sqlite.specs.Table.{Table}
 use Rattle.sqlite.specs.Schema.{Schema}
@@ -66,36 +66,6 @@ creates_bare sql old new schema table is counts ran = record {
       record { schema = grows.schema; empty = bare_more schema _ (record table { tree = next_tree schema }) old.now new.now grows bare };
 }
 
-makes_version : (old new : State) → Runs CREATE_VERSION.now [] old new → Extends (first_of_line 0 0) (first_of_line 1 0) old new
-makes_version old new = creates_bare CREATE_VERSION.now old new (first_of_line 0 0) version version_is refl
-
-makes_accepted : (old new : State) → Runs CREATE_ACCEPTED.now [] old new → Extends (first_of_line 1 0) (first_of_line 2 1) old new
-makes_accepted old new = creates_bare CREATE_ACCEPTED.now old new (first_of_line 1 0) accepted accepted_is refl
-
-makes_part : (old new : State) → Runs CREATE_PART.now [] old new → Extends (first_of_line 2 1) (first_of_line 3 2) old new
-makes_part old new = creates_bare CREATE_PART.now old new (first_of_line 2 1) part part_is refl
-
-makes_alternate : (old new : State) → Runs CREATE_ALTERNATE.now [] old new → Extends (first_of_line 3 2) (first_of_line 4 3) old new
-makes_alternate old new = creates_bare CREATE_ALTERNATE.now old new (first_of_line 3 2) alternate alternate_is refl
-
-makes_sheet_row : (old new : State) → Runs CREATE_SHEET_ROW.now [] old new → Extends (first_of_line 4 3) (first_of_line 5 4) old new
-makes_sheet_row old new = creates_bare CREATE_SHEET_ROW.now old new (first_of_line 4 3) sheet_row sheet_row_is refl
-
-makes_selected : (old new : State) → Runs CREATE_SELECTED.now [] old new → Extends (first_of_line 5 4) (first_of_line 6 5) old new
-makes_selected old new = creates_bare CREATE_SELECTED.now old new (first_of_line 5 4) selected selected_is refl
-
-makes_reel : (old new : State) → Runs CREATE_REEL.now [] old new → Extends (first_of_line 6 5) (first_of_line 7 6) old new
-makes_reel old new = creates_bare CREATE_REEL.now old new (first_of_line 6 5) reel reel_is refl
-
-makes_mount : (old new : State) → Runs CREATE_MOUNT.now [] old new → Extends (first_of_line 7 6) (first_of_line 8 7) old new
-makes_mount old new = creates_bare CREATE_MOUNT.now old new (first_of_line 7 6) mount mount_is refl
-
-makes_board : (old new : State) → Runs CREATE_BOARD.now [] old new → Extends (first_of_line 8 7) (first_of_line 9 8) old new
-makes_board old new = creates_bare CREATE_BOARD.now old new (first_of_line 8 7) board board_is refl
-
-makes_placement : (old new : State) → Runs CREATE_PLACEMENT.now [] old new → Extends (first_of_line 9 8) (first_of_line 10 9) old new
-makes_placement old new = creates_bare CREATE_PLACEMENT.now old new (first_of_line 9 8) placement placement_is refl
-
 pub adds_found : (old new : State) → Runs CREATE_FOUND.now [] old new → AddsFound old new
 adds_found old new ran = record { was_open = ran.shown.was_open; added = by }
   where
@@ -107,16 +77,28 @@ makes_found : (old new : State) → AddsFound old new → Extends (schema_of One
 makes_found old new h = record { was_open = h.was_open; bare = λ bare. let grows = h.added (Plain no_others) bare.schema in record { schema = grows.schema; empty = bare_more (schema_of One (Plain no_others)) line_schema (found_by (Plain no_others)) old.now new.now grows bare } }
 
 pub makes_list : (a b c : State) → Runs CREATE_VERSION.now [] a b → Runs CREATE_ACCEPTED.now [] b c → Extends (first_of_line 0 0) (first_of_line 2 1) a c
-makes_list a b c r1 r2 = extends_then _ _ _ a b c (makes_version a b r1) (makes_accepted b c r2)
+makes_list a b c r1 r2 =
+    let one = creates_bare CREATE_VERSION.now a b (first_of_line 0 0) version version_is refl r1 in
+    let two = creates_bare CREATE_ACCEPTED.now b c (first_of_line 1 0) accepted accepted_is refl r2 in
+    extends_then _ _ _ a b c one two
 
 pub makes_setup : (a b c d e : State) → Runs CREATE_PART.now [] a b → Runs CREATE_ALTERNATE.now [] b c → Runs CREATE_SHEET_ROW.now [] c d → Runs CREATE_SELECTED.now [] d e → Extends (first_of_line 2 1) (first_of_line 6 5) a e
-makes_setup a b c d e r1 r2 r3 r4 = extends_then _ _ _ a d e (extends_then _ _ _ a c d (extends_then _ _ _ a b c (makes_part a b r1) (makes_alternate b c r2)) (makes_sheet_row c d r3)) (makes_selected d e r4)
+makes_setup a b c d e r1 r2 r3 r4 =
+    let one = creates_bare CREATE_PART.now a b (first_of_line 2 1) part part_is refl r1 in
+    let two = creates_bare CREATE_ALTERNATE.now b c (first_of_line 3 2) alternate alternate_is refl r2 in
+    let three = creates_bare CREATE_SHEET_ROW.now c d (first_of_line 4 3) sheet_row sheet_row_is refl r3 in
+    let four = creates_bare CREATE_SELECTED.now d e (first_of_line 5 4) selected selected_is refl r4 in
+    extends_then _ _ _ a d e (extends_then _ _ _ a c d (extends_then _ _ _ a b c one two) three) four
 
 pub makes_floor : (a b c d : State) → Runs CREATE_REEL.now [] a b → Runs CREATE_MOUNT.now [] b c → Runs CREATE_BOARD.now [] c d → Extends (first_of_line 6 5) (first_of_line 9 8) a d
-makes_floor a b c d r1 r2 r3 = extends_then _ _ _ a c d (extends_then _ _ _ a b c (makes_reel a b r1) (makes_mount b c r2)) (makes_board c d r3)
+makes_floor a b c d r1 r2 r3 =
+    let one = creates_bare CREATE_REEL.now a b (first_of_line 6 5) reel reel_is refl r1 in
+    let two = creates_bare CREATE_MOUNT.now b c (first_of_line 7 6) mount mount_is refl r2 in
+    let three = creates_bare CREATE_BOARD.now c d (first_of_line 8 7) board board_is refl r3 in
+    extends_then _ _ _ a c d (extends_then _ _ _ a b c one two) three
 
 pub makes_pieces : (a b c : State) → Runs CREATE_PLACEMENT.now [] a b → AddsFound b c → Extends (first_of_line 9 8) line_schema a c
-makes_pieces a b c r1 r2 = extends_then _ _ _ a b c (makes_placement a b r1) (makes_found b c r2)
+makes_pieces a b c r1 r2 = extends_then _ _ _ a b c (creates_bare CREATE_PLACEMENT.now a b (first_of_line 9 8) placement placement_is refl r1) (makes_found b c r2)
 
 still_bare : (tree : ℕ) (tables : List Table) (old new : Trees) → list_all (λ t. not (t.tree == tree)) tables ≡ true → AllByRecursion (λ t. t.tree ≢ tree → new t.tree ≡ old t.tree) tables → AllByRecursion (λ t. old t.tree ≡ []) tables
     → AllByRecursion (λ t. new t.tree ≡ []) tables

@@ -1,5 +1,5 @@
 -- The effect of the statements on the state tables.
-use Rattle.std.proofs.Common.{◌≡◌, ◌∙◌, inl, inr, ◌||◌, ◌&&◌, ◌==◌, not, if◌then◌else◌, ◌/◌, ℕ, ℤ, pos, Bool, List, [], ◌∷◌, map, drop, length, slice_get, true, false, IsTrue, Option, Some, None, refl, ap, ap₂, subst, sym}
+use Rattle.std.proofs.Common.{◌≡◌, ◌∙◌, ◌+◌, inl, inr, ◌||◌, ◌&&◌, ◌==◌, not, if◌then◌else◌, ◌/◌, ℕ, ℤ, pos, Bool, List, [], ◌∷◌, map, drop, length, slice_get, true, false, IsTrue, Option, Some, None, refl, ap, ap₂, subst, sym}
 use Rattle.std.proofs.lemmas.Bool.{and_parts, and_from}
 use Rattle.sqlite.specs.declared.types.Value.TheVariants.{Null, Int, Real, Text, Blob}
 use Rattle.std.proofs.lemmas.Simd.{map-map}
@@ -48,7 +48,7 @@ use Rattle.line_tables.proofs.Finds.{and_true}
 use Rattle.line_tables.proofs.Altering.{without, put_in, rows_at, found_kept, far_from_found, Alters, alters_then, alters_writes}
 use Rattle.line_tables.proofs.Keyed.{changed, added, one_text, one_pair, one_sheet_place, own_text, own_int, same_pair, same_sheet_place, tells_text, tells_pair, tells_sheet_place}
 use Rattle.line_tables.proofs.Alterations.{deletes, inserts, updates_none, updates_one}
-use Rattle.line_tables.proofs.RowTexts.{IsInsert, part_tests, delete_part_is, alternate_tests, delete_alternate_is, sheet_row_tests, delete_sheet_row_is, mount_tests, delete_mount_is, part_terms, insert_part_is, alternate_terms, insert_alternate_is, sheet_row_terms, insert_sheet_row_is, selected_terms, insert_selected_is, reel_terms, insert_reel_is, board_terms, insert_board_is, found_terms, insert_found_is, mount_terms, insert_mount_is, key_tests, selected_renewed, update_selected_is, reel_renewed, update_reel_is, board_renewed, update_board_is, found_renewed, update_found_is}
+use Rattle.line_tables.proofs.RowTexts.{IsInsert, row_terms, changed_terms, delete_part_is, alternate_tests, delete_alternate_is, sheet_row_tests, delete_sheet_row_is, mount_tests, delete_mount_is, insert_part_is, insert_alternate_is, insert_sheet_row_is, insert_selected_is, insert_reel_is, insert_board_is, insert_found_is, mount_terms, insert_mount_is, key_tests, update_selected_is, update_reel_is, update_board_is, update_found_is}
 use Rattle.line_tables.specs.Line.Layout.{Indexed, Plain}
 use Rattle.line_tables.specs.declared.floor.TheConstants.{DELETE_MOUNT, INSERT_BOARD, INSERT_MOUNT, INSERT_REEL, UPDATE_BOARD, UPDATE_REEL}
 use Rattle.line_tables.specs.declared.pieces.TheConstants.{INSERT_FOUND, UPDATE_FOUND}
@@ -61,8 +61,8 @@ bound_as lent row is = sym (map-map bound_value owned lent) ∙ ap (map bound_va
 module _ (i : Layout) (old new : State) where
   pub takes_part : (p : Name) → Runs DELETE_PART.now (Text p ∷ []) old new → Alters i part (without (has_text 0 p)) old new
   takes_part p ran =
-      deletes i part (has_text 0 p) part_tests (col 1 0 ∷ []) (Text p ∷ []) old new (λ r. and_true _) (λ r. refl) ran.shown.was_open
-      (λ has. delete_does DELETE_PART.now (Text p ∷ []) old new (schema_of Two i) has 2 part part_tests (col 1 0 ∷ []) refl (quiet i 3 refl) (delete_part_is i).1 ran.count ran.executed (delete_part_is i).0)
+      deletes i part (has_text 0 p) key_tests (col 1 0 ∷ []) (Text p ∷ []) old new (λ r. and_true _) (λ r. refl) ran.shown.was_open
+      (λ has. delete_does DELETE_PART.now (Text p ∷ []) old new (schema_of Two i) has 2 part key_tests (col 1 0 ∷ []) refl (quiet i 3 refl) (delete_part_is i).1 ran.count ran.executed (delete_part_is i).0)
 
   pub takes_alternate : (p : Name) (q : Name) → Runs DELETE_ALTERNATE.now (Text p ∷ Text q ∷ []) old new → Alters i alternate (without (has_pair (p, q))) old new
   takes_alternate p q ran =
@@ -80,32 +80,32 @@ module _ (i : Layout) (old new : State) where
       (λ has. delete_does DELETE_MOUNT.now (Text r ∷ []) old new (schema_of Two i) has 7 mount mount_tests (col 1 0 ∷ []) refl (quiet i 13 refl) (delete_mount_is i).1 ran.count ran.executed (delete_mount_is i).0)
 
   -- An insert of values that their columns keep as they are, under the next rowid.
-  puts : (table : Table) (at : ℕ) (terms : List Term) (width : ℕ) (sql : List ℕ) (row : Row) → slice_get (schema_tables Two i) at ≡ Some table → table.is_counted ≡ false → table.stamps.terms ≡ [] → IsInsert sql at terms width → value_rows row width (length terms / width) terms ≡ (Null ∷ row) ∷ []
+  puts : (table : Table) (at count : ℕ) (sql : List ℕ) (row : Row) → slice_get (schema_tables Two i) at ≡ Some table → table.is_counted ≡ false → table.stamps.terms ≡ [] → IsInsert sql at (row_terms count) (count + 1) → value_rows row (count + 1) (length (row_terms count) / (count + 1)) (row_terms count) ≡ (Null ∷ row) ∷ []
       → is_low i table.tree ≡ true → cast_row table (Null ∷ row) ≡ Null ∷ row → ((id : ℤ) → columns table (Int id ∷ row) ≡ row) → Runs sql row old new → Alters i table (λ rows. row ∷ rows) old new
-  puts table at terms width sql row listed uncounted unstamped is single low cast shown ran =
+  puts table at count sql row listed uncounted unstamped is single low cast shown ran =
       inserts i table (Null ∷ row) row (λ rows. Int (next_rowid rows) ∷ row) old new (λ rows. ap (with_rowid Chosen rows) cast) (λ rows. refl) (λ rows. shown (next_rowid rows)) ran.shown.was_open
-      (λ has. subst (λ rows. Inserted (schema_of Two i) table rows old new) single (insert_does sql row old new (schema_of Two i) has at table terms width listed uncounted unstamped (is i).0 (is i).1 ran.count ran.executed (quiet i table.tree low [])))
+      (λ has. subst (λ rows. Inserted (schema_of Two i) table rows old new) single (insert_does sql row old new (schema_of Two i) has at table (row_terms count) (count + 1) listed uncounted unstamped (is i).0 (is i).1 ran.count ran.executed (quiet i table.tree low [])))
 
   pub puts_part : (p : Name) → Runs INSERT_PART.now (part_columns p) old new → Alters i part (λ rows. part_columns p ∷ rows) old new
-  puts_part p = puts part 2 part_terms 2 INSERT_PART.now (part_columns p) refl refl refl insert_part_is refl refl (rw (cast_null) refl) (λ id. refl)
+  puts_part p = puts part 2 1 INSERT_PART.now (part_columns p) refl refl refl insert_part_is refl refl (rw (cast_null) refl) (λ id. refl)
 
   pub puts_alternate : (p : Name) (q : Name) → Runs INSERT_ALTERNATE.now (alternate_columns (p, q)) old new → Alters i alternate (λ rows. alternate_columns (p, q) ∷ rows) old new
-  puts_alternate p q = puts alternate 3 alternate_terms 3 INSERT_ALTERNATE.now (alternate_columns (p, q)) refl refl refl insert_alternate_is refl refl (rw (cast_null) refl) (λ id. refl)
+  puts_alternate p q = puts alternate 3 2 INSERT_ALTERNATE.now (alternate_columns (p, q)) refl refl refl insert_alternate_is refl refl (rw (cast_null) refl) (λ id. refl)
 
   pub puts_sheet_row : (p : Name) (m : Name) (n : ℕ) (row : SheetRow) → Runs INSERT_SHEET_ROW.now (sheet_columns (p, m, n) row) old new → Alters i sheet_row (λ rows. sheet_columns (p, m, n) row ∷ rows) old new
-  puts_sheet_row p m n row = puts sheet_row 4 sheet_row_terms 7 INSERT_SHEET_ROW.now (sheet_columns (p, m, n) row) refl refl refl insert_sheet_row_is refl refl (rw (cast_null, cast_int (pos n)) refl) (λ id. refl)
+  puts_sheet_row p m n row = puts sheet_row 4 6 INSERT_SHEET_ROW.now (sheet_columns (p, m, n) row) refl refl refl insert_sheet_row_is refl refl (rw (cast_null, cast_int (pos n)) refl) (λ id. refl)
 
   pub puts_selected : (m : Name) (p : Name) → Runs INSERT_SELECTED.now (selected_columns m p) old new → Alters i selected (λ rows. selected_columns m p ∷ rows) old new
-  puts_selected m p = puts selected 5 selected_terms 3 INSERT_SELECTED.now (selected_columns m p) refl refl refl insert_selected_is refl refl (rw (cast_null) refl) (λ id. refl)
+  puts_selected m p = puts selected 5 2 INSERT_SELECTED.now (selected_columns m p) refl refl refl insert_selected_is refl refl (rw (cast_null) refl) (λ id. refl)
 
   pub puts_reel : (row : ReelRow) → Runs INSERT_REEL.now (reel_columns row) old new → Alters i reel (λ rows. reel_columns row ∷ rows) old new
-  puts_reel row = puts reel 6 reel_terms 13 INSERT_REEL.now (reel_columns row) refl refl refl insert_reel_is refl refl (rw (cast_null, cast_int (pos row.label), cast_int (pos row.received), cast_int (pos row.placed), cast_int (pos row.scrapped), cast_int (pos row.remaining), cast_int (pos row.used), cast_int (since_or_none row.open_since), cast_int (flag row.baked)) refl) (λ id. refl)
+  puts_reel row = puts reel 6 12 INSERT_REEL.now (reel_columns row) refl refl refl insert_reel_is refl refl (rw (cast_null, cast_int (pos row.label), cast_int (pos row.received), cast_int (pos row.placed), cast_int (pos row.scrapped), cast_int (pos row.remaining), cast_int (pos row.used), cast_int (since_or_none row.open_since), cast_int (flag row.baked)) refl) (λ id. refl)
 
   pub puts_board : (row : BoardRow) → Runs INSERT_BOARD.now (board_columns row) old new → Alters i board (λ rows. board_columns row ∷ rows) old new
-  puts_board row = puts board 8 board_terms 4 INSERT_BOARD.now (board_columns row) refl refl refl insert_board_is refl refl (rw (cast_null) refl) (λ id. refl)
+  puts_board row = puts board 8 3 INSERT_BOARD.now (board_columns row) refl refl refl insert_board_is refl refl (rw (cast_null) refl) (λ id. refl)
 
   pub puts_found : (r : Name) (n : ℕ) → Runs INSERT_FOUND.now (found_columns r n) old new → Alters i (found_by i) (λ rows. found_columns r n ∷ rows) old new
-  puts_found r n = puts (found_by i) 10 found_terms 3 INSERT_FOUND.now (found_columns r n) refl refl refl insert_found_is refl (found_low i) (rw (cast_null, cast_int (pos n)) refl) (λ id. refl)
+  puts_found r n = puts (found_by i) 10 2 INSERT_FOUND.now (found_columns r n) refl refl refl insert_found_is refl (found_low i) (rw (cast_null, cast_int (pos n)) refl) (λ id. refl)
 
   -- The number of a mount is its rowid.
   abbrev mount_kept : MountRow → Row
@@ -200,12 +200,12 @@ mount_put row a c ran =
 pub selected_put : {S : Type 0} (g : Ghosts S) (m p : Name) (a c : State) → ChangesOrPuts g UPDATE_SELECTED.now INSERT_SELECTED.now (selected_columns m p) a c → WritesRow (PutSelected m p) a c
 selected_put g m p a c did =
     alters_writes (PutSelected m p) (λ _. selected) (put_in (has_text 0 m) (selected_columns m p)) a c (λ _. refl) (λ _ _ all. all.1.1.1.0) (λ _ t _ was k new perm. record { parts = k.parts refl; alternates = k.alternates refl; sheets = k.sheets refl; selected = changed (has_text 0) selected_columns (one_text 0) same tells_text m (Some p) _ _ t.selected _ (own_text m, tt) (λ l. refl) perm was.selected; reels = k.reels refl; mounts = k.mounts refl; boards = k.boards refl; placements = k.placements refl; found = k.found refl })
-    (λ i. in_place i selected 5 m (Text p ∷ []) selected_renewed UPDATE_SELECTED.now INSERT_SELECTED.now refl (quiet i 9 refl) (update_selected_is i) (λ r. and_true _) (λ r. refl) (λ id. rw (cast_int id) refl) (λ id. refl) (λ b c. puts_selected i b c m p) g a c did)
+    (λ i. in_place i selected 5 m (Text p ∷ []) (changed_terms 1) UPDATE_SELECTED.now INSERT_SELECTED.now refl (quiet i 9 refl) (update_selected_is i) (λ r. and_true _) (λ r. refl) (λ id. rw (cast_int id) refl) (λ id. refl) (λ b c. puts_selected i b c m p) g a c did)
 
 pub board_put : {S : Type 0} (g : Ghosts S) (row : BoardRow) (a c : State) → ChangesOrPuts g UPDATE_BOARD.now INSERT_BOARD.now (board_columns row) a c → WritesRow (PutBoard row) a c
 board_put g row a c did =
     alters_writes (PutBoard row) (λ _. board) (put_in (has_text 0 row.board) (board_columns row)) a c (λ _. refl) (λ _ _ all. all.1.1.1.1.1.1.0) (λ _ t _ was k new perm. record { parts = k.parts refl; alternates = k.alternates refl; sheets = k.sheets refl; selected = k.selected refl; reels = k.reels refl; mounts = k.mounts refl; boards = changed (has_text 0) (λ _ row. board_columns row) (one_text 0) same tells_text row.board (Some row) _ _ t.boards _ (own_text row.board, tt) (λ l. refl) perm was.boards; placements = k.placements refl; found = k.found refl })
-    (λ i. in_place i board 8 row.board (drop 1 (board_columns row)) board_renewed UPDATE_BOARD.now INSERT_BOARD.now refl (quiet i 15 refl) (update_board_is i) (λ r. and_true _) (λ r. refl) (λ id. rw (cast_int id) refl) (λ id. refl) (λ b c. puts_board i b c row) g a c did)
+    (λ i. in_place i board 8 row.board (drop 1 (board_columns row)) (changed_terms 2) UPDATE_BOARD.now INSERT_BOARD.now refl (quiet i 15 refl) (update_board_is i) (λ r. and_true _) (λ r. refl) (λ id. rw (cast_int id) refl) (λ id. refl) (λ b c. puts_board i b c row) g a c did)
 
 -- The rows of `found` in its tree.
 abbrev AreFound : Layout → Database → (Name → Option ℕ) → Type 0
@@ -225,7 +225,7 @@ pub found_put : {S : Type 0} (g : Ghosts S) (r : Name) (n : ℕ) (a c : State) �
 found_put g r n a c did =
     alters_writes (PutFound r n) found_by (put_in (has_text 0 r) (found_columns r n)) a c found_sole (λ i has all. subst AreApart (found_kept i a.now has) all.1.1.1.1.1.1.1.0)
     (λ i t beside was k new perm. record { parts = k.parts (far_from_found i 3 refl); alternates = k.alternates (far_from_found i 5 refl); sheets = k.sheets (far_from_found i 7 refl); selected = k.selected (far_from_found i 9 refl); reels = k.reels (far_from_found i 11 refl); mounts = k.mounts (far_from_found i 13 refl); boards = k.boards (far_from_found i 15 refl); placements = k.placements (far_from_found i 17 refl); found = from_tree i c.now _ beside.is (changed (has_text 0) found_columns (one_text 0) same tells_text r (Some n) _ _ t.found _ (own_text r, tt) (λ l. refl) perm (to_tree i a.now t.found beside.was was.found)) })
-    (λ i. in_place i (found_by i) 10 r (Int (pos n) ∷ []) found_renewed UPDATE_FOUND.now INSERT_FOUND.now refl (quiet i (found_tree i) (found_low i)) (update_found_is i) (λ r. and_true _) (λ r. refl) (λ id. rw (cast_int id, cast_int (pos n)) refl) (λ id. refl) (λ b c. puts_found i b c r n) g a c did)
+    (λ i. in_place i (found_by i) 10 r (Int (pos n) ∷ []) (changed_terms 1) UPDATE_FOUND.now INSERT_FOUND.now refl (quiet i (found_tree i) (found_low i)) (update_found_is i) (λ r. and_true _) (λ r. refl) (λ id. rw (cast_int id, cast_int (pos n)) refl) (λ id. refl) (λ b c. puts_found i b c r n) g a c did)
 
 reel_kept : (row : ReelRow) (id : ℤ) → cast_row reel (Int id ∷ reel_columns row) ≡ Int id ∷ reel_columns row
 reel_kept row id =
@@ -234,4 +234,4 @@ reel_kept row id =
 pub reel_put : {S : Type 0} (g : Ghosts S) (row : ReelRow) (a c : State) → ChangesOrPuts g UPDATE_REEL.now INSERT_REEL.now (reel_columns row) a c → WritesRow (PutReel row) a c
 reel_put g row a c did =
     alters_writes (PutReel row) (λ _. reel) (put_in (has_text 0 row.reel) (reel_columns row)) a c (λ _. refl) (λ _ _ all. all.1.1.1.1.0) (λ _ t _ was k new perm. record { parts = k.parts refl; alternates = k.alternates refl; sheets = k.sheets refl; selected = k.selected refl; reels = changed (has_text 0) (λ _ row. reel_columns row) (one_text 0) same tells_text row.reel (Some row) _ _ t.reels _ (own_text row.reel, tt) (λ l. refl) perm was.reels; mounts = k.mounts refl; boards = k.boards refl; placements = k.placements refl; found = k.found refl })
-    (λ i. in_place i reel 6 row.reel (drop 1 (reel_columns row)) reel_renewed UPDATE_REEL.now INSERT_REEL.now refl (quiet i 11 refl) (update_reel_is i) (λ r. and_true _) (λ r. refl) (reel_kept row) (λ id. refl) (λ b c. puts_reel i b c row) g a c did)
+    (λ i. in_place i reel 6 row.reel (drop 1 (reel_columns row)) (changed_terms 11) UPDATE_REEL.now INSERT_REEL.now refl (quiet i 11 refl) (update_reel_is i) (λ r. and_true _) (λ r. refl) (reel_kept row) (λ id. refl) (λ b c. puts_reel i b c row) g a c did)

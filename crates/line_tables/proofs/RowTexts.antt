@@ -1,5 +1,5 @@
 -- The meaning of the texts that write the state tables.
-use Rattle.std.proofs.Common.{◌≡◌, Bool, true, false, List, ℕ, [], ◌∷◌, map, codes, refl}
+use Rattle.std.proofs.Common.{◌≡◌, List, ℕ, [], ◌∷◌, map, refl}
 use Rattle.std.specs.List.{range_with_len}
 use Rattle.sqlite.specs.Command.TheVariants.{Insert, Update, Delete}
 use Rattle.sqlite.specs.Source.TheVariants.{Values}
@@ -27,13 +27,21 @@ IsDelete sql at tree tests = (indexed : Layout) → (command_of (understood (sch
 abbrev pub IsInsert : List ℕ → ℕ → List Term → ℕ → Type 0
 IsInsert sql at terms width = (indexed : Layout) → (command_of (understood (schema_of Two indexed) sql) ≡ Insert at (Values terms width)) × IsPlain (understood (schema_of Two indexed) sql)
 
+-- No rowid, followed by this many parameters.
+abbrev pub row_terms : ℕ → List Term
+row_terms columns = lit Null ∷ map (col 0) (range_with_len 0 columns)
+
+-- The old rowid, followed by the old key and this many parameters.
+abbrev pub changed_terms : ℕ → List Term
+changed_terms columns = col 1 0 ∷ col 1 0 ∷ col 1 1 ∷ map (col 0) (range_with_len 1 columns)
+
 abbrev pub is_param : ℕ → ℕ → Term
 is_param place param = op2 (Compare Eq Binary) (col 1 place) (col 0 param)
 
-abbrev pub part_tests : List Term
-part_tests = is_param 1 0 ∷ []
+abbrev pub key_tests : List Term
+key_tests = is_param 1 0 ∷ []
 
-pub delete_part_is : IsDelete DELETE_PART.now 2 3 part_tests
+pub delete_part_is : IsDelete DELETE_PART.now 2 3 key_tests
 unfolding understood everything
 delete_part_is indexed = (refl, (refl, refl))
 
@@ -58,38 +66,23 @@ pub delete_mount_is : IsDelete DELETE_MOUNT.now 7 13 mount_tests
 unfolding understood everything
 delete_mount_is indexed = (refl, (refl, refl))
 
-abbrev pub part_terms : List Term
-part_terms = lit Null ∷ col 0 0 ∷ []
-
-pub insert_part_is : IsInsert INSERT_PART.now 2 part_terms 2
+pub insert_part_is : IsInsert INSERT_PART.now 2 (row_terms 1) 2
 unfolding understood everything
 insert_part_is indexed = (refl, (refl, refl))
 
-abbrev pub alternate_terms : List Term
-alternate_terms = lit Null ∷ col 0 0 ∷ col 0 1 ∷ []
-
-pub insert_alternate_is : IsInsert INSERT_ALTERNATE.now 3 alternate_terms 3
+pub insert_alternate_is : IsInsert INSERT_ALTERNATE.now 3 (row_terms 2) 3
 unfolding understood everything
 insert_alternate_is indexed = (refl, (refl, refl))
 
-abbrev pub sheet_row_terms : List Term
-sheet_row_terms = lit Null ∷ col 0 0 ∷ col 0 1 ∷ col 0 2 ∷ col 0 3 ∷ col 0 4 ∷ col 0 5 ∷ []
-
-pub insert_sheet_row_is : IsInsert INSERT_SHEET_ROW.now 4 sheet_row_terms 7
+pub insert_sheet_row_is : IsInsert INSERT_SHEET_ROW.now 4 (row_terms 6) 7
 unfolding understood everything
 insert_sheet_row_is indexed = (refl, (refl, refl))
 
-abbrev pub selected_terms : List Term
-selected_terms = lit Null ∷ col 0 0 ∷ col 0 1 ∷ []
-
-pub insert_selected_is : IsInsert INSERT_SELECTED.now 5 selected_terms 3
+pub insert_selected_is : IsInsert INSERT_SELECTED.now 5 (row_terms 2) 3
 unfolding understood everything
 insert_selected_is indexed = (refl, (refl, refl))
 
-abbrev pub reel_terms : List Term
-reel_terms = lit Null ∷ col 0 0 ∷ col 0 1 ∷ col 0 2 ∷ col 0 3 ∷ col 0 4 ∷ col 0 5 ∷ col 0 6 ∷ col 0 7 ∷ col 0 8 ∷ col 0 9 ∷ col 0 10 ∷ col 0 11 ∷ []
-
-pub insert_reel_is : IsInsert INSERT_REEL.now 6 reel_terms 13
+pub insert_reel_is : IsInsert INSERT_REEL.now 6 (row_terms 12) 13
 unfolding understood everything
 insert_reel_is indexed = (refl, (refl, refl))
 
@@ -100,17 +93,11 @@ pub insert_mount_is : IsInsert INSERT_MOUNT.now 7 mount_terms 5
 unfolding understood everything
 insert_mount_is indexed = (refl, (refl, refl))
 
-abbrev pub board_terms : List Term
-board_terms = lit Null ∷ col 0 0 ∷ col 0 1 ∷ col 0 2 ∷ []
-
-pub insert_board_is : IsInsert INSERT_BOARD.now 8 board_terms 4
+pub insert_board_is : IsInsert INSERT_BOARD.now 8 (row_terms 3) 4
 unfolding understood everything
 insert_board_is indexed = (refl, (refl, refl))
 
-abbrev pub found_terms : List Term
-found_terms = lit Null ∷ col 0 0 ∷ col 0 1 ∷ []
-
-pub insert_found_is : IsInsert INSERT_FOUND.now 10 found_terms 3
+pub insert_found_is : IsInsert INSERT_FOUND.now 10 (row_terms 2) 3
 unfolding understood everything
 insert_found_is indexed = (refl, (refl, refl))
 
@@ -129,39 +116,23 @@ pub insert_placements_is : IsInsert INSERT_PLACEMENTS.now 9 placements_terms 9
 unfolding understood everything
 insert_placements_is indexed = (refl, (refl, refl))
 
-abbrev pub key_tests : List Term
-key_tests = is_param 1 0 ∷ []
-
 -- The text changes the rows that have the first parameter as key to these terms, in the table with this tree.
 abbrev pub IsUpdate : List ℕ → ℕ → (Layout → ℕ) → List Term → Type 0
 IsUpdate sql at tree renewed = (indexed : Layout) → (command_of (understood (schema_of Two indexed) sql) ≡ Update at (record { lets = []; body = rows_from (tree indexed) key_tests renewed })) × IsPlain (understood (schema_of Two indexed) sql)
 
--- The old rowid, followed by the row.
-abbrev pub selected_renewed : List Term
-selected_renewed = col 1 0 ∷ col 1 0 ∷ col 1 1 ∷ col 0 1 ∷ []
-
-pub update_selected_is : IsUpdate UPDATE_SELECTED.now 5 (λ _. 9) selected_renewed
+pub update_selected_is : IsUpdate UPDATE_SELECTED.now 5 (λ _. 9) (changed_terms 1)
 unfolding understood everything
 update_selected_is indexed = (refl, (refl, refl))
 
-abbrev pub reel_renewed : List Term
-reel_renewed = col 1 0 ∷ col 1 0 ∷ col 1 1 ∷ col 0 1 ∷ col 0 2 ∷ col 0 3 ∷ col 0 4 ∷ col 0 5 ∷ col 0 6 ∷ col 0 7 ∷ col 0 8 ∷ col 0 9 ∷ col 0 10 ∷ col 0 11 ∷ []
-
-pub update_reel_is : IsUpdate UPDATE_REEL.now 6 (λ _. 11) reel_renewed
+pub update_reel_is : IsUpdate UPDATE_REEL.now 6 (λ _. 11) (changed_terms 11)
 unfolding understood everything
 update_reel_is indexed = (refl, (refl, refl))
 
-abbrev pub board_renewed : List Term
-board_renewed = col 1 0 ∷ col 1 0 ∷ col 1 1 ∷ col 0 1 ∷ col 0 2 ∷ []
-
-pub update_board_is : IsUpdate UPDATE_BOARD.now 8 (λ _. 15) board_renewed
+pub update_board_is : IsUpdate UPDATE_BOARD.now 8 (λ _. 15) (changed_terms 2)
 unfolding understood everything
 update_board_is indexed = (refl, (refl, refl))
 
-abbrev pub found_renewed : List Term
-found_renewed = col 1 0 ∷ col 1 0 ∷ col 1 1 ∷ col 0 1 ∷ []
-
-pub update_found_is : IsUpdate UPDATE_FOUND.now 10 found_tree found_renewed
+pub update_found_is : IsUpdate UPDATE_FOUND.now 10 found_tree (changed_terms 1)
 unfolding understood everything
 update_found_is (Indexed others) = (refl, (refl, refl))
 update_found_is (Plain others) = (refl, (refl, refl))
