@@ -17,13 +17,13 @@ use Rattle.desk_types.specs.FloorLife.{out_since, floor_life, minutes_left, is_u
 use Rattle.desk_types.specs.View.{part_of, lot_of, view_of, reel_view, life_left}
 use Rattle.desk_types.specs.Judged.{IsJudged}
 use Rattle.desk_laws.proofs.Balance.{unreceived-empty}
-use Rattle.alike.specs.Alike.{IsSameReel}
-use Rattle.alike.specs.Chain.{quantity_of}
-use Rattle.alike_check.specs.declared.difference.Difference.{Difference}
-use Rattle.alike_check.specs.declared.difference.Difference.TheVariants.{Minute, Part, Alternate, Sheet, Selection, OldWork, NewWork, Board, Reel, Remaining, Received, ReelPart, Lot, Level, Open, Life, Slot}
-use Rattle.alike_check.specs.Difference.{Changes, IsDifference, IsViewDifference, AreViewsDifferent}
-use Rattle.alike_check.specs.Views.{IsSameView, IsCarried, quantity_in}
-use Rattle.alike_check.proofs.SameMinutes.{minutes-same, life-parts}
+use Rattle.desk_laws.specs.Alike.{IsSameReel}
+use Rattle.desk_laws.specs.Chain.{quantity_of}
+use Rattle.chain_check.specs.declared.difference.Difference.{Difference}
+use Rattle.chain_check.specs.declared.difference.Difference.TheVariants.{Minute, Part, Alternate, Sheet, Selection, OldWork, NewWork, Board, Reel, Remaining, Received, ReelPart, Lot, Level, Open, Life, Slot}
+use Rattle.chain_check.specs.Difference.{Changes, IsDifference, IsViewDifference, AreViewsDifferent}
+use Rattle.chain_check.specs.Views.{IsSameView, IsCarried, quantity_in}
+use Rattle.chain_check.proofs.SameMinutes.{minutes-same, life-parts}
 
 -- The reel was received, and this is its view.
 record IsReceived (H : History) (reel : Name) (view : ReelView) : Type 0 where

@@ -4,7 +4,7 @@ use Rattle.std.proofs.Math.Bool.{beq}
 use Rattle.std.specs.Prelude.{not, ◌&&◌, IfNone}
 use Rattle.desk_types.specs.Id.{Name}
 use Rattle.state_rows.specs.Kept.{KeptRows, tables_in}
-use Rattle.alike_check.specs.Tables.{machine_at}
+use Rattle.chain_check.specs.Tables.{machine_at}
 
 abbrev pub SamePart : KeptRows → KeptRows → Name → Type 0
 SamePart old new part = (tables_in old).parts part ≡ (tables_in new).parts part

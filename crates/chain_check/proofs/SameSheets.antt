@@ -18,7 +18,7 @@ use Rattle.desk_types.proofs.Keys.{same-true}
 use Rattle.state_rows.specs.Kept.{KeptRows, tables_in, unnumbered, by_sheet_place, Lists}
 use Rattle.state_rows.proofs.RowLists.{is_at-by_sheet_place}
 use Rattle.feeder_state.proofs.RestoredSheets.{sheet-range}
-use Rattle.alike_check.proofs.Covered.{covered-rows}
+use Rattle.chain_check.proofs.Covered.{covered-rows}
 
 -- A sheet whose first row has this key is the same in both histories.
 abbrev pub SameSheet : History → History → Name × Name × ℕ → Type 0

@@ -10,10 +10,10 @@ use Rattle.desk_types.specs.Judged.{IsJudged}
 use Rattle.desk_types.specs.Work.{is_in_work}
 use Rattle.state_rows.specs.Kept.{KeptRows, tables_in, unnumbered}
 use Rattle.state_rows.proofs.DesksOfRows.{machine_in, in_work-row}
-use Rattle.alike.specs.Alike.{IsIdle}
-use Rattle.alike.specs.Past.{is_started}
-use Rattle.alike_check.specs.Tables.{machine_at}
-use Rattle.alike_check.proofs.StartedBoards.{idle, started-row}
+use Rattle.desk_laws.specs.Alike.{IsIdle}
+use Rattle.desk_laws.specs.Past.{is_started}
+use Rattle.chain_check.specs.Tables.{machine_at}
+use Rattle.chain_check.proofs.StartedBoards.{idle, started-row}
 
 -- Values that are the same in two tables are the same in their histories, and the other way.
 module _ (H H' : History) (old new : KeptRows) (is : unnumbered (tables_in old) ≡ unnumbered (tables_of H)) (is' : unnumbered (tables_in new) ≡ unnumbered (tables_of H')) where

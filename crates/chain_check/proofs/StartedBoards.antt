@@ -10,9 +10,9 @@ use Rattle.desk_types.specs.Tables.{board_row, work_machine}
 use Rattle.desk_types.specs.Judged.{IsJudged}
 use Rattle.desk_laws.proofs.Lookups.{in_work-somewhere}
 use Rattle.state_rows.proofs.DesksOfRows.{machine_in, work-on_row}
-use Rattle.alike.specs.Alike.{IsIdle}
-use Rattle.alike.specs.Past.{is_started}
-use Rattle.alike.proofs.FromAlike.{started-product, unstarted-product}
+use Rattle.desk_laws.specs.Alike.{IsIdle}
+use Rattle.desk_laws.specs.Past.{is_started}
+use Rattle.desk_laws.proofs.FromAlike.{started-product, unstarted-product}
 
 -- ---- boards in work
 

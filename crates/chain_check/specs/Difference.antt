@@ -10,12 +10,12 @@ use Rattle.desk_types.specs.Pieces.{left_of, live_on}
 use Rattle.desk_types.specs.FloorLife.{out_since}
 use Rattle.desk_types.specs.Work.{is_in_work}
 use Rattle.desk_types.specs.View.{part_of, lot_of, life_left, reel_view}
-use Rattle.alike.specs.Past.{is_started}
-use Rattle.alike.specs.Alike.{AreAlike}
-use Rattle.alike.specs.Chain.{Carries, quantity_of}
-use Rattle.alike_check.specs.Views.{quantity_in}
-use Rattle.alike_check.specs.declared.difference.Difference.{Difference}
-use Rattle.alike_check.specs.declared.difference.Difference.TheVariants.{Minute, Part, Alternate, Sheet, Selection, OldWork, NewWork, Board, Reel, Remaining, Received, ReelPart, Lot, Level, Open, Life, Slot}
+use Rattle.desk_laws.specs.Past.{is_started}
+use Rattle.desk_laws.specs.Alike.{AreAlike}
+use Rattle.desk_laws.specs.Chain.{Carries, quantity_of}
+use Rattle.chain_check.specs.Views.{quantity_in}
+use Rattle.chain_check.specs.declared.difference.Difference.{Difference}
+use Rattle.chain_check.specs.declared.difference.Difference.TheVariants.{Minute, Part, Alternate, Sheet, Selection, OldWork, NewWork, Board, Reel, Remaining, Received, ReelPart, Lot, Level, Open, Life, Slot}
 
 -- The value is one on the old desk and another on the new one.
 pub record Changes {X : Type 0} (of_old of_new old new : X) : Type 0 where

@@ -6,8 +6,8 @@ use Rattle.desk_types.specs.Id.{Name}
 use Rattle.desk_types.specs.History.{History}
 use Rattle.desk_types.specs.Setup.{is_part, is_alternate, selected_on}
 use Rattle.state_rows.specs.Kept.{KeptRows, tables_in}
-use Rattle.alike.specs.Alike.{IsIdle}
-use Rattle.alike.specs.Past.{is_started}
+use Rattle.desk_laws.specs.Alike.{IsIdle}
+use Rattle.desk_laws.specs.Past.{is_started}
 
 -- The machine where the board is in work, by its row.
 abbrev pub machine_at : KeptRows → Name → Option Name

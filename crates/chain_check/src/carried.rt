@@ -6,8 +6,8 @@ ghost use Rattle.desk_types.specs.History.{History};
 ghost use Rattle.desk_types.specs.Tables.{tables_of};
 ghost use Rattle.desk_types.specs.View.{reel_view};
 ghost use Rattle.state_rows.specs.Kept.{tables_in, unnumbered};
-ghost use Rattle.alike_check.specs.Difference.{IsReelDifference};
-ghost use Rattle.alike_check.specs.Views.{IsCarried};
+ghost use Rattle.chain_check.specs.Difference.{IsReelDifference};
+ghost use Rattle.chain_check.specs.Views.{IsCarried};
 
 use crate::difference::Difference;
 use crate::views::reel_difference;

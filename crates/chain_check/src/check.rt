@@ -5,8 +5,8 @@ ghost use Rattle.desk_types.specs.Id.{Name};
 ghost use Rattle.desk_types.specs.History.{History};
 ghost use Rattle.desk_types.specs.Pieces.{live_on};
 ghost use Rattle.feeder_state.specs.State.{IsState};
-ghost use Rattle.alike.specs.Chain.{Carries};
-ghost use Rattle.alike_check.specs.Difference.{IsDifference, Refutes};
+ghost use Rattle.desk_laws.specs.Chain.{Carries};
+ghost use Rattle.chain_check.specs.Difference.{IsDifference, Refutes};
 
 use crate::carried::first_reel;
 use crate::difference::Difference;

@@ -7,8 +7,8 @@ ghost use Rattle.desk_types.specs.declared.rules.Rules.TheVariants.{Two};
 ghost use Rattle.desk_types.specs.History.{History};
 ghost use Rattle.desk_types.specs.Judged.{IsJudged};
 ghost use Rattle.desk_types.specs.Tables.{tables_of};
-ghost use Rattle.alike_check.specs.Difference.{IsDifference};
-ghost use Rattle.alike_check.specs.Tables.{machine_at, IsSetupAlike, IsWorkAlike};
+ghost use Rattle.chain_check.specs.Difference.{IsDifference};
+ghost use Rattle.chain_check.specs.Tables.{machine_at, IsSetupAlike, IsWorkAlike};
 
 use crate::difference::Difference;
 use desk_types::Id;

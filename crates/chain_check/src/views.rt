@@ -1,9 +1,9 @@
 //! Differences between the views of a reel.
 
 ghost use Rattle.std.specs.Prelude.{◌≡◌, ◌<◌, Some, IfNone, IfSome};
-ghost use Rattle.alike_check.specs.declared.difference.Difference.TheVariants.{Remaining};
-ghost use Rattle.alike_check.specs.Difference.{IsViewDifference, AreViewsDifferent};
-ghost use Rattle.alike_check.specs.Views.{IsSameView, IsCarried};
+ghost use Rattle.chain_check.specs.declared.difference.Difference.TheVariants.{Remaining};
+ghost use Rattle.chain_check.specs.Difference.{IsViewDifference, AreViewsDifferent};
+ghost use Rattle.chain_check.specs.Views.{IsSameView, IsCarried};
 
 use crate::difference::Difference;
 use desk_types::{Id, ReelView};

@@ -21,9 +21,9 @@ use Rattle.desk_types.specs.History.{History, IsPrefix}
 use Rattle.desk_types.specs.Judged.{IsJudged}
 use Rattle.line_tables.specs.Calls.{has_number}
 use Rattle.line_tables.specs.Rows.{accepted_in}
-use Rattle.line_rows.specs.Rows.{entry_row, rows_of}
+use Rattle.line_replay.specs.Rows.{entry_row, rows_of}
 use Rattle.line_replay.proofs.Tests.{other_number}
-use Rattle.line_prefix.specs.First.{TakesNext, HoldsHistory}
+use Rattle.chain_files.specs.First.{TakesNext, HoldsHistory}
 
 -- ---- numbers
 

@@ -17,16 +17,16 @@ use Rattle.desk_laws.specs.Consistent.{IsConsistent}
 use Rattle.feeder_state.specs.declared.desk.StateDesk.{StateDesk}
 use Rattle.feeder_state.specs.contracts.desk.StateDeskDesk.TheImpl.{ghosts as state}
 use Rattle.line_tables.specs.Rows.{Tables}
-use Rattle.line_rows.specs.Rows.{ledger_tables}
+use Rattle.line_replay.specs.Rows.{ledger_tables}
 use Rattle.line_schema.specs.declared.fault.OpenFault.{OpenFault}
 use Rattle.line_schema.specs.declared.fault.OpenFault.TheVariants as open_fault
-use Rattle.line_prefix.specs.declared.looking.Looked.{Looked}
-use Rattle.line_prefix.specs.Look.{Says}
+use Rattle.chain_files.specs.declared.looking.Looked.{Looked}
+use Rattle.chain_files.specs.Look.{Says}
 use Rattle.desk_file.specs.Files.{HasOursFirst, HasTables, IsWhole}
 use Rattle.desk_file.specs.Refused.{IsFaultFor}
 use Rattle.desk_commands.specs.Closed.{Close, whole, failed, RefusesTo}
-use Rattle.report_texts.specs.Csv.{HasWritten}
-use Rattle.alike.specs.Chain.{DeskFile, IsChain}
+use Rattle.trace_reports.specs.Csv.{HasWritten}
+use Rattle.desk_laws.specs.Chain.{DeskFile, IsChain}
 use Rattle.chain_check.specs.declared.chain.Chain.{Chain}
 use Rattle.chain_check.specs.declared.question.Question.{Question}
 use Rattle.chain_check.specs.Chained.{IsReason, IsSoFar}

@@ -7,7 +7,7 @@ use Rattle.desk_types.specs.History.{History, IsPrefix}
 use Rattle.desk_types.specs.Judged.{IsJudged, IsNext}
 use Rattle.line_tables.specs.Calls.{Reads, has_number}
 use Rattle.line_tables.specs.Rows.{Holds, accepted_in}
-use Rattle.line_rows.specs.Rows.{entry_row, ledger_tables}
+use Rattle.line_replay.specs.Rows.{entry_row, ledger_tables}
 
 -- The desk accepted one more command: the only row of its number is that of an entry that may follow.
 pub record TakesNext {D : Type 0} (StandsFor : D → History → Type 0) (rules : Rules)

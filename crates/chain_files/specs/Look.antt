@@ -5,7 +5,7 @@ use Rattle.desk_types.specs.declared.rules.Rules.TheVariants.{Two}
 use Rattle.desk_types.specs.History.{History, IsPrefix}
 use Rattle.chain_check.specs.declared.question.Question.{Question}
 use Rattle.chain_check.specs.Rows.{asked_of}
-use Rattle.line_prefix.specs.declared.looking.Looked.{Looked}
+use Rattle.chain_files.specs.declared.looking.Looked.{Looked}
 
 -- The desks of the first commands of the history and of all of them, with their numbers, and the pieces that the question
 -- is about.

@@ -7,29 +7,31 @@ ghost use Rattle.desk_file.specs.Refused.{RefusesRun};
 ghost use Rattle.desk_types.specs.History.{History};
 ghost use Rattle.desk_types.specs.Wire.{failures_of};
 ghost use Rattle.feeder_state.specs.contracts.desk.StateDeskDesk.TheImpl.{ghosts as state};
-ghost use Rattle.alike.specs.Chain.{DeskFile};
-ghost use Rattle.report_texts.specs.Csv.{HasWritten};
+ghost use Rattle.desk_laws.specs.Chain.{DeskFile};
+ghost use Rattle.trace_reports.specs.Csv.{HasWritten};
 ghost use Rattle.chain_check.specs.Chained.{IsSoFar};
-ghost use Rattle.line_prefix.specs.Look.{Says};
+ghost use Rattle.chain_files.specs.Look.{Says};
 ghost use Rattle.chain_files.specs.Files.{Adds, Continues, IsRefused, IsWhyStopped, Recalled, Stops, Takes, all_at, close_of, files_in};
 
+use crate::begin::Begin;
 use crate::closed::{ClosedFiles, add_closed};
+use crate::looking::{Looked, look};
 use crate::opener::Fresh;
 use crate::paths::path_at;
-use alike_check::Difference;
-use chain_check::{Chain, ChainFile, Question, ShownDifference, begin_rows, write_rows};
+use chain_check::{
+    Chain, ChainFile, Difference, Question, ShownDifference, begin_rows, write_rows,
+};
+use desk_commands::tell_line;
 use desk_file::{Refusal, close_file, open_desk};
-use desk_runs::tell_line;
 use desk_types::{Desk, Wire};
 use feeder_state::StateDesk;
-use line_prefix::{Begin, Looked, look};
 use line_schema::OpenFault;
-use report_texts::TextWriter;
 use sqlite::{Connection, FileFrom, FileStore, Files};
 use sqlite_disk::Disk;
 use std::alloc::{AllocError, Global};
 use std::fmt;
 use std::io::Write;
+use trace_reports::TextWriter;
 
 /// Why there is no answer.
 #[derive(Drop)]

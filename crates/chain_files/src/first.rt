@@ -7,15 +7,14 @@ ghost use Rattle.desk_types.specs.declared.limits.TheConstants.{MOST_ENTRIES};
 ghost use Rattle.desk_types.specs.Desk.{HasRoom};
 ghost use Rattle.desk_types.specs.History.{History};
 ghost use Rattle.line_tables.specs.Frames.{ReadsOnly};
-ghost use Rattle.line_prefix.specs.First.{IsFirst, TakesNext};
+ghost use Rattle.chain_files.specs.First.{IsFirst, TakesNext};
 
 use desk_types::Rules;
-use line_rows::{Taken, accept_row, rows_tell_lists_apart};
+use line_replay::{Taken, accept_row, rows_tell_lists_apart};
 use line_tables::row_at;
 use sqlite::{Alter, Connection};
-use state_rows::KeepsRows;
+use state_rows::{KeepsRows, TraceLists};
 use std::alloc::Global;
-use trace_lists::TraceLists;
 
 /// Judges the command of this number again. Returns whether it could.
 fn take_row<S: Alter, D: KeepsRows>(

@@ -13,7 +13,7 @@ ghost use Rattle.line_schema.specs.Stands.{ForKept, Kept, Stands, conn_of};
 ghost use Rattle.line_traces.specs.Pieces.{board_trace, lot_trace};
 ghost use Rattle.chain_check.specs.declared.question.Subject.TheVariants.{Reel};
 ghost use Rattle.chain_check.specs.Rows.{asked_of, is_of, pieces_of};
-ghost use Rattle.line_prefix.specs.Look.{Says};
+ghost use Rattle.chain_files.specs.Look.{Says};
 
 use crate::begin::{Begin, begin_of};
 use crate::first::first_desk;

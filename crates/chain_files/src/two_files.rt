@@ -1,8 +1,8 @@
 //! The comparison of two files.
 
 ghost use Rattle.std.specs.Prelude.{◌≡◌, ◌⊎◌, []};
-ghost use Rattle.desk_runs.specs.Told.{TellsUnwritten};
-ghost use Rattle.desk_runs.specs.Wires.{HaveFewFailures};
+ghost use Rattle.desk_commands.specs.Told.{TellsUnwritten};
+ghost use Rattle.desk_commands.specs.Wires.{HaveFewFailures};
 ghost use Rattle.chain_files.specs.Compared.{Finds, NoDesk, Shows};
 ghost use Rattle.chain_files.specs.Files.{files_in};
 
@@ -11,8 +11,7 @@ use crate::closed::ClosedFiles;
 use crate::compared::{Compared, Side};
 use crate::opener::Fresh;
 use crate::telling::tell_found;
-use alike_check::first_difference;
-use chain_check::Question;
+use chain_check::{Question, first_difference};
 use desk_types::Wire;
 use sqlite::FileFrom;
 use sqlite_disk::Disk;

@@ -3,9 +3,9 @@
 ghost use Rattle.std.specs.Prelude.{◌≡◌, ◌⊎◌, ◌≤◌, ◌^◌, ◌<◌, List, ℕ, map, string_bytes};
 ghost use Rattle.std.specs.Io.KnownBytes.{Appends};
 ghost use Rattle.desk_types.specs.Wire.{inner_of, failures_of};
-ghost use Rattle.desk_runs.specs.Told.{unavailable_line, TellsLine};
-ghost use Rattle.desk_runs.specs.Wires.{HaveFewFailures};
-ghost use Rattle.report_texts.specs.Csv.{HasWritten};
+ghost use Rattle.desk_commands.specs.Told.{unavailable_line, TellsLine};
+ghost use Rattle.desk_commands.specs.Wires.{HaveFewFailures};
+ghost use Rattle.trace_reports.specs.Csv.{HasWritten};
 ghost use Rattle.chain_files.specs.Compared.{Shows};
 ghost use Rattle.chain_files.specs.Files.{all_at, files_in};
 ghost use Rattle.chain_files.specs.Stops.{status_of, stop_line};
@@ -18,14 +18,14 @@ use crate::paths::path_at;
 use crate::two_files::alike;
 use crate::words::{Asked, HELP, VERSION, read_words};
 use chain_check::{Question, end_rows};
-use desk_runs::{Exit, send_text, tell, tell_line, unavailable};
+use desk_answers::send;
+use desk_commands::{Exit, send_text, tell, tell_line, unavailable};
 use desk_types::Wire;
-use report_texts::TextWriter;
-use served::send;
 use sqlite::FileFrom;
 use sqlite_disk::Disk;
 use std::alloc::Global;
 use std::io::Write;
+use trace_reports::TextWriter;
 
 /// Runs the program with these arguments. Returns the exit status, and the files that it closed, which clauses name: those
 /// of a recall, or the old file of a comparison, and its new file.

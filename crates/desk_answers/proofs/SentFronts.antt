@@ -3,7 +3,7 @@ use Rattle.std.proofs.Common.{◌+◌, ◌++◌, ℕ, List, Option, sym, subst, 
 use Rattle.std.proofs.Math.Seq.{take-append-add}
 use Rattle.std.specs.Io.KnownBytes.{Appends}
 use Rattle.std.proofs.KnownBytes.{Appends-trans}
-use Rattle.served.specs.Sent.{SendsFront}
+use Rattle.desk_answers.specs.Sent.{SendsFront}
 
 pub front_after : (a b c : Option (List ℕ)) (text more : List ℕ) → Appends a b text → SendsFront b c more → SendsFront a c (text ++ more)
 front_after a b c text more p q =

@@ -4,7 +4,7 @@ use Rattle.std.specs.Io.KnownBytes.{prepend_known}
 use Rattle.desk_types.specs.declared.limits.TheConstants.{BLOCK}
 use Rattle.desk_types.specs.declared.wire.Wire.{Wire}
 use Rattle.desk_types.specs.Wire.{reads_of}
-use Rattle.served.specs.declared.block.Block.{Block}
+use Rattle.desk_answers.specs.declared.block.Block.{Block}
 
 -- The pending bytes, from `at` to `end`, lie in a buffer of full size.
 abbrev pub IsBlock : Block → Type 0

@@ -2,7 +2,7 @@
 use Rattle.std.specs.Prelude.{◌+◌, ◌^◌, ◌<◌, ◌≤◌}
 use Rattle.desk_types.specs.declared.wire.Wire.{Wire}
 use Rattle.desk_types.specs.Wire.{failures_of}
-use Rattle.served.specs.declared.serving.Served.{Served}
+use Rattle.desk_answers.specs.declared.serving.Served.{Served}
 
 -- Nothing was answered yet.
 abbrev pub none_served : Served

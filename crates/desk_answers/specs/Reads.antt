@@ -4,10 +4,10 @@ use Rattle.std.specs.Io.KnownBytes.{Keeps, Consumes, IsAtEnd}
 use Rattle.desk_types.specs.declared.wire.Wire.{Wire}
 use Rattle.desk_types.specs.Wire.{reads_of, failures_of}
 use Rattle.desk_types.specs.declared.limits.TheConstants.{BLOCK}
-use Rattle.served.specs.Block.{IsBlock, pending_bytes, source}
-use Rattle.served.specs.declared.block.Block.{Block}
-use Rattle.served.specs.declared.block.ReadFault.{ReadFault}
-use Rattle.served.specs.declared.block.ReadFault.TheVariants.{Failed, TooMany}
+use Rattle.desk_answers.specs.Block.{IsBlock, pending_bytes, source}
+use Rattle.desk_answers.specs.declared.block.Block.{Block}
+use Rattle.desk_answers.specs.declared.block.ReadFault.{ReadFault}
+use Rattle.desk_answers.specs.declared.block.ReadFault.TheVariants.{Failed, TooMany}
 
 -- The read limit isn't exceeded, and one more failure can be counted.
 pub record MayRead {R : Type 0} (most_reads : ℕ) (wire : Wire R) : Type 0 where

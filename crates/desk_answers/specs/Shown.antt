@@ -2,9 +2,9 @@
 use Rattle.std.specs.Prelude.{◌≡◌, ◌+◌, ◌^◌, ◌<◌, ◌≤◌, Result, OnOk, IfErr}
 use Rattle.desk_types.specs.declared.wire.Wire.{Wire}
 use Rattle.desk_types.specs.Wire.{reads_of, failures_of}
-use Rattle.served.specs.declared.serving.Served.{Served}
-use Rattle.served.specs.declared.serving.ServeFault.{ServeFault}
-use Rattle.served.specs.declared.serving.ServeFault.TheVariants.{Read, Write, TooManyReads}
+use Rattle.desk_answers.specs.declared.serving.Served.{Served}
+use Rattle.desk_answers.specs.declared.serving.ServeFault.{ServeFault}
+use Rattle.desk_answers.specs.declared.serving.ServeFault.TheVariants.{Read, Write, TooManyReads}
 use Rattle.desk_types.specs.declared.limits.TheConstants.{MOST_READS}
 
 -- The counts have room for a whole run.

@@ -2,8 +2,8 @@
 
 ghost use Rattle.std.specs.Prelude.{◌≡◌, ◌+◌, ◌-◌, ◌<◌, ◌≤◌, [], length, drop, slice_range, OnOk};
 ghost use Rattle.desk_types.specs.Wire.{inner_of};
-ghost use Rattle.served.specs.Block.{IsBlock, pending_bytes, fuel};
-ghost use Rattle.served.specs.Reads.{CanCountRead, CountsRead, HasRoom, KeepsSource, MayReadInto, ReadsBehind, ReadsInto, ReadsMore};
+ghost use Rattle.desk_answers.specs.Block.{IsBlock, pending_bytes, fuel};
+ghost use Rattle.desk_answers.specs.Reads.{CanCountRead, CountsRead, HasRoom, KeepsSource, MayReadInto, ReadsBehind, ReadsInto, ReadsMore};
 
 use desk_types::{BLOCK, Wire};
 use std::io::Read;

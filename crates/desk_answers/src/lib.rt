@@ -3,9 +3,15 @@
 #![tactic(auto)]
 
 mod answer;
+mod block;
 mod law;
 mod owner;
+mod sending;
+mod serving;
 
 pub use answer::{Answer, accepted_text};
+pub use block::{Block, ReadFault};
 pub use law::same_messages_are_equal;
 pub use owner::Owner;
+pub use sending::{WriteFailed, send, send_line};
+pub use serving::{ServeFault, Served};

@@ -3,7 +3,7 @@
 ghost use Rattle.std.specs.Prelude.{take, ◌≡◌, ◌+◌, ◌^◌, ◌<◌, ◌++◌, ◌∷◌, [], length, OnOk, OnErr};
 ghost use Rattle.std.specs.Io.KnownBytes.{Appends};
 ghost use Rattle.desk_types.specs.Wire.{inner_of, failures_of};
-ghost use Rattle.served.specs.Sent.{SendsFront};
+ghost use Rattle.desk_answers.specs.Sent.{SendsFront};
 
 use desk_types::{ONE_WRITE, Wire};
 use std::io::Write;

@@ -1,7 +1,7 @@
 //! Counts of answers, and why serving stopped.
 
 ghost use Rattle.std.specs.Prelude.{◌≡◌, ◌+◌, if◌then◌else◌};
-ghost use Rattle.served.specs.Counts.{CanCountOne};
+ghost use Rattle.desk_answers.specs.Counts.{CanCountOne};
 
 /// The number of answers sent, and how many of them are refusals.
 #[derive(Clone, Copy, PartialEq, Eq)]

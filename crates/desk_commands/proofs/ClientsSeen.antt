@@ -2,7 +2,7 @@
 use Rattle.std.proofs.Common.{◌≡◌, ◌≢◌, refl, ◌++◌, ◌∷◌, [], ℕ, List, Option, sym, subst, append_assoc, append-nil}
 use Rattle.std.proofs.lemmas.List.Concat.{flat_map-append}
 use Rattle.std.specs.Prelude.{flat_map}
-use Rattle.desk_runs.specs.Clients.{Event, Exchange, Sees, Serving, ServesAt, ServesOn, Stop, served_all, no_port, no_client, no_line, events_in, events_at, events_on}
+use Rattle.desk_commands.specs.Clients.{Event, Exchange, Sees, Serving, ServesAt, ServesOn, Stop, served_all, no_port, no_client, no_line, events_in, events_at, events_on}
 
 -- The port was open.
 pub all_no_port : served_all ≢ no_port

@@ -22,7 +22,7 @@ use Rattle.desk_types.specs.declared.rules.Rules.TheVariants.{One}
 use Rattle.desk_types.specs.History.{History}
 use Rattle.desk_answers.specs.Ledger.{Ledger}
 use Rattle.line_tables.specs.Calls.{LeavesMigrated}
-use Rattle.line_rows.specs.Rows.{ledger_tables}
+use Rattle.line_replay.specs.Rows.{ledger_tables}
 use Rattle.line_schema.specs.declared.fault.OpenFault.{OpenFault}
 use Rattle.line_schema.specs.declared.fault.OpenFault.TheVariants.{NotADesk, Unavailable}
 use Rattle.feeder_state.specs.declared.desk.StateDesk.{StateDesk}

@@ -1,12 +1,12 @@
 -- The lines of connections, with one more connection.
 use Rattle.std.proofs.Common.{◌≡◌, ◌∙◌, ◌+◌, ◌++◌, ◌∷◌, [], ℕ, List, Option, length, ap, sym, subst, append_assoc, append-nil, length-append, arith}
 use Rattle.std.proofs.lemmas.List.{take-append-le}
-use Rattle.served.proofs.SentFronts.{front_after}
+use Rattle.desk_answers.proofs.SentFronts.{front_after}
 use Rattle.std.specs.Io.KnownBytes.{Appends}
 use Rattle.std.proofs.KnownBytes.{Appends-trans}
-use Rattle.served.specs.Sent.{SendsFront}
-use Rattle.desk_runs.specs.Clients.{Ended}
-use Rattle.desk_runs.specs.Connections.{connection_line, lines_from}
+use Rattle.desk_answers.specs.Sent.{SendsFront}
+use Rattle.desk_commands.specs.Clients.{Ended}
+use Rattle.desk_commands.specs.Connections.{connection_line, lines_from}
 
 pub lines_more : (n : ℕ) (ends : List Ended) (ended : Ended) (number : ℕ) → number ≡ n + length ends → lines_from n (ends ++ ended ∷ []) ≡ lines_from n ends ++ connection_line number ended
 lines_more n [] ended number is =

@@ -6,10 +6,10 @@ use Rattle.desk_answers.specs.Ledger.{Ledger}
 use Rattle.imports.specs.declared.import.Import.{Import}
 use Rattle.http_stream.specs.Answers.{Told}
 use Rattle.http_stream.specs.Stream.{RuleBy}
-use Rattle.desk_runs.specs.Clients.{Serving}
-use Rattle.desk_runs.specs.Connections.{AnswersEach}
-use Rattle.desk_runs.specs.Ends.{FeedEnds, ImportEnds, PrintEnds, ReportEnds, ServingEnds}
-use Rattle.desk_runs.specs.Runs.{AnswersAll, AnswersImport, AnswersUpTo, CutsImport, StaysSame}
+use Rattle.desk_commands.specs.Clients.{Serving}
+use Rattle.desk_commands.specs.Connections.{AnswersEach}
+use Rattle.desk_commands.specs.Ends.{FeedEnds, ImportEnds, PrintEnds, ReportEnds, ServingEnds}
+use Rattle.desk_commands.specs.OpenRuns.{AnswersAll, AnswersImport, AnswersUpTo, CutsImport, StaysSame}
 
 module _ {R W E : Type 0} {reads : R → Option (List ℕ)} {writes : W → Option (List ℕ)} {tells : E → Option (List ℕ)}
     {input input' : Wire R} {output output' : Wire W} {errors errors' : Wire E} {NoDesk NoDesk' : Type 0} {exit : ℕ} where

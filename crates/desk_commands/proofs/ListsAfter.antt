@@ -5,10 +5,10 @@ use Rattle.std.proofs.lemmas.List.{map-append}
 use Rattle.std.proofs.lemmas.List.Folds.{list_any-append}
 use Rattle.desk_answers.specs.Ledger.{Ledger, ForLists}
 use Rattle.desk_types.specs.History.{History}
-use Rattle.served.specs.declared.serving.ServeFault.TheVariants.{Read, Write, TooManyReads}
+use Rattle.desk_answers.specs.declared.serving.ServeFault.TheVariants.{Read, Write, TooManyReads}
 use Rattle.http_stream.specs.Stream.{Rule, RuleBy, AnswersConnection}
-use Rattle.desk_runs.specs.Clients.{Ended, Exchange, ends_of}
-use Rattle.desk_runs.specs.Connections.{Connected, ConnectedEach, is_faulty}
+use Rattle.desk_commands.specs.Clients.{Ended, Exchange, ends_of}
+use Rattle.desk_commands.specs.Connections.{Connected, ConnectedEach, is_faulty}
 
 each_more : (rule : Rule) (H : History) (es : List Exchange) (e : Exchange) (H₁ H₂ : History) → ConnectedEach rule H es H₁ → Connected rule H₁ e H₂ → ConnectedEach rule H (es ++ e ∷ []) H₂
 each_more rule H [] e H₁ H₂ same last = (H₂, subst (λ (G : History). Connected rule G e H₂) same last, refl)

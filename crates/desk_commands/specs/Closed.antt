@@ -22,7 +22,7 @@ use Rattle.feeder_state.specs.declared.desk.StateDesk.{StateDesk}
 use Rattle.feeder_state.specs.contracts.desk.StateDeskDesk.TheImpl.{ghosts as state}
 use Rattle.line_tables.specs.Calls.{LeavesMigrated}
 use Rattle.line_tables.specs.Rows.{Tables, HoldsAt}
-use Rattle.line_rows.specs.Rows.{ledger_tables}
+use Rattle.line_replay.specs.Rows.{ledger_tables}
 use Rattle.line_schema.specs.declared.fault.OpenFault.{OpenFault}
 use Rattle.line_schema.specs.declared.fault.OpenFault.TheVariants.{NotADesk, NotBlank, Unavailable}
 use Rattle.line_schema.specs.declared.store.LineStore.{LineStore}

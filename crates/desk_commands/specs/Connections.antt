@@ -4,11 +4,11 @@ use Rattle.std.specs.List.{list_any}
 use Rattle.std.specs.Io.KnownBytes.{Appends}
 use Rattle.desk_types.specs.History.{History}
 use Rattle.desk_answers.specs.Ledger.{Ledger}
-use Rattle.served.specs.Sent.{SendsFront}
-use Rattle.served.specs.declared.serving.Served.{Served}
-use Rattle.served.specs.declared.serving.ServeFault.TheVariants.{Read, Write, TooManyReads}
+use Rattle.desk_answers.specs.Sent.{SendsFront}
+use Rattle.desk_answers.specs.declared.serving.Served.{Served}
+use Rattle.desk_answers.specs.declared.serving.ServeFault.TheVariants.{Read, Write, TooManyReads}
 use Rattle.http_stream.specs.Stream.{Rule, RuleBy, AnsweredAll, AnsweredFront, AnsweredInto}
-use Rattle.desk_runs.specs.Clients.{Ended, Exchange, Stop, served_all, no_port, no_client, no_line}
+use Rattle.desk_commands.specs.Clients.{Ended, Exchange, Stop, served_all, no_port, no_client, no_line}
 
 -- ---- the history
 

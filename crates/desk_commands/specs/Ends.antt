@@ -9,21 +9,21 @@ use Rattle.desk_types.specs.declared.wire.Wire.{Wire}
 use Rattle.desk_types.specs.History.{History}
 use Rattle.desk_types.specs.Wire.{inner_of, failures_of}
 use Rattle.desk_answers.specs.Ledger.{Ledger}
-use Rattle.served.specs.declared.serving.Served.{Served}
-use Rattle.served.specs.declared.serving.ServeFault.{ServeFault}
-use Rattle.served.specs.declared.serving.ServeFault.TheVariants.{Read}
-use Rattle.served.specs.Counts.{none_served}
-use Rattle.served.specs.Sent.{SendsFront}
-use Rattle.served.specs.Shown.{IsShown}
+use Rattle.desk_answers.specs.declared.serving.Served.{Served}
+use Rattle.desk_answers.specs.declared.serving.ServeFault.{ServeFault}
+use Rattle.desk_answers.specs.declared.serving.ServeFault.TheVariants.{Read}
+use Rattle.desk_answers.specs.Counts.{none_served}
+use Rattle.desk_answers.specs.Sent.{SendsFront}
+use Rattle.desk_answers.specs.Shown.{IsShown}
 use Rattle.desk_feed.specs.Stream.{LeavesNone}
 use Rattle.imports.specs.declared.import.Import.{Import}
 use Rattle.http_stream.specs.Answers.{Told, code_of}
 use Rattle.http_stream.specs.Stream.{RuleBy}
-use Rattle.desk_runs.specs.Clients.{Serving, ends_of}
-use Rattle.desk_runs.specs.Connections.{AnswersEach, TellsConnections}
-use Rattle.desk_runs.specs.Runs.{AnswersAll, AnswersImport, AnswersUpTo, CutsImport, StaysSame}
-use Rattle.desk_runs.specs.Told.{fault_line, report_output, TellsEnd, TellsLine, TellsUnwritten}
-use Rattle.desk_runs.specs.Wires.{FeedsWell, GoesWell}
+use Rattle.desk_commands.specs.Clients.{Serving, ends_of}
+use Rattle.desk_commands.specs.Connections.{AnswersEach, TellsConnections}
+use Rattle.desk_commands.specs.OpenRuns.{AnswersAll, AnswersImport, AnswersUpTo, CutsImport, StaysSame}
+use Rattle.desk_commands.specs.Told.{fault_line, report_output, TellsEnd, TellsLine, TellsUnwritten}
+use Rattle.desk_commands.specs.Wires.{FeedsWell, GoesWell}
 
 -- The lines of the input.
 pub record FeedEnds {R W E : Type 0}

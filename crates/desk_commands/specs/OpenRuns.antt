@@ -5,14 +5,14 @@ use Rattle.desk_types.specs.declared.wire.Wire.{Wire}
 use Rattle.desk_types.specs.History.{History}
 use Rattle.desk_types.specs.Wire.{inner_of}
 use Rattle.desk_answers.specs.Ledger.{Ledger}
-use Rattle.served.specs.declared.serving.Served.{Served}
-use Rattle.served.specs.declared.serving.ServeFault.{ServeFault}
+use Rattle.desk_answers.specs.declared.serving.Served.{Served}
+use Rattle.desk_answers.specs.declared.serving.ServeFault.{ServeFault}
 use Rattle.desk_feed.specs.Stream.{AnsweredAll, AnsweredUpTo}
 use Rattle.imports.specs.declared.fault.ImportFault.{ImportFault}
 use Rattle.imports.specs.declared.import.Import.{Import}
-use Rattle.desk_import.specs.Import.{IsAnswered, IsCutOff, IsSaidBy}
-use Rattle.http_answers.specs.Gateways.{AnswersGet}
-use Rattle.http_answers.specs.Requests.{Reports}
+use Rattle.desk_feed.specs.Import.{IsAnswered, IsCutOff, IsSaidBy}
+use Rattle.gateway_http.specs.Gateways.{AnswersGet}
+use Rattle.gateway_http.specs.Requests.{Reports}
 use Rattle.http_stream.specs.Answers.{Told}
 
 -- ---- lines

@@ -16,10 +16,10 @@ use Rattle.line_schema.specs.Opening.{fault_text}
 use Rattle.line_schema.specs.Stands.{Kept, Stands, state_of}
 use Rattle.desk_file.specs.Files.{Begins, HasOursFirst, MigratedFrom}
 use Rattle.desk_file.specs.Refused.{RefusesMigration, RefusesRun}
-use Rattle.http_answers.specs.Requests.{request_rule}
-use Rattle.desk_runs.specs.Told.{unavailable_line}
-use Rattle.desk_runs.specs.Clients.{Exchange}
-use Rattle.desk_runs.specs.Connections.{AnswersEach}
+use Rattle.gateway_http.specs.Requests.{request_rule}
+use Rattle.desk_commands.specs.Told.{unavailable_line}
+use Rattle.desk_commands.specs.Clients.{Exchange}
+use Rattle.desk_commands.specs.Connections.{AnswersEach}
 use Rattle.gateway_http.specs.Reports.{report_of}
 use Rattle.desk_commands.specs.declared.left.Left.{Left}
 use Rattle.desk_commands.specs.declared.left.Left.TheVariants.{Desk, Migrated, Refused}

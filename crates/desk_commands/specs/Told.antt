@@ -3,15 +3,15 @@ use Rattle.std.specs.Prelude.{◌≡◌, ◌<◌, ◌+◌, ◌⊎◌, ℕ, List,
 use Rattle.std.specs.Io.KnownBytes.{Appends}
 use Rattle.desk_types.specs.declared.wire.Wire.{Wire}
 use Rattle.desk_types.specs.Wire.{inner_of, failures_of}
-use Rattle.served.specs.declared.serving.ServeFault.{ServeFault}
-use Rattle.served.specs.declared.serving.ServeFault.TheVariants.{Read, Write, TooManyReads}
-use Rattle.served.specs.Counts.{none_served}
-use Rattle.served.specs.Sent.{SendsFront}
+use Rattle.desk_answers.specs.declared.serving.ServeFault.{ServeFault}
+use Rattle.desk_answers.specs.declared.serving.ServeFault.TheVariants.{Read, Write, TooManyReads}
+use Rattle.desk_answers.specs.Counts.{none_served}
+use Rattle.desk_answers.specs.Sent.{SendsFront}
 use Rattle.http_stream.specs.Answers.{Told}
 use Rattle.http_stream.specs.declared.response.Kind.{Kind}
 use Rattle.http_stream.specs.declared.response.Kind.TheVariants.{Json, Csv}
-use Rattle.desk_import.specs.declared.options.BadOption.{BadOption}
-use Rattle.desk_import.specs.declared.options.BadOption.TheVariants as option
+use Rattle.desk_feed.specs.declared.options.BadOption.{BadOption}
+use Rattle.desk_feed.specs.declared.options.BadOption.TheVariants as option
 
 -- ---- standard output
 

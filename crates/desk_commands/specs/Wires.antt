@@ -3,7 +3,7 @@ use Rattle.std.specs.Prelude.{◌≡◌, ◌<◌, ◌^◌, ℕ, List, Option}
 use Rattle.std.specs.Io.KnownBytes.{IsAtEnd}
 use Rattle.desk_types.specs.declared.wire.Wire.{Wire}
 use Rattle.desk_types.specs.Wire.{inner_of, reads_of, failures_of}
-use Rattle.served.specs.Shown.{FailsNever}
+use Rattle.desk_answers.specs.Shown.{FailsNever}
 
 -- The writers' counts are so low that each failure of this run can still be counted.
 pub record HaveFewFailures {W E : Type 0} (output : Wire W) (errors : Wire E) : Type 0 where

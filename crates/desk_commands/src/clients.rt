@@ -5,8 +5,8 @@ use std::io::{Read, Write};
 /// The clients of a port, who come one after another. Each has a reader and a writer.
 pub trait Clients {
     ghost use Rattle.std.specs.Prelude.{List, [], ◌∷◌, IfOk, OnOk, OnErr};
-    ghost use Rattle.desk_runs.specs.Clients.{Event, Sees};
-    ghost use Rattle.desk_runs.specs.Clients.Event.{opened, unopened, came, none_came, left};
+    ghost use Rattle.desk_commands.specs.Clients.{Event, Sees};
+    ghost use Rattle.desk_commands.specs.Clients.Event.{opened, unopened, came, none_came, left};
 
     type Reader: Read + Drop;
 

@@ -2,11 +2,11 @@
 
 ghost use Rattle.std.specs.Prelude.{◌≡◌, ◌^◌, ◌<◌};
 ghost use Rattle.desk_types.specs.Wire.{failures_of};
-ghost use Rattle.desk_runs.specs.Told.{fault_line, option_line, unavailable_line, Tells, TellsLine};
+ghost use Rattle.desk_commands.specs.Told.{fault_line, option_line, unavailable_line, Tells, TellsLine};
 
-use desk_import::BadOption;
+use desk_answers::{ServeFault, send, send_line};
+use desk_feed::BadOption;
 use desk_types::Wire;
-use served::{ServeFault, send, send_line};
 use std::io::Write;
 
 /// The end of a run.

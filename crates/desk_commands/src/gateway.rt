@@ -2,19 +2,20 @@
 
 ghost use Rattle.std.specs.Prelude.{◌≡◌, ◌≤◌, None, Some};
 ghost use Rattle.desk_types.specs.declared.limits.TheConstants.{MOST_ENTRIES};
-ghost use Rattle.http_answers.specs.Requests.{request_rule};
+ghost use Rattle.gateway_http.specs.Requests.{request_rule};
 ghost use Rattle.gateway_http.specs.Reports.{report_of};
-ghost use Rattle.desk_runs.specs.Clients.{ServesAt};
-ghost use Rattle.desk_runs.specs.Ends.{ReportEnds, ServingEnds};
-ghost use Rattle.desk_runs.specs.Runs.{AnswersReport};
-ghost use Rattle.desk_runs.specs.Told.{TellsLine};
-ghost use Rattle.desk_runs.specs.Wires.{HaveFewFailures};
+ghost use Rattle.desk_commands.specs.Clients.{ServesAt};
+ghost use Rattle.desk_commands.specs.Ends.{ReportEnds, ServingEnds};
+ghost use Rattle.desk_commands.specs.OpenRuns.{AnswersReport};
+ghost use Rattle.desk_commands.specs.Told.{TellsLine};
+ghost use Rattle.desk_commands.specs.Wires.{HaveFewFailures};
 ghost use Rattle.desk_commands.specs.Runs.{HasNoDesk, LeavesDesk, Refuses, RunsOn};
 
+use crate::clients::Clients;
 use crate::left::Left;
+use crate::port::{serve_port, tell_report};
 use crate::refusal::tell_refusal;
 use desk_file::open_desk;
-use desk_runs::{Clients, serve_port, tell_report};
 use desk_types::Wire;
 use feeder_state::StateDesk;
 use sqlite::{FileFrom, Start};

@@ -2,13 +2,13 @@
 
 ghost use Rattle.std.specs.Prelude.{◌≡◌};
 ghost use Rattle.desk_answers.specs.Ledger.{ForLists};
-ghost use Rattle.desk_runs.specs.Ends.{ImportEnds};
-ghost use Rattle.desk_runs.specs.Told.{unavailable_line, TellsLine};
-ghost use Rattle.desk_runs.specs.Wires.{HaveFewFailures};
+ghost use Rattle.desk_commands.specs.Ends.{ImportEnds};
+ghost use Rattle.desk_commands.specs.Told.{unavailable_line, TellsLine};
+ghost use Rattle.desk_commands.specs.Wires.{HaveFewFailures};
 
 use crate::exit::{Exit, tell_line, unavailable};
 use desk_answers::Owner;
-use desk_import::{Folder, Unread, serve_import};
+use desk_feed::{Folder, Unread, serve_import};
 use desk_types::Wire;
 use imports::Import;
 use std::alloc::Global;

@@ -4,8 +4,8 @@ ghost use Rattle.std.specs.Prelude.{◌+◌, ◌≤◌};
 ghost use Rattle.desk_types.specs.Wire.{reads_of};
 ghost use Rattle.desk_types.specs.declared.limits.TheConstants.{MOST_READS};
 ghost use Rattle.desk_answers.specs.Ledger.{ForLists};
-ghost use Rattle.desk_runs.specs.Ends.{FeedEnds};
-ghost use Rattle.desk_runs.specs.Wires.{HaveFewCounts};
+ghost use Rattle.desk_commands.specs.Ends.{FeedEnds};
+ghost use Rattle.desk_commands.specs.Wires.{HaveFewCounts};
 
 use crate::exit::{Exit, tell_failure};
 use desk_answers::Owner;

@@ -1,16 +1,16 @@
 //! A desk in a file, audited or migrated.
 
 ghost use Rattle.std.specs.Prelude.{◌≡◌, ◌⊎◌, None, ℕ};
-ghost use Rattle.desk_runs.specs.Ends.{PrintEnds};
-ghost use Rattle.desk_runs.specs.Runs.{StaysSame};
-ghost use Rattle.desk_runs.specs.Told.{lawful_line, version_line, TellsLine};
-ghost use Rattle.desk_runs.specs.Wires.{HaveFewFailures};
+ghost use Rattle.desk_commands.specs.Ends.{PrintEnds};
+ghost use Rattle.desk_commands.specs.OpenRuns.{StaysSame};
+ghost use Rattle.desk_commands.specs.Told.{lawful_line, version_line, TellsLine};
+ghost use Rattle.desk_commands.specs.Wires.{HaveFewFailures};
 ghost use Rattle.desk_commands.specs.Runs.{Audits, HasNoDesk, LeavesDesk, LeavesFile, Migrates, Refuses, RefusesToMigrate, RunsOn};
 
 use crate::left::Left;
 use crate::refusal::tell_refusal;
+use crate::texts::{send_text, tell_lawful};
 use desk_file::{migrate_desk, open_desk};
-use desk_runs::{send_text, tell_lawful};
 use desk_types::Wire;
 use feeder_state::StateDesk;
 use sqlite::{FileFrom, Start};

@@ -3,24 +3,24 @@
 ghost use Rattle.std.specs.Prelude.{◌≡◌, ◌+◌, ◌^◌, ◌<◌, ◌≤◌, true, false, OnOk, OnErr};
 ghost use Rattle.std.specs.Io.KnownBytes.{Appends};
 ghost use Rattle.desk_types.specs.Wire.{inner_of, failures_of};
-ghost use Rattle.served.specs.declared.serving.ServeFault.TheVariants.{Read as ReadFault, Write as WriteFault};
-ghost use Rattle.served.specs.Counts.{none_served};
-ghost use Rattle.served.specs.Sent.{SendsFront};
-ghost use Rattle.http_answers.specs.Requests.{request_rule};
+ghost use Rattle.desk_answers.specs.declared.serving.ServeFault.TheVariants.{Read as ReadFault, Write as WriteFault};
+ghost use Rattle.desk_answers.specs.Counts.{none_served};
+ghost use Rattle.desk_answers.specs.Sent.{SendsFront};
+ghost use Rattle.gateway_http.specs.Requests.{request_rule};
 ghost use Rattle.http_stream.specs.Answers.{response_told};
 ghost use Rattle.desk_answers.specs.Ledger.{ForLists};
-ghost use Rattle.desk_runs.specs.Clients.{ServesAt};
-ghost use Rattle.desk_runs.specs.Ends.{ReportEnds, ServingEnds};
-ghost use Rattle.desk_runs.specs.Runs.{AnswersReport};
-ghost use Rattle.desk_runs.specs.Told.{fault_line, report_output, TellsLine};
-ghost use Rattle.desk_runs.specs.Wires.{HaveFewFailures};
+ghost use Rattle.desk_commands.specs.Clients.{ServesAt};
+ghost use Rattle.desk_commands.specs.Ends.{ReportEnds, ServingEnds};
+ghost use Rattle.desk_commands.specs.OpenRuns.{AnswersReport};
+ghost use Rattle.desk_commands.specs.Told.{fault_line, report_output, TellsLine};
+ghost use Rattle.desk_commands.specs.Wires.{HaveFewFailures};
 
 use crate::clients::{Clients, NoClient};
 use crate::exit::{Exit, tell_line};
 use crate::serving::serve_listener;
+use desk_answers::{WriteFailed, send, send_line};
 use desk_types::Wire;
 use gateway_http::{Kind, ReportedOwner, Response, ask};
-use served::{WriteFailed, send, send_line};
 use std::alloc::Global;
 use std::io::Write;
 

@@ -3,18 +3,18 @@
 ghost use Rattle.std.specs.Prelude.{◌≡◌, ◌<◌, ◌+◌, ◌^◌, [], ◌∷◌, None, IfSome, OnOk, OnErr};
 ghost use Rattle.std.specs.Io.KnownBytes.{Appends};
 ghost use Rattle.desk_types.specs.Wire.{inner_of, failures_of};
-ghost use Rattle.served.specs.Sent.{SendsFront};
+ghost use Rattle.desk_answers.specs.Sent.{SendsFront};
 ghost use Rattle.desk_answers.specs.Ledger.{ForLists};
-ghost use Rattle.http_answers.specs.Requests.{request_rule};
-ghost use Rattle.desk_runs.specs.Clients.{Exchange, Sees, Serving, ServesOn, ends_of, events_in};
-ghost use Rattle.desk_runs.specs.Clients.Event.{none_came};
-ghost use Rattle.desk_runs.specs.Connections.{AnswersEach, Connected, TellsConnections, connection_line, fault_word, is_faulty, served_of};
+ghost use Rattle.gateway_http.specs.Requests.{request_rule};
+ghost use Rattle.desk_commands.specs.Clients.{Exchange, Sees, Serving, ServesOn, ends_of, events_in};
+ghost use Rattle.desk_commands.specs.Clients.Event.{none_came};
+ghost use Rattle.desk_commands.specs.Connections.{AnswersEach, Connected, TellsConnections, connection_line, fault_word, is_faulty, served_of};
 
 use crate::clients::Clients;
+use desk_answers::{ServeFault, Served, WriteFailed, send};
 use desk_types::Wire;
 use gateway_http::{ReportedOwner, serve};
 use itoa::Buffer;
-use served::{ServeFault, Served, WriteFailed, send};
 use std::alloc::Global;
 use std::io::Write;
 

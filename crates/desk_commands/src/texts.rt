@@ -3,14 +3,14 @@
 ghost use Rattle.std.specs.Prelude.{◌≡◌, ◌⊎◌};
 ghost use Rattle.std.specs.Io.KnownBytes.{Appends};
 ghost use Rattle.desk_types.specs.Wire.{inner_of};
-ghost use Rattle.served.specs.Sent.{SendsFront};
-ghost use Rattle.desk_runs.specs.Ends.{PrintEnds};
-ghost use Rattle.desk_runs.specs.Told.{lawful_line, unavailable_line, TellsLine, TellsUnwritten};
-ghost use Rattle.desk_runs.specs.Wires.{GoesWell, HaveFewFailures};
+ghost use Rattle.desk_answers.specs.Sent.{SendsFront};
+ghost use Rattle.desk_commands.specs.Ends.{PrintEnds};
+ghost use Rattle.desk_commands.specs.Told.{lawful_line, unavailable_line, TellsLine, TellsUnwritten};
+ghost use Rattle.desk_commands.specs.Wires.{GoesWell, HaveFewFailures};
 
 use crate::exit::{Exit, tell_line, unavailable};
+use desk_answers::send;
 use desk_types::Wire;
-use served::send;
 use std::alloc::Global;
 use std::io::Write;
 

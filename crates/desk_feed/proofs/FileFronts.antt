@@ -15,8 +15,8 @@ use Rattle.imports.specs.File.{Record, records_of, rows_of, file_rows, setup_sai
 use Rattle.imports.specs.declared.import.Content.{Content}
 use Rattle.imports.specs.declared.import.Content.TheVariants.{Sheet, Counts}
 use Rattle.imports.specs.declared.import.Import.{Import}
-use Rattle.desk_import.specs.Folder.{IsRead}
-use Rattle.desk_import.specs.Import.{IsSaidBy}
+use Rattle.desk_feed.specs.Folder.{IsRead}
+use Rattle.desk_feed.specs.Import.{IsSaidBy}
 use Rattle.imports.specs.Import.{rows_said, stamped_by, command_said}
 
 -- ---- reading

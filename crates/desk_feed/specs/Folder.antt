@@ -2,8 +2,8 @@
 use Rattle.std.specs.Prelude.{◌≡◌, ℕ, suc, List, take, Option, IfSome}
 use Rattle.std.specs.declared.io.ErrorKind.{ErrorKind}
 use Rattle.std.specs.declared.io.ErrorKind.TheVariants.{OutOfMemory}
-use Rattle.desk_import.specs.declared.reading.Unread.{Unread}
-use Rattle.desk_import.specs.declared.reading.Unread.TheVariants.{Failed, NoMemory}
+use Rattle.desk_feed.specs.declared.reading.Unread.{Unread}
+use Rattle.desk_feed.specs.declared.reading.Unread.TheVariants.{Failed, NoMemory}
 use Rattle.desk_types.specs.declared.limits.TheConstants.{LONGEST_INPUT}
 
 -- The file's first 1,048,577 bytes, if known: one more than the limit.

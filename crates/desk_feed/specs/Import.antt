@@ -9,8 +9,8 @@ use Rattle.desk_answers.specs.Ledger.{Ledger}
 use Rattle.imports.specs.declared.fault.ImportFault.{ImportFault}
 use Rattle.imports.specs.Answer.{fault_text}
 use Rattle.imports.specs.Import.{command_said}
-use Rattle.served.specs.Sent.{SendsFront}
-use Rattle.served.specs.declared.sending.WriteFailed.{WriteFailed}
+use Rattle.desk_answers.specs.Sent.{SendsFront}
+use Rattle.desk_answers.specs.declared.sending.WriteFailed.{WriteFailed}
 use Rattle.desk_feed.specs.declared.message.AnswerText.{AnswerText}
 use Rattle.desk_feed.specs.declared.message.Verdict.TheVariants.{Faulty, Unavailable}
 use Rattle.desk_feed.specs.Messages.{answer_asked}

@@ -4,8 +4,8 @@ use Rattle.cfx_profile.specs.Fault.{◌>>=◌}
 use Rattle.cfx_profile.specs.Forms.{id_of}
 use Rattle.cfx_profile.specs.Minute.{minute_of}
 use Rattle.desk_types.specs.Id.{Name}
-use Rattle.desk_import.specs.declared.options.BadOption.{BadOption}
-use Rattle.desk_import.specs.declared.options.BadOption.TheVariants as bad
+use Rattle.desk_feed.specs.declared.options.BadOption.{BadOption}
+use Rattle.desk_feed.specs.declared.options.BadOption.TheVariants as bad
 use Rattle.imports.specs.declared.import.Content.TheVariants.{Sheet, Counts}
 use Rattle.imports.specs.declared.import.Import.{Import}
 

@@ -2,8 +2,8 @@
 use Rattle.std.specs.Prelude.{◌≡◌, ℕ, ◌<◌, ◌≤◌, Bool, true, false, All, List, [], ◌∷◌, ◌++◌, length, take, get_or, Option, Some, None, Result, Ok, OnOk}
 use Rattle.std.specs.Io.KnownBytes.{Consumes, IsAtEnd}
 use Rattle.desk_types.specs.declared.wire.Wire.{Wire}
-use Rattle.served.specs.declared.block.Block.{Block}
-use Rattle.served.specs.Block.{fuel, pending_bytes, source}
+use Rattle.desk_answers.specs.declared.block.Block.{Block}
+use Rattle.desk_answers.specs.Block.{fuel, pending_bytes, source}
 use Rattle.desk_feed.specs.Lines.{is_feed, is_empty, without_return, lines_of}
 use Rattle.desk_feed.specs.declared.taking.TheConstants.{LONGEST_RAW}
 use Rattle.desk_feed.specs.declared.taking.RawLine.{RawLine}

@@ -3,16 +3,16 @@
 ghost use Rattle.std.specs.Prelude.{◌≡◌, ◌^◌, ◌<◌, IfOk, OnOk, OnErr};
 ghost use Rattle.desk_types.specs.Wire.{inner_of, failures_of};
 ghost use Rattle.desk_answers.specs.Ledger.{Ledger, ForLists};
-ghost use Rattle.served.specs.Owners.{StaysReady};
-ghost use Rattle.served.specs.Sent.{CountsWrite};
+ghost use Rattle.desk_answers.specs.Owners.{StaysReady};
+ghost use Rattle.desk_answers.specs.Sent.{CountsWrite};
 ghost use Rattle.imports.specs.Import.{command_said};
-ghost use Rattle.desk_import.specs.Import.{after_said, answer_said, AnswersFile};
+ghost use Rattle.desk_feed.specs.Import.{after_said, answer_said, AnswersFile};
 
-use desk_answers::Owner;
-use desk_feed::{AnswerText, LineAnswer, Verdict, answer_command};
+use crate::line::LineAnswer;
+use crate::message::{AnswerText, Verdict, answer_command};
+use desk_answers::{Owner, WriteFailed, send_line};
 use desk_types::Wire;
 use imports::{Import, ImportFault};
-use served::{WriteFailed, send_line};
 use std::alloc::{AllocError, Global};
 use std::io::Write;
 

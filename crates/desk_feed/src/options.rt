@@ -2,7 +2,7 @@
 
 ghost use Rattle.std.specs.Prelude.{◌≡◌, ok_or};
 ghost use Rattle.cfx_profile.specs.Forms.{id_of};
-ghost use Rattle.desk_import.specs.Options.{counts_import, id_in, setup_import, time_in};
+ghost use Rattle.desk_feed.specs.Options.{counts_import, id_in, setup_import, time_in};
 
 use cfx_profile::read_minute;
 use desk_types::{Id, Minute};

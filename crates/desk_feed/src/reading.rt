@@ -1,7 +1,7 @@
 //! Reading the file of an import.
 
 ghost use Rattle.std.specs.Prelude.{IfOk};
-ghost use Rattle.desk_import.specs.Folder.{IsRead};
+ghost use Rattle.desk_feed.specs.Folder.{IsRead};
 
 use desk_types::LONGEST_INPUT;
 use std::alloc::Global;
@@ -14,8 +14,8 @@ const MOST_READ: u64 = LONGEST_INPUT as u64 + 1;
 /// A folder of files.
 pub trait Folder {
     ghost use Rattle.std.specs.Prelude.{◌≡◌, ℕ, List, Option, IfOk, IfErr};
-    ghost use Rattle.desk_import.specs.Folder.{IsRead};
-    ghost use Rattle.desk_import.specs.declared.reading.Unread.TheVariants.{Failed};
+    ghost use Rattle.desk_feed.specs.Folder.{IsRead};
+    ghost use Rattle.desk_feed.specs.declared.reading.Unread.TheVariants.{Failed};
 
     /// The content of the file at a path, if known.
     ghost holds: { Self → List ℕ → Option (List ℕ) };
@@ -41,7 +41,7 @@ pub enum Unread {
 impl From<io::Error> for Unread {
     ghost use Rattle.std.specs.Prelude.{◌≡◌};
     ghost use Rattle.std.specs.IoError.{error_kind};
-    ghost use Rattle.desk_import.specs.Folder.{unread_by};
+    ghost use Rattle.desk_feed.specs.Folder.{unread_by};
 
     ghost from_gives = { λ error unread. unread ≡ unread_by (error_kind error) };
 

@@ -3,13 +3,13 @@
 ghost use Rattle.std.specs.Prelude.{◌≡◌, ◌<◌, ◌++◌, ℕ, List, IfOk, OnOk, OnErr};
 ghost use Rattle.std.specs.Io.KnownBytes.{Keeps};
 ghost use Rattle.desk_types.specs.Wire.{inner_of};
-ghost use Rattle.served.specs.Block.{source, fuel};
-ghost use Rattle.served.specs.Reads.{MayReadInto, ReadsInto};
+ghost use Rattle.desk_answers.specs.Block.{source, fuel};
+ghost use Rattle.desk_answers.specs.Reads.{MayReadInto, ReadsInto};
 ghost use Rattle.desk_feed.specs.Taking.{FallsAtEnd, HasPending, IsFirstFeed, HoldsLine, ReadsInside, TakesNext};
 ghost use Rattle.desk_feed.specs.Lines.{without_return};
 
+use desk_answers::{Block, ReadFault};
 use desk_types::{LONGEST_INPUT, Wire};
-use served::{Block, ReadFault};
 use std::alloc::Global;
 use std::io::Read;
 

@@ -16,9 +16,9 @@ use Rattle.desk_types.specs.Outcome.{change_of, detail_of, reply_to, after_comma
 use Rattle.desk_types.specs.Judged.{IsJudged}
 use Rattle.desk_types.proofs.BothRules.{accepted-by-two, judged-by-two}
 use Rattle.desk_laws.proofs.Accepted.{command-accepted}
-use Rattle.alike.specs.Past.{boards_named, reels_named}
-use Rattle.alike.proofs.Agreeing.{Agree, effective-same, refusal-same, detail-same}
-use Rattle.alike.proofs.AgreeingNext.{agree-next}
+use Rattle.desk_laws.specs.Past.{boards_named, reels_named}
+use Rattle.desk_laws.proofs.Agreeing.{Agree, effective-same, refusal-same, detail-same}
+use Rattle.desk_laws.proofs.AgreeingNext.{agree-next}
 
 -- The desk minute is a minute.
 now-range : (rules : Rules) (H : History) → IsJudged rules H → now_of H ≤ GREATEST_MINUTE

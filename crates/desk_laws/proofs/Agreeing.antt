@@ -30,7 +30,7 @@ use Rattle.desk_types.specs.Refusals.{first_refusal, part_refusal, alternate_ref
 use Rattle.desk_types.specs.Outcome.{reels_of, pieces_of, detail_of}
 use Rattle.desk_laws.proofs.Accepted.{mountable}
 use Rattle.desk_laws.proofs.Lives.{picks-live, designators-live, scrap-live}
-use Rattle.alike.specs.Past.{is_started, boards_named, reels_named}
+use Rattle.desk_laws.specs.Past.{is_started, boards_named, reels_named}
 
 -- What stays of a receipt: the part, the lot, and the moisture level with its label.
 abbrev pub mark : Receipt → Name × (Name × LevelWithLabel)

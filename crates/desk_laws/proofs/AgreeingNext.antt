@@ -24,9 +24,9 @@ use Rattle.desk_laws.proofs.Lives.{live-next}
 use Rattle.desk_laws.proofs.Mounted.{mounted-next}
 use Rattle.desk_laws.proofs.Mounts.{has}
 use Rattle.desk_laws.proofs.ReelsLater.{not-again}
-use Rattle.alike.specs.Past.{is_started}
-use Rattle.alike.proofs.Agreeing.{mark, marks_of, IsSame, Agree, effective-same, picks-same}
-use Rattle.alike.proofs.FloorNext.{is_anew, baked-anew, minutes-next, remaining, remaining-same, life-marked, waiting, unbaked-next, out_after, out-next}
+use Rattle.desk_laws.specs.Past.{is_started}
+use Rattle.desk_laws.proofs.Agreeing.{mark, marks_of, IsSame, Agree, effective-same, picks-same}
+use Rattle.desk_laws.proofs.FloorNext.{is_anew, baked-anew, minutes-next, remaining, remaining-same, life-marked, waiting, unbaked-next, out_after, out-next}
 
 map-or : (said before : Option Receipt) → option_map mark (option_or said before) ≡ option_or (option_map mark said) (option_map mark before)
 map-or None before = refl

@@ -20,7 +20,7 @@ use Rattle.desk_types.proofs.Exposure.{exposure-after, exposure-untouched}
 use Rattle.desk_types.proofs.Keys.{same-true}
 use Rattle.desk_types.proofs.ReelCommands.{IsQuiet-untouched, exposure_starts-quiet}
 use Rattle.desk_types.proofs.RowsCommon.{M, S1, K1, B1, R1, R2, R3, at, received_at, received_at_six, base}
-use Rattle.alike.specs.Alike.{IsSameReel, AreAlike}
+use Rattle.desk_laws.specs.Alike.{IsSameReel, AreAlike}
 
 -- ---- the two desks
 

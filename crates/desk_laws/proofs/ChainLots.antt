@@ -28,7 +28,7 @@ use Rattle.desk_laws.proofs.Judgements.{judged-prefix}
 use Rattle.desk_laws.proofs.Mounts.{has}
 use Rattle.desk_laws.proofs.NameSets.{has-read, has-set, traces-converse}
 use Rattle.desk_laws.proofs.ReelsLater.{receipt-prefix}
-use Rattle.alike.specs.Chain.{DeskFile, Carries, IsChain, origin, receipt_over, lot_over, pieces_over, lots_over, boards_over}
+use Rattle.desk_laws.specs.Chain.{DeskFile, Carries, IsChain, origin, receipt_over, lot_over, pieces_over, lots_over, boards_over}
 
 -- ---- receipts
 

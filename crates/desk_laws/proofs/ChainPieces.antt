@@ -14,7 +14,7 @@ use Rattle.desk_types.proofs.BothRules.{judged-by-two}
 use Rattle.desk_laws.proofs.Balance.{balance, unreceived-empty}
 use Rattle.desk_laws.proofs.Judgements.{judged-prefix}
 use Rattle.desk_laws.proofs.ReelsLater.{receipt-prefix}
-use Rattle.alike.specs.Chain.{DeskFile, quantity_of, Follows, IsChain, new_in, received_over, placed_over, scrapped_over, left_over}
+use Rattle.desk_laws.specs.Chain.{DeskFile, quantity_of, Follows, IsChain, new_in, received_over, placed_over, scrapped_over, left_over}
 
 quantity-none : (o : Option Receipt) → is_some o ≡ false → option_map_or (λ (r : Receipt). r.quantity) o 0 ≡ 0
 quantity-none None none = refl

@@ -3,7 +3,7 @@ use Rattle.std.proofs.Common.{◌≡◌, ◌<◌, sym, ap, ◌∙◌, subst, ari
 use Rattle.std.specs.Prelude.{unwrap_or}
 use Rattle.desk_types.specs.Id.{Name}
 use Rattle.desk_types.specs.History.{History, now_of}
-use Rattle.alike.specs.Alike.{IsSameReel, AreAlike}
+use Rattle.desk_laws.specs.Alike.{IsSameReel, AreAlike}
 
 same-chain : (F G H : History) (reel : Name) → now_of F ≡ now_of G → IsSameReel F G reel → IsSameReel G H reel → IsSameReel F H reel
 same-chain F G H reel now a b = record {

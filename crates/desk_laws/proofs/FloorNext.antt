@@ -19,7 +19,7 @@ use Rattle.desk_types.proofs.Tests.{if-some}
 use Rattle.desk_laws.proofs.Accepted.{received-once}
 use Rattle.desk_laws.proofs.Judgements.{untouched, by-later, by-desk_minute}
 use Rattle.desk_laws.proofs.Openings.{starts-by}
-use Rattle.alike.proofs.Agreeing.{mark, marks_of, marked}
+use Rattle.desk_laws.proofs.Agreeing.{mark, marks_of, marked}
 
 -- ---- exposure
 

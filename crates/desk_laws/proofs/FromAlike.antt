@@ -28,9 +28,9 @@ use Rattle.desk_laws.proofs.BoardsInWork.{work-selected, work-product}
 use Rattle.desk_laws.proofs.Judgements.{untouched}
 use Rattle.desk_laws.proofs.Lookups.{mounted-live, mounted-there, in_work-somewhere}
 use Rattle.desk_laws.proofs.Mounted.{iff}
-use Rattle.alike.specs.Alike.{IsIdle, IsSameReel, AreAlike}
-use Rattle.alike.specs.Past.{is_started, is_spent}
-use Rattle.alike.proofs.Agreeing.{mark, marked, IsSame, Agree, known, left-new}
+use Rattle.desk_laws.specs.Alike.{IsIdle, IsSameReel, AreAlike}
+use Rattle.desk_laws.specs.Past.{is_started, is_spent}
+use Rattle.desk_laws.proofs.Agreeing.{mark, marked, IsSame, Agree, known, left-new}
 
 -- ---- boards
 

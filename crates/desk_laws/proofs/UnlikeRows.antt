@@ -20,7 +20,7 @@ use Rattle.desk_types.specs.FloorLife.{is_out_at, exposure_of}
 use Rattle.desk_types.specs.Refusals.{part_refusal, alternate_refusal, sheet_refusal, definition_refusal, selection_refusal, receipt_refusal, opening_refusal, closing_refusal, mounting_refusal, start_refusal, completion_refusal, install_refusal, scrap_refusal, command_refusal, refusal_of}
 use Rattle.desk_types.specs.Outcome.{replies_to, after_commands}
 use Rattle.desk_types.proofs.RowsCommon.{P, Q, L1, L2, PR, M, S1, S2, K1, K2, B1, R1, R2, at, said, sheet_row, received_at, received, received_at_six, base}
-use Rattle.alike.specs.Alike.{AreAlike}
+use Rattle.desk_laws.specs.Alike.{AreAlike}
 
 -- The history of a desk that got these commands.
 abbrev after : List Stamped → History

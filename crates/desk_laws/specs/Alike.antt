@@ -10,7 +10,7 @@ use Rattle.desk_types.specs.Pieces.{left_of, live_on}
 use Rattle.desk_types.specs.FloorLife.{minutes_left, is_unbaked, out_since}
 use Rattle.desk_types.specs.Work.{in_work_on}
 use Rattle.desk_types.specs.View.{part_of, lot_of}
-use Rattle.alike.specs.Past.{is_started}
+use Rattle.desk_laws.specs.Past.{is_started}
 
 -- No board is in work.
 abbrev pub IsIdle : History → Type 0

@@ -12,7 +12,7 @@ use Rattle.desk_types.specs.Setup.{receipt_of}
 use Rattle.desk_types.specs.Pieces.{left_of, found_of, placed_of, scrapped_of}
 use Rattle.desk_types.specs.Placements.{placements_of, set_of}
 use Rattle.desk_types.specs.Judged.{IsJudged}
-use Rattle.alike.specs.Alike.{AreAlike}
+use Rattle.desk_laws.specs.Alike.{AreAlike}
 
 -- ---- chains
 

@@ -11,9 +11,9 @@ ghost use Rattle.desk_types.specs.History.{History};
 ghost use Rattle.desk_types.specs.Judged.{IsJudged};
 ghost use Rattle.desk_types.specs.Outcome.{replies_to, after_commands};
 ghost use Rattle.desk_types.specs.Placements.{placements_of, lots_of, boards_of};
-ghost use Rattle.alike.specs.Alike.{IsIdle, AreAlike};
-ghost use Rattle.alike.specs.Chain.{DeskFile, IsChain, received_over, placed_over, scrapped_over, left_over, origin, receipt_over, lots_over, boards_over};
-ghost use Rattle.alike.specs.Past.{NamesNothingPast};
+ghost use Rattle.desk_laws.specs.Alike.{IsIdle, AreAlike};
+ghost use Rattle.desk_laws.specs.Chain.{DeskFile, IsChain, received_over, placed_over, scrapped_over, left_over, origin, receipt_over, lots_over, boards_over};
+ghost use Rattle.desk_laws.specs.Past.{NamesNothingPast};
 
 /// Alike desks answer alike: commands that come one after the other get the same replies from both,
 /// however many they are, as long as none names a board that the old desk started, or a reel that was

@@ -9,6 +9,7 @@
 
 mod consistent;
 mod desks;
+mod law;
 mod pieces;
 mod placements;
 mod runs;
@@ -19,6 +20,10 @@ mod traces;
 
 pub use consistent::judged_lists_are_consistent;
 pub use desks::desk_is_consistent;
+pub use law::{
+    alike_desks_answer_alike, alike_desks_chain, chain_keeps_receipts, chain_pieces_balance,
+    chain_recalls_agree,
+};
 pub use pieces::{
     counts_are_exact, mounted_reels_gain_nothing, nothing_is_found_by_rules_one, pieces_balance,
     scraps_are_whole, spent_stays_spent,

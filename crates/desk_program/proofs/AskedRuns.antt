@@ -7,19 +7,19 @@ use Rattle.desk_types.specs.History.{History}
 use Rattle.desk_types.specs.Wire.{inner_of, failures_of}
 use Rattle.desk_answers.specs.Ledger.{Ledger}
 use Rattle.line_schema.specs.declared.fault.OpenFault.{OpenFault}
-use Rattle.served.specs.declared.serving.ServeFault.TheVariants.{Write}
-use Rattle.served.specs.Counts.{none_served}
-use Rattle.served.specs.Sent.{SendsFront}
+use Rattle.desk_answers.specs.declared.serving.ServeFault.TheVariants.{Write}
+use Rattle.desk_answers.specs.Counts.{none_served}
+use Rattle.desk_answers.specs.Sent.{SendsFront}
 use Rattle.imports.specs.declared.import.Import.{Import}
 use Rattle.desk_words.specs.CommandLine.{AsksForAudit, AsksForFeed, AsksForImport, AsksForMigration, AsksForReport, AsksForServing}
 use Rattle.http_stream.specs.Answers.{Told, code_of}
 use Rattle.http_stream.specs.Stream.{RuleBy}
 use Rattle.gateway_http.specs.Reports.{report_of}
-use Rattle.desk_runs.specs.Clients.{Exchange, Serving, ends_of}
-use Rattle.desk_runs.specs.Connections.{AnswersEach, TellsConnections}
-use Rattle.desk_runs.specs.Ends.{FeedEnds, ImportEnds, PrintEnds, ReportEnds, ServingEnds}
-use Rattle.desk_runs.specs.Runs.{AnswersAll, AnswersImport, AnswersReport, AnswersUpTo, CutsImport, StaysSame}
-use Rattle.desk_runs.specs.Told.{lawful_line, report_output, unavailable_line, version_line, TellsLine}
+use Rattle.desk_commands.specs.Clients.{Exchange, Serving, ends_of}
+use Rattle.desk_commands.specs.Connections.{AnswersEach, TellsConnections}
+use Rattle.desk_commands.specs.Ends.{FeedEnds, ImportEnds, PrintEnds, ReportEnds, ServingEnds}
+use Rattle.desk_commands.specs.OpenRuns.{AnswersAll, AnswersImport, AnswersReport, AnswersUpTo, CutsImport, StaysSame}
+use Rattle.desk_commands.specs.Told.{lawful_line, report_output, unavailable_line, version_line, TellsLine}
 use Rattle.desk_commands.specs.declared.left.Left.{Left}
 use Rattle.desk_commands.specs.declared.left.Left.TheVariants as left
 use Rattle.desk_commands.specs.Runs.{HasNoDesk, LeavesDesk, LeavesFile, RunsInMemory, ServesEach}

@@ -12,11 +12,11 @@ use Rattle.desk_answers.specs.Ledger.{Ledger}
 use Rattle.line_schema.specs.declared.fault.OpenFault.{OpenFault}
 use Rattle.imports.specs.declared.import.Import.{Import}
 use Rattle.http_stream.specs.Answers.{Told, code_of}
-use Rattle.served.specs.Sent.{SendsFront}
+use Rattle.desk_answers.specs.Sent.{SendsFront}
 use Rattle.gateway_http.specs.Reports.{report_of}
-use Rattle.desk_runs.specs.Clients.{Serving}
-use Rattle.desk_runs.specs.Runs.{AnswersAll, AnswersImport, AnswersUpTo, CutsImport, StaysSame, AnswersReport}
-use Rattle.desk_runs.specs.Told.{report_output, unavailable_line, TellsEnd, TellsLine}
+use Rattle.desk_commands.specs.Clients.{Serving}
+use Rattle.desk_commands.specs.OpenRuns.{AnswersAll, AnswersImport, AnswersUpTo, CutsImport, StaysSame, AnswersReport}
+use Rattle.desk_commands.specs.Told.{report_output, unavailable_line, TellsEnd, TellsLine}
 use Rattle.desk_commands.specs.declared.left.Left.{Left}
 use Rattle.desk_commands.specs.declared.left.Left.TheVariants as left
 use Rattle.desk_commands.specs.Runs.{ServesEach}

@@ -1,7 +1,7 @@
 //! The files and the ports of the system. Their contents are not known before they are read.
 
-use desk_import::{Folder, Unread, read_file};
-use desk_runs::{Clients, NoClient};
+use desk_commands::{Clients, NoClient};
+use desk_feed::{Folder, Unread, read_file};
 use std::alloc::Global;
 use std::fs::File;
 use std::net::{TcpListener, TcpStream};

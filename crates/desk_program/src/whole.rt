@@ -1,19 +1,18 @@
 //! A whole run of the program, over any files, folder, clients, input and output.
 
 ghost use Rattle.std.specs.Prelude.{◌≡◌, ◌⊎◌, true, is_some, map, string_bytes, IfOk, IfErr, OnSome};
-ghost use Rattle.desk_runs.specs.Clients.{ServesAt};
-ghost use Rattle.desk_runs.specs.Wires.{HaveFewCounts};
+ghost use Rattle.desk_commands.specs.Clients.{ServesAt};
+ghost use Rattle.desk_commands.specs.Wires.{HaveFewCounts};
 ghost use Rattle.desk_commands.specs.Closed.{ClosesLeft, failed, whole};
 ghost use Rattle.desk_program.specs.Program.{AsksForNoServing, ClosesAs, HaveRoom, LeavesAs, Names, NamesFile, ReadsAsked};
 ghost use Rattle.desk_program.specs.Ways.{ways_when_closed, ways_when_open};
 
 use desk_commands::{
-    Left, audit_file, feed_in_file, feed_in_memory, import_in_file, migrate_file, report_in_file,
-    serve_in_file,
+    Clients, Exit, Left, audit_file, bad_option, feed_in_file, feed_in_memory, import_in_file,
+    migrate_file, report_in_file, send_text, serve_in_file, tell, unavailable,
 };
+use desk_feed::Folder;
 use desk_file::{Refusal, close_desk, close_file};
-use desk_import::Folder;
-use desk_runs::{Clients, Exit, bad_option, send_text, tell, unavailable};
 use desk_types::Wire;
 use desk_words::{Asked, read_words};
 use sqlite::{FileFrom, Files, Start};

@@ -4,10 +4,9 @@ mod failing;
 mod lengths;
 mod lines;
 
-use desk_answers::{Answer, Owner};
+use desk_answers::{Answer, Owner, ServeFault, Served};
 use desk_feed::feed;
 use desk_types::{Stamped, Wire};
-use served::{ServeFault, Served};
 use std::alloc::Global;
 use std::io::{Read, Write};
 

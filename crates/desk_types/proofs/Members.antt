@@ -2,25 +2,25 @@
 use Rattle.std.proofs.Common.{◌≡◌, ℕ, Result, Ok, Err, List, [], ◌∷◌, ◌++◌, refl, sym, ap, subst, ◌∙◌, arith}
 use Rattle.std.specs.Prelude.{⊤}
 use Rattle.std.specs.Result.{IsErrAnd}
-use Rattle.stored_texts.specs.Apart.{names_apart, numbers_apart, levels_apart, quantities_fit, pairs_apart, triples_apart, lists_apart, rows_apart, counts_apart}
+use Rattle.desk_types.specs.Apart.{names_apart, numbers_apart, levels_apart, quantities_fit, pairs_apart, triples_apart, lists_apart, rows_apart, counts_apart}
 use Rattle.desk_types.specs.Command.{IsCommand, IsListOf, IsSheetRow, IsCountRow}
 use Rattle.desk_types.specs.Designator.{IsDesignator}
-use Rattle.stored_texts.specs.Fields.{Reads, IsPrefixFree, TripleInRange, triple_fields, number_fields, level_fields, IsNumber, members_of, IsSaidBy}
+use Rattle.desk_types.specs.Fields.{Reads, IsPrefixFree, TripleInRange, triple_fields, number_fields, level_fields, IsNumber, members_of, IsSaidBy}
 use Rattle.desk_types.specs.Id.{Name, IsId}
 use Rattle.desk_types.specs.Level.{IsLabel}
 use Rattle.desk_types.specs.Number.{IsQuantity}
-use Rattle.stored_texts.specs.StoredText.{Field, word_text, name_fields, list_fields, row_fields, count_fields, fields_of}
+use Rattle.desk_types.specs.StoredText.{Field, word_text, name_fields, list_fields, row_fields, count_fields, fields_of}
 use Rattle.desk_types.specs.declared.command.Command.{Command}
 use Rattle.desk_types.specs.declared.command.Command.TheVariants as command
 use Rattle.desk_types.specs.declared.count.CountRow.{CountRow}
 use Rattle.desk_types.specs.declared.level.Level.{Level}
 use Rattle.desk_types.specs.declared.level.Level.TheVariants.{One, Two, TwoA, Three, Four, Five, FiveA, Six}
 use Rattle.desk_types.specs.declared.sheet.SheetRow.{SheetRow}
-use Rattle.stored_texts.specs.declared.fields.Unread.{Unread}
-use Rattle.stored_texts.specs.declared.fields.Unread.TheVariants.{NoMemory, NotStored}
-use Rattle.stored_texts.specs.declared.word.Word.{Word}
-use Rattle.stored_texts.specs.declared.word.Word.TheVariants.{PartDefined, AlternateAllowed, SheetDefined, ProductSelected, ReelReceived, ReelOpened, ReelSealed, ReelBaked, MaterialsLoaded, MaterialsSpliced, MaterialsUnloaded, WorkStarted, WorkCompleted, MaterialsInstalled, MaterialsScrapped, CountsTaken, ClockSet}
-use Rattle.stored_texts.proofs.Words.{word_text-apart}
+use Rattle.desk_types.specs.declared.stored_fields.Unread.{Unread}
+use Rattle.desk_types.specs.declared.stored_fields.Unread.TheVariants.{NoMemory, NotStored}
+use Rattle.desk_types.specs.declared.stored_word.Word.{Word}
+use Rattle.desk_types.specs.declared.stored_word.Word.TheVariants.{PartDefined, AlternateAllowed, SheetDefined, ProductSelected, ReelReceived, ReelOpened, ReelSealed, ReelBaked, MaterialsLoaded, MaterialsSpliced, MaterialsUnloaded, WorkStarted, WorkCompleted, MaterialsInstalled, MaterialsScrapped, CountsTaken, ClockSet}
+use Rattle.desk_types.proofs.Words.{word_text-apart}
 
 abbrev pub word_of : Command → Word
 word_of (command.PartDefined _) = PartDefined

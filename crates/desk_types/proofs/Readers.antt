@@ -4,12 +4,12 @@ use Rattle.std.specs.List.{AllByRecursion}
 use Rattle.std.specs.Result.{IsErrAnd}
 use Rattle.std.proofs.lemmas.List.{length-append}
 use Rattle.std.proofs.lemmas.List.Elements.{recursion_from_All}
-use Rattle.stored_texts.specs.Apart.{front_apart, numbers_apart, lengths_fit}
+use Rattle.desk_types.specs.Apart.{front_apart, numbers_apart, lengths_fit}
 use Rattle.desk_types.specs.Command.{IsListOf}
-use Rattle.stored_texts.specs.Fields.{Reads, IsPrefixFree, AreCounted, IsNumber}
-use Rattle.stored_texts.specs.StoredText.{Field, list_fields}
-use Rattle.stored_texts.specs.declared.fields.Unread.{Unread}
-use Rattle.stored_texts.specs.declared.fields.Unread.TheVariants.{NoMemory, NotStored}
+use Rattle.desk_types.specs.Fields.{Reads, IsPrefixFree, AreCounted, IsNumber}
+use Rattle.desk_types.specs.StoredText.{Field, list_fields}
+use Rattle.desk_types.specs.declared.stored_fields.Unread.{Unread}
+use Rattle.desk_types.specs.declared.stored_fields.Unread.TheVariants.{NoMemory, NotStored}
 
 pub unread_as : {X Y : Type 0} (Is : X → Type 0) (spelling : X → List Field) (IsY : Y → Type 0) (spelling_y : Y → List Field) (of : Y → X)
     → ((y : Y) → IsY y → Is (of y)) → ((y : Y) → spelling_y y ≡ spelling (of y)) → (before after then : List Field) (fault : Unread) (r : Result Y Unread)

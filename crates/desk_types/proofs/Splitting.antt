@@ -4,7 +4,7 @@ use Rattle.std.specs.List.{position_or_len}
 use Rattle.std.proofs.lemmas.Bool.Decides.{nat_tests}
 use Rattle.std.proofs.lemmas.List.Splits.{slice_split_first, slice_split_none, length-slice_split}
 use Rattle.std.proofs.lemmas.List.Sums.{fails_before_first}
-use Rattle.stored_texts.specs.Fields.{fields_in}
+use Rattle.desk_types.specs.Fields.{fields_in}
 
 abbrev is_tab : ℕ → Bool
 is_tab byte = byte == 0x09

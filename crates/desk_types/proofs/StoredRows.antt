@@ -1,7 +1,7 @@
 -- Worked cases of the texts of commands.
 use Rattle.std.proofs.Common.{◌≡◌, [], ◌∷◌, codes, length, refl}
 use Rattle.std.specs.Fmt.{digits}
-use Rattle.stored_texts.specs.StoredText.{stored_text, word_text, words}
+use Rattle.desk_types.specs.StoredText.{stored_text, word_text, words}
 use Rattle.desk_types.specs.declared.command.Command.TheVariants.{SheetDefined, ReelReceived, MaterialsLoaded, CountsTaken}
 use Rattle.desk_types.specs.declared.level.Level.TheVariants.{Three}
 

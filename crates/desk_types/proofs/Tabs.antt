@@ -7,23 +7,23 @@ use Rattle.std.proofs.lemmas.List.Elements.{All-from_get_or, recursion_from_All}
 use Rattle.std.proofs.lemmas.List.Splits.{join_with_byte-slice_split, slice_split_at, slice_split_none}
 use Rattle.std.proofs.lemmas.List.Sums.{AllPass-from_list_all}
 use Rattle.std.proofs.lemmas.Str.Parse.{digit_at}
-use Rattle.stored_texts.specs.Apart.{lengths_fit, quantities_fit, counted_quantities_fit}
+use Rattle.desk_types.specs.Apart.{lengths_fit, quantities_fit, counted_quantities_fit}
 use Rattle.desk_types.specs.Command.{IsCommand, IsListOf, IsSheetRow, IsCountRow}
 use Rattle.desk_types.specs.Designator.{IsDesignator}
-use Rattle.stored_texts.specs.Fields.{fields_in, after_tabs, fields_text, members_of}
+use Rattle.desk_types.specs.Fields.{fields_in, after_tabs, fields_text, members_of}
 use Rattle.desk_types.specs.Id.{IsId}
 use Rattle.desk_types.specs.Level.{text_of}
-use Rattle.stored_texts.specs.StoredText.{Field, word_text, name_fields, list_fields, row_fields, count_fields, fields_of, stored_text}
+use Rattle.desk_types.specs.StoredText.{Field, word_text, name_fields, list_fields, row_fields, count_fields, fields_of, stored_text}
 use Rattle.desk_types.specs.declared.command.Command.{Command}
 use Rattle.desk_types.specs.declared.command.Command.TheVariants.{PartDefined, AlternateAllowed, SheetDefined, ProductSelected, ReelReceived, ReelOpened, ReelSealed, ReelBaked, MaterialsLoaded, MaterialsSpliced, MaterialsUnloaded, WorkStarted, WorkCompleted, MaterialsInstalled, MaterialsScrapped, CountsTaken, ClockSet}
 use Rattle.desk_types.specs.declared.count.CountRow.{CountRow}
 use Rattle.desk_types.specs.declared.level.Level.{Level}
 use Rattle.desk_types.specs.declared.level.Level.TheVariants.{One, Two, TwoA, Three, Four, Five, FiveA, Six}
 use Rattle.desk_types.specs.declared.sheet.SheetRow.{SheetRow}
-use Rattle.stored_texts.specs.declared.word.Word.{Word}
-use Rattle.stored_texts.specs.declared.word.Word.TheVariants as word
+use Rattle.desk_types.specs.declared.stored_word.Word.{Word}
+use Rattle.desk_types.specs.declared.stored_word.Word.TheVariants as word
 use Rattle.desk_types.proofs.Ascii.{printable-marks}
-use Rattle.stored_texts.proofs.Members.{word_of, fields_are, commands_apart, label_fits}
+use Rattle.desk_types.proofs.Members.{word_of, fields_are, commands_apart, label_fits}
 
 abbrev HasNoTab : Field → Type 0
 HasNoTab field = All (λ byte. (byte == 0x09) ≡ false) field

@@ -3,9 +3,9 @@ use Rattle.std.proofs.Common.{◌≡◌, ℕ, ◌<◌, ◌≤◌, ◌^◌, Some,
 use Rattle.std.proofs.lemmas.Fmt.{decimal_injective}
 use Rattle.desk_types.specs.declared.level.Level.{Level}
 use Rattle.desk_types.specs.declared.level.Level.TheVariants.{One, Two, TwoA, Three, Four, Five, FiveA, Six}
-use Rattle.stored_texts.specs.Fields.{IsPrefixFree, PairInRange, pair_fields, TripleInRange, triple_fields, number_fields, level_fields}
+use Rattle.desk_types.specs.Fields.{IsPrefixFree, PairInRange, pair_fields, TripleInRange, triple_fields, number_fields, level_fields}
 use Rattle.desk_types.specs.Level.{text_of, level_of}
-use Rattle.stored_texts.specs.StoredText.{Field, name_fields, list_fields, row_fields, count_fields}
+use Rattle.desk_types.specs.StoredText.{Field, name_fields, list_fields, row_fields, count_fields}
 use Rattle.desk_types.specs.Command.{IsListOf, IsSheetRow, IsCountRow}
 use Rattle.desk_types.specs.Bounds.{IsListLength}
 use Rattle.desk_types.specs.Designator.{IsDesignator}

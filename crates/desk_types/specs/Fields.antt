@@ -1,14 +1,14 @@
 -- Reading a text field by field.
 use Rattle.std.specs.Prelude.{All, flat_map, drop, decimal, length, ◌∷◌, ◌<◌, ◌^◌, ◌≡◌, ℕ, ◌==◌, ⊤, Option, Some, None, Result, Ok, Err, List, [], ◌++◌}
 use Rattle.std.specs.List.{slice_split}
-use Rattle.stored_texts.specs.declared.fields.Unread.{Unread}
-use Rattle.stored_texts.specs.declared.fields.Unread.TheVariants.{NoMemory, NotStored}
+use Rattle.desk_types.specs.declared.stored_fields.Unread.{Unread}
+use Rattle.desk_types.specs.declared.stored_fields.Unread.TheVariants.{NoMemory, NotStored}
 use Rattle.desk_types.specs.declared.level.Level.{Level}
 use Rattle.desk_types.specs.Level.{text_of}
-use Rattle.stored_texts.specs.StoredText.{Field, fields_of, word_text, stored_text}
+use Rattle.desk_types.specs.StoredText.{Field, fields_of, word_text, stored_text}
 use Rattle.desk_types.specs.Command.{IsCommand}
 use Rattle.desk_types.specs.declared.command.Command.{Command}
-use Rattle.stored_texts.specs.declared.word.Word.{Word}
+use Rattle.desk_types.specs.declared.stored_word.Word.{Word}
 
 abbrev pub fields_in : List ℕ → List Field
 fields_in text = slice_split (λ byte. byte == 0x09) text

@@ -5,8 +5,8 @@ use Rattle.desk_types.specs.declared.command.Command.{Command}
 use Rattle.desk_types.specs.declared.command.Command.TheVariants.{PartDefined, AlternateAllowed, SheetDefined, ProductSelected, ReelReceived, ReelOpened, ReelSealed, ReelBaked, MaterialsLoaded, MaterialsSpliced, MaterialsUnloaded, WorkStarted, WorkCompleted, MaterialsInstalled, MaterialsScrapped, CountsTaken, ClockSet}
 use Rattle.desk_types.specs.declared.count.CountRow.{CountRow}
 use Rattle.desk_types.specs.declared.sheet.SheetRow.{SheetRow}
-use Rattle.stored_texts.specs.declared.word.Word.{Word}
-use Rattle.stored_texts.specs.declared.word.Word.TheVariants as word
+use Rattle.desk_types.specs.declared.stored_word.Word.{Word}
+use Rattle.desk_types.specs.declared.stored_word.Word.TheVariants as word
 use Rattle.desk_types.specs.Level.{text_of}
 
 -- A field's bytes.

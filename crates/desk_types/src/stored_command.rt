@@ -2,12 +2,13 @@
 
 ghost use Rattle.std.specs.Prelude.{◌≡◌, IfOk, IfSome, IfNone};
 ghost use Rattle.desk_types.specs.Command.{IsCommand};
-ghost use Rattle.stored_texts.specs.StoredText.{stored_text};
+ghost use Rattle.desk_types.specs.StoredText.{stored_text};
 
-use crate::fields::Unread;
-use crate::reading::whole;
-use crate::writing::fields_text;
-use desk_types::{Command, Text};
+use crate::command::Command;
+use crate::list::Text;
+use crate::stored_fields::Unread;
+use crate::stored_reading::whole;
+use crate::stored_writing::fields_text;
 use std::alloc::{AllocError, Global};
 
 /// A value stored as a text of its own.

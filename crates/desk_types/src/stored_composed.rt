@@ -1,14 +1,17 @@
 //! Composed values: pairs, triples, lists and sheet rows.
 
 ghost use Rattle.std.specs.Prelude.{◌≡◌, ◌∷◌, [], ◌++◌, flat_map, OnOk};
-ghost use Rattle.stored_texts.specs.Apart.{pairs_apart, triples_apart, lists_apart, rows_apart, counts_apart};
+ghost use Rattle.desk_types.specs.Apart.{pairs_apart, triples_apart, lists_apart, rows_apart, counts_apart};
 ghost use Rattle.desk_types.specs.Command.{IsListOf, IsSheetRow, IsCountRow};
-ghost use Rattle.stored_texts.specs.Fields.{Reads, PairInRange, pair_fields, TripleInRange, triple_fields, AreCounted};
-ghost use Rattle.stored_texts.specs.StoredText.{list_fields, row_fields, count_fields};
+ghost use Rattle.desk_types.specs.Fields.{Reads, PairInRange, pair_fields, TripleInRange, triple_fields, AreCounted};
+ghost use Rattle.desk_types.specs.StoredText.{list_fields, row_fields, count_fields};
 
-use crate::fields::{Fields, Unread};
-use crate::value::Stored;
-use desk_types::{Bounded, CountRow, LONGEST_LIST, Listing, SheetRow};
+use crate::count::CountRow;
+use crate::limits::LONGEST_LIST;
+use crate::list::{Bounded, Listing};
+use crate::sheet::SheetRow;
+use crate::stored_fields::{Fields, Unread};
+use crate::stored_value::Stored;
 use std::alloc::{AllocError, Global};
 
 impl<A: Stored, B: Stored> Stored for (A, B) {

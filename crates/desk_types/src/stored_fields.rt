@@ -1,7 +1,7 @@
 //! The fields of a stored text.
 
 ghost use Rattle.std.specs.Prelude.{◌≡◌, ◌∷◌, [], IsTrue, ◌↔◌, MatchOption, position, ◌==◌};
-ghost use Rattle.stored_texts.specs.Fields.{fields_in};
+ghost use Rattle.desk_types.specs.Fields.{fields_in};
 
 use std::alloc::AllocError;
 use std::marker::Model;
@@ -20,7 +20,7 @@ pub enum Unread {
 
 impl From<AllocError> for Unread {
     ghost use Rattle.std.specs.Prelude.{◌≡◌};
-    ghost use Rattle.stored_texts.specs.declared.fields.Unread.TheVariants.{NoMemory};
+    ghost use Rattle.desk_types.specs.declared.stored_fields.Unread.TheVariants.{NoMemory};
 
     ghost from_gives = { λ _ fault. fault ≡ NoMemory };
 
@@ -39,7 +39,7 @@ pub struct Fields<'a> {
 impl<'a> Model for Fields<'a> {
     ghost use Rattle.std.specs.Prelude.{List, ℕ};
     ghost use Rattle.std.specs.Option.{option_copied};
-    ghost use Rattle.stored_texts.specs.Fields.{fields_left};
+    ghost use Rattle.desk_types.specs.Fields.{fields_left};
 
     ghost Value = { List (List ℕ) };
 

@@ -1,11 +1,12 @@
 //! Reading a command from its text.
 
-ghost use Rattle.stored_texts.specs.Fields.{Reads, IsReading, IsSaidBy, members_of};
+ghost use Rattle.desk_types.specs.Fields.{Reads, IsReading, IsSaidBy, members_of};
 
-use crate::fields::{Fields, Unread};
-use crate::value::Stored;
-use crate::word::Word;
-use desk_types::{Command, Moisture};
+use crate::command::Command;
+use crate::level::Moisture;
+use crate::stored_fields::{Fields, Unread};
+use crate::stored_value::Stored;
+use crate::stored_word::Word;
 use std::alloc::Global;
 
 /// Reads a command from the whole text.

@@ -2,16 +2,19 @@
 
 ghost use Rattle.std.specs.Prelude.{◌≡◌, ◌∷◌, [], ⊤, IfOk, IfErr, OnOk, ◌++◌};
 ghost use Rattle.desk_types.specs.Designator.{IsDesignator};
-ghost use Rattle.stored_texts.specs.Fields.{Reads, IsPrefixFree, number_fields, level_fields, IsNumber, after_tabs};
+ghost use Rattle.desk_types.specs.Fields.{Reads, IsPrefixFree, number_fields, level_fields, IsNumber, after_tabs};
 ghost use Rattle.desk_types.specs.Id.{IsId};
 ghost use Rattle.desk_types.specs.Number.{IsQuantity, IsCountedQuantity};
-ghost use Rattle.stored_texts.specs.StoredText.{name_fields};
-ghost use Rattle.stored_texts.specs.declared.fields.Unread.TheVariants.{NotStored};
-ghost use Rattle.stored_texts.specs.Apart.{names_apart, levels_apart, numbers_apart, quantities_fit, counted_quantities_fit};
+ghost use Rattle.desk_types.specs.StoredText.{name_fields};
+ghost use Rattle.desk_types.specs.declared.stored_fields.Unread.TheVariants.{NotStored};
+ghost use Rattle.desk_types.specs.Apart.{names_apart, levels_apart, numbers_apart, quantities_fit, counted_quantities_fit};
 
-use crate::fields::{Fields, TAB, Unread};
-use crate::number::number;
-use desk_types::{CountedQuantity, Designator, Id, Level, Quantity};
+use crate::designator::Designator;
+use crate::id::Id;
+use crate::level::Level;
+use crate::number::{CountedQuantity, Quantity};
+use crate::stored_fields::{Fields, TAB, Unread};
+use crate::stored_number::number;
 use itoa::Buffer;
 use std::alloc::{AllocError, Global};
 

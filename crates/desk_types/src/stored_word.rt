@@ -2,7 +2,7 @@
 
 ghost use Rattle.std.specs.Prelude.{◌≡◌, find, option_map, IfSome, IfNone};
 ghost use Rattle.desk_types.specs.Id.{same};
-ghost use Rattle.stored_texts.specs.StoredText.{word_text};
+ghost use Rattle.desk_types.specs.StoredText.{word_text};
 
 /// The kind of command, in a stored text or a message.
 #[derive(Clone, Copy, PartialEq, Eq)]

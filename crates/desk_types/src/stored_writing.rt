@@ -1,12 +1,12 @@
 //! Writing a command as text.
 
 ghost use Rattle.std.specs.Prelude.{◌≡◌, ◌∷◌, ◌++◌, IfOk, OnOk};
-ghost use Rattle.stored_texts.specs.Fields.{after_tabs, members_of, fields_text};
-ghost use Rattle.stored_texts.specs.StoredText.{fields_of, word_text};
+ghost use Rattle.desk_types.specs.Fields.{after_tabs, members_of, fields_text};
+ghost use Rattle.desk_types.specs.StoredText.{fields_of, word_text};
 
-use crate::value::Stored;
-use crate::word::Word;
-use desk_types::Command;
+use crate::command::Command;
+use crate::stored_value::Stored;
+use crate::stored_word::Word;
 use std::alloc::{AllocError, Global};
 
 /// Returns the command's fields, separated by tabs.

@@ -9,9 +9,9 @@ use Rattle.clap.specs.Walk.{Row, Rule, first_of}
 use Rattle.clap.specs.declared.error.kind.ErrorKind.{ErrorKind}
 use Rattle.clap.specs.declared.error.kind.ErrorKind.TheVariants.{DisplayHelp, DisplayVersion}
 use Rattle.desk_types.specs.declared.limits.TheConstants.{MOST_CONNECTIONS, MOST_ENTRIES, MOST_PORT}
-use Rattle.desk_import.specs.declared.options.BadOption.{BadOption}
+use Rattle.desk_feed.specs.declared.options.BadOption.{BadOption}
 use Rattle.imports.specs.declared.import.Import.{Import}
-use Rattle.desk_import.specs.Options.{counts_import, setup_import}
+use Rattle.desk_feed.specs.Options.{counts_import, setup_import}
 use Rattle.desk_words.specs.declared.command_line.Asked.{Asked}
 use Rattle.desk_words.specs.declared.command_line.Asked.TheVariants.{Feed, Serve, Report, Audit, Migrate, Import as ToImport, BadOption as OfBadOption, Text, Bad}
 

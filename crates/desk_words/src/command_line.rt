@@ -11,7 +11,7 @@ ghost use Rattle.desk_words.specs.CommandLine.{audit_shape, bare, commands, coun
 
 use clap::error::ErrorKind;
 use clap::{Arg, ArgMatches};
-use desk_import::{BadOption, counts_import, setup_import};
+use desk_feed::{BadOption, counts_import, setup_import};
 use desk_types::{MOST_CONNECTIONS, MOST_ENTRIES, MOST_PORT};
 use imports::Import;
 use std::alloc::{AllocError, Global};

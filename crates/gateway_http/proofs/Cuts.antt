@@ -4,7 +4,7 @@ use Rattle.std.proofs.lemmas.Bool.Decides.{nat_tests}
 use Rattle.std.proofs.lemmas.List.{take_all, drop_all, length-drop}
 use Rattle.std.specs.Prelude.{nat_lt}
 use Rattle.std.specs.List.{position, position_or_len}
-use Rattle.http_routes.specs.Asked.{is_mark, path_of, query_of}
+use Rattle.gateway_http.specs.Asked.{is_mark, path_of, query_of}
 
 place-some : (target : List ℕ) (n : ℕ) → position is_mark target ≡ Some n → position_or_len is_mark target ≡ n
 place-some target n = by (nat_lt (position_or_len is_mark target) (length target))

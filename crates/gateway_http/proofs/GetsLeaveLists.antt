@@ -3,21 +3,21 @@ use Rattle.std.proofs.Common.{◌≡◌, ◌∙◌, ℕ, List, [], Option, Some,
 use Rattle.std.specs.Prelude.{⊤}
 use Rattle.cfx_profile.specs.Fault.{◌>>=◌}
 use Rattle.desk_answers.specs.Ledger.{Ledger}
-use Rattle.http_routes.specs.Asked.{asked_of, asked_at, by_method, path_of, query_of, id_in, detail_in, boards_in}
-use Rattle.http_routes.specs.Routes.{route_of}
-use Rattle.http_routes.specs.declared.asked.Asked.{Asked}
-use Rattle.http_routes.specs.declared.asked.Asked.TheVariants as asks
-use Rattle.http_routes.specs.declared.fault.AskFault.{AskFault}
-use Rattle.http_routes.specs.declared.fault.AskFault.TheVariants.{NoPath}
-use Rattle.http_routes.specs.declared.parameter.Parameter.TheVariants as parameter
-use Rattle.http_routes.specs.declared.routes.Route.{Route}
-use Rattle.http_routes.specs.declared.routes.Route.TheVariants.{Messages, ImportSetup, ImportCounts, TraceBoard, TraceLot, Reel, Slots, Kit, Overdue}
+use Rattle.gateway_http.specs.Asked.{asked_of, asked_at, by_method, path_of, query_of, id_in, detail_in, boards_in}
+use Rattle.gateway_http.specs.Routes.{route_of}
+use Rattle.gateway_http.specs.declared.asked.Asked.{Asked}
+use Rattle.gateway_http.specs.declared.asked.Asked.TheVariants as asks
+use Rattle.gateway_http.specs.declared.fault.AskFault.{AskFault}
+use Rattle.gateway_http.specs.declared.fault.AskFault.TheVariants.{NoPath}
+use Rattle.gateway_http.specs.declared.parameter.Parameter.TheVariants as parameter
+use Rattle.gateway_http.specs.declared.routes.Route.{Route}
+use Rattle.gateway_http.specs.declared.routes.Route.TheVariants.{Messages, ImportSetup, ImportCounts, TraceBoard, TraceLot, Reel, Slots, Kit, Overdue}
 use Rattle.http_stream.specs.Answers.{Told}
 use Rattle.http_stream.specs.Stream.{AnswersRequest, request_outcome}
 use Rattle.desk_types.specs.History.{History}
-use Rattle.http_answers.specs.Gateways.{AnswersGet}
-use Rattle.http_answers.specs.Repeats.{get_of}
-use Rattle.http_answers.specs.Requests.{Reports, asked_outcome, outcome_of, request_rule}
+use Rattle.gateway_http.specs.Gateways.{AnswersGet}
+use Rattle.gateway_http.specs.Repeats.{get_of}
+use Rattle.gateway_http.specs.Requests.{Reports, asked_outcome, outcome_of, request_rule}
 
 -- The request is for a report, or has a fault.
 abbrev Asks : Result Asked AskFault → Type 0

@@ -6,8 +6,8 @@ use Rattle.matchit.specs.Rows.{RowsOf, param_token, catch_all_token}
 use Rattle.matchit.specs.Level.{IsText}
 use Rattle.matchit.specs.Seek.{seek, first, own, step, param_step, or_else, same_text, has_slash}
 use Rattle.desk_types.specs.Id.{same}
-use Rattle.http_routes.specs.declared.routes.Route.{Route}
-use Rattle.http_routes.specs.Routes.{route_path, row, routes, table, route_of}
+use Rattle.gateway_http.specs.declared.routes.Route.{Route}
+use Rattle.gateway_http.specs.Routes.{route_path, row, routes, table, route_of}
 
 module _ {K : Type 0} where
   -- No row has a parameter.

@@ -6,9 +6,9 @@ use lib.Utf8.{encode}
 use Rattle.std.proofs.lemmas.Str.{IsUtf8-from_is_utf8}
 use Rattle.std.proofs.lemmas.Slice.Eq.{bytes_eq-Decides}
 use Rattle.desk_types.specs.Id.{same}
-use Rattle.http_routes.specs.declared.routes.Route.{Route}
-use Rattle.http_routes.specs.declared.routes.Route.TheVariants.{Messages, ImportSetup, ImportCounts, TraceBoard, TraceLot, Reel, Slots, Kit, Overdue}
-use Rattle.http_routes.specs.Routes.{route_path, routes, route_of}
+use Rattle.gateway_http.specs.declared.routes.Route.{Route}
+use Rattle.gateway_http.specs.declared.routes.Route.TheVariants.{Messages, ImportSetup, ImportCounts, TraceBoard, TraceLot, Reel, Slots, Kit, Overdue}
+use Rattle.gateway_http.specs.Routes.{route_path, routes, route_of}
 
 path-text : (route : Route) → IsUtf8 (route_path route)
 unfolding is_utf8 chars encode

@@ -9,15 +9,15 @@ use Rattle.desk_answers.specs.Commands.{command_after, earlier_answer, is_refuse
 use Rattle.desk_answers.specs.Ledger.{Ledger}
 use Rattle.desk_answers.specs.declared.answer.Answer.{Answer}
 use Rattle.desk_types.specs.declared.command.Stamped.{Stamped}
-use Rattle.http_routes.specs.declared.asked.Asked.{Asked}
-use Rattle.http_routes.specs.declared.asked.Asked.TheVariants as asks
-use Rattle.http_routes.specs.declared.fault.AskFault.{AskFault}
+use Rattle.gateway_http.specs.declared.asked.Asked.{Asked}
+use Rattle.gateway_http.specs.declared.asked.Asked.TheVariants as asks
+use Rattle.gateway_http.specs.declared.fault.AskFault.{AskFault}
 use Rattle.desk_feed.specs.Messages.{after_heard}
-use Rattle.desk_import.specs.Import.{after_said}
+use Rattle.desk_feed.specs.Import.{after_said}
 use Rattle.imports.specs.Import.{command_said}
 use Rattle.imports.specs.declared.fault.ImportFault.{ImportFault}
-use Rattle.http_answers.specs.Repeats.{message_command, import_command, command_asked, is_known}
-use Rattle.http_answers.specs.Requests.{Reports, asked_outcome}
+use Rattle.gateway_http.specs.Repeats.{message_command, import_command, command_asked, is_known}
+use Rattle.gateway_http.specs.Requests.{Reports, asked_outcome}
 
 known-some : (o : Option Answer) → option_map_or (λ answer. not (is_refused answer)) o false ≡ true → is_some o ≡ true
 known-some None e = absurd (cc)

@@ -4,9 +4,9 @@ use Rattle.std.specs.Prelude.{ℕ, List, codes}
 use Rattle.serde_json.specs.Data.{Data}
 use Rattle.serde_json.specs.Written.{compact_text}
 use Rattle.cfx_profile.specs.Answer.{faulty, faulty_at, not_found, unavailable}
-use Rattle.http_routes.specs.declared.fault.AskFault.{AskFault}
-use Rattle.http_routes.specs.declared.fault.AskFault.TheVariants.{NoPath, BadMethod, BadQuery, NoMemory}
-use Rattle.http_routes.specs.Parameter.{parameter_text}
+use Rattle.gateway_http.specs.declared.fault.AskFault.{AskFault}
+use Rattle.gateway_http.specs.declared.fault.AskFault.TheVariants.{NoPath, BadMethod, BadQuery, NoMemory}
+use Rattle.gateway_http.specs.Parameter.{parameter_text}
 
 -- The answer to a fault.
 abbrev pub fault_answer : AskFault → Data

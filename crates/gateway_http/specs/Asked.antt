@@ -6,21 +6,21 @@ use Rattle.cfx_profile.specs.Forms.{id_of}
 use Rattle.cfx_profile.specs.Minute.{minute_of}
 use Rattle.desk_types.specs.Id.{Name, same}
 use Rattle.desk_types.specs.declared.trace_detail.TraceDetail.{TraceDetail}
-use Rattle.http_routes.specs.declared.asked.Asked.{Asked}
-use Rattle.http_routes.specs.declared.asked.Asked.TheVariants as asks
-use Rattle.http_routes.specs.declared.asked.Report.TheVariants as report
-use Rattle.http_routes.specs.declared.fault.AskFault.{AskFault}
-use Rattle.http_routes.specs.declared.fault.AskFault.TheVariants.{NoPath, BadMethod, BadQuery}
-use Rattle.http_routes.specs.declared.parameter.Parameter.{Parameter}
-use Rattle.http_routes.specs.declared.parameter.Parameter.TheVariants as parameter
-use Rattle.http_routes.specs.declared.routes.Route.{Route}
-use Rattle.http_routes.specs.declared.routes.Route.TheVariants as route
+use Rattle.gateway_http.specs.declared.asked.Asked.{Asked}
+use Rattle.gateway_http.specs.declared.asked.Asked.TheVariants as asks
+use Rattle.gateway_http.specs.declared.asked.Report.TheVariants as report
+use Rattle.gateway_http.specs.declared.fault.AskFault.{AskFault}
+use Rattle.gateway_http.specs.declared.fault.AskFault.TheVariants.{NoPath, BadMethod, BadQuery}
+use Rattle.gateway_http.specs.declared.parameter.Parameter.{Parameter}
+use Rattle.gateway_http.specs.declared.parameter.Parameter.TheVariants as parameter
+use Rattle.gateway_http.specs.declared.routes.Route.{Route}
+use Rattle.gateway_http.specs.declared.routes.Route.TheVariants as route
 use Rattle.imports.specs.declared.import.Content.TheVariants.{Sheet, Counts}
 use Rattle.imports.specs.declared.import.Import.{Import}
-use Rattle.http_routes.specs.Parameter.{parameter_text}
-use Rattle.http_routes.specs.Query.{value_of}
-use Rattle.http_routes.specs.Routes.{method_text, route_method, route_of}
-use Rattle.http_routes.specs.Values.{detail_of, boards_of}
+use Rattle.gateway_http.specs.Parameter.{parameter_text}
+use Rattle.gateway_http.specs.Query.{value_of}
+use Rattle.gateway_http.specs.Routes.{method_text, route_method, route_of}
+use Rattle.gateway_http.specs.Values.{detail_of, boards_of}
 
 -- ---- the target
 

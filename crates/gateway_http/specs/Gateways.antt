@@ -4,8 +4,8 @@ use Rattle.desk_answers.specs.Ledger.{Ledger}
 use Rattle.http_stream.specs.Answers.{Told, response_told, unavailable}
 use Rattle.http_stream.specs.Stream.{Outcome}
 use Rattle.http_stream.specs.declared.response.Response.{Response}
-use Rattle.http_answers.specs.Repeats.{get_of}
-use Rattle.http_answers.specs.Requests.{Reports, outcome_of}
+use Rattle.gateway_http.specs.Repeats.{get_of}
+use Rattle.gateway_http.specs.Requests.{Reports, outcome_of}
 
 -- If the storage has not lied, then for each ledger represented before: the response is that of the
 -- outcome, with its history; or there is no response, and the history is unchanged.

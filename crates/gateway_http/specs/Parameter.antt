@@ -1,7 +1,7 @@
 -- The parameters of queries, by name.
 use Rattle.std.specs.Prelude.{ℕ, List, codes}
-use Rattle.http_routes.specs.declared.parameter.Parameter.{Parameter}
-use Rattle.http_routes.specs.declared.parameter.Parameter.TheVariants.{Id, Source, Time, Product, Machine, Board, Lot, Detail, Reel, Boards}
+use Rattle.gateway_http.specs.declared.parameter.Parameter.{Parameter}
+use Rattle.gateway_http.specs.declared.parameter.Parameter.TheVariants.{Id, Source, Time, Product, Machine, Board, Lot, Detail, Reel, Boards}
 
 abbrev pub parameter_text : Parameter → List ℕ
 parameter_text Id = codes "id"

@@ -8,10 +8,10 @@ use Rattle.cfx_profile.specs.declared.message.Said.TheVariants as says
 use Rattle.desk_answers.specs.Commands.{earlier_answer, is_refused}
 use Rattle.desk_types.specs.History.{History}
 use Rattle.desk_types.specs.declared.command.Stamped.{Stamped}
-use Rattle.http_routes.specs.Asked.{asked_of}
-use Rattle.http_routes.specs.declared.asked.Asked.{Asked}
-use Rattle.http_routes.specs.declared.asked.Asked.TheVariants as asks
-use Rattle.http_routes.specs.declared.fault.AskFault.{AskFault}
+use Rattle.gateway_http.specs.Asked.{asked_of}
+use Rattle.gateway_http.specs.declared.asked.Asked.{Asked}
+use Rattle.gateway_http.specs.declared.asked.Asked.TheVariants as asks
+use Rattle.gateway_http.specs.declared.fault.AskFault.{AskFault}
 use Rattle.http_stream.specs.Cut.{Request}
 use Rattle.http_stream.specs.Repeats.{Repeats}
 use Rattle.imports.specs.Import.{command_said}

@@ -3,17 +3,17 @@ use Rattle.std.specs.Prelude.{ℕ, List, Option, Some, None, Result, Ok, Err}
 use Rattle.desk_answers.specs.Ledger.{Ledger}
 use Rattle.desk_feed.specs.Messages.{answer_to, list_after}
 use Rattle.desk_feed.specs.declared.message.AnswerText.{AnswerText}
-use Rattle.desk_import.specs.Import.{after_said, answer_said}
+use Rattle.desk_feed.specs.Import.{after_said, answer_said}
 use Rattle.desk_types.specs.History.{History}
 use Rattle.desk_types.specs.declared.command.Stamped.{Stamped}
 use Rattle.desk_types.specs.declared.rules.Rules.{Rules}
-use Rattle.http_routes.specs.Answer as request
-use Rattle.http_routes.specs.Asked.{asked_of}
-use Rattle.http_routes.specs.declared.asked.Asked.{Asked}
-use Rattle.http_routes.specs.declared.asked.Asked.TheVariants as asks
-use Rattle.http_routes.specs.declared.asked.Report.{Report}
-use Rattle.http_routes.specs.declared.asked.Report.TheVariants as report
-use Rattle.http_routes.specs.declared.fault.AskFault.{AskFault}
+use Rattle.gateway_http.specs.Answer as request
+use Rattle.gateway_http.specs.Asked.{asked_of}
+use Rattle.gateway_http.specs.declared.asked.Asked.{Asked}
+use Rattle.gateway_http.specs.declared.asked.Asked.TheVariants as asks
+use Rattle.gateway_http.specs.declared.asked.Report.{Report}
+use Rattle.gateway_http.specs.declared.asked.Report.TheVariants as report
+use Rattle.gateway_http.specs.declared.fault.AskFault.{AskFault}
 use Rattle.http_stream.specs.Answers.{Told, unavailable}
 use Rattle.http_stream.specs.Cut.{Request}
 use Rattle.http_stream.specs.Stream.{Outcome, Rule}
@@ -22,10 +22,10 @@ use Rattle.http_stream.specs.declared.response.Status.{Status}
 use Rattle.http_stream.specs.declared.response.Status.TheVariants as status
 use Rattle.imports.specs.Import.{command_said}
 use Rattle.imports.specs.declared.fault.ImportFault.{ImportFault}
-use Rattle.report_texts.specs.NotFound.{not_found_text}
-use Rattle.report_texts.specs.declared.kind.Kind.{Kind}
-use Rattle.report_texts.specs.declared.kind.Kind.TheVariants.{Board, Lot, Reel, Machine, Sheet}
-use Rattle.http_answers.specs.Statuses.{request_fault_status, verdict_status}
+use Rattle.trace_reports.specs.NotFound.{not_found_text}
+use Rattle.trace_reports.specs.declared.kind.Kind.{Kind}
+use Rattle.trace_reports.specs.declared.kind.Kind.TheVariants.{Board, Lot, Reel, Machine, Sheet}
+use Rattle.gateway_http.specs.Statuses.{request_fault_status, verdict_status}
 
 -- ---- reports
 

@@ -4,10 +4,10 @@ use Rattle.std.specs.List.{find}
 use Rattle.matchit.specs.Rows.{RowsOf}
 use Rattle.matchit.specs.Router.{RouteOf}
 use Rattle.desk_types.specs.Id.{same}
-use Rattle.http_routes.specs.declared.routes.Method.{Method}
-use Rattle.http_routes.specs.declared.routes.Method.TheVariants.{Get, Post}
-use Rattle.http_routes.specs.declared.routes.Route.{Route}
-use Rattle.http_routes.specs.declared.routes.Route.TheVariants.{Messages, ImportSetup, ImportCounts, TraceBoard, TraceLot, Reel, Slots, Kit, Overdue}
+use Rattle.gateway_http.specs.declared.routes.Method.{Method}
+use Rattle.gateway_http.specs.declared.routes.Method.TheVariants.{Get, Post}
+use Rattle.gateway_http.specs.declared.routes.Route.{Route}
+use Rattle.gateway_http.specs.declared.routes.Route.TheVariants.{Messages, ImportSetup, ImportCounts, TraceBoard, TraceLot, Reel, Slots, Kit, Overdue}
 
 -- The method as written in a request.
 abbrev pub method_text : Method → List ℕ

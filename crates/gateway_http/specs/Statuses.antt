@@ -1,10 +1,10 @@
 -- The statuses of answers.
 use Rattle.desk_feed.specs.declared.message.Verdict.{Verdict}
 use Rattle.desk_feed.specs.declared.message.Verdict.TheVariants as verdict
-use Rattle.http_routes.specs.declared.fault.AskFault.{AskFault}
-use Rattle.http_routes.specs.declared.fault.AskFault.TheVariants as request
-use Rattle.http_routes.specs.declared.routes.Method.{Method}
-use Rattle.http_routes.specs.declared.routes.Method.TheVariants as method
+use Rattle.gateway_http.specs.declared.fault.AskFault.{AskFault}
+use Rattle.gateway_http.specs.declared.fault.AskFault.TheVariants as request
+use Rattle.gateway_http.specs.declared.routes.Method.{Method}
+use Rattle.gateway_http.specs.declared.routes.Method.TheVariants as method
 use Rattle.http_stream.specs.declared.response.Allow.{Allow}
 use Rattle.http_stream.specs.declared.response.Allow.TheVariants as allow
 use Rattle.http_stream.specs.declared.response.Status.{Status}

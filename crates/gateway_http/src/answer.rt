@@ -3,7 +3,7 @@
 ghost use Rattle.std.specs.Prelude.{◌≡◌, IfOk, false};
 ghost use Rattle.serde_json.specs.View.{view};
 ghost use Rattle.serde_json.specs.Written.{compact_text, has_float};
-ghost use Rattle.http_routes.specs.Answer.{fault_answer, fault_text};
+ghost use Rattle.gateway_http.specs.Answer.{fault_answer, fault_text};
 
 use crate::fault::AskFault;
 use desk_types::{Listing, Text};

@@ -4,8 +4,8 @@ ghost use Rattle.std.specs.Prelude.{◌≡◌, ◌≢◌, Ok, Err, IfOk, IfErr};
 ghost use Rattle.std.specs.Cow.{cow_str_bytes};
 ghost use Rattle.std.specs.List.{position};
 ghost use Rattle.cfx_profile.specs.Forms.{id_of};
-ghost use Rattle.http_routes.specs.Asked.{is_mark, path_of, query_of, parameter_value, id_in, minute_in, detail_in, boards_in, import_in, asked_at, by_method, asked_of};
-ghost use Rattle.http_routes.specs.Fault.{IsAsked};
+ghost use Rattle.gateway_http.specs.Asked.{is_mark, path_of, query_of, parameter_value, id_in, minute_in, detail_in, boards_in, import_in, asked_at, by_method, asked_of};
+ghost use Rattle.gateway_http.specs.Fault.{IsAsked};
 
 use crate::fault::AskFault;
 use crate::parameter::Parameter;

@@ -20,7 +20,7 @@ pub enum AskFault {
 
 impl From<AllocError> for AskFault {
     ghost use Rattle.std.specs.Prelude.{◌≡◌};
-    ghost use Rattle.http_routes.specs.declared.fault.AskFault.TheVariants.{NoMemory};
+    ghost use Rattle.gateway_http.specs.declared.fault.AskFault.TheVariants.{NoMemory};
 
     ghost from_gives = { λ _ fault. fault ≡ NoMemory };
 

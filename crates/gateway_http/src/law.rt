@@ -4,8 +4,8 @@ ghost use Rattle.std.specs.Prelude.{◌≡◌, ℕ, List};
 ghost use Rattle.desk_types.specs.History.{History};
 ghost use Rattle.desk_types.specs.declared.rules.Rules.{Rules};
 ghost use Rattle.http_stream.specs.Repeats.{LeavesTheList};
-ghost use Rattle.http_answers.specs.Repeats.{is_repeat, get_of};
-ghost use Rattle.http_answers.specs.Requests.{Reports, request_rule};
+ghost use Rattle.gateway_http.specs.Repeats.{is_repeat, get_of};
+ghost use Rattle.gateway_http.specs.Requests.{Reports, request_rule};
 
 /// A message or file whose command was accepted before leaves the history unchanged. So the law of
 /// `http_stream` that repeats act once applies to the gateway.

@@ -1,19 +1,19 @@
 //! Answers to messages, files and faulty requests.
 
 ghost use Rattle.std.specs.Prelude.{◌≡◌, IfOk};
-ghost use Rattle.http_routes.specs.Answer.{fault_text};
+ghost use Rattle.gateway_http.specs.Answer.{fault_text};
 ghost use Rattle.http_stream.specs.Answers.{response_told};
 ghost use Rattle.imports.specs.Import.{command_said};
-ghost use Rattle.http_answers.specs.Gateways.{Meets};
-ghost use Rattle.http_answers.specs.Requests.{json, told, import_outcome, message_outcome};
-ghost use Rattle.http_answers.specs.Statuses.{request_fault_status};
+ghost use Rattle.gateway_http.specs.Gateways.{Meets};
+ghost use Rattle.gateway_http.specs.Requests.{json, told, import_outcome, message_outcome};
+ghost use Rattle.gateway_http.specs.Statuses.{request_fault_status};
 
+use crate::fault::AskFault;
 use crate::statuses::{request_fault_status, verdict_status};
 use crate::unavailable::Unavailable;
 use desk_answers::Owner;
 use desk_feed::AnswerText;
 use desk_types::Text;
-use http_routes::AskFault;
 use http_stream::{Body, Kind, Response, Status};
 use imports::Import;
 use std::alloc::Global;
@@ -65,7 +65,7 @@ pub fn answer_import<L: Owner>(
     ensures told { Meets L.Stands L.Trusts owner.old owner.new result
         (λ G. import_outcome G (command_said import.now body.now)) }
 {
-    Ok(told(desk_import::answer_import(alloc, owner, import, body)?))
+    Ok(told(desk_feed::answer_import(alloc, owner, import, body)?))
 }
 
 fn told(answer: AnswerText) -> Response

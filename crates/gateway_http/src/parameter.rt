@@ -1,7 +1,7 @@
 //! The parameters of queries.
 
 ghost use Rattle.std.specs.Prelude.{◌≡◌};
-ghost use Rattle.http_routes.specs.Parameter.{parameter_text};
+ghost use Rattle.gateway_http.specs.Parameter.{parameter_text};
 
 /// A parameter that some route reads.
 #[derive(Clone, Copy, PartialEq, Eq)]

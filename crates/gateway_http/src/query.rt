@@ -2,7 +2,7 @@
 
 ghost use Rattle.std.specs.Prelude.{◌≡◌, option_map, IfOk};
 ghost use Rattle.std.specs.Cow.{cow_str_bytes};
-ghost use Rattle.http_routes.specs.Query.{value_of};
+ghost use Rattle.gateway_http.specs.Query.{value_of};
 
 use std::alloc::{AllocError, Global};
 use std::borrow::CowStr;

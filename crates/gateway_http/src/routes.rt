@@ -1,7 +1,7 @@
 //! The routes.
 
 ghost use Rattle.std.specs.Prelude.{◌≡◌, IfOk};
-ghost use Rattle.http_routes.specs.Routes.{method_text, route_method, route_of, table};
+ghost use Rattle.gateway_http.specs.Routes.{method_text, route_method, route_of, table};
 
 use matchit::{InsertError, Router};
 use std::alloc::{AllocError, Global};

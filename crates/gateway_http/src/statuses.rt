@@ -1,10 +1,11 @@
 //! The statuses of answers.
 
 ghost use Rattle.std.specs.Prelude.{◌≡◌};
-ghost use Rattle.http_answers.specs.Statuses.{allow_of, request_fault_status, verdict_status};
+ghost use Rattle.gateway_http.specs.Statuses.{allow_of, request_fault_status, verdict_status};
 
+use crate::fault::AskFault;
+use crate::routes::Method;
 use desk_feed::Verdict;
-use http_routes::{AskFault, Method};
 use http_stream::{Allow, Status};
 
 /// Returns the status for a request that can't be read.

@@ -3,7 +3,7 @@
 ghost use Rattle.std.specs.Prelude.{◌≡◌, ◌≤◌};
 ghost use Rattle.std.specs.Char.{is_ascii_digit};
 ghost use Rattle.std.specs.List.{list_all};
-ghost use Rattle.http_routes.specs.Values.{is_numeral, number_of, detail_of, boards_of};
+ghost use Rattle.gateway_http.specs.Values.{is_numeral, number_of, detail_of, boards_of};
 
 use desk_types::{Boards, TraceDetail};
 

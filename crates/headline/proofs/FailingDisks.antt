@@ -17,7 +17,7 @@ use Rattle.desk_answers.specs.Commands.{command_after, command_answer, earlier_a
 use Rattle.desk_answers.specs.Ledger.{IsAnswer, Ledger, ledger_after}
 use Rattle.line_schema.specs.declared.store.LineStore.{LineStore}
 use Rattle.line_schema.specs.Stands.{Kept, Leaves, NewlyLeaves, kept_after, ledger}
-use Rattle.many_runs.specs.Failing.{HoldsUpToOneMore, IsWatched, own_kept}
+use Rattle.headline.specs.Failing.{HoldsUpToOneMore, IsWatched, own_kept}
 
 left : (b : Bool) (P Q : Type 0) → MatchBool b P (P ⊎ Q) → P ⊎ Q
 left true P Q h = inl h

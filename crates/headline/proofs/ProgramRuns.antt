@@ -9,34 +9,34 @@ use Rattle.desk_types.specs.History.{History}
 use Rattle.desk_answers.specs.Ledger.{Ledger}
 use Rattle.feeder_state.specs.declared.desk.StateDesk.{StateDesk}
 use Rattle.line_schema.specs.declared.store.LineStore.{LineStore}
-use Rattle.http_answers.specs.Requests.{Reports, request_rule}
-use Rattle.desk_runs.specs.Clients.{Ended, Exchange}
-use Rattle.desk_runs.specs.Connections.{ConnectedSo}
-use Rattle.served.specs.declared.serving.ServeFault.TheVariants.{Read, Write, TooManyReads}
+use Rattle.gateway_http.specs.Requests.{Reports, request_rule}
+use Rattle.desk_commands.specs.Clients.{Ended, Exchange}
+use Rattle.desk_commands.specs.Connections.{ConnectedSo}
+use Rattle.desk_answers.specs.declared.serving.ServeFault.TheVariants.{Read, Write, TooManyReads}
 use Rattle.gateway_http.specs.Reports.{report_of}
 use Rattle.headline.specs.Calls.{AnswersByTheList, Call, Calls, Feeds, Imports, Serves}
 use Rattle.headline.specs.Calls.Call.{asked, fed, imported}
 use Rattle.desk_commands.specs.declared.left.Left.TheVariants.{Desk}
 use Rattle.desk_commands.specs.Runs.{RunsOn, ServesEach}
 use Rattle.desk_commands.specs.Closed.{RunsTo, whole}
-use Rattle.many_runs.specs.Runs.{by_two, IsRun}
-use Rattle.many_runs.specs.Closed.{ClosesTo, GivesCalls, ReadsClean, connections_of, run_of}
-use Rattle.many_runs.specs.Crashed.{CrashesTo, killed_run_of}
+use Rattle.headline.specs.Runs.{by_two, IsRun}
+use Rattle.headline.specs.Closed.{ClosesTo, GivesCalls, ReadsClean, connections_of, run_of}
+use Rattle.headline.specs.Crashed.{CrashesTo, killed_run_of}
 use Rattle.sqlite_wal.specs.Files.{image_at}
 use Rattle.sqlite_trees.specs.Tree.{Trees}
 use Rattle.sqlite.specs.Effect.{Database}
 use Rattle.sqlite.specs.Files.{HoldsDatabase, over_files}
 use Rattle.sqlite.specs.State.{State, HasCleanDisk}
 use Rattle.line_tables.specs.Rows.{Holds, HoldsAt}
-use Rattle.line_rows.specs.Rows.{ledger_tables}
+use Rattle.line_replay.specs.Rows.{ledger_tables}
 use Rattle.line_schema.specs.declared.fault.OpenFault.{OpenFault}
 use Rattle.line_schema.specs.Stands.{state_of}
 use Rattle.desk_file.specs.Files.{IsFoundIn}
-use Rattle.desk_runs.specs.Runs.{AnswersReport, StaysSame}
+use Rattle.desk_commands.specs.OpenRuns.{AnswersReport, StaysSame}
 use Rattle.desk_commands.specs.Closed.{IsRefusedTo}
 use Rattle.headline.proofs.CallsInTurn.{goes_on, trusts_back}
-use Rattle.many_runs.specs.Crashed.{MakesCalls, StandsForList}
-use Rattle.many_runs.specs.Runs.{KeepsList}
+use Rattle.headline.specs.Crashed.{MakesCalls, StandsForList}
+use Rattle.headline.specs.Runs.{KeepsList}
 
 module _ {T D : Type 0} {g : disk.Ghosts D} (first : start.Ghosts T) (make : Option ℕ) (desk : LineStore (FileStore D g) StateDesk) (files : Files D) (image : Image) where
   pub is_run : (Fact : Ledger → History → Type 0) (calls : List Call) → ((G : Ledger) (H : History) → Fact G H → AnswersByTheList report_of G calls H)

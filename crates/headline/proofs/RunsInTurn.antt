@@ -7,12 +7,12 @@ use Rattle.desk_types.specs.declared.rules.Rules.TheVariants.{Two}
 use Rattle.desk_types.specs.History.{History}
 use Rattle.desk_types.specs.Judged.{IsJudged, IsLawful}
 use Rattle.desk_answers.specs.Ledger.{Ledger}
-use Rattle.http_answers.specs.Requests.{Reports}
+use Rattle.gateway_http.specs.Requests.{Reports}
 use Rattle.line_tables.specs.Rows.{Tables, HoldsAt}
-use Rattle.line_rows.specs.Rows.{ledger_tables}
+use Rattle.line_replay.specs.Rows.{ledger_tables}
 use Rattle.desk_file.specs.Files.{Begins, HasOursFirst}
 use Rattle.headline.specs.Calls.{AnswersByTheList, Call}
-use Rattle.many_runs.specs.Runs.{Ending, closed, crashed, Run, EndsWith, by_two, IsRunFrom, IsRun, KeepsList, AreRuns, run_then, as_one}
+use Rattle.headline.specs.Runs.{Ending, closed, crashed, Run, EndsWith, by_two, IsRunFrom, IsRun, KeepsList, AreRuns, run_then, as_one}
 
 pub appended : (reports : Reports) (calls later : List Call) (G : Ledger) (H H' : History) → AnswersByTheList reports G calls H
     → AnswersByTheList reports (record G { history = H }) later H' → AnswersByTheList reports G (calls ++ later) H'

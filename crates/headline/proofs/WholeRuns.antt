@@ -8,12 +8,12 @@ use Rattle.desk_types.specs.declared.wire.Wire.{Wire}
 use Rattle.desk_types.specs.Wire.{inner_of}
 use Rattle.desk_types.specs.History.{History}
 use Rattle.desk_answers.specs.Ledger.{Ledger}
-use Rattle.served.specs.Sent.{SendsFront}
+use Rattle.desk_answers.specs.Sent.{SendsFront}
 use Rattle.imports.specs.declared.import.Import.{Import}
 use Rattle.desk_words.specs.CommandLine.{AsksForAudit}
-use Rattle.desk_runs.specs.Clients.{Ended, Serving}
-use Rattle.desk_runs.specs.Runs.{AnswersAll, AnswersImport, AnswersReport, AnswersUpTo, CutsImport, StaysSame}
-use Rattle.desk_runs.specs.Told.{report_output}
+use Rattle.desk_commands.specs.Clients.{Ended, Serving}
+use Rattle.desk_commands.specs.OpenRuns.{AnswersAll, AnswersImport, AnswersReport, AnswersUpTo, CutsImport, StaysSame}
+use Rattle.desk_commands.specs.Told.{report_output}
 use Rattle.desk_commands.specs.Closed.{RunsTo, whole}
 use Rattle.desk_commands.specs.Runs.{ServesEach}
 use Rattle.desk_program.specs.Program.{Done, Failed, ImportUnread, Refused, RunsAs, RunsAsked, RunsImport, RunsReport, RunsServing}
@@ -23,11 +23,11 @@ use Rattle.http_stream.specs.Answers.{Told}
 use Rattle.gateway_http.specs.Reports.{report_of}
 use Rattle.headline.specs.Calls.{AnswersByTheList, Call, Feeds, ImportEnded, Imports}
 use Rattle.headline.specs.Calls.Call.{asked, fed, imported}
-use Rattle.many_runs.specs.Closed.{connections_of, run_of}
-use Rattle.many_runs.specs.Runs.{as_one}
-use Rattle.many_runs.specs.Whole.{GoesOn, MakesCalls}
-use Rattle.many_runs.proofs.ProgramRuns.{is_whole_run, serves_each}
-use Rattle.many_runs.proofs.RunsInTurn.{OursFirst, Same, are_one, joins}
+use Rattle.headline.specs.Closed.{connections_of, run_of}
+use Rattle.headline.specs.Runs.{as_one}
+use Rattle.headline.specs.Whole.{GoesOn, MakesCalls}
+use Rattle.headline.proofs.ProgramRuns.{is_whole_run, serves_each}
+use Rattle.headline.proofs.RunsInTurn.{OursFirst, Same, are_one, joins}
 
 module _ (ours : OursFirst) (same : Same) {T D R W E : Type 0} (first : start.Ghosts T) (g : disk.Ghosts D) (files : Files D) (holds : List ℕ → Option (List ℕ)) (may_fail : List ℕ → Type 0) (serves : ℕ → Serving → Type 0)
     (reads : R → Option (List ℕ)) (writes : W → Option (List ℕ)) (tells : E → Option (List ℕ)) (words : List (List ℕ)) (input input' : Wire R) (output output' : Wire W) (errors errors' : Wire E) where

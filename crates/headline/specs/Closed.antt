@@ -19,15 +19,15 @@ use Rattle.desk_file.specs.Files.{Closes, MayRead}
 use Rattle.desk_commands.specs.declared.left.Left.TheVariants.{Desk}
 use Rattle.desk_commands.specs.Closed.{RunsTo, whole}
 use Rattle.desk_commands.specs.Runs.{RunsOn, ServesEach}
-use Rattle.desk_runs.specs.Clients.{Ended, Exchange}
-use Rattle.desk_runs.specs.Runs.{AnswersReport, StaysSame}
+use Rattle.desk_commands.specs.Clients.{Ended, Exchange}
+use Rattle.desk_commands.specs.OpenRuns.{AnswersReport, StaysSame}
 use Rattle.imports.specs.declared.import.Import.{Import}
 use Rattle.http_stream.specs.Answers.{Told}
 use Rattle.gateway_http.specs.Reports.{report_of}
 use Rattle.headline.specs.Calls.{Call, Feeds, ImportEnded, Imports}
 use Rattle.headline.specs.Calls.Call.{asked, connected, fed, imported}
-use Rattle.many_runs.specs.Runs.{IsRun, Run}
-use Rattle.many_runs.specs.Runs.Ending.{closed}
+use Rattle.headline.specs.Runs.{IsRun, Run}
+use Rattle.headline.specs.Runs.Ending.{closed}
 
 -- The desk was closed, its disk never lied, and these are its files' contents then, or after a crash.
 abbrev pub ClosesTo : {D : Type 0} {g : disk.Ghosts D} → LineStore (FileStore D g) StateDesk

@@ -7,9 +7,9 @@ use Rattle.desk_types.specs.declared.command.Stamped.{Stamped}
 use Rattle.desk_types.specs.declared.rules.Rules.{Rules}
 use Rattle.desk_types.specs.History.{History, accept}
 use Rattle.desk_answers.specs.Ledger.{Ledger}
-use Rattle.http_answers.specs.Requests.{Reports}
+use Rattle.gateway_http.specs.Requests.{Reports}
 use Rattle.line_tables.specs.Rows.{HoldsAt}
-use Rattle.line_rows.specs.Rows.{ledger_tables}
+use Rattle.line_replay.specs.Rows.{ledger_tables}
 use Rattle.line_schema.specs.declared.store.LineStore.{LineStore}
 use Rattle.line_schema.specs.Stands.{IsAcceptable, Kept, Stands, state_of}
 

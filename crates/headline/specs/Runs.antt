@@ -8,9 +8,9 @@ use Rattle.desk_types.specs.History.{History}
 use Rattle.desk_types.specs.Judged.{IsLawful}
 use Rattle.desk_answers.specs.Ledger.{Ledger}
 use Rattle.desk_laws.specs.Consistent.{IsConsistent}
-use Rattle.http_answers.specs.Requests.{Reports}
+use Rattle.gateway_http.specs.Requests.{Reports}
 use Rattle.line_tables.specs.Rows.{Tables, HoldsAt}
-use Rattle.line_rows.specs.Rows.{ledger_tables}
+use Rattle.line_replay.specs.Rows.{ledger_tables}
 use Rattle.desk_file.specs.Files.{Begins, HasOursFirst, IsWhole}
 use Rattle.headline.specs.Calls.{AnswersByTheList, Call}
 

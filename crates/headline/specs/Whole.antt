@@ -8,17 +8,17 @@ use Rattle.sqlite_wal.specs.Files.{image_at}
 use Rattle.sqlite_wal.specs.Recovery.{Image}
 use Rattle.desk_types.specs.declared.wire.Wire.{Wire}
 use Rattle.desk_types.specs.Wire.{inner_of}
-use Rattle.served.specs.Sent.{SendsFront}
+use Rattle.desk_answers.specs.Sent.{SendsFront}
 use Rattle.imports.specs.declared.import.Import.{Import}
 use Rattle.desk_words.specs.CommandLine.{AsksForAudit, AsksForFeed, AsksForImport, AsksForMigration, AsksForReport, AsksForServing, AsksForText}
-use Rattle.desk_runs.specs.Clients.{Ended, Serving}
-use Rattle.desk_runs.specs.Told.{report_output}
+use Rattle.desk_commands.specs.Clients.{Ended, Serving}
+use Rattle.desk_commands.specs.Told.{report_output}
 use Rattle.http_stream.specs.Answers.{Told}
 use Rattle.gateway_http.specs.Reports.{report_of}
 use Rattle.headline.specs.Calls.{Call, ImportEnded}
 use Rattle.headline.specs.Calls.Call.{asked, fed, imported}
-use Rattle.many_runs.specs.Closed.{ReadsClean, connections_of, run_of}
-use Rattle.many_runs.specs.Runs.{AreRuns, IsRun, Run, as_one, run_then}
+use Rattle.headline.specs.Closed.{ReadsClean, connections_of, run_of}
+use Rattle.headline.specs.Runs.{AreRuns, IsRun, Run, as_one, run_then}
 
 -- The arguments ask for lines in memory, for a text or for a migration.
 abbrev pub AsksForNoCalls : List (List ℕ) → Type 0

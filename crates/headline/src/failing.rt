@@ -5,13 +5,12 @@ ghost use Rattle.sqlite.specs.State.{HasCleanDisk};
 ghost use Rattle.desk_types.specs.History.{History};
 ghost use Rattle.line_schema.specs.Stands.{Stands, state_of};
 ghost use Rattle.headline.specs.Calls.{AnswersByTheList, Call, Calls};
-ghost use Rattle.many_runs.specs.Failing.{IsWatched, no_reports, own_kept};
-ghost use Rattle.many_runs.specs.Runs.{by_two};
+ghost use Rattle.headline.specs.Failing.{IsWatched, no_reports, own_kept};
+ghost use Rattle.headline.specs.Runs.{by_two};
 
 use desk_answers::{Answer, Owner};
 use desk_types::{Stamped, Text};
-use gateway_http::{ReportedOwner, Unavailable};
-use http_routes::Report;
+use gateway_http::{Report, ReportedOwner, Unavailable};
 use line_schema::LineStore;
 use sqlite::Alter;
 use state_rows::KeepsRows;
@@ -27,7 +26,7 @@ impl<S: Alter, D: KeepsRows + Drop> Owner for WatchedStore<S, D> {
     ghost use Rattle.sqlite.specs.State.{HasCleanDisk};
     ghost use Rattle.desk_types.specs.declared.rules.Rules.TheVariants.{Two};
     ghost use Rattle.line_schema.specs.Stands.{Kept, Stands as StandsFor, state_of};
-    ghost use Rattle.many_runs.specs.Failing.{IsWatched, own_kept};
+    ghost use Rattle.headline.specs.Failing.{IsWatched, own_kept};
 
     ghost Stands = { λ watched G. (G.rules ≡ Two)
         × IsWatched S.Store D.Stands D.kept_rules watched.store (own_kept G) };
@@ -47,7 +46,7 @@ impl<S: Alter, D: KeepsRows + Drop> Owner for WatchedStore<S, D> {
 }
 
 impl<S: Alter, D: KeepsRows + Drop> ReportedOwner for WatchedStore<S, D> {
-    ghost use Rattle.many_runs.specs.Failing.{no_reports};
+    ghost use Rattle.headline.specs.Failing.{no_reports};
 
     ghost reports = { no_reports };
 

@@ -6,8 +6,11 @@
 #![tactic(auto)]
 
 mod calls;
+mod failing;
+mod runs;
 #[cfg(test)]
 mod tests;
+mod whole;
 
 ghost use Rattle.std.specs.Prelude.{List};
 ghost use Rattle.desk_types.specs.History.{History};
@@ -17,7 +20,13 @@ ghost use Rattle.desk_laws.specs.Consistent.{IsConsistent};
 ghost use Rattle.headline.specs.Calls.{AnswersByTheList, Call, Calls};
 
 pub use calls::{ask, command, feed, import, report, serve};
+pub use failing::{WatchedStore, failing_disks_leave_the_list};
 use gateway_http::ReportedOwner;
+pub use runs::{
+    closed_runs_are_runs, crashed_runs_are_runs, killed_runs_are_runs, let_go, many_runs_are_one,
+    refused_runs_keep_lists, store_calls_are_calls, whole_runs_are_runs,
+};
+pub use whole::whole_run_goes_on;
 
 /// A law: for every stream of requests, in whatever pieces and with repeats and refusals, the
 /// history of accepted commands alone determines every answer. That history is lawful and

@@ -2,34 +2,28 @@
 //! serves proofs; nothing of it runs.
 //!
 //! `specs/Runs.antt` defines a run, and how runs combine.
-#![tactic(auto)]
-
-mod failing;
-mod whole;
 
 ghost use Rattle.std.specs.Prelude.{ℕ, List, [], Option, Some};
 ghost use Rattle.sqlite_wal.specs.Recovery.{Image};
-ghost use Rattle.http_answers.specs.Requests.{Reports};
+ghost use Rattle.gateway_http.specs.Requests.{Reports};
 ghost use Rattle.gateway_http.specs.Reports.{report_of};
-ghost use Rattle.desk_runs.specs.Runs.{StaysSame};
+ghost use Rattle.desk_commands.specs.OpenRuns.{StaysSame};
 ghost use Rattle.desk_commands.specs.declared.left.Left.TheVariants.{Desk};
 ghost use Rattle.desk_commands.specs.Runs.{RunsOn};
 ghost use Rattle.desk_commands.specs.Closed.{RefusesTo, RefusesToMigrateTo, whole};
 ghost use Rattle.line_schema.specs.declared.fault.OpenFault.{OpenFault};
-ghost use Rattle.many_runs.specs.Closed.{GivesCalls, GivesClosedRun, GivesWholeRun, ReadsClean, run_of};
-ghost use Rattle.many_runs.specs.Runs.{AreRuns, IsRun, KeepsList, Run, as_one};
-ghost use Rattle.many_runs.specs.Crashed.{Crashes, CrashesTo, GivesKilledRun, MakesCalls, killed_run_of};
+ghost use Rattle.headline.specs.Closed.{GivesCalls, GivesClosedRun, GivesWholeRun, ReadsClean, run_of};
+ghost use Rattle.headline.specs.Runs.{AreRuns, IsRun, KeepsList, Run, as_one};
+ghost use Rattle.headline.specs.Crashed.{Crashes, CrashesTo, GivesKilledRun, MakesCalls, killed_run_of};
 ghost use Rattle.headline.specs.Calls.{AnswersByTheList, Call, Calls};
 
 use desk_answers::Owner;
 use desk_file::{FileDesk, next_run_goes_on};
-pub use failing::{WatchedStore, failing_disks_leave_the_list};
 use feeder_state::StateDesk;
 use line_schema::LineStore;
 use sqlite::{FileFrom, FileStore, Files, Start};
 use sqlite_disk::Disk;
 use state_rows::KeepsRows;
-pub use whole::whole_run_goes_on;
 
 /// A law: runs one after another, each on the files that the previous one left, are equivalent to one run that makes
 /// all their calls. So every answer of every run is that of one list of accepted commands, which is lawful and

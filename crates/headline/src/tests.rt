@@ -2,10 +2,9 @@
 
 use crate::{ask, command, feed, headline, import, report, serve};
 use desk_answers::{Answer, Owner};
-use desk_import::counts_import;
+use desk_feed::counts_import;
 use desk_types::{Command, Id, Minute, Stamped, Text, Wire};
-use gateway_http::{ReportedOwner, Unavailable};
-use http_routes::Report;
+use gateway_http::{Report, ReportedOwner, Unavailable};
 use std::alloc::Global;
 use std::test::Fail;
 

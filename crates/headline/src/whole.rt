@@ -1,14 +1,14 @@
 //! A whole run of the program after others on the same file. It is for proofs; nothing of it runs.
 
 ghost use Rattle.std.specs.Prelude.{◌≢◌, map, string_bytes, IfSome};
-ghost use Rattle.desk_runs.specs.Clients.{ServesAt};
+ghost use Rattle.desk_commands.specs.Clients.{ServesAt};
 ghost use Rattle.desk_program.specs.Program.{HaveRoom};
-ghost use Rattle.many_runs.specs.Whole.{GoesOn};
+ghost use Rattle.headline.specs.Whole.{GoesOn};
 
+use desk_commands::Clients;
+use desk_feed::Folder;
 use desk_file::next_run_goes_on;
-use desk_import::Folder;
 use desk_program::whole_run;
-use desk_runs::Clients;
 use desk_types::Wire;
 use sqlite::{FileFrom, Files, Start};
 use sqlite_disk::Disk;

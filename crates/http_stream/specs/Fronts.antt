@@ -4,8 +4,8 @@ use Rattle.std.specs.List.{slice_range}
 use Rattle.std.specs.Io.KnownBytes.{IsAtEnd}
 use Rattle.httparse.specs.Grammar.{RequestHead}
 use Rattle.desk_types.specs.declared.limits.TheConstants.{BLOCK, HEAD_LIMIT}
-use Rattle.served.specs.declared.block.Block.{Block}
-use Rattle.served.specs.Block.{pending_bytes}
+use Rattle.desk_answers.specs.declared.block.Block.{Block}
+use Rattle.desk_answers.specs.Block.{pending_bytes}
 use Rattle.http_stream.specs.declared.front.Seen.{Seen}
 use Rattle.http_stream.specs.declared.front.Front.{Front}
 use Rattle.http_stream.specs.declared.front.Front.TheVariants as front

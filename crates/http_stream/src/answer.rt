@@ -3,14 +3,14 @@
 ghost use Rattle.std.specs.Prelude.{◌≡◌, ◌<◌, ◌≤◌, ◌+◌, ◌^◌, ◌++◌, take, length, OnOk, OnErr};
 ghost use Rattle.std.specs.Io.KnownBytes.{Appends};
 ghost use Rattle.desk_types.specs.Wire.{inner_of, failures_of};
-ghost use Rattle.served.specs.Sent.{SendsFront};
+ghost use Rattle.desk_answers.specs.Sent.{SendsFront};
 ghost use Rattle.http_stream.specs.Answers.{type_line, allow_line, close_line, head_bytes, reply_told, answer_bytes};
 
 use crate::reply::Reply;
 use crate::response::{Allow, Kind, Status};
+use desk_answers::{WriteFailed, send};
 use desk_types::{ONE_WRITE, Wire};
 use itoa::Buffer;
-use served::{WriteFailed, send};
 use std::io::Write;
 
 /// The bytes of an answer so far.

@@ -3,14 +3,14 @@
 ghost use Rattle.std.specs.Prelude.{◌≤◌, IfOk, OnOk, OnErr};
 ghost use Rattle.std.specs.Io.KnownBytes.{Keeps};
 ghost use Rattle.desk_types.specs.Wire.{inner_of};
-ghost use Rattle.served.specs.Block.{source, fuel};
-ghost use Rattle.served.specs.Reads.{MayReadInto, ReadsInto};
+ghost use Rattle.desk_answers.specs.Block.{source, fuel};
+ghost use Rattle.desk_answers.specs.Reads.{MayReadInto, ReadsInto};
 ghost use Rattle.http_stream.specs.Cut.{ReadsInside};
 ghost use Rattle.http_stream.specs.Fronts.{IsFront};
 
 use crate::head::{Glance, Head, look};
+use desk_answers::{Block, ReadFault};
 use desk_types::{HEAD_LIMIT, Wire};
-use served::{Block, ReadFault};
 use std::io::Read;
 
 /// A head, and the place in the block of the searched bytes, which start with it.

@@ -2,8 +2,8 @@
 
 ghost use Rattle.std.specs.Prelude.{◌≡◌, ◌<◌, false, IfOk, IfSome, OnErr};
 ghost use Rattle.desk_types.specs.Wire.{inner_of};
-ghost use Rattle.served.specs.Block.{fuel, source};
-ghost use Rattle.served.specs.Reads.{MayReadInto, ReadsInto};
+ghost use Rattle.desk_answers.specs.Block.{fuel, source};
+ghost use Rattle.desk_answers.specs.Reads.{MayReadInto, ReadsInto};
 ghost use Rattle.http_stream.specs.Cut.{ReadsInside, is_last};
 ghost use Rattle.http_stream.specs.Fronts.{IsFront};
 ghost use Rattle.http_stream.specs.Portions.{IsSeen, TakesNext, method_of, portion_of, target_of};
@@ -11,8 +11,8 @@ ghost use Rattle.http_stream.specs.Portions.{IsSeen, TakesNext, method_of, porti
 use crate::body::{BodyTaken, take_body};
 use crate::front::{Front, Seen, find_front};
 use crate::head::LengthFault;
+use desk_answers::{Block, ReadFault};
 use desk_types::Wire;
-use served::{Block, ReadFault};
 use std::alloc::Global;
 use std::io::Read;
 

@@ -3,8 +3,8 @@
 ghost use Rattle.std.specs.Prelude.{◌≡◌, true};
 ghost use Rattle.desk_types.specs.Wire.{inner_of};
 ghost use Rattle.desk_answers.specs.Ledger.{ForLists};
-ghost use Rattle.served.specs.Counts.{CanCountAnswer};
-ghost use Rattle.served.specs.Shown.{CanCountRun, CountsRun};
+ghost use Rattle.desk_answers.specs.Counts.{CanCountAnswer};
+ghost use Rattle.desk_answers.specs.Shown.{CanCountRun, CountsRun};
 ghost use Rattle.http_stream.specs.Answers.{reply_told};
 ghost use Rattle.http_stream.specs.Cut.{is_head, is_last};
 ghost use Rattle.http_stream.specs.Portions.{IsTaken, portion_of};
@@ -14,8 +14,8 @@ use crate::answer::send_answer;
 use crate::portion::{Taken, method_of, take_portion, target_of};
 use crate::reply::Reply;
 use crate::response::Response;
+use desk_answers::{Block, ReadFault, ServeFault, Served, WriteFailed};
 use desk_types::{MOST_READS, Wire};
-use served::{Block, ReadFault, ServeFault, Served, WriteFailed};
 use std::alloc::Global;
 use std::io::{Read, Write};
 

@@ -12,8 +12,8 @@ use Rattle.line_tables.specs.Rows.{Tables, after_edits, AreNew, columns_of}
 use Rattle.desk_types.specs.declared.edit.RowEdit.{RowEdit}
 use Rattle.desk_types.specs.Tables.{Tables as StateTables, tables_of as state_of}
 use Rattle.desk_types.specs.Edits.{with_edit, with_edits, AreNew as AreNewRows}
-use Rattle.line_rows.specs.Rows.{columns, rows_of, ledger_tables}
-use Rattle.line_rows.proofs.Judgements.{row_is}
+use Rattle.line_replay.specs.Rows.{columns, rows_of, ledger_tables}
+use Rattle.line_replay.proofs.Judgements.{row_is}
 
 rows_edited : (rows : List RowEdit) (t : Tables) → after_edits (row_edits rows) t ≡ record t { state = with_edits rows t.state }
 rows_edited [] t = refl

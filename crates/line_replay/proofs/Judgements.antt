@@ -14,13 +14,13 @@ use Rattle.desk_types.specs.History.{History, entry_of, effective_minute}
 use Rattle.desk_types.specs.Judged.{IsNext}
 use Rattle.desk_types.specs.Outcome.{detail_of}
 use Rattle.desk_types.specs.Refusals.{refusal_of}
-use Rattle.stored_texts.specs.StoredText.{stored_text}
+use Rattle.desk_types.specs.StoredText.{stored_text}
 use Rattle.desk_answers.specs.Commands.{first_text}
 use Rattle.desk_answers.specs.Texts.{accepted_text}
 use Rattle.line_tables.proofs.Finds.{seven}
-use Rattle.line_rows.specs.Rows.{columns, entry_row}
-use Rattle.line_rows.specs.Judging.{IsMessageOf, GoesOn}
-use Rattle.line_rows.proofs.RowsTellLists.{TextsTell, stamped_same, next_entry}
+use Rattle.line_replay.specs.Rows.{columns, entry_row}
+use Rattle.line_replay.specs.Judging.{IsMessageOf, GoesOn}
+use Rattle.line_replay.proofs.RowsTellLists.{TextsTell, stamped_same, next_entry}
 
 minute_is : (rules : Rules) (H : History) (s : Stamped) (change : Change) → IsChange rules H s change → change.minute ≡ effective_minute H s.minute
 minute_is rules H s change is = ap (λ (c : Change). c.minute) is.value

@@ -13,7 +13,7 @@ use Rattle.line_tables.specs.StateRows.{columns, rows_in}
 use Rattle.line_tables.specs.Line.{tree_in}
 use Rattle.line_tables.proofs.FindTexts.{IsSelectBy, rows_from}
 use Rattle.line_tables.proofs.Finds.{finds_rows, one_order}
-use Rattle.line_audit.specs.Alone.{ShowsOnly, FindsAlone}
+use Rattle.line_replay.specs.Alone.{ShowsOnly, FindsAlone}
 
 alone_as : (passed shown : List Row) (row : Row) (b : Bool) → IsPermutation passed shown → (IsTrue b ↔ (shown ≡ row ∷ [])) → IsTrue b ↔ (passed ≡ row ∷ [])
 alone_as passed shown row b same is = (

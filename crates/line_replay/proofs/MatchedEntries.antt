@@ -14,8 +14,8 @@ use Rattle.sqlite.specs.State.{State, KeepsCommit}
 use Rattle.line_tables.specs.Line.{IsOurs}
 use Rattle.line_tables.specs.Calls.{Reads}
 use Rattle.line_tables.specs.StateRows.{AreRows, rows_in}
-use Rattle.line_audit.specs.Alone.{FindsAlone, AreAlone, HasOneKey, AreMatched, Decides, Listed}
-use Rattle.line_audit.proofs.SameRows.{same_rows}
+use Rattle.line_replay.specs.Alone.{FindsAlone, AreAlone, HasOneKey, AreMatched, Decides, Listed}
+use Rattle.line_replay.proofs.SameRows.{same_rows}
 
 pub reads_before : (old mid : State) → KeepsCommit old mid → (Is : Database → Type 0) → Reads mid Is → Reads old Is
 reads_before old mid kept Is r =

@@ -3,8 +3,8 @@ use Rattle.std.proofs.Common.{◌≡◌, ◌∙◌, ◌⊎◌, inl, inr, ◌≤�
 use Rattle.std.specs.List.{AllByRecursion}
 use Rattle.sqlite_rules.specs.Lists.{Has}
 use Rattle.sqlite_value.specs.Order.{Row}
-use Rattle.line_audit.specs.Alone.{AreAlone, IsNew, AreApart}
-use Rattle.line_audit.proofs.SameRows.{without, others, lengths}
+use Rattle.line_replay.specs.Alone.{AreAlone, IsNew, AreApart}
+use Rattle.line_replay.proofs.SameRows.{without, others, lengths}
 
 in_filter : (test : Row → Bool) (rows : List Row) (x : Row) → Has rows x → test x ≡ true → Has (filter test rows) x
 in_filter test [] x h passed = absurd h

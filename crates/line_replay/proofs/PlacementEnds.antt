@@ -27,8 +27,8 @@ use Rattle.line_tables.specs.Calls.{Selects, Reads, IsLeast}
 use Rattle.line_tables.specs.StateRows.{columns, kept_in, rows_in}
 use Rattle.line_tables.proofs.FindTexts.{IsSelect, rows_from, least_from}
 use Rattle.line_tables.proofs.Finds.{answer_of, shown_of, shown_is, whole, and_true}
-use Rattle.line_audit.specs.Placed.{is_from, HasBefore}
-use Rattle.line_audit.proofs.RowidRanges.{from_is, at_most, from_lower}
+use Rattle.line_replay.specs.Placed.{is_from, HasBefore}
+use Rattle.line_replay.proofs.RowidRanges.{from_is, at_most, from_lower}
 
 -- ---- the least rowid
 

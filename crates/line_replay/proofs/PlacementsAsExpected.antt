@@ -10,12 +10,12 @@ use Rattle.line_tables.specs.Line.{IsOurs}
 use Rattle.line_tables.specs.StateRows.{rows_in, has_piece, placement_columns}
 use Rattle.line_tables.proofs.Keyed.{one_piece, own_int}
 use Rattle.line_tables.specs.Calls.{Reads}
-use Rattle.line_audit.specs.declared.auditing.Placed.{Placed}
-use Rattle.line_audit.specs.Alone.{Decides, AreAlone}
-use Rattle.line_audit.specs.Placed.{HasBefore}
-use Rattle.line_audit.specs.Audit.{Pieces, AreByPiece, ArePlaced, HasPlacements, IsExpected}
-use Rattle.line_audit.proofs.SameRows.{same_rows}
-use Rattle.line_audit.proofs.Members.{AreTrue, alone_by_count}
+use Rattle.line_replay.specs.declared.auditing.Placed.{Placed}
+use Rattle.line_replay.specs.Alone.{Decides, AreAlone}
+use Rattle.line_replay.specs.Placed.{HasBefore}
+use Rattle.line_replay.specs.Audit.{Pieces, AreByPiece, ArePlaced, HasPlacements, IsExpected}
+use Rattle.line_replay.proofs.SameRows.{same_rows}
+use Rattle.line_replay.proofs.Members.{AreTrue, alone_by_count}
 
 pub piece_true : (p : PlacementRow) → has_piece (p.number, p.place) (placement_columns p) ≡ true
 piece_true p = ap₂ (λ a b. a && b) (own_int p.number) (own_int p.place)

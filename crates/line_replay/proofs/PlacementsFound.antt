@@ -26,10 +26,10 @@ use Rattle.line_tables.proofs.FindTexts.{IsSelect, rows_from}
 use Rattle.line_tables.proofs.Finds.{answer_of, rows_answer, shown_of, shown_is, whole}
 use Rattle.line_tables.proofs.Keyed.{own_text}
 use Rattle.line_tables.proofs.Between.{placement_places, shown-in}
-use Rattle.line_audit.specs.Alone.{AreAlone}
-use Rattle.line_audit.specs.Audit.{ArePlaced, piece_of}
-use Rattle.line_audit.specs.Placed.{has_placement, AreHere, is_from, HasMoreBefore, IsRange}
-use Rattle.line_audit.proofs.RowidRanges.{range_is, in_range, range_more}
+use Rattle.line_replay.specs.Alone.{AreAlone}
+use Rattle.line_replay.specs.Audit.{ArePlaced, piece_of}
+use Rattle.line_replay.specs.Placed.{has_placement, AreHere, is_from, HasMoreBefore, IsRange}
+use Rattle.line_replay.proofs.RowidRanges.{range_is, in_range, range_more}
 
 -- ---- rows that a query shows are in its table
 

@@ -5,15 +5,15 @@ use Rattle.desk_types.specs.declared.command.Entry.{Entry}
 use Rattle.desk_types.specs.declared.command.Stamped.{Stamped}
 use Rattle.desk_types.specs.Command.{IsEntry, IsCommand}
 use Rattle.desk_types.specs.History.{History}
-use Rattle.stored_texts.specs.StoredText.{stored_text}
+use Rattle.desk_types.specs.StoredText.{stored_text}
 use Rattle.desk_answers.specs.declared.answer.Answer.TheVariants.{Accepted, IdReused}
 use Rattle.desk_answers.specs.Commands.{first_text, answer_under}
 use Rattle.desk_answers.specs.Repeats.{is_same}
 use Rattle.desk_answers.proofs.Sameness.{same_messages, equal_messages}
 use Rattle.line_tables.specs.declared.edit.Accepted.{Accepted as Row}
 use Rattle.line_tables.specs.Rows.{columns_of}
-use Rattle.line_rows.specs.Rows.{entry_row}
-use Rattle.line_rows.proofs.RowsTellLists.{TextsTell, stamped_same}
+use Rattle.line_replay.specs.Rows.{entry_row}
+use Rattle.line_replay.proofs.RowsTellLists.{TextsTell, stamped_same}
 
 module _ (tells : TextsTell) (a : Row) (G : History) (e : Entry) (s : Stamped) (text : List ℕ) (is_entry : IsEntry e) (is_command : IsCommand s.command) (is_text : text ≡ stored_text s.command)
     (uid : e.stamped.uid ≡ s.uid) (row : columns_of a ≡ entry_row G e) where

@@ -15,8 +15,8 @@ use Rattle.desk_types.specs.declared.rules.Rules.{Rules}
 use Rattle.desk_types.specs.Command.{IsCommand}
 use Rattle.desk_types.specs.History.{History, entry_of}
 use Rattle.desk_types.specs.Judged.{IsJudged, IsNext}
-use Rattle.stored_texts.specs.StoredText.{stored_text}
-use Rattle.line_rows.specs.Rows.{entry_row, rows_of}
+use Rattle.desk_types.specs.StoredText.{stored_text}
+use Rattle.line_replay.specs.Rows.{entry_row, rows_of}
 
 pub stamped_same : (a b : Stamped) → a.uid ≡ b.uid → a.source ≡ b.source → a.minute ≡ b.minute → a.command ≡ b.command → a ≡ b
 stamped_same a b u s m c =

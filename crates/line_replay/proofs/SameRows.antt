@@ -6,7 +6,7 @@ use Rattle.std.specs.List.{AllByRecursion}
 use Rattle.sqlite_value.specs.Order.{Row}
 use Rattle.sqlite_keyed.proofs.ListLemmas.{all_weaker}
 use Rattle.line_tables.specs.StateRows.{AreRows}
-use Rattle.line_audit.specs.Alone.{IsNew, AreApart, IsNamed, Listed, AreAlone}
+use Rattle.line_replay.specs.Alone.{IsNew, AreApart, IsNamed, Listed, AreAlone}
 
 pub some_same : {X : Type 0} {a b : X} → ◌≡◌ {A = Option X} (Some a) (Some b) → a ≡ b
 some_same e = cc

@@ -22,12 +22,12 @@ use Rattle.line_tables.proofs.FindTexts.{IsSelect, IsSelectBy, rows_from, count_
 use Rattle.line_tables.proofs.Finds.{and_true}
 use Rattle.line_tables.proofs.Between.{placement_places}
 use Rattle.line_tables.proofs.Numbers.{finds_count}
-use Rattle.line_audit.specs.Alone.{ShowsOnly, FindsAlone, Counts}
-use Rattle.line_audit.specs.Placed.{has_placement}
-use Rattle.line_audit.specs.TableNames.{name_of, table_of}
-use Rattle.line_audit.specs.declared.table.StateTable.{StateTable}
-use Rattle.line_audit.specs.declared.table.StateTable.TheVariants.{Part, Alternate, SheetRow, Selected, Reel, Mount, Board, Placement, Found}
-use Rattle.line_audit.proofs.LookUpsByKey.{finds_alone}
+use Rattle.line_replay.specs.Alone.{ShowsOnly, FindsAlone, Counts}
+use Rattle.line_replay.specs.Placed.{has_placement}
+use Rattle.line_replay.specs.TableNames.{name_of, table_of}
+use Rattle.line_replay.specs.declared.table.StateTable.{StateTable}
+use Rattle.line_replay.specs.declared.table.StateTable.TheVariants.{Part, Alternate, SheetRow, Selected, Reel, Mount, Board, Placement, Found}
+use Rattle.line_replay.proofs.LookUpsByKey.{finds_alone}
 use Rattle.desk_types.specs.declared.rules.Rules.TheVariants.{One, Two}
 use Rattle.line_tables.specs.Line.Layout.{Indexed, Plain}
 

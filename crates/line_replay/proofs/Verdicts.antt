@@ -9,7 +9,7 @@ use Rattle.desk_types.specs.declared.rules.Rules.TheVariants.{One, Two}
 use Rattle.desk_types.specs.Id.{Name}
 use Rattle.desk_types.specs.Tables.{Tables as StateTables}
 use Rattle.line_tables.specs.StateRows.{HoldsStateBy, HoldsFoundBy}
-use Rattle.line_audit.specs.Audit.{state_tables, found_table, HoldsTable}
+use Rattle.line_replay.specs.Audit.{state_tables, found_table, HoldsTable}
 
 -- The rows of `found` are right too: under rules One there is no such table.
 pub found_right : (rules : Rules) (db : Database) (t : StateTables) → (rules ≡ One → (reel : Name) → t.found reel ≡ None) → AllByRecursion (HoldsTable db t) (found_table rules) → HoldsFoundBy rules db t

@@ -11,11 +11,11 @@ use Rattle.desk_types.specs.Tables.{Tables as StateTables}
 use Rattle.line_tables.specs.Line as line
 use Rattle.line_tables.specs.Line.{IsOurs}
 use Rattle.line_tables.specs.StateRows.{AreRows, rows_in, has_piece, placement_columns, HoldsParts, HoldsAlternates, HoldsSheets, HoldsSelected, HoldsReels, HoldsMounts, HoldsBoards, HoldsPlacements, HoldsFound}
-use Rattle.line_audit.specs.declared.table.StateTable.{StateTable}
-use Rattle.line_audit.specs.declared.table.StateTable.TheVariants.{Part, Alternate, SheetRow, Selected, Reel, Mount, Board, Placement, Found}
-use Rattle.line_audit.specs.declared.auditing.Placed.{Placed}
-use Rattle.line_audit.specs.Alone.{Listed, AreAlone}
-use Rattle.line_audit.specs.Placed.{HasBefore}
+use Rattle.line_replay.specs.declared.table.StateTable.{StateTable}
+use Rattle.line_replay.specs.declared.table.StateTable.TheVariants.{Part, Alternate, SheetRow, Selected, Reel, Mount, Board, Placement, Found}
+use Rattle.line_replay.specs.declared.auditing.Placed.{Placed}
+use Rattle.line_replay.specs.Alone.{Listed, AreAlone}
+use Rattle.line_replay.specs.Placed.{HasBefore}
 
 -- Only rules Two have the table of found pieces.
 abbrev pub found_table : Rules → List StateTable

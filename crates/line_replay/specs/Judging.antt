@@ -7,11 +7,11 @@ use Rattle.desk_types.specs.declared.command.Stamped.{Stamped}
 use Rattle.desk_types.specs.declared.rules.Rules.{Rules}
 use Rattle.desk_types.specs.History.{History}
 use Rattle.desk_types.specs.Judged.{IsNext}
-use Rattle.stored_texts.specs.StoredText.{stored_text}
+use Rattle.desk_types.specs.StoredText.{stored_text}
 use Rattle.desk_types.specs.declared.edit.RowEdit.{RowEdit}
 use Rattle.desk_types.specs.Tables.{tables_of as state_of}
 use Rattle.desk_types.specs.Edits.{with_edits, AreNew}
-use Rattle.line_rows.specs.Rows.{entry_row}
+use Rattle.line_replay.specs.Rows.{entry_row}
 
 -- The row has seven columns, and stores this message.
 pub record IsMessageOf (row : Row) (s : Stamped) : Type 0 where

@@ -5,7 +5,7 @@ use Rattle.sqlite_value.specs.Order.{Row}
 use Rattle.desk_types.specs.declared.command.Entry.{Entry}
 use Rattle.desk_types.specs.declared.command.Stamped.{Stamped}
 use Rattle.desk_types.specs.History.{History}
-use Rattle.stored_texts.specs.StoredText.{stored_text}
+use Rattle.desk_types.specs.StoredText.{stored_text}
 use Rattle.desk_answers.specs.Commands.{first_text}
 use Rattle.line_tables.specs.Rows.{Tables}
 use Rattle.desk_types.specs.Tables.{tables_of as state_of}

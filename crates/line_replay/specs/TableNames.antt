@@ -2,8 +2,8 @@
 use Rattle.std.specs.Prelude.{List, ℕ, codes}
 use Rattle.sqlite_schema.specs.declared.schema.Table.{Table}
 use Rattle.line_tables.specs.Line as line
-use Rattle.line_audit.specs.declared.table.StateTable.{StateTable}
-use Rattle.line_audit.specs.declared.table.StateTable.TheVariants.{Part, Alternate, SheetRow, Selected, Reel, Mount, Board, Placement, Found}
+use Rattle.line_replay.specs.declared.table.StateTable.{StateTable}
+use Rattle.line_replay.specs.declared.table.StateTable.TheVariants.{Part, Alternate, SheetRow, Selected, Reel, Mount, Board, Placement, Found}
 
 -- The name in SQL.
 abbrev pub name_of : StateTable → List ℕ

@@ -7,8 +7,8 @@ ghost use Rattle.desk_types.specs.declared.row.PlacementRow.{PlacementRow};
 ghost use Rattle.state_rows.specs.Kept.{tables_in};
 ghost use Rattle.line_tables.specs.Calls.{Reads};
 ghost use Rattle.line_tables.specs.Frames.{ReadsOnly};
-ghost use Rattle.line_audit.specs.Alone.{Decides};
-ghost use Rattle.line_audit.specs.Audit.{Pieces, IsExpected, HasPlacements, HoldsTable, IsVerdict, state_tables, with_placements};
+ghost use Rattle.line_replay.specs.Alone.{Decides};
+ghost use Rattle.line_replay.specs.Audit.{Pieces, IsExpected, HasPlacements, HoldsTable, IsVerdict, state_tables, with_placements};
 
 use crate::compared::are_rows;
 use crate::ends::count_placements;

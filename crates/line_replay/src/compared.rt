@@ -4,8 +4,8 @@ ghost use Rattle.std.specs.Prelude.{◌≡◌, IfOk};
 ghost use Rattle.std.specs.Iterator.{IsFinite};
 ghost use Rattle.sqlite.specs.State.{HasCleanDisk};
 ghost use Rattle.sqlite.specs.Held.{state};
-ghost use Rattle.line_audit.specs.Alone.{DecidesRows};
-ghost use Rattle.line_audit.specs.TableNames.{table_of};
+ghost use Rattle.line_replay.specs.Alone.{DecidesRows};
+ghost use Rattle.line_replay.specs.TableNames.{table_of};
 ghost use Rattle.line_tables.specs.Frames.{ReadsOnly};
 
 use crate::expected::ExpectedRow;

@@ -10,10 +10,10 @@ ghost use Rattle.desk_types.specs.Tables.{tables_of};
 ghost use Rattle.state_rows.specs.Kept.{unnumbered};
 ghost use Rattle.line_tables.specs.Edit.{command_edits};
 ghost use Rattle.line_tables.specs.Rows.{after_edits, AreNew};
-ghost use Rattle.line_rows.specs.Rows.{ledger_tables};
+ghost use Rattle.line_replay.specs.Rows.{ledger_tables};
 
-use crate::fault::NoRow;
 use crate::kept::row_of;
+use crate::row_fault::NoRow;
 use desk_answers::accepted_text;
 use desk_types::{Change, Desk, RowEdits, Text};
 use line_tables::Accepted;

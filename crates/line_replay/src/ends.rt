@@ -8,7 +8,7 @@ ghost use Rattle.line_tables.specs.Line as line;
 ghost use Rattle.line_tables.specs.Calls.{Reads, IsLeast};
 ghost use Rattle.line_tables.specs.StateRows.{kept_in, rows_in};
 ghost use Rattle.line_tables.specs.Frames.{ReadsOnly};
-ghost use Rattle.line_audit.specs.Placed.{is_from, HasBefore};
+ghost use Rattle.line_replay.specs.Placed.{is_from, HasBefore};
 
 use crate::auditing::Placed;
 use crate::shown::count;

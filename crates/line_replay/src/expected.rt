@@ -3,8 +3,8 @@
 ghost use Rattle.std.specs.Prelude.{IfOk};
 ghost use Rattle.sqlite.specs.State.{HasCleanDisk};
 ghost use Rattle.sqlite.specs.Held.{state};
-ghost use Rattle.line_audit.specs.Alone.{FindsEntry};
-ghost use Rattle.line_audit.specs.TableNames.{table_of};
+ghost use Rattle.line_replay.specs.Alone.{FindsEntry};
+ghost use Rattle.line_replay.specs.TableNames.{table_of};
 ghost use Rattle.line_tables.specs.Frames.{ReadsOnly};
 
 use sqlite::{Alter, Connection, Error};
@@ -14,7 +14,7 @@ use std::alloc::Global;
 pub trait ExpectedRow: Drop + Sized {
     ghost use Rattle.std.specs.Prelude.{Bool};
     ghost use Rattle.sqlite_value.specs.Order.{Row};
-    ghost use Rattle.line_audit.specs.declared.table.StateTable.{StateTable};
+    ghost use Rattle.line_replay.specs.declared.table.StateTable.{StateTable};
 
     /// Its key.
     type Key;

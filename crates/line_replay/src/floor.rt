@@ -11,7 +11,7 @@ use std::alloc::Global;
 /// A reel.
 impl<'a> ExpectedRow for (&'a Id, &'a ReelRow) {
     ghost use Rattle.line_tables.specs.StateRows.{has_text, reel_columns};
-    ghost use Rattle.line_audit.specs.declared.table.StateTable.TheVariants.{Reel};
+    ghost use Rattle.line_replay.specs.declared.table.StateTable.TheVariants.{Reel};
 
     type Key = Id;
 
@@ -39,7 +39,7 @@ impl<'a> ExpectedRow for (&'a Id, &'a ReelRow) {
 /// A mounted reel, which the set also has by number.
 impl<'a> ExpectedRow for (&'a (u64, Id), &'a MountRow) {
     ghost use Rattle.line_tables.specs.StateRows.{has_text, mount_columns};
-    ghost use Rattle.line_audit.specs.declared.table.StateTable.TheVariants.{Mount};
+    ghost use Rattle.line_replay.specs.declared.table.StateTable.TheVariants.{Mount};
 
     type Key = Id;
 
@@ -67,7 +67,7 @@ impl<'a> ExpectedRow for (&'a (u64, Id), &'a MountRow) {
 /// A board.
 impl<'a> ExpectedRow for (&'a Id, &'a BoardRow) {
     ghost use Rattle.line_tables.specs.StateRows.{board_columns, has_text};
-    ghost use Rattle.line_audit.specs.declared.table.StateTable.TheVariants.{Board};
+    ghost use Rattle.line_replay.specs.declared.table.StateTable.TheVariants.{Board};
 
     type Key = Id;
 

@@ -5,20 +5,18 @@ ghost use Rattle.desk_types.specs.declared.command.Entry.{Entry};
 ghost use Rattle.desk_types.specs.Desk.{HasRoom};
 ghost use Rattle.desk_types.specs.Edits.{with_edits};
 ghost use Rattle.desk_types.specs.History.{History};
-ghost use Rattle.line_rows.specs.declared.fault.RowFault.TheVariants.{NotLawful, NoMemory};
-ghost use Rattle.line_rows.specs.Judging.{GoesOn, Lead};
+ghost use Rattle.line_replay.specs.declared.row_fault.RowFault.TheVariants.{NotLawful, NoMemory};
+ghost use Rattle.line_replay.specs.Judging.{GoesOn, Lead};
 ghost use Rattle.state_rows.specs.Kept.{tables_in, but_placements};
-ghost use Rattle.trace_lists.specs.Lists.{IsListed};
+ghost use Rattle.state_rows.specs.Lists.{IsListed};
 
-use crate::fault::RowFault;
 use crate::reading::{says, stamped_of};
+use crate::row_fault::RowFault;
 use desk_answers::accepted_text;
-use desk_types::{Id, JudgeFault, RowEdits};
+use desk_types::{Id, JudgeFault, RowEdits, texts_tell_commands_apart};
 use sqlite::Row;
-use state_rows::{KeepsRows, rows_of};
+use state_rows::{KeepsRows, TraceLists, rows_of};
 use std::alloc::Global;
-use stored_texts::texts_tell_commands_apart;
-use trace_lists::TraceLists;
 
 /// The UniqueID of an accepted command, and its edits of the state tables.
 pub struct Taken {

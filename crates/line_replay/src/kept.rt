@@ -6,13 +6,12 @@ ghost use Rattle.desk_types.specs.declared.rules.Rules.{Rules};
 ghost use Rattle.desk_types.specs.History.{History};
 ghost use Rattle.desk_types.specs.Judged.{IsJudged};
 ghost use Rattle.line_tables.specs.Rows.{columns_of};
-ghost use Rattle.line_rows.specs.Rows.{columns, rows_of};
+ghost use Rattle.line_replay.specs.Rows.{columns, rows_of};
 
-use crate::fault::NoRow;
-use desk_types::{Change, Text};
+use crate::row_fault::NoRow;
+use desk_types::{Change, Kept, Text, texts_tell_commands_apart};
 use line_tables::Accepted;
 use std::alloc::Global;
-use stored_texts::{Kept, texts_tell_commands_apart};
 
 /// Returns the row of the change, with this number and this answer.
 pub fn row_of(alloc: Global, number: u32, change: &Change, answer: &Text) -> Result<Accepted, NoRow>

@@ -11,7 +11,7 @@ use std::alloc::Global;
 impl<'a> ExpectedRow for (&'a Id, &'a u64) {
     ghost use Rattle.std.specs.Prelude.{ℕ};
     ghost use Rattle.line_tables.specs.StateRows.{found_columns, has_text};
-    ghost use Rattle.line_audit.specs.declared.table.StateTable.TheVariants.{Found};
+    ghost use Rattle.line_replay.specs.declared.table.StateTable.TheVariants.{Found};
 
     type Key = Id;
 

@@ -6,8 +6,8 @@ ghost use Rattle.sqlite.specs.Held.{state};
 ghost use Rattle.line_tables.specs.Line as line;
 ghost use Rattle.line_tables.specs.StateRows.{placement_columns};
 ghost use Rattle.line_tables.specs.Frames.{ReadsOnly};
-ghost use Rattle.line_audit.specs.Alone.{FindsAlone};
-ghost use Rattle.line_audit.specs.Placed.{has_placement};
+ghost use Rattle.line_replay.specs.Alone.{FindsAlone};
+ghost use Rattle.line_replay.specs.Placed.{has_placement};
 
 use crate::shown::shows_only;
 use desk_types::PlacementRow;

@@ -6,10 +6,10 @@ ghost use Rattle.sqlite.specs.Held.{state};
 ghost use Rattle.line_tables.specs.Calls.{Reads};
 ghost use Rattle.line_tables.specs.StateRows.{placement_columns};
 ghost use Rattle.line_tables.specs.Frames.{ReadsOnly};
-ghost use Rattle.line_audit.specs.Audit.{ArePlaced, piece_of};
-ghost use Rattle.line_audit.specs.Placed.{HasMoreBefore, IsRange};
+ghost use Rattle.line_replay.specs.Audit.{ArePlaced, piece_of};
+ghost use Rattle.line_replay.specs.Placed.{HasMoreBefore, IsRange};
 
-use crate::placed::has_placement;
+use crate::placed_pieces::has_placement;
 use crate::shown::is_row;
 use desk_types::PlacementRow;
 use line_tables::row_values::placement_values;

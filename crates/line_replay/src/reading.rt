@@ -7,13 +7,12 @@ ghost use Rattle.desk_types.specs.declared.command.Stamped.{Stamped};
 ghost use Rattle.desk_types.specs.Command.{IsStamped};
 ghost use Rattle.desk_types.specs.Id.{IsId};
 ghost use Rattle.desk_types.specs.Number.{IsMinute};
-ghost use Rattle.line_rows.specs.Judging.{IsMessageOf};
+ghost use Rattle.line_replay.specs.Judging.{IsMessageOf};
 
-use desk_types::{Command, Id, Minute, Stamped, Text};
+use desk_types::{Command, Id, Kept, Minute, Stamped, Text};
 use sqlite::Row;
 use sqlite::types::ValueRef;
 use std::alloc::{AllocError, Global};
-use stored_texts::Kept;
 
 /// Returns the message of the row, or `None` if it has no message in its ranges. It ignores the number, the effective
 /// minute and the answer.

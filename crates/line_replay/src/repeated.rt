@@ -6,13 +6,12 @@ ghost use Rattle.desk_types.specs.Command.{IsEntry};
 ghost use Rattle.desk_types.specs.History.{History};
 ghost use Rattle.desk_answers.specs.Commands.{answer_under};
 ghost use Rattle.line_tables.specs.Rows.{columns_of};
-ghost use Rattle.line_rows.specs.Rows.{entry_row};
+ghost use Rattle.line_replay.specs.Rows.{entry_row};
 
 use desk_answers::Answer;
-use desk_types::{Listing, Stamped, Text};
+use desk_types::{Kept, Listing, Stamped, Text, texts_tell_commands_apart};
 use line_tables::Accepted;
 use std::alloc::{AllocError, Global};
-use stored_texts::{Kept, texts_tell_commands_apart};
 
 /// Returns the first answer again if the row has the same message, and otherwise that the UniqueID was used. The
 /// contract assumes that the row belongs to an entry with the message's UniqueID.

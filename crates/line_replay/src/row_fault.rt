@@ -27,7 +27,7 @@ pub enum RowFault {
 
 impl From<AllocError> for RowFault {
     ghost use Rattle.std.specs.Prelude.{◌≡◌};
-    ghost use Rattle.line_rows.specs.declared.fault.RowFault.TheVariants.{NoMemory};
+    ghost use Rattle.line_replay.specs.declared.row_fault.RowFault.TheVariants.{NoMemory};
 
     ghost from_gives = { λ _ fault. fault ≡ NoMemory };
 

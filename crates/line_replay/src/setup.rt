@@ -10,7 +10,7 @@ use std::alloc::Global;
 /// A part.
 impl<'a> ExpectedRow for &'a Id {
     ghost use Rattle.line_tables.specs.StateRows.{has_text, part_columns};
-    ghost use Rattle.line_audit.specs.declared.table.StateTable.TheVariants.{Part};
+    ghost use Rattle.line_replay.specs.declared.table.StateTable.TheVariants.{Part};
 
     type Key = Id;
 
@@ -37,7 +37,7 @@ impl<'a> ExpectedRow for &'a Id {
 /// A part, and one of its alternates.
 impl<'a> ExpectedRow for &'a (Id, Id) {
     ghost use Rattle.line_tables.specs.StateRows.{alternate_columns, has_pair};
-    ghost use Rattle.line_audit.specs.declared.table.StateTable.TheVariants.{Alternate};
+    ghost use Rattle.line_replay.specs.declared.table.StateTable.TheVariants.{Alternate};
 
     type Key = (Id, Id);
 
@@ -65,7 +65,7 @@ impl<'a> ExpectedRow for &'a (Id, Id) {
 /// A machine, with its selected product.
 impl<'a> ExpectedRow for (&'a Id, &'a Id) {
     ghost use Rattle.line_tables.specs.StateRows.{has_text, selected_columns};
-    ghost use Rattle.line_audit.specs.declared.table.StateTable.TheVariants.{Selected};
+    ghost use Rattle.line_replay.specs.declared.table.StateTable.TheVariants.{Selected};
 
     type Key = Id;
 

@@ -11,7 +11,7 @@ use std::alloc::Global;
 /// A row of a sheet, with its product, its machine and its place from 1.
 impl<'a> ExpectedRow for (&'a (Id, Id, u64), &'a SheetRow) {
     ghost use Rattle.line_tables.specs.StateRows.{has_sheet_place, sheet_columns};
-    ghost use Rattle.line_audit.specs.declared.table.StateTable.TheVariants.{SheetRow as SheetRows};
+    ghost use Rattle.line_replay.specs.declared.table.StateTable.TheVariants.{SheetRow as SheetRows};
 
     type Key = (Id, Id, u64);
 

@@ -4,8 +4,8 @@ ghost use Rattle.std.specs.Prelude.{◌≡◌, ◌↔◌, ◌++◌, codes, [], �
 ghost use Rattle.sqlite.specs.State.{HasCleanDisk};
 ghost use Rattle.sqlite.specs.Values.{bound};
 ghost use Rattle.sqlite.specs.Held.{state};
-ghost use Rattle.line_audit.specs.Alone.{ShowsOnly, Counts};
-ghost use Rattle.line_audit.specs.TableNames.{name_of, table_of};
+ghost use Rattle.line_replay.specs.Alone.{ShowsOnly, Counts};
+ghost use Rattle.line_replay.specs.TableNames.{name_of, table_of};
 ghost use Rattle.line_tables.specs.StateRows.{values_of};
 ghost use Rattle.line_tables.specs.Frames.{ReadsOnly};
 

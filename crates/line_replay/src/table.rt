@@ -18,7 +18,7 @@ pub enum StateTable {
 
 impl fmt::Display for StateTable {
     ghost use Rattle.std.specs.Prelude.{Some};
-    ghost use Rattle.line_audit.specs.TableNames.{name_of};
+    ghost use Rattle.line_replay.specs.TableNames.{name_of};
 
     ghost output = { λ table. Some (name_of table) };
 

@@ -9,7 +9,7 @@ use Rattle.line_traces.specs.declared.working.Working.{Working}
 use Rattle.line_tables.specs.declared.edit.Accepted.{Accepted}
 use Rattle.line_tables.specs.Edit.{row_edits, command_edits}
 use Rattle.line_tables.specs.Rows.{Tables, after_edits, columns_of}
-use Rattle.line_rows.specs.Rows.{rows_of, ledger_tables}
+use Rattle.line_replay.specs.Rows.{rows_of, ledger_tables}
 use Rattle.line_replay.specs.Expected.{AreKept}
 use Rattle.line_replay.proofs.ExpectedRows.{kept_more}
 

@@ -30,8 +30,8 @@ use Rattle.line_tables.specs.Edit.{Edit}
 use Rattle.line_tables.specs.Rows.{Tables, Holds, HoldsAt, AreNew, after_edits}
 use Rattle.line_tables.specs.Calls.{Edits, LeavesEdited}
 use Rattle.line_tables.specs.Frames.{ReadsOnly}
-use Rattle.line_rows.specs.Rows.{ledger_tables}
-use Rattle.line_rows.proofs.Judgements.{next_is, stamped_is}
+use Rattle.line_replay.specs.Rows.{ledger_tables}
+use Rattle.line_replay.proofs.Judgements.{next_is, stamped_is}
 use Rattle.line_replay.specs.Expected.{AreKept}
 use Rattle.line_schema.specs.declared.store.LineStore.{LineStore}
 use Rattle.line_schema.specs.declared.unavailable.Unavailable.{Unavailable as Fault}

@@ -9,7 +9,7 @@ use Rattle.desk_types.specs.History.{History, accept}
 use Rattle.desk_types.specs.Tables.{tables_of}
 use Rattle.line_traces.specs.declared.working.Working.{Working}
 use Rattle.state_rows.specs.Kept.{unnumbered}
-use Rattle.trace_lists.specs.Lists.{IsListed}
+use Rattle.state_rows.specs.Lists.{IsListed}
 
 -- There is room for the change, which is judged for the desk's history. The edits lead to the
 -- tables of the history with the change, apart from the numbers of mounts.

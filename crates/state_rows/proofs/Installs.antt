@@ -16,9 +16,9 @@ use Rattle.desk_types.specs.Tape.{tape_of}
 use Rattle.desk_types.specs.Pieces.{pieces_picked, pick_for, install_picks, scrap_picks, count_picks, left_of, picks_of}
 use Rattle.desk_types.specs.Outcome.{take_of, takes_by}
 use Rattle.desk_types.specs.Placements.{placement_of}
-use Rattle.trace_lists.specs.Lists.{Key}
-use Rattle.trace_lists.specs.Noting.{keys_in, install_keys}
-use Rattle.trace_lists.proofs.Keys.{placed_key}
+use Rattle.state_rows.specs.Lists.{Key}
+use Rattle.state_rows.specs.Noting.{keys_in, install_keys}
+use Rattle.state_rows.proofs.Keys.{placed_key}
 
 -- ---- installs
 

@@ -7,8 +7,8 @@ use Rattle.desk_types.specs.Id.{Name, same}
 use Rattle.desk_types.specs.History.{History}
 use Rattle.desk_types.specs.Number.{IsMinute}
 use Rattle.desk_types.proofs.Keys.{same-true}
-use Rattle.trace_lists.specs.declared.lists.TraceLists.{TraceLists}
-use Rattle.trace_lists.specs.Lists.{IsListed, HasPieces, kept_at, key_of, keys_of_installs, minute_in}
+use Rattle.state_rows.specs.declared.lists.TraceLists.{TraceLists}
+use Rattle.state_rows.specs.Lists.{IsListed, HasPieces, kept_at, key_of, keys_of_installs, minute_in}
 
 pub one-more : {X : Type 0} (k n : Name) (old : Name → List X) (now : List X) (thing : X) → now ≡ old k ++ thing ∷ []
     → cond (same k n) now (old n) ≡ old n ++ (if same k n then thing ∷ [] else [])

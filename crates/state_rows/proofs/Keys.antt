@@ -8,8 +8,8 @@ use Rattle.desk_types.specs.declared.take.Take.{Take}
 use Rattle.desk_types.specs.History.{History, entry_of, accept}
 use Rattle.desk_types.specs.Outcome.{takes_by}
 use Rattle.desk_types.specs.Placements.{entry_takes, takes_of, placement_of, placements_of}
-use Rattle.trace_lists.specs.Lists.{Key, keys_where}
-use Rattle.trace_lists.specs.Noting.{keys_in}
+use Rattle.state_rows.specs.Lists.{Key, keys_where}
+use Rattle.state_rows.specs.Noting.{keys_in}
 
 abbrev pub placed_key : Placement → Key
 placed_key p = (p.number, p.place)

@@ -5,7 +5,7 @@ use Rattle.std.proofs.lemmas.Bool.{eqb-true, eqb-false}
 use Rattle.desk_types.specs.declared.command.Entry.{Entry}
 use Rattle.desk_types.specs.declared.command.Stamped.{Stamped}
 use Rattle.desk_types.specs.History.{History, entry_of, accept}
-use Rattle.trace_lists.specs.Lists.{minute_of, minute_in}
+use Rattle.state_rows.specs.Lists.{minute_of, minute_in}
 
 get-last : (xs : List ℕ) (x : ℕ) → slice_get (xs ++ x ∷ []) (length xs) ≡ Some x
 get-last [] x = refl

@@ -11,9 +11,9 @@ use Rattle.desk_types.specs.Id.{Name, same, by_name}
 use Rattle.desk_types.specs.History.{History}
 use Rattle.desk_types.specs.Number.{IsMinute}
 use Rattle.desk_types.specs.Placements.{placements_of}
-use Rattle.trace_lists.specs.declared.lists.PieceKey.{PieceKey}
-use Rattle.trace_lists.specs.declared.lists.Install.{Install}
-use Rattle.trace_lists.specs.declared.lists.TraceLists.{TraceLists}
+use Rattle.state_rows.specs.declared.lists.PieceKey.{PieceKey}
+use Rattle.state_rows.specs.declared.lists.Install.{Install}
+use Rattle.state_rows.specs.declared.lists.TraceLists.{TraceLists}
 
 -- ---- keys
 

@@ -7,8 +7,8 @@ use Rattle.desk_types.specs.declared.placement.Placement.{Placement}
 use Rattle.desk_types.specs.declared.take.Take.{Take}
 use Rattle.desk_types.specs.Id.{Name, same}
 use Rattle.desk_types.specs.Placements.{placement_of}
-use Rattle.trace_lists.specs.declared.lists.Install.{Install}
-use Rattle.trace_lists.specs.Lists.{Key, keys_of_install}
+use Rattle.state_rows.specs.declared.lists.Install.{Install}
+use Rattle.state_rows.specs.Lists.{Key, keys_of_install}
 
 -- The keys of an entry's placements that pass a test, with its takes numbered from this place.
 abbrev pub keys_in : (Placement → Bool) → ℕ → ℕ → ℕ → List Take → List Key

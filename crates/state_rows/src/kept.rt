@@ -2,7 +2,7 @@
 
 ghost use Rattle.std.specs.Prelude.{◌≡◌, ◌++◌, ◌∷◌, [], if◌then◌else◌, OnOk};
 ghost use Rattle.desk_types.specs.Id.{Name, same};
-ghost use Rattle.trace_lists.specs.Lists.{kept_at};
+ghost use Rattle.state_rows.specs.Lists.{kept_at};
 
 use desk_types::Id;
 use std::alloc::{AllocError, Global};

@@ -3,7 +3,10 @@
 
 mod counted;
 mod keeping;
+mod kept;
+mod lists;
 mod mounts;
+mod noting;
 mod reels;
 mod rows;
 mod set;
@@ -14,6 +17,7 @@ mod views;
 
 pub use desk_types::{BoardRow, MountRow, PlacementRow, ReelRow, RowEdit, RowEdits};
 pub use keeping::KeepsRows;
+pub use lists::{Install, PieceKey, TraceLists};
 pub use rows::{edits_for, rows_of};
 pub use set::RowSet;
 pub use views::Views;

@@ -4,7 +4,7 @@ ghost use Rattle.std.specs.Prelude.{◌≡◌, ◌+◌, [], map, length, OnOk};
 ghost use Rattle.desk_types.specs.Id.{same};
 ghost use Rattle.desk_types.specs.History.{History, accept};
 ghost use Rattle.desk_types.specs.Outcome.{change_of};
-ghost use Rattle.trace_lists.specs.Lists.{HasRoomFor, IsListed, key_of, keys_of_installs, keys_where, minute_of};
+ghost use Rattle.state_rows.specs.Lists.{HasRoomFor, IsListed, key_of, keys_of_installs, keys_where, minute_of};
 
 use crate::kept::{Kept, kept_under};
 use crate::noting::{note_install, note_pieces, room_for_install, room_for_pieces};

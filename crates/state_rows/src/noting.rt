@@ -3,8 +3,8 @@
 ghost use Rattle.std.specs.Prelude.{◌≡◌, ◌++◌, ◌&&◌, ◌∷◌, [], ℕ, if◌then◌else◌, map, length, All, OnOk};
 ghost use Rattle.desk_types.specs.Id.{Name, same};
 ghost use Rattle.desk_types.specs.Pieces.{is_placed};
-ghost use Rattle.trace_lists.specs.Lists.{HasPieces, kept_at, key_of, keys_of_installs};
-ghost use Rattle.trace_lists.specs.Noting.{keys_in, install_keys};
+ghost use Rattle.state_rows.specs.Lists.{HasPieces, kept_at, key_of, keys_of_installs};
+ghost use Rattle.state_rows.specs.Noting.{keys_in, install_keys};
 
 use crate::kept::{Kept, keep, make_room};
 use crate::lists::{Install, PieceKey};

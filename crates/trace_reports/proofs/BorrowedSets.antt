@@ -5,7 +5,7 @@ use Rattle.std.specs.Cmp.Lexicographic.{slice_cmp}
 use Rattle.std.specs.Ordering.{match_ordering, nat_cmp, ordering_then}
 use Rattle.std.specs.declared.cmp.Ordering.{Ordering}
 use Rattle.std.specs.declared.cmp.Ordering.TheVariants.{Less, Equal, Greater}
-use Rattle.report_texts.specs.Sets.{Fields, by_fields, bytes_of}
+use Rattle.trace_reports.specs.Sets.{Fields, by_fields, bytes_of}
 
 abbrev pub by_bytes : List (Bor (List ℕ)) → List (Bor (List ℕ)) → Ordering
 by_bytes = slice_cmp (λ x y. slice_cmp nat_cmp x.now y.now)

@@ -5,8 +5,8 @@ use Rattle.std.proofs.lemmas.Map.Views.{All-insert_key}
 use Rattle.desk_types.specs.declared.placement.Placement.{Placement}
 use Rattle.desk_types.specs.declared.trace_detail.TraceDetail.{TraceDetail}
 use Rattle.desk_types.specs.declared.trace_detail.TraceDetail.TheVariants.{One, Two, Three, Four}
-use Rattle.report_texts.specs.Sets.{Fields, by_fields, set_of}
-use Rattle.report_texts.specs.Traces.{project, board_columns, lot_columns, board_header, lot_header, board_rows, lot_rows, overdue_header, overdue_row}
+use Rattle.trace_reports.specs.Sets.{Fields, by_fields, set_of}
+use Rattle.trace_reports.specs.Traces.{project, board_columns, lot_columns, board_header, lot_header, board_rows, lot_rows, overdue_header, overdue_row}
 
 abbrev pub HasField : Fields → Type 0
 HasField row = row ≢ []

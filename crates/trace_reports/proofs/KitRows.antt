@@ -7,8 +7,8 @@ use Rattle.desk_types.specs.declared.view.ReelView.{ReelView}
 use Rattle.desk_types.specs.Id.{Name}
 use Rattle.desk_types.specs.History.{History}
 use Rattle.desk_types.proofs.LoopSteps.{take-next, drop-next}
-use Rattle.report_texts.specs.declared.kit.KitRow.{KitRow}
-use Rattle.report_texts.specs.Kit.{needed_by, pieces_of_reels, reels_for, rows_for, kit_rows}
+use Rattle.trace_reports.specs.declared.kit.KitRow.{KitRow}
+use Rattle.trace_reports.specs.Kit.{needed_by, pieces_of_reels, reels_for, rows_for, kit_rows}
 
 -- ---- one more reel
 

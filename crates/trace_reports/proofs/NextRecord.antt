@@ -4,7 +4,7 @@ use Rattle.std.specs.List.{flat_map}
 use Rattle.std.proofs.lemmas.List.{map-append}
 use Rattle.std.proofs.lemmas.List.Concat.{flat_map-append}
 use Rattle.desk_types.proofs.LoopSteps.{take-next}
-use Rattle.report_texts.specs.Csv.{record_text, csv_text}
+use Rattle.trace_reports.specs.Csv.{record_text, csv_text}
 
 pub text-next : {X : Type 0} (header : List (List ℕ)) (fields : X → List (List ℕ)) (rows : List X) (i : ℕ) (row : X) → i < length rows → row ≡ get_or rows i row
     → csv_text header (map fields (take (i + 1) rows)) ≡ csv_text header (map fields (take i rows)) ++ record_text (fields row)

@@ -28,9 +28,9 @@ use Rattle.desk_laws.proofs.Accepted.{received-once}
 use Rattle.desk_laws.proofs.Distinct.{all-append, distinct-filter, distinct-join}
 use Rattle.desk_laws.proofs.Judgements.{or-none}
 use Rattle.setup_sheets.specs.Names.{is_among}
-use Rattle.report_texts.specs.declared.kit.KitRow.{KitRow}
-use Rattle.report_texts.specs.Kit.{needed_by, pieces_of_reels, enough, still_free, reels_for, reel_row, short_row, rows_for, kit_rows, reel_in, reels_in}
-use Rattle.report_texts.proofs.Prefixes.{enough-zero, enough-nil, enough-next}
+use Rattle.trace_reports.specs.declared.kit.KitRow.{KitRow}
+use Rattle.trace_reports.specs.Kit.{needed_by, pieces_of_reels, enough, still_free, reels_for, reel_row, short_row, rows_for, kit_rows, reel_in, reels_in}
+use Rattle.trace_reports.proofs.Prefixes.{enough-zero, enough-nil, enough-next}
 
 abbrev name_of : ReelView → Name
 name_of r = r.reel

@@ -7,7 +7,7 @@ use Rattle.std.proofs.lemmas.Bool.{leb-true, leb-false}
 use Rattle.std.proofs.lemmas.List.Sums.{sum_by-cons}
 use Rattle.desk_types.specs.declared.view.ReelView.{ReelView}
 use Rattle.desk_types.proofs.LoopSteps.{drop-next}
-use Rattle.report_texts.specs.Kit.{pieces_of_reels, prefixes, enough}
+use Rattle.trace_reports.specs.Kit.{pieces_of_reels, prefixes, enough}
 
 -- ---- sufficient prefixes
 

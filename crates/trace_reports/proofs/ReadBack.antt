@@ -9,7 +9,7 @@ use Rattle.csv.specs.Reading.{default_config, records_from, records}
 use Rattle.csv.specs.Writing.{default_writer, read_back, row_body, is_blank}
 use Rattle.csv.specs.declared.parser.State.TheVariants as st
 use Rattle.csv.proofs.RoundTrip.{read-write}
-use Rattle.report_texts.specs.Csv.{record_text, csv_text}
+use Rattle.trace_reports.specs.Csv.{record_text, csv_text}
 
 as_it_was : (row : List (List ℕ)) → row ≢ [] → read_back row ≡ row
 as_it_was [] some = absurd (some refl)

@@ -14,8 +14,8 @@ use Rattle.desk_types.specs.Id.{Name, same, by_name}
 use Rattle.desk_types.proofs.Keys.{same-refl, same-sym, is_at-by_name, list_any-same}
 use Rattle.desk_types.proofs.Tests.{swap-or}
 use Rattle.desk_types.specs.declared.trace_detail.TraceDetail.TheVariants.{One, Two, Three}
-use Rattle.report_texts.specs.Sets.{Fields, by_fields, set_of}
-use Rattle.report_texts.specs.Traces.{board_rows, lot_rows, pieces_on, pieces_of_lot}
+use Rattle.trace_reports.specs.Sets.{Fields, by_fields, set_of}
+use Rattle.trace_reports.specs.Traces.{board_rows, lot_rows, pieces_on, pieces_of_lot}
 
 -- ---- members
 

@@ -6,8 +6,8 @@ use Rattle.desk_types.specs.Id.{Name}
 use Rattle.desk_types.specs.History.{History}
 use Rattle.desk_types.specs.Level.{text_of}
 use Rattle.desk_types.specs.View.{reel_view}
-use Rattle.report_texts.specs.Csv.{csv_text}
-use Rattle.report_texts.specs.Shown.{left_text}
+use Rattle.trace_reports.specs.Csv.{csv_text}
+use Rattle.trace_reports.specs.Shown.{left_text}
 
 -- Whether the reel is mounted, out of its bag, or sealed.
 abbrev pub state_text : ReelView → List ℕ

@@ -9,11 +9,11 @@ use Rattle.desk_types.specs.History.{History}
 use Rattle.desk_types.specs.Free.{free_reels}
 use Rattle.desk_types.specs.Setup.{sheet_of}
 use Rattle.setup_sheets.specs.Names.{is_among}
-use Rattle.report_texts.specs.Csv.{csv_text}
-use Rattle.report_texts.specs.Shown.{left_text}
-use Rattle.report_texts.specs.declared.kit.KitRow.{KitRow}
-use Rattle.report_texts.specs.declared.kit.Supply.{Supply}
-use Rattle.report_texts.specs.declared.kit.Supply.TheVariants.{Reel, Short}
+use Rattle.trace_reports.specs.Csv.{csv_text}
+use Rattle.trace_reports.specs.Shown.{left_text}
+use Rattle.trace_reports.specs.declared.kit.KitRow.{KitRow}
+use Rattle.trace_reports.specs.declared.kit.Supply.{Supply}
+use Rattle.trace_reports.specs.declared.kit.Supply.TheVariants.{Reel, Short}
 
 -- ---- the reels for a sheet row
 

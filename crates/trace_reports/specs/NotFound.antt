@@ -2,8 +2,8 @@
 use Rattle.std.specs.Prelude.{ℕ, List, codes}
 use Rattle.serde_json.specs.Written.{compact_text}
 use Rattle.cfx_profile.specs.Answer.{not_found}
-use Rattle.report_texts.specs.declared.kind.Kind.{Kind}
-use Rattle.report_texts.specs.declared.kind.Kind.TheVariants.{Board, Lot, Reel, Machine, Sheet}
+use Rattle.trace_reports.specs.declared.kind.Kind.{Kind}
+use Rattle.trace_reports.specs.declared.kind.Kind.TheVariants.{Board, Lot, Reel, Machine, Sheet}
 
 abbrev pub kind_word : Kind → List ℕ
 kind_word Board = codes "Board"

@@ -5,8 +5,8 @@ use Rattle.desk_types.specs.declared.view.Mount.{Mount}
 use Rattle.desk_types.specs.Id.{Name}
 use Rattle.desk_types.specs.History.{History}
 use Rattle.desk_types.specs.View.{mounts_on}
-use Rattle.report_texts.specs.Csv.{csv_text}
-use Rattle.report_texts.specs.Shown.{left_text}
+use Rattle.trace_reports.specs.Csv.{csv_text}
+use Rattle.trace_reports.specs.Shown.{left_text}
 
 abbrev pub slots_header : List (List ℕ)
 slots_header =

@@ -5,8 +5,8 @@ use Rattle.desk_types.specs.Id.{Name, same}
 use Rattle.desk_types.specs.declared.placement.Placement.{Placement}
 use Rattle.desk_types.specs.declared.trace_detail.TraceDetail.{TraceDetail}
 use Rattle.desk_types.specs.declared.trace_detail.TraceDetail.TheVariants.{One, Two, Three, Four}
-use Rattle.report_texts.specs.Csv.{csv_text}
-use Rattle.report_texts.specs.Sets.{Fields, set_of}
+use Rattle.trace_reports.specs.Csv.{csv_text}
+use Rattle.trace_reports.specs.Sets.{Fields, set_of}
 
 -- A record's columns at these places, from 0.
 abbrev pub project : List ℕ → Fields → Fields

@@ -3,7 +3,7 @@
 ghost use Rattle.std.specs.Prelude.{◌≡◌, IfOk};
 ghost use Rattle.desk_types.specs.History.{History};
 ghost use Rattle.desk_types.specs.Level.{text_of};
-ghost use Rattle.report_texts.specs.Card.{state_text, reel_card};
+ghost use Rattle.trace_reports.specs.Card.{state_text, reel_card};
 
 use crate::report::{Report, TextWriter, csv_text, write_fields};
 use crate::shown::left_text;
@@ -32,7 +32,7 @@ fn level_text(view: &ReelView) -> &str
 struct ReelCard;
 
 impl Report<ReelView> for ReelCard {
-    ghost use Rattle.report_texts.specs.Card.{card_header, card_fields};
+    ghost use Rattle.trace_reports.specs.Card.{card_header, card_fields};
 
     ghost header = { λ _. card_header };
 

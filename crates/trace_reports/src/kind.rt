@@ -4,7 +4,7 @@ ghost use Rattle.std.specs.Prelude.{◌≡◌, false, IfOk};
 ghost use Rattle.serde_json.specs.View.{view};
 ghost use Rattle.serde_json.specs.Written.{has_float};
 ghost use Rattle.cfx_profile.specs.Answer.{not_found};
-ghost use Rattle.report_texts.specs.NotFound.{kind_word, not_found_text};
+ghost use Rattle.trace_reports.specs.NotFound.{kind_word, not_found_text};
 
 use desk_types::{Listing, Text};
 use serde_json::{Value, json};

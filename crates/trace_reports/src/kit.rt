@@ -6,7 +6,7 @@ ghost use Rattle.desk_types.specs.declared.view.ReelView.{ReelView};
 ghost use Rattle.desk_types.specs.Id.{Name};
 ghost use Rattle.desk_types.specs.History.{History};
 ghost use Rattle.setup_sheets.specs.Names.{is_among, HasSeen};
-ghost use Rattle.report_texts.specs.Kit.{needed_by, enough, rows_for, kit_rows, kit_list};
+ghost use Rattle.trace_reports.specs.Kit.{needed_by, enough, rows_for, kit_rows, kit_list};
 
 use crate::report::{Report, TextWriter, csv_text, write_fields};
 use crate::shown::left_text;
@@ -38,7 +38,7 @@ pub enum Supply {
 struct KitList;
 
 impl Report<KitRow> for KitList {
-    ghost use Rattle.report_texts.specs.Kit.{kit_header, kit_fields};
+    ghost use Rattle.trace_reports.specs.Kit.{kit_header, kit_fields};
 
     ghost header = { λ _. kit_header };
 

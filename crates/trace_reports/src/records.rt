@@ -1,8 +1,8 @@
 //! The fields of pieces in reports.
 
 ghost use Rattle.std.specs.Prelude.{◌≡◌, ◌∷◌, [], IfOk, map};
-ghost use Rattle.report_texts.specs.Traces.{project, yes_or_no, on_board, of_lot, board_columns, lot_columns, board_rows, lot_rows, board_header, lot_header};
-ghost use Rattle.report_texts.specs.Sets.{bytes_of};
+ghost use Rattle.trace_reports.specs.Traces.{project, yes_or_no, on_board, of_lot, board_columns, lot_columns, board_rows, lot_rows, board_header, lot_header};
+ghost use Rattle.trace_reports.specs.Sets.{bytes_of};
 
 use desk_types::{Placement, TraceDetail};
 use std::alloc::{AllocError, Global};

@@ -4,7 +4,7 @@
 //! quote or line end is quoted, with its quotes doubled, so readers of RFC 4180 restore it.
 
 ghost use Rattle.std.specs.Prelude.{◌≡◌, List, ℕ, ◌++◌, map, IfOk, OnOk};
-ghost use Rattle.report_texts.specs.Csv.{record_text, csv_text, HasWritten};
+ghost use Rattle.trace_reports.specs.Csv.{record_text, csv_text, HasWritten};
 
 use csv::{Writer, WriterBuilder};
 use desk_types::{Listing, Text};

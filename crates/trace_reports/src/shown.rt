@@ -1,7 +1,7 @@
 //! Floor life as reports show it.
 
 ghost use Rattle.std.specs.Prelude.{◌≡◌};
-ghost use Rattle.report_texts.specs.Shown.{left_text};
+ghost use Rattle.trace_reports.specs.Shown.{left_text};
 
 use desk_types::Left;
 use itoa::Buffer;

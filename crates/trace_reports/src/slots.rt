@@ -2,7 +2,7 @@
 
 ghost use Rattle.std.specs.Prelude.{◌≡◌, IfOk};
 ghost use Rattle.desk_types.specs.History.{History};
-ghost use Rattle.report_texts.specs.Slots.{slot_list};
+ghost use Rattle.trace_reports.specs.Slots.{slot_list};
 
 use crate::report::{Report, TextWriter, csv_text, write_fields};
 use crate::shown::left_text;
@@ -13,7 +13,7 @@ use std::alloc::{AllocError, Global};
 struct SlotList;
 
 impl Report<Mount> for SlotList {
-    ghost use Rattle.report_texts.specs.Slots.{slots_header, slot_fields};
+    ghost use Rattle.trace_reports.specs.Slots.{slots_header, slot_fields};
 
     ghost header = { λ _. slots_header };
 

@@ -11,9 +11,9 @@ ghost use Rattle.desk_types.specs.declared.trace_detail.TraceDetail.TheVariants.
 ghost use Rattle.desk_types.specs.Id.{Name, same};
 ghost use Rattle.desk_types.specs.History.{History};
 ghost use Rattle.desk_types.specs.Judged.{IsJudged};
-ghost use Rattle.report_texts.specs.Csv.{csv_text};
-ghost use Rattle.report_texts.specs.Kit.{kit_rows, reels_in};
-ghost use Rattle.report_texts.specs.Traces.{project, board_columns, lot_columns, board_header, lot_header, overdue_header, overdue_row, board_text, lot_text, overdue_text, board_rows, lot_rows, pieces_on, pieces_of_lot};
+ghost use Rattle.trace_reports.specs.Csv.{csv_text};
+ghost use Rattle.trace_reports.specs.Kit.{kit_rows, reels_in};
+ghost use Rattle.trace_reports.specs.Traces.{project, board_columns, lot_columns, board_header, lot_header, overdue_header, overdue_row, board_text, lot_text, overdue_text, board_rows, lot_rows, pieces_on, pieces_of_lot};
 
 /// Reading a report with `csv` gives back its header and records, even with commas, quotes or line ends in fields.
 /// Holds for all records with at least one field.

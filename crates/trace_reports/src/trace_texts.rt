@@ -1,9 +1,9 @@
 //! The traces of boards and lots, and the overdue list.
 
 ghost use Rattle.std.specs.Prelude.{◌≡◌, IfOk, map};
-ghost use Rattle.report_texts.specs.Csv.{csv_text};
-ghost use Rattle.report_texts.specs.Traces.{board_text, lot_text, overdue_text};
-ghost use Rattle.report_texts.specs.Sets.{bytes_of};
+ghost use Rattle.trace_reports.specs.Csv.{csv_text};
+ghost use Rattle.trace_reports.specs.Traces.{board_text, lot_text, overdue_text};
+ghost use Rattle.trace_reports.specs.Sets.{bytes_of};
 
 use crate::records::{Record, board_header, board_rows, lot_header, lot_rows};
 use crate::report::{Report, TextWriter, csv_text, write_fields};
@@ -59,7 +59,7 @@ pub fn lot_text(
 struct OverdueList;
 
 impl Report<Placement> for OverdueList {
-    ghost use Rattle.report_texts.specs.Traces.{overdue_header, overdue_row};
+    ghost use Rattle.trace_reports.specs.Traces.{overdue_header, overdue_row};
 
     ghost header = { λ _. overdue_header };
 

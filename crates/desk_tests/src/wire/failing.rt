@@ -3,7 +3,7 @@
 
 use super::lines::{FIRST_RUN, SPLICE, lines_of};
 use super::{Fed, run_feed};
-use served::{ServeFault, Served};
+use desk_answers::{ServeFault, Served};
 use std::alloc::Global;
 use std::io;
 use std::io::{Error, ErrorKind, Read, Write};

@@ -2,8 +2,8 @@
 
 use super::lines::{FIRST_RUN, lines_of};
 use super::run_feed;
+use desk_answers::send;
 use desk_types::Wire;
-use served::send;
 use std::io;
 use std::io::{Read, Write};
 use std::process::Abort;

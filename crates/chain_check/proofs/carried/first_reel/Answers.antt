@@ -7,9 +7,9 @@ use Rattle.desk_types.specs.History.{History}
 use Rattle.desk_types.specs.Tables.{Tables, columns_of, tables_of}
 use Rattle.desk_types.specs.View.{reel_view}
 use Rattle.state_rows.specs.Kept.{KeptRows, tables_in, unnumbered}
-use Rattle.alike_check.specs.Views.{IsCarried}
-use Rattle.alike_check.proofs.SameRows.{none-then}
-use Rattle.alike_check.proofs.carried.first_reel.Goals as goal
+use Rattle.chain_check.specs.Views.{IsCarried}
+use Rattle.chain_check.proofs.SameRows.{none-then}
+use Rattle.chain_check.proofs.carried.first_reel.Goals as goal
 
 either-carried : (v w : Option ReelView) → (is_some v ≡ true → IsCarried v w) → (is_some w ≡ true → IsCarried v w) → IsCarried v w
 either-carried (Some v) w old new = old refl

@@ -5,9 +5,9 @@ use Rattle.desk_types.specs.declared.row.ReelRow.{ReelRow}
 use Rattle.desk_types.specs.Id.{Name, by_name}
 use Rattle.desk_types.specs.View.{reel_view}
 use Rattle.state_rows.specs.Kept.{tables_in, Lists}
-use Rattle.alike_check.specs.Views.{IsCarried}
-use Rattle.alike_check.proofs.Covered.{covered-rows}
-use Rattle.alike_check.proofs.carried.reel_in.Goals as goal
+use Rattle.chain_check.specs.Views.{IsCarried}
+use Rattle.chain_check.proofs.Covered.{covered-rows}
+use Rattle.chain_check.proofs.carried.reel_in.Goals as goal
 
 pub loop-reel-preserved : goal.loop-reel-preserved
 loop-reel-preserved g c = λ H H' of_old of_new rest.

@@ -3,8 +3,8 @@ use Rattle.desk_types.specs.declared.row.ReelRow.{ReelRow}
 use Rattle.desk_types.specs.Id.{Name}
 use Rattle.desk_types.specs.History.{History}
 use Rattle.desk_types.specs.View.{reel_view}
-use Rattle.alike_check.specs.Views.{IsCarried}
-use Rattle.alike_check.proofs.carried.reel_in.Given as goal
+use Rattle.chain_check.specs.Views.{IsCarried}
+use Rattle.chain_check.proofs.carried.reel_in.Given as goal
 
 -- What holds of the reels that are left holds of all.
 abbrev pub invariant-loop-reel : goal.invariant-loop-reel

@@ -1,8 +1,8 @@
 use Rattle.std.proofs.Common.{◌≡◌, rules, sym, ap, unwrap_or, ◌∙◌}
 use Rattle.desk_types.specs.History.{desk_minute, now_of}
 use Rattle.feeder_state.proofs.AcceptedChanges.{state-two}
-use Rattle.alike_check.proofs.SameReels.{carried, reel-difference}
-use Rattle.alike_check.proofs.check.find.Goals as goal
+use Rattle.chain_check.proofs.SameReels.{carried, reel-difference}
+use Rattle.chain_check.proofs.check.find.Goals as goal
 
 pub returns-in-Some-clause-differs : goal.returns-in-Some-clause-differs
 returns-in-Some-clause-differs c = λ H H' of_old of_new.

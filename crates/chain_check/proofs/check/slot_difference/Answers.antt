@@ -1,8 +1,8 @@
 use Rattle.std.proofs.Common.{sym, ◌∙◌}
 use Rattle.desk_types.specs.Pieces.{live_on}
 use Rattle.feeder_state.proofs.AcceptedChanges.{state-two}
-use Rattle.alike_check.proofs.SameSlots.{either-list}
-use Rattle.alike_check.proofs.check.slot_difference.Goals as goal
+use Rattle.chain_check.proofs.SameSlots.{either-list}
+use Rattle.chain_check.proofs.check.slot_difference.Goals as goal
 
 pub returns-in-Some-clause-differs : goal.returns-in-Some-clause-differs
 returns-in-Some-clause-differs c = λ H H' of_old of_new same.

@@ -1,6 +1,6 @@
 use Rattle.desk_types.specs.Setup.{sheet_of}
-use Rattle.alike_check.proofs.SameRows.{either-some, none-then}
-use Rattle.alike_check.proofs.sheets.first_sheet.Goals as goal
+use Rattle.chain_check.proofs.SameRows.{either-some, none-then}
+use Rattle.chain_check.proofs.sheets.first_sheet.Goals as goal
 
 pub returns : goal.returns
 returns g c = record {

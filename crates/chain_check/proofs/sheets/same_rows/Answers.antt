@@ -5,8 +5,8 @@ use Rattle.desk_types.specs.declared.sheet.SheetRow.{SheetRow}
 use Rattle.desk_types.specs.Id.{same}
 use Rattle.desk_types.specs.contracts.sheet.SheetRowPartialEq.TheImpl.{ghosts as sheet_row}
 use Rattle.desk_types.proofs.Keys.{same-refl, same-true}
-use Rattle.alike_check.proofs.EqualLists.{both, either-way, lists-same, lists-refl}
-use Rattle.alike_check.proofs.sheets.same_rows.Goals as goal
+use Rattle.chain_check.proofs.EqualLists.{both, either-way, lists-same, lists-refl}
+use Rattle.chain_check.proofs.sheets.same_rows.Goals as goal
 
 row-same : (a b : SheetRow) → sheet_row.eq a b ≡ true → a ≡ b
 row-same a b e =

@@ -3,8 +3,8 @@ use Rattle.std.specs.List.{AllByRecursion}
 use Rattle.desk_types.specs.declared.sheet.SheetRow.{SheetRow}
 use Rattle.desk_types.specs.Id.{Name}
 use Rattle.state_rows.specs.Kept.{tables_in, by_sheet_place, Lists}
-use Rattle.alike_check.proofs.SameSheets.{SameSheet, covered-sheets}
-use Rattle.alike_check.proofs.sheets.sheet_in.Goals as goal
+use Rattle.chain_check.proofs.SameSheets.{SameSheet, covered-sheets}
+use Rattle.chain_check.proofs.sheets.sheet_in.Goals as goal
 
 pub loop-key-preserved : goal.loop-key-preserved
 loop-key-preserved g c = λ H H' of_old of_new rest.

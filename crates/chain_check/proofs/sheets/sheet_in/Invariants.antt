@@ -3,8 +3,8 @@ use Rattle.std.specs.List.{AllByRecursion}
 use Rattle.desk_types.specs.declared.sheet.SheetRow.{SheetRow}
 use Rattle.desk_types.specs.Id.{Name}
 use Rattle.desk_types.specs.History.{History}
-use Rattle.alike_check.proofs.SameSheets.{SameSheet}
-use Rattle.alike_check.proofs.sheets.sheet_in.Given as goal
+use Rattle.chain_check.proofs.SameSheets.{SameSheet}
+use Rattle.chain_check.proofs.sheets.sheet_in.Given as goal
 
 -- What holds of the keys that are left holds of all.
 abbrev pub invariant-loop-key : goal.invariant-loop-key

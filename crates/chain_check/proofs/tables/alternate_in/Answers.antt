@@ -4,9 +4,9 @@ use Rattle.std.proofs.lemmas.Map.Lookups.{exact_bytes, exact_pairs, CmpEqualImpl
 use Rattle.desk_types.specs.Id.{Name, by_name}
 use Rattle.desk_types.specs.Pair.{by_pair}
 use Rattle.state_rows.specs.Kept.{tables_in, ListsKeys}
-use Rattle.alike_check.proofs.Covered.{covered-keys}
-use Rattle.alike_check.proofs.SameRows.{SameAlternate, beq-same}
-use Rattle.alike_check.proofs.tables.alternate_in.Goals as goal
+use Rattle.chain_check.proofs.Covered.{covered-keys}
+use Rattle.chain_check.proofs.SameRows.{SameAlternate, beq-same}
+use Rattle.chain_check.proofs.tables.alternate_in.Goals as goal
 
 exact : CmpEqualImpliesEq by_pair
 exact = exact_pairs by_name by_name exact_bytes exact_bytes

@@ -1,7 +1,7 @@
 use Rattle.std.specs.List.{AllByRecursion}
 use Rattle.desk_types.specs.Id.{Name}
-use Rattle.alike_check.proofs.SameRows.{SameAlternate}
-use Rattle.alike_check.proofs.tables.alternate_in.Given as goal
+use Rattle.chain_check.proofs.SameRows.{SameAlternate}
+use Rattle.chain_check.proofs.tables.alternate_in.Given as goal
 
 -- What holds of the keys that are left holds of all.
 abbrev pub invariant-loop-part : goal.invariant-loop-part

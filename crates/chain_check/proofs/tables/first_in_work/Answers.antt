@@ -5,9 +5,9 @@ use Rattle.std.proofs.lemmas.Map.Lookups.{exact_bytes}
 use Rattle.desk_types.specs.declared.row.BoardRow.{BoardRow}
 use Rattle.desk_types.specs.Id.{Name, by_name}
 use Rattle.state_rows.specs.Kept.{tables_in, Lists}
-use Rattle.alike_check.proofs.Covered.{covered-rows}
-use Rattle.alike_check.proofs.SameRows.{IsOffWork}
-use Rattle.alike_check.proofs.tables.first_in_work.Goals as goal
+use Rattle.chain_check.proofs.Covered.{covered-rows}
+use Rattle.chain_check.proofs.SameRows.{IsOffWork}
+use Rattle.chain_check.proofs.tables.first_in_work.Goals as goal
 
 pub loop-board-preserved : goal.loop-board-preserved
 loop-board-preserved c = λ rest.

@@ -1,8 +1,8 @@
 use Rattle.std.specs.List.{AllByRecursion}
 use Rattle.desk_types.specs.Id.{Name}
 use Rattle.desk_types.specs.declared.row.BoardRow.{BoardRow}
-use Rattle.alike_check.proofs.SameRows.{IsOffWork}
-use Rattle.alike_check.proofs.tables.first_in_work.Given as goal
+use Rattle.chain_check.proofs.SameRows.{IsOffWork}
+use Rattle.chain_check.proofs.tables.first_in_work.Given as goal
 
 -- What holds of the keys that are left holds of all.
 abbrev pub invariant-loop-board : goal.invariant-loop-board

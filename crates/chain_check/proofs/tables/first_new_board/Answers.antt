@@ -4,9 +4,9 @@ use Rattle.std.proofs.lemmas.Map.Lookups.{exact_bytes}
 use Rattle.desk_types.specs.declared.row.BoardRow.{BoardRow}
 use Rattle.desk_types.specs.Id.{Name, by_name}
 use Rattle.state_rows.specs.Kept.{tables_in, Lists}
-use Rattle.alike_check.proofs.Covered.{covered-rows}
-use Rattle.alike_check.proofs.SameRows.{IsKnown, known}
-use Rattle.alike_check.proofs.tables.first_new_board.Goals as goal
+use Rattle.chain_check.proofs.Covered.{covered-rows}
+use Rattle.chain_check.proofs.SameRows.{IsKnown, known}
+use Rattle.chain_check.proofs.tables.first_new_board.Goals as goal
 
 pub loop-board-preserved : goal.loop-board-preserved
 loop-board-preserved c = λ rest.

@@ -1,5 +1,5 @@
-use Rattle.alike_check.proofs.SameRows.{either, none-then}
-use Rattle.alike_check.proofs.tables.first_part.Goals as goal
+use Rattle.chain_check.proofs.SameRows.{either, none-then}
+use Rattle.chain_check.proofs.tables.first_part.Goals as goal
 
 pub returns : goal.returns
 returns c = record {

@@ -1,5 +1,5 @@
-use Rattle.alike_check.proofs.SameRows.{either-some, none-then}
-use Rattle.alike_check.proofs.tables.first_selection.Goals as goal
+use Rattle.chain_check.proofs.SameRows.{either-some, none-then}
+use Rattle.chain_check.proofs.tables.first_selection.Goals as goal
 
 pub returns : goal.returns
 returns c = record {

@@ -3,9 +3,9 @@ use Rattle.std.specs.List.{AllByRecursion}
 use Rattle.std.proofs.lemmas.Map.Lookups.{exact_bytes}
 use Rattle.desk_types.specs.Id.{Name, by_name}
 use Rattle.state_rows.specs.Kept.{tables_in, ListsKeys}
-use Rattle.alike_check.proofs.Covered.{covered-keys}
-use Rattle.alike_check.proofs.SameRows.{SamePart, beq-same}
-use Rattle.alike_check.proofs.tables.part_in.Goals as goal
+use Rattle.chain_check.proofs.Covered.{covered-keys}
+use Rattle.chain_check.proofs.SameRows.{SamePart, beq-same}
+use Rattle.chain_check.proofs.tables.part_in.Goals as goal
 
 pub loop-part-preserved : goal.loop-part-preserved
 loop-part-preserved c = λ rest.

@@ -3,9 +3,9 @@ use Rattle.std.specs.List.{AllByRecursion}
 use Rattle.std.proofs.lemmas.Map.Lookups.{exact_bytes}
 use Rattle.desk_types.specs.Id.{Name, by_name}
 use Rattle.state_rows.specs.Kept.{tables_in, Lists}
-use Rattle.alike_check.proofs.Covered.{covered-rows}
-use Rattle.alike_check.proofs.SameRows.{SameSelection}
-use Rattle.alike_check.proofs.tables.selection_in.Goals as goal
+use Rattle.chain_check.proofs.Covered.{covered-rows}
+use Rattle.chain_check.proofs.SameRows.{SameSelection}
+use Rattle.chain_check.proofs.tables.selection_in.Goals as goal
 
 pub loop-machine-preserved : goal.loop-machine-preserved
 loop-machine-preserved c = λ rest.

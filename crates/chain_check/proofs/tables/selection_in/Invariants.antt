@@ -1,7 +1,7 @@
 use Rattle.std.specs.List.{AllByRecursion}
 use Rattle.desk_types.specs.Id.{Name}
-use Rattle.alike_check.proofs.SameRows.{SameSelection}
-use Rattle.alike_check.proofs.tables.selection_in.Given as goal
+use Rattle.chain_check.proofs.SameRows.{SameSelection}
+use Rattle.chain_check.proofs.tables.selection_in.Given as goal
 
 -- What holds of the keys that are left holds of all.
 abbrev pub invariant-loop-machine : goal.invariant-loop-machine

@@ -1,6 +1,6 @@
 use Rattle.desk_types.specs.Tables.{Tables}
-use Rattle.alike_check.proofs.SameTables.{over, back}
-use Rattle.alike_check.proofs.tables.setup_difference.Goals as goal
+use Rattle.chain_check.proofs.SameTables.{over, back}
+use Rattle.chain_check.proofs.tables.setup_difference.Goals as goal
 
 pub returns-in-Some-clause-differs : goal.returns-in-Some-clause-differs
 returns-in-Some-clause-differs c = λ H H' is is' same.

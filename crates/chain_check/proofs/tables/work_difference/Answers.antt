@@ -1,6 +1,6 @@
 use Rattle.std.proofs.Common.{sym, ◌∙◌}
-use Rattle.alike_check.proofs.SameTables.{rows-idle, rows-working, started-is}
-use Rattle.alike_check.proofs.tables.work_difference.Goals as goal
+use Rattle.chain_check.proofs.SameTables.{rows-idle, rows-working, started-is}
+use Rattle.chain_check.proofs.tables.work_difference.Goals as goal
 
 pub returns-in-Some-clause-differs : goal.returns-in-Some-clause-differs
 returns-in-Some-clause-differs c = λ H H' judged judged' is is'. rows-working H c.args.old.now c.in-Some.board judged is c.in-Some.ensures.some

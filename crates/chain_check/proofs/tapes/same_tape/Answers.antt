@@ -1,8 +1,8 @@
 use Rattle.std.proofs.Common.{◌≡◌, rules, sym, ◌∙◌, arith, refl, length}
 use Rattle.std.specs.List.{slice_get}
 use borrow.Author.Count.{below_more}
-use Rattle.alike_check.proofs.EqualLists.{gets-same}
-use Rattle.alike_check.proofs.tapes.same_tape.Goals as goal
+use Rattle.chain_check.proofs.EqualLists.{gets-same}
+use Rattle.chain_check.proofs.tapes.same_tape.Goals as goal
 
 pub loop-i-preserved : goal.loop-i-preserved
 loop-i-preserved g c =

@@ -1,6 +1,6 @@
 use Rattle.std.proofs.Common.{◌≡◌, ℕ, ◌<◌}
 use Rattle.std.specs.List.{slice_get}
-use Rattle.alike_check.proofs.tapes.same_tape.Given as goal
+use Rattle.chain_check.proofs.tapes.same_tape.Given as goal
 
 -- The reels are the same at each index so far.
 abbrev pub invariant-loop-i : goal.invariant-loop-i

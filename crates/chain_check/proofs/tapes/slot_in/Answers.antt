@@ -2,8 +2,8 @@ use Rattle.std.proofs.Common.{rules, ◌≡◌, false, sym, subst}
 use Rattle.std.specs.List.{AllByRecursion}
 use Rattle.desk_types.specs.Id.{Name}
 use Rattle.state_rows.specs.Kept.{tables_in, ListsMounts}
-use Rattle.alike_check.proofs.SameSlots.{HoldsAtFront, covered-slots}
-use Rattle.alike_check.proofs.tapes.slot_in.Goals as goal
+use Rattle.chain_check.proofs.SameSlots.{HoldsAtFront, covered-slots}
+use Rattle.chain_check.proofs.tapes.slot_in.Goals as goal
 
 pub loop-key-preserved : goal.loop-key-preserved
 loop-key-preserved g c = λ rest.

@@ -1,8 +1,8 @@
 use Rattle.std.proofs.Common.{◌≡◌}
 use Rattle.std.specs.List.{AllByRecursion}
 use Rattle.desk_types.specs.Id.{Name}
-use Rattle.alike_check.proofs.SameSlots.{HoldsAtFront}
-use Rattle.alike_check.proofs.tapes.slot_in.Given as goal
+use Rattle.chain_check.proofs.SameSlots.{HoldsAtFront}
+use Rattle.chain_check.proofs.tapes.slot_in.Given as goal
 
 -- What holds of the mounts that are left holds of all.
 abbrev pub invariant-loop-key : goal.invariant-loop-key

@@ -4,9 +4,9 @@ use Rattle.sqlite.specs.Held.{state}
 use Rattle.desk_types.specs.declared.rules.Rules.{Rules}
 use Rattle.line_tables.proofs.Frames.{reads_same, reads_then}
 use Rattle.line_replay.proofs.ReadOfCommitted.{reads_back}
-use Rattle.line_prefix.specs.First.{TakesNext}
-use Rattle.line_prefix.proofs.NextOfFirst.{next-prefix}
-use Rattle.line_prefix.proofs.first.first_desk.Goals as goal
+use Rattle.chain_files.specs.First.{TakesNext}
+use Rattle.chain_files.proofs.NextOfFirst.{next-prefix}
+use Rattle.chain_files.proofs.first.first_desk.Goals as goal
 
 pub loop-number-init : goal.loop-number-init
 loop-number-init g c = record {

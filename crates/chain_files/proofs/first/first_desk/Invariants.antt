@@ -2,8 +2,8 @@ use Rattle.std.proofs.Common.{◌≡◌}
 use Rattle.sqlite.specs.State.{HasCleanDisk}
 use Rattle.sqlite.specs.Held.{state}
 use Rattle.line_tables.specs.Frames.{ReadsOnly}
-use Rattle.line_prefix.specs.First.{IsFirst}
-use Rattle.line_prefix.proofs.first.first_desk.Given as goal
+use Rattle.chain_files.specs.First.{IsFirst}
+use Rattle.chain_files.proofs.first.first_desk.Given as goal
 
 abbrev pub invariant-loop-number : goal.invariant-loop-number
 invariant-loop-number g l = record {

@@ -3,7 +3,7 @@ use Rattle.sqlite.specs.Held.{state}
 use Rattle.sqlite_value.specs.Order.{Row}
 use Rattle.line_tables.specs.Calls.{has_number, only}
 use Rattle.line_tables.specs.Rows.{accepted_in}
-use Rattle.line_prefix.proofs.first.take_row.Goals as goal
+use Rattle.chain_files.proofs.first.take_row.Goals as goal
 
 pub returns-in-Ok-clause-takes : goal.returns-in-Ok-clause-takes
 returns-in-Ok-clause-takes g c H stands numbered told =

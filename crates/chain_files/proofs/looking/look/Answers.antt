@@ -4,9 +4,9 @@ use Rattle.sqlite.specs.Effect.{Database}
 use Rattle.sqlite.specs.State.{HasCleanDisk}
 use Rattle.sqlite.specs.Held.{Held, state}
 use Rattle.line_tables.specs.Rows.{Holds}
-use Rattle.line_rows.specs.Rows.{ledger_tables}
+use Rattle.line_replay.specs.Rows.{ledger_tables}
 use Rattle.line_schema.specs.Traces.{working_of}
-use Rattle.line_prefix.proofs.looking.look.Goals as goal
+use Rattle.chain_files.proofs.looking.look.Goals as goal
 
 of-some : {X : Type 0} (P : X → Type 0) (o : Option X) (x : X) → o ≡ Some x → IfSome o P → P x
 of-some P o x is all = subst (λ (o : Option _). IfSome o P) is all

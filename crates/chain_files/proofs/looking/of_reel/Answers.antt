@@ -4,8 +4,8 @@ use Rattle.desk_types.specs.Id.{Name}
 use Rattle.desk_types.specs.Setup.{receipt_of}
 use Rattle.chain_check.specs.declared.question.Subject.TheVariants.{Lot, Reel}
 use Rattle.chain_check.specs.Rows.{is_of, pieces_of}
-use Rattle.line_prefix.proofs.AskedPieces.{lot-pieces, none-mapped, reel-none, reel-some, some-mapped}
-use Rattle.line_prefix.proofs.looking.of_reel.Goals as goal
+use Rattle.chain_files.proofs.AskedPieces.{lot-pieces, none-mapped, reel-none, reel-some, some-mapped}
+use Rattle.chain_files.proofs.looking.of_reel.Goals as goal
 
 pub returns-in-Ok-None-clause-pieces : goal.returns-in-Ok-None-clause-pieces
 returns-in-Ok-None-clause-pieces g c L stands clean own =

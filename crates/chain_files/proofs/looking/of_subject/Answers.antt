@@ -2,8 +2,8 @@ use Rattle.std.proofs.Common.{◌∙◌, sym, ap}
 use Rattle.std.proofs.lemmas.Result.{IfOk-weaker}
 use Rattle.chain_check.specs.declared.question.Subject.{Subject}
 use Rattle.chain_check.specs.Rows.{pieces_of}
-use Rattle.line_prefix.proofs.AskedPieces.{board-pieces, lot-pieces}
-use Rattle.line_prefix.proofs.looking.of_subject.Goals as goal
+use Rattle.chain_files.proofs.AskedPieces.{board-pieces, lot-pieces}
+use Rattle.chain_files.proofs.looking.of_subject.Goals as goal
 
 pub returns-in-Lot-clause-pieces : goal.returns-in-Lot-clause-pieces
 returns-in-Lot-clause-pieces g c L stands clean own =

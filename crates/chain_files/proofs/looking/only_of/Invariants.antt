@@ -1,7 +1,7 @@
 use Rattle.std.proofs.Common.{◌≡◌, ◌++◌, drop, filter}
 use Rattle.chain_check.specs.declared.question.Subject.TheVariants.{Reel}
 use Rattle.chain_check.specs.Rows.{is_of}
-use Rattle.line_prefix.proofs.looking.only_of.Given as goal
+use Rattle.chain_files.proofs.looking.only_of.Given as goal
 
 -- The kept pieces, then those that are left.
 abbrev pub invariant-loop-piece : goal.invariant-loop-piece

@@ -3,7 +3,7 @@ use Rattle.std.proofs.lemmas.List.{places, take_rest}
 use Rattle.std.proofs.Math.Seq.{take-add}
 use Rattle.std.specs.Io.KnownBytes.{Appends}
 use Rattle.std.proofs.KnownBytes.{Appends-trans}
-use Rattle.served.proofs.sending.send.Goals as goal
+use Rattle.desk_answers.proofs.sending.send.Goals as goal
 
 pub loop-at-preserved : goal.loop-at-preserved
 loop-at-preserved g c =

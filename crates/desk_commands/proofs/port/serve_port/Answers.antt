@@ -1,8 +1,8 @@
 use Rattle.std.proofs.Common.{rules, ◌<◌, [], refl, inl, inr, arith}
 use Rattle.std.proofs.KnownBytes.{Appends-nil}
 use Rattle.desk_types.specs.Wire.{inner_of}
-use Rattle.desk_runs.specs.Clients.{no_port}
-use Rattle.desk_runs.proofs.gateway.serve_port.Goals as goal
+use Rattle.desk_commands.specs.Clients.{no_port}
+use Rattle.desk_commands.proofs.port.serve_port.Goals as goal
 
 pub returns-in-Err-clause-ends : goal.returns-in-Err-clause-ends
 returns-in-Err-clause-ends g c =

@@ -1,7 +1,7 @@
 use Rattle.std.proofs.Common.{rules, ◌≡◌, ◌≢◌, refl, inl, inr}
 use Rattle.http_stream.specs.Answers.{code_of, response_told}
-use Rattle.desk_runs.proofs.Questions.{answers_report}
-use Rattle.desk_runs.proofs.gateway.tell_report.Goals as goal
+use Rattle.desk_commands.proofs.Questions.{answers_report}
+use Rattle.desk_commands.proofs.port.tell_report.Goals as goal
 
 pub returns-in-Ok-clause-ends : goal.returns-in-Ok-clause-ends
 returns-in-Ok-clause-ends g c =

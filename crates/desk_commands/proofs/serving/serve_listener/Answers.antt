@@ -4,15 +4,15 @@ use Rattle.std.specs.List.{list_any}
 use Rattle.std.specs.Io.KnownBytes.{Appends}
 use Rattle.std.proofs.KnownBytes.{Appends-trans}
 use Rattle.desk_types.specs.Wire.{inner_of}
-use Rattle.served.specs.Sent.{SendsFront}
-use Rattle.http_answers.specs.Requests.{request_rule}
-use Rattle.desk_runs.specs.Clients.{Exchange, served_all, no_client, no_line, ends_of, events_in}
-use Rattle.desk_runs.specs.Clients.Event.{none_came}
-use Rattle.desk_runs.specs.Connections.{connection_line, is_faulty, lines_from}
-use Rattle.desk_runs.proofs.ClientsSeen.{all_no_port, client_no_port, line_no_port, sees_all, sees_more, sees_one_more}
-use Rattle.desk_runs.proofs.ConnectionLines.{lines_more}
-use Rattle.desk_runs.proofs.ListsAfter.{Serves, ends_more, faulty_more, serves_more}
-use Rattle.desk_runs.proofs.serving.serve_listener.Goals as goal
+use Rattle.desk_answers.specs.Sent.{SendsFront}
+use Rattle.gateway_http.specs.Requests.{request_rule}
+use Rattle.desk_commands.specs.Clients.{Exchange, served_all, no_client, no_line, ends_of, events_in}
+use Rattle.desk_commands.specs.Clients.Event.{none_came}
+use Rattle.desk_commands.specs.Connections.{connection_line, is_faulty, lines_from}
+use Rattle.desk_commands.proofs.ClientsSeen.{all_no_port, client_no_port, line_no_port, sees_all, sees_more, sees_one_more}
+use Rattle.desk_commands.proofs.ConnectionLines.{lines_more}
+use Rattle.desk_commands.proofs.ListsAfter.{Serves, ends_more, faulty_more, serves_more}
+use Rattle.desk_commands.proofs.serving.serve_listener.Goals as goal
 
 pub returns-in_default-clause-told : goal.returns-in_default-clause-told
 returns-in_default-clause-told g c =

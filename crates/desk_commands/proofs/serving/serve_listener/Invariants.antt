@@ -3,11 +3,11 @@ use Rattle.std.specs.Prelude.{flat_map}
 use Rattle.std.specs.List.{list_any}
 use Rattle.std.specs.Io.KnownBytes.{Appends}
 use Rattle.desk_types.specs.Wire.{inner_of, failures_of}
-use Rattle.http_answers.specs.Requests.{request_rule}
-use Rattle.desk_runs.specs.Clients.{Exchange, Sees, ends_of, events_in}
-use Rattle.desk_runs.specs.Connections.{is_faulty, lines_from}
-use Rattle.desk_runs.proofs.ListsAfter.{Serves}
-use Rattle.desk_runs.proofs.serving.serve_listener.Given as goal
+use Rattle.gateway_http.specs.Requests.{request_rule}
+use Rattle.desk_commands.specs.Clients.{Exchange, Sees, ends_of, events_in}
+use Rattle.desk_commands.specs.Connections.{is_faulty, lines_from}
+use Rattle.desk_commands.proofs.ListsAfter.{Serves}
+use Rattle.desk_commands.proofs.serving.serve_listener.Given as goal
 
 abbrev pub invariant-loop-k : goal.invariant-loop-k
 invariant-loop-k g l = record {

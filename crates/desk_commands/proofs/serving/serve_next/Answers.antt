@@ -1,9 +1,9 @@
 use Rattle.std.proofs.Common.{refl}
 use Rattle.desk_types.specs.Wire.{inner_of}
-use Rattle.http_answers.specs.Requests.{request_rule}
-use Rattle.desk_runs.proofs.ClientsSeen.{sees_one}
-use Rattle.desk_runs.proofs.ListsAfter.{serves_one}
-use Rattle.desk_runs.proofs.serving.serve_next.Goals as goal
+use Rattle.gateway_http.specs.Requests.{request_rule}
+use Rattle.desk_commands.proofs.ClientsSeen.{sees_one}
+use Rattle.desk_commands.proofs.ListsAfter.{serves_one}
+use Rattle.desk_commands.proofs.serving.serve_next.Goals as goal
 
 pub returns-clause-served : goal.returns-clause-served
 returns-clause-served g c =

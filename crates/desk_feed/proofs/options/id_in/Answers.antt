@@ -1,7 +1,7 @@
 use Rattle.std.proofs.Common.{◌∙◌, ap, ok_or, Option, ℕ, List}
 use Rattle.cfx_profile.specs.Forms.{id_of}
 use Rattle.cfx_profile.proofs.Names.{id_of-read}
-use Rattle.desk_import.proofs.options.id_in.Goals as goal
+use Rattle.desk_feed.proofs.options.id_in.Goals as goal
 
 pub returns : goal.returns
 returns c =

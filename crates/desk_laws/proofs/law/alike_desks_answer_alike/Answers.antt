@@ -1,8 +1,8 @@
 use Rattle.desk_types.proofs.BothRules.{judged-by-two}
-use Rattle.alike.specs.Past.{is_started, is_spent}
-use Rattle.alike.proofs.AfterCommands.{judged-run, many-commands}
-use Rattle.alike.proofs.FromAlike.{agree-from, alike-from}
-use Rattle.alike.proofs.law.alike_desks_answer_alike.Goals as goal
+use Rattle.desk_laws.specs.Past.{is_started, is_spent}
+use Rattle.desk_laws.proofs.AfterCommands.{judged-run, many-commands}
+use Rattle.desk_laws.proofs.FromAlike.{agree-from, alike-from}
+use Rattle.desk_laws.proofs.law.alike_desks_answer_alike.Goals as goal
 
 pub returns-clause-replies : goal.returns-clause-replies
 returns-clause-replies c = λ rules H H' commands of_old of_new alike ranges new.

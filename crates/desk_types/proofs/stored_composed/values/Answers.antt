@@ -1,6 +1,6 @@
 use Rattle.std.proofs.Common.{arith}
-use Rattle.stored_texts.proofs.Readers.{value_unread}
-use Rattle.stored_texts.proofs.composed.values.Goals as goal
+use Rattle.desk_types.proofs.Readers.{value_unread}
+use Rattle.desk_types.proofs.stored_composed.values.Goals as goal
 
 pub returns-in_err-value : goal.returns-in_err-value
 returns-in_err-value g c =

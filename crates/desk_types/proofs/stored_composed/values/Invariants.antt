@@ -1,6 +1,6 @@
 use Rattle.std.proofs.Common.{◌≡◌, ◌++◌, length, flat_map}
 use Rattle.std.specs.List.{AllByRecursion}
-use Rattle.stored_texts.proofs.composed.values.Given as goal
+use Rattle.desk_types.proofs.stored_composed.values.Given as goal
 
 abbrev pub invariant-loop : goal.invariant-loop
 invariant-loop g l =

@@ -1,13 +1,13 @@
 use Rattle.std.proofs.Common.{refl}
 use Rattle.desk_types.specs.Command.{IsListOf, IsSheetRow, IsCountRow}
 use Rattle.desk_types.specs.Designator.{IsDesignator}
-use Rattle.stored_texts.specs.Fields.{PairInRange, pair_fields, TripleInRange, triple_fields, number_fields}
+use Rattle.desk_types.specs.Fields.{PairInRange, pair_fields, TripleInRange, triple_fields, number_fields}
 use Rattle.desk_types.specs.Id.{IsId}
 use Rattle.desk_types.specs.Number.{IsQuantity}
-use Rattle.stored_texts.specs.StoredText.{name_fields, list_fields, row_fields, count_fields}
-use Rattle.stored_texts.specs.declared.word.Word.TheVariants.{PartDefined, AlternateAllowed, SheetDefined, ProductSelected, ReelOpened, ReelSealed, ReelBaked, MaterialsLoaded, MaterialsSpliced, MaterialsUnloaded, WorkStarted, WorkCompleted, MaterialsInstalled, MaterialsScrapped, CountsTaken}
-use Rattle.stored_texts.proofs.Members.{word_unread}
-use Rattle.stored_texts.proofs.reading.members.Goals as goal
+use Rattle.desk_types.specs.StoredText.{name_fields, list_fields, row_fields, count_fields}
+use Rattle.desk_types.specs.declared.stored_word.Word.TheVariants.{PartDefined, AlternateAllowed, SheetDefined, ProductSelected, ReelOpened, ReelSealed, ReelBaked, MaterialsLoaded, MaterialsSpliced, MaterialsUnloaded, WorkStarted, WorkCompleted, MaterialsInstalled, MaterialsScrapped, CountsTaken}
+use Rattle.desk_types.proofs.Members.{word_unread}
+use Rattle.desk_types.proofs.stored_reading.members.Goals as goal
 
 pub returns-in_err-read-in-PartDefined : goal.returns-in_err-read-in-PartDefined
 returns-in_err-read-in-PartDefined c =

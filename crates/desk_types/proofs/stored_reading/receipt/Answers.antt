@@ -1,10 +1,10 @@
 use Rattle.std.proofs.Common.{◌++◌, refl, sym, ap, subst, ◌∙◌}
 use Rattle.desk_types.specs.Command.{IsCommand}
-use Rattle.stored_texts.specs.Fields.{members_of}
+use Rattle.desk_types.specs.Fields.{members_of}
 use Rattle.desk_types.specs.Level.{IsLabel}
-use Rattle.stored_texts.specs.declared.word.Word.TheVariants.{ReelReceived}
-use Rattle.stored_texts.proofs.Members.{AreOfReceipt, receipt_fields, receipt_in_range, receipts_apart, MembersOf, said, word_unread}
-use Rattle.stored_texts.proofs.reading.receipt.Goals as goal
+use Rattle.desk_types.specs.declared.stored_word.Word.TheVariants.{ReelReceived}
+use Rattle.desk_types.proofs.Members.{AreOfReceipt, receipt_fields, receipt_in_range, receipts_apart, MembersOf, said, word_unread}
+use Rattle.desk_types.proofs.stored_reading.receipt.Goals as goal
 
 pub returns-in_err-reel : goal.returns-in_err-reel
 returns-in_err-reel c =

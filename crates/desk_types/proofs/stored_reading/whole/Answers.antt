@@ -1,11 +1,11 @@
 use Rattle.std.proofs.Common.{◌≡◌, [], ◌++◌, refl, sym, ap, ◌∙◌, append-nil}
-use Rattle.stored_texts.specs.Fields.{fields_in, members_of}
-use Rattle.stored_texts.specs.StoredText.{fields_of}
-use Rattle.stored_texts.proofs.Members.{word_of, commands_apart}
-use Rattle.stored_texts.proofs.Splitting.{some_field}
-use Rattle.stored_texts.proofs.Tabs.{stored_text-fields_in}
-use Rattle.stored_texts.proofs.Whole.{begins, said_in, unread}
-use Rattle.stored_texts.proofs.reading.whole.Goals as goal
+use Rattle.desk_types.specs.Fields.{fields_in, members_of}
+use Rattle.desk_types.specs.StoredText.{fields_of}
+use Rattle.desk_types.proofs.Members.{word_of, commands_apart}
+use Rattle.desk_types.proofs.Splitting.{some_field}
+use Rattle.desk_types.proofs.Tabs.{stored_text-fields_in}
+use Rattle.desk_types.proofs.Whole.{begins, said_in, unread}
+use Rattle.desk_types.proofs.stored_reading.whole.Goals as goal
 
 pub returns-in_default : goal.returns-in_default
 returns-in_default c command is e = some_field c.args.text.now (sym c.new-fields.ensures ∙ c.in_default.ensures)

@@ -1,8 +1,8 @@
 use Rattle.std.proofs.Common.{rules, ◌≡◌, Some, None}
 use Rattle.std.specs.List.{position}
-use Rattle.http_routes.specs.Asked.{is_mark}
-use Rattle.http_routes.proofs.Cuts.{path-some, query-some, path-none, query-none}
-use Rattle.http_routes.proofs.asked.cut_target.Goals as goal
+use Rattle.gateway_http.specs.Asked.{is_mark}
+use Rattle.gateway_http.proofs.Cuts.{path-some, query-some, path-none, query-none}
+use Rattle.gateway_http.proofs.asked.cut_target.Goals as goal
 
 pub returns-in-Some-clause-path : goal.returns-in-Some-clause-path
 returns-in-Some-clause-path c =

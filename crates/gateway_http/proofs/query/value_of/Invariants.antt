@@ -3,8 +3,8 @@ use Rattle.std.specs.Cow.{cow_str_bytes}
 use Rattle.std.specs.List.{cons_option}
 use Rattle.form_urlencoded.specs.Form.{raw_pairs}
 use Rattle.form_urlencoded.specs.Parse.{pairs_left}
-use Rattle.http_routes.specs.Query.{values_of}
-use Rattle.http_routes.proofs.query.value_of.Given as goal
+use Rattle.gateway_http.specs.Query.{values_of}
+use Rattle.gateway_http.proofs.query.value_of.Given as goal
 
 -- The name's values are the one found, if any, and those left.
 abbrev pub invariant-loop-pair : goal.invariant-loop-pair

@@ -1,6 +1,6 @@
 use Rattle.std.proofs.Common.{sym, ap, ◌∙◌, option_map}
-use Rattle.http_routes.proofs.Literals.{first-table}
-use Rattle.http_routes.proofs.routes.find_route.Goals as goal
+use Rattle.gateway_http.proofs.Literals.{first-table}
+use Rattle.gateway_http.proofs.routes.find_route.Goals as goal
 
 pub returns-in-Ok : goal.returns-in-Ok
 returns-in-Ok c =

@@ -1,6 +1,6 @@
 use Rattle.std.proofs.Common.{refl}
 use Rattle.matchit.proofs.OnLiterals.{matchit_on_literals}
-use Rattle.http_routes.proofs.routes.make_router.Goals as goal
+use Rattle.gateway_http.proofs.routes.make_router.Goals as goal
 
 pub returns : goal.returns
 unfolding matchit_on_literals

@@ -5,9 +5,9 @@ use Rattle.std.specs.Result.{result_ok}
 use Rattle.std.specs.Str.Parse.{digits_value, ParsesUnsigned}
 use Rattle.std.proofs.lemmas.Bool.Decides.{nat_tests}
 use Rattle.std.proofs.lemmas.Str.Parse.{parse_gives, digits_value_short}
-use Rattle.http_routes.specs.Values.{is_numeral, number_of}
+use Rattle.gateway_http.specs.Values.{is_numeral, number_of}
 use Rattle.desk_types.proofs.Numerals.{own}
-use Rattle.http_routes.proofs.values.number_of.Goals as goal
+use Rattle.gateway_http.proofs.values.number_of.Goals as goal
 
 -- 1 to 9 digits are read as their number.
 parsed : {E : Type 0} (most : ℕ) (text : List ℕ) (read : Result ℕ E) → most ≤ 9 → ParsesUnsigned 64 10 text read → is_numeral most text ≡ true → read ≡ Ok (digits_value 10 text)

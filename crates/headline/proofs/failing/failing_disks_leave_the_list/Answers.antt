@@ -3,9 +3,9 @@ use Rattle.sqlite.specs.State.{HasCleanDisk}
 use Rattle.desk_types.specs.declared.rules.Rules.TheVariants.{Two}
 use Rattle.headline.proofs.CallsInTurn.{goes_on}
 use Rattle.line_schema.specs.Stands.{state_of}
-use Rattle.many_runs.specs.Failing.{IsWatched, no_reports, own_kept}
-use Rattle.many_runs.specs.Runs.{by_two}
-use Rattle.many_runs.proofs.failing.failing_disks_leave_the_list.Goals as goal
+use Rattle.headline.specs.Failing.{IsWatched, no_reports, own_kept}
+use Rattle.headline.specs.Runs.{by_two}
+use Rattle.headline.proofs.failing.failing_disks_leave_the_list.Goals as goal
 
 pub returns : goal.returns
 returns g c = record {

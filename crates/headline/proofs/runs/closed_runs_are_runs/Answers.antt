@@ -1,6 +1,6 @@
-use Rattle.many_runs.specs.Closed.{GivesClosedRun}
-use Rattle.many_runs.proofs.ProgramRuns.{gives_calls, is_run}
-use Rattle.many_runs.proofs.closed_runs_are_runs.Goals as goal
+use Rattle.headline.specs.Closed.{GivesClosedRun}
+use Rattle.headline.proofs.ProgramRuns.{gives_calls, is_run}
+use Rattle.headline.proofs.runs.closed_runs_are_runs.Goals as goal
 
 pub returns : goal.returns
 returns g c =

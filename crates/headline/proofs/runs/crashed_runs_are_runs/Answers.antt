@@ -1,8 +1,8 @@
 use Rattle.gateway_http.specs.Reports.{report_of}
 use Rattle.headline.specs.Calls.{AnswersByTheList}
-use Rattle.many_runs.specs.Crashed.{GivesKilledRun}
-use Rattle.many_runs.proofs.ProgramRuns.{gives_calls, is_crashed_run}
-use Rattle.many_runs.proofs.crashed_runs_are_runs.Goals as goal
+use Rattle.headline.specs.Crashed.{GivesKilledRun}
+use Rattle.headline.proofs.ProgramRuns.{gives_calls, is_crashed_run}
+use Rattle.headline.proofs.runs.crashed_runs_are_runs.Goals as goal
 
 pub returns-clause-crashed : goal.returns-clause-crashed
 returns-clause-crashed g c = λ calls make image.

@@ -1,7 +1,7 @@
 use Rattle.gateway_http.specs.Reports.{report_of}
 use Rattle.headline.specs.Calls.{AnswersByTheList}
-use Rattle.many_runs.proofs.ProgramRuns.{called, is_crashed_run}
-use Rattle.many_runs.proofs.killed_runs_are_runs.Goals as goal
+use Rattle.headline.proofs.ProgramRuns.{called, is_crashed_run}
+use Rattle.headline.proofs.runs.killed_runs_are_runs.Goals as goal
 
 pub returns : goal.returns
 returns g c = λ make calls image runs made.

@@ -1,5 +1,5 @@
-use Rattle.many_runs.proofs.CrashedFiles.{crashes}
-use Rattle.many_runs.proofs.let_go.Goals as goal
+use Rattle.headline.proofs.CrashedFiles.{crashes}
+use Rattle.headline.proofs.runs.let_go.Goals as goal
 
 pub returns : goal.returns
 returns g c = record {

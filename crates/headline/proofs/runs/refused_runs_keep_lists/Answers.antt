@@ -2,8 +2,8 @@ use Rattle.sqlite_wal.specs.Files.{image_at}
 use Rattle.desk_types.specs.declared.rules.Rules.TheVariants.{One}
 use Rattle.line_tables.specs.Calls.{LeavesMigrated}
 use Rattle.desk_file.specs.Refused.{IsFaultFor, IsFaultIn, LeavesMade}
-use Rattle.many_runs.proofs.ProgramRuns.{keeps}
-use Rattle.many_runs.proofs.refused_runs_keep_lists.Goals as goal
+use Rattle.headline.proofs.ProgramRuns.{keeps}
+use Rattle.headline.proofs.runs.refused_runs_keep_lists.Goals as goal
 
 pub returns-clause-refused : goal.returns-clause-refused
 returns-clause-refused g c = λ make fault image.

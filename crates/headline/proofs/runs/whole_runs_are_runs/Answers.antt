@@ -1,6 +1,6 @@
-use Rattle.many_runs.specs.Closed.{GivesWholeRun}
-use Rattle.many_runs.proofs.ProgramRuns.{gives_calls, is_whole_run}
-use Rattle.many_runs.proofs.whole_runs_are_runs.Goals as goal
+use Rattle.headline.specs.Closed.{GivesWholeRun}
+use Rattle.headline.proofs.ProgramRuns.{gives_calls, is_whole_run}
+use Rattle.headline.proofs.runs.whole_runs_are_runs.Goals as goal
 
 pub returns : goal.returns
 returns g c =

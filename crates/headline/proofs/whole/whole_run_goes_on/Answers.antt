@@ -1,5 +1,5 @@
-use Rattle.many_runs.proofs.WholeRuns.{goes_on_closed}
-use Rattle.many_runs.proofs.whole.whole_run_goes_on.Goals as goal
+use Rattle.headline.proofs.WholeRuns.{goes_on_closed}
+use Rattle.headline.proofs.whole.whole_run_goes_on.Goals as goal
 
 pub returns : goal.returns
 returns g c = λ closed.

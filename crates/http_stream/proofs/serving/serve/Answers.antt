@@ -1,10 +1,10 @@
 use Rattle.std.proofs.Common.{rules, Option, IfSome, ◌+◌, ◌<◌, ◌≡◌, ◌∙◌, ◌++◌, ◌∷◌, Some, true, false, subst, sym, ap, arith, length, [], refl}
 use Rattle.desk_types.specs.Wire.{inner_of}
-use Rattle.served.specs.Block.{pending_bytes, source, fuel}
-use Rattle.served.specs.Counts.{none_served}
+use Rattle.desk_answers.specs.Block.{pending_bytes, source, fuel}
+use Rattle.desk_answers.specs.Counts.{none_served}
 use Rattle.desk_types.specs.declared.limits.TheConstants.{MOST_READS}
 use Rattle.http_stream.specs.declared.portion.Taken.{Taken}
-use Rattle.served.proofs.Blocks.{none_pending}
+use Rattle.desk_answers.proofs.Blocks.{none_pending}
 use Rattle.http_stream.specs.Cut.{PortionsGone, is_last}
 use Rattle.http_stream.specs.Portions.{TakesNext, portion_of}
 use Rattle.http_stream.proofs.HandlersOfPortions.{goes_none, goes_on, stops_into}

@@ -1,9 +1,9 @@
 use Rattle.std.proofs.Common.{Bool, ◌&&◌, ◌==◌, sym, subst}
 use Rattle.sqlite.specs.Held.{state}
-use Rattle.line_audit.specs.Alone.{Decides}
-use Rattle.line_audit.specs.Audit.{HasPlacements}
-use Rattle.line_audit.proofs.PlacementsAsExpected.{same_placements}
-use Rattle.line_audit.proofs.auditing.are_placements.Goals as goal
+use Rattle.line_replay.specs.Alone.{Decides}
+use Rattle.line_replay.specs.Audit.{HasPlacements}
+use Rattle.line_replay.proofs.PlacementsAsExpected.{same_placements}
+use Rattle.line_replay.proofs.auditing.are_placements.Goals as goal
 
 pub returns-then-placed-clause-same : goal.returns-then-placed-clause-same
 returns-then-placed-clause-same g c clean f es expected =

@@ -6,11 +6,11 @@ use Rattle.sqlite.specs.Held.{state}
 use Rattle.desk_types.specs.declared.row.PlacementRow.{PlacementRow}
 use Rattle.state_rows.specs.Kept.{tables_in}
 use Rattle.line_tables.proofs.Frames.{reads_then}
-use Rattle.line_audit.specs.Audit.{Pieces, IsExpected, HoldsTable, with_placements}
-use Rattle.line_audit.proofs.MatchedEntries.{reads_before}
-use Rattle.line_audit.proofs.PlacementsAsExpected.{expected_after}
-use Rattle.line_audit.proofs.Verdicts.{split_at, right_more}
-use Rattle.line_audit.proofs.auditing.audit_tables.Goals as goal
+use Rattle.line_replay.specs.Audit.{Pieces, IsExpected, HoldsTable, with_placements}
+use Rattle.line_replay.proofs.MatchedEntries.{reads_before}
+use Rattle.line_replay.proofs.PlacementsAsExpected.{expected_after}
+use Rattle.line_replay.proofs.Verdicts.{split_at, right_more}
+use Rattle.line_replay.proofs.auditing.audit_tables.Goals as goal
 
 pub returns-then-not-branch-clause-verdict : goal.returns-then-not-branch-clause-verdict
 returns-then-not-branch-clause-verdict g c clean f es expected =

@@ -6,8 +6,8 @@ use Rattle.desk_types.specs.declared.row.PlacementRow.{PlacementRow}
 use Rattle.state_rows.specs.Kept.{tables_in}
 use Rattle.line_tables.specs.Line.{IsOurs}
 use Rattle.line_tables.specs.Frames.{ReadsOnly}
-use Rattle.line_audit.specs.Audit.{Pieces, IsExpected, HoldsTable, with_placements}
-use Rattle.line_audit.proofs.auditing.audit_tables.Given as goal
+use Rattle.line_replay.specs.Audit.{Pieces, IsExpected, HoldsTable, with_placements}
+use Rattle.line_replay.proofs.auditing.audit_tables.Given as goal
 
 abbrev pub invariant-loop-table : goal.invariant-loop-table
 invariant-loop-table g l =

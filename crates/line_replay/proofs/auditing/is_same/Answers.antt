@@ -1,9 +1,9 @@
 use Rattle.std.proofs.lemmas.Result.{IfOk-weaker}
 use Rattle.std.specs.Map.Iter.{deref, deref_pair}
 use Rattle.line_tables.proofs.Keyed.{one_text, one_pair, one_sheet_place}
-use Rattle.line_audit.proofs.EntriesOfSets.{alone, unnumbered, keys_listed, pairs_listed, sheets_listed, names_listed, mounts_listed}
-use Rattle.line_audit.proofs.MatchedEntries.{yields_all, yields_each}
-use Rattle.line_audit.proofs.auditing.is_same.Goals as goal
+use Rattle.line_replay.proofs.EntriesOfSets.{alone, unnumbered, keys_listed, pairs_listed, sheets_listed, names_listed, mounts_listed}
+use Rattle.line_replay.proofs.MatchedEntries.{yields_all, yields_each}
+use Rattle.line_replay.proofs.auditing.is_same.Goals as goal
 
 pub returns-in-Part-clause-same : goal.returns-in-Part-clause-same
 returns-in-Part-clause-same g c clean =

@@ -1,7 +1,7 @@
 use Rattle.std.proofs.Common.{◌≡◌, ◌∙◌, ap, rules}
 use Rattle.desk_answers.specs.Texts.{accepted_text}
-use Rattle.line_rows.proofs.EditsOfChanges.{put_is, put_new}
-use Rattle.line_rows.proofs.edits.prepare.Goals as goal
+use Rattle.line_replay.proofs.EditsOfChanges.{put_is, put_new}
+use Rattle.line_replay.proofs.edits.prepare.Goals as goal
 
 pub returns-clause-edits : goal.returns-clause-edits
 returns-clause-edits g c greatest H stands is numbered =

@@ -1,9 +1,9 @@
 use Rattle.std.proofs.Common.{◌≡◌, false, rules, arith}
 use Rattle.sqlite.specs.State.{HasCleanDisk}
 use Rattle.sqlite.specs.Held.{state}
-use Rattle.line_audit.proofs.MatchedEntries.{reads_before}
-use Rattle.line_audit.proofs.PlacementEnds.{all_before}
-use Rattle.line_audit.proofs.ends.are_before.Goals as goal
+use Rattle.line_replay.proofs.MatchedEntries.{reads_before}
+use Rattle.line_replay.proofs.PlacementEnds.{all_before}
+use Rattle.line_replay.proofs.ends.are_before.Goals as goal
 
 pub returns-clause-found : goal.returns-clause-found
 returns-clause-found g c clean holds =

@@ -1,5 +1,5 @@
 use Rattle.std.proofs.lemmas.Result.{IfOk-weaker}
-use Rattle.line_audit.proofs.ends.count_placements.Goals as goal
+use Rattle.line_replay.proofs.ends.count_placements.Goals as goal
 
 pub returns-in-Some-clause-counted : goal.returns-in-Some-clause-counted
 returns-in-Some-clause-counted g c clean = rw c.in-Some.is (c.count_to.ensures.counted clean)

@@ -2,8 +2,8 @@ use Rattle.std.proofs.Common.{arith}
 use Rattle.std.proofs.lemmas.Result.{IfOk-weaker}
 use Rattle.sqlite.specs.State.{HasCleanDisk}
 use Rattle.sqlite.specs.Held.{state}
-use Rattle.line_audit.proofs.MatchedEntries.{reads_before}
-use Rattle.line_audit.proofs.ends.count_to.Goals as goal
+use Rattle.line_replay.proofs.MatchedEntries.{reads_before}
+use Rattle.line_replay.proofs.ends.count_to.Goals as goal
 
 pub returns-then-branch-clause-counted : goal.returns-then-branch-clause-counted
 returns-then-branch-clause-counted g c clean =

@@ -1,6 +1,6 @@
 use Rattle.std.proofs.Common.{◌≡◌, length, rules}
-use Rattle.line_audit.proofs.PlacementEnds.{none_from}
-use Rattle.line_audit.proofs.ends.has_from.Goals as goal
+use Rattle.line_replay.proofs.PlacementEnds.{none_from}
+use Rattle.line_replay.proofs.ends.has_from.Goals as goal
 
 pub returns-clause-none : goal.returns-clause-none
 returns-clause-none g c clean none =

@@ -1,8 +1,8 @@
 use Rattle.std.proofs.Common.{◌≡◌, ◌∙◌, inr, refl, sym, ap, rules}
 use Rattle.desk_types.specs.History.{entry_of}
 use Rattle.desk_types.specs.Outcome.{change_of}
-use Rattle.line_rows.proofs.Judgements.{refused, unsaid, said, stamped_is}
-use Rattle.line_rows.proofs.judging.accept_row.Goals as goal
+use Rattle.line_replay.proofs.Judgements.{refused, unsaid, said, stamped_is}
+use Rattle.line_replay.proofs.judging.accept_row.Goals as goal
 
 pub returns-then-not-says-clause-err : goal.returns-then-not-says-clause-err
 returns-then-not-says-clause-err g c H stands numbered =

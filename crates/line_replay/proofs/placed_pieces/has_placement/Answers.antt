@@ -1,6 +1,6 @@
 use Rattle.std.proofs.lemmas.Result.{IfOk-weaker}
-use Rattle.line_audit.proofs.Texts.{placement_alone}
-use Rattle.line_audit.proofs.placed.has_placement.Goals as goal
+use Rattle.line_replay.proofs.Texts.{placement_alone}
+use Rattle.line_replay.proofs.placed_pieces.has_placement.Goals as goal
 
 pub returns-clause-found : goal.returns-clause-found
 returns-clause-found g c clean =

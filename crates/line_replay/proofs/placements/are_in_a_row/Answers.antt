@@ -1,7 +1,7 @@
 use Rattle.std.proofs.Common.{◌≤◌, rules}
 use Rattle.std.proofs.lemmas.Result.{IfOk-weaker}
-use Rattle.line_audit.proofs.PlacementsFound.{run_range}
-use Rattle.line_audit.proofs.placements.are_in_a_row.Goals as goal
+use Rattle.line_replay.proofs.PlacementsFound.{run_range}
+use Rattle.line_replay.proofs.placements.are_in_a_row.Goals as goal
 
 pub returns-clause-found : goal.returns-clause-found
 returns-clause-found g c clean =

@@ -1,7 +1,7 @@
 use Rattle.std.proofs.Common.{◌≡◌, ◌∙◌, ◌<◌, get_or, length, map, sym, ap, rules, arith}
 use Rattle.std.proofs.lemmas.List.{take_more_same, get_or-map, length-map}
 use Rattle.line_tables.specs.StateRows.{placement_columns}
-use Rattle.line_audit.proofs.placements.are_rows.Goals as goal
+use Rattle.line_replay.proofs.placements.are_rows.Goals as goal
 
 pub loop-at-preserved : goal.loop-at-preserved
 loop-at-preserved c =

@@ -7,11 +7,11 @@ use Rattle.desk_types.specs.declared.row.PlacementRow.{PlacementRow}
 use Rattle.line_tables.specs.Line as line
 use Rattle.line_tables.specs.StateRows.{rows_in, placement_columns}
 use Rattle.line_tables.proofs.Frames.{reads_then}
-use Rattle.line_audit.specs.Placed.{has_placement, AreHere}
-use Rattle.line_audit.proofs.PlacementsFound.{looked_here, one_missing, all_here}
-use Rattle.line_audit.proofs.MatchedEntries.{reads_before}
-use Rattle.line_audit.proofs.Verdicts.{right_more}
-use Rattle.line_audit.proofs.placements.has_each.Goals as goal
+use Rattle.line_replay.specs.Placed.{has_placement, AreHere}
+use Rattle.line_replay.proofs.PlacementsFound.{looked_here, one_missing, all_here}
+use Rattle.line_replay.proofs.MatchedEntries.{reads_before}
+use Rattle.line_replay.proofs.Verdicts.{right_more}
+use Rattle.line_replay.proofs.placements.has_each.Goals as goal
 
 pub returns-then-not-branch-clause-found : goal.returns-then-not-branch-clause-found
 returns-then-not-branch-clause-found g c clean =

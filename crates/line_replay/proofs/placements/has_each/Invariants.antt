@@ -3,8 +3,8 @@ use Rattle.sqlite.specs.State.{HasCleanDisk}
 use Rattle.sqlite.specs.Held.{state}
 use Rattle.line_tables.specs.Line.{IsOurs}
 use Rattle.line_tables.specs.Frames.{ReadsOnly}
-use Rattle.line_audit.specs.Placed.{AreHere}
-use Rattle.line_audit.proofs.placements.has_each.Given as goal
+use Rattle.line_replay.specs.Placed.{AreHere}
+use Rattle.line_replay.proofs.placements.has_each.Given as goal
 
 abbrev pub invariant-loop-row : goal.invariant-loop-row
 invariant-loop-row g l =

@@ -1,4 +1,4 @@
-use Rattle.line_audit.proofs.placements.has_own.Goals as goal
+use Rattle.line_replay.proofs.placements.has_own.Goals as goal
 
 pub returns-clause-found : goal.returns-clause-found
 returns-clause-found g c clean =

@@ -1,4 +1,4 @@
-use Rattle.line_audit.proofs.placements.has_placements.Goals as goal
+use Rattle.line_replay.proofs.placements.has_placements.Goals as goal
 
 pub returns-in-Some-clause-found : goal.returns-in-Some-clause-found
 returns-in-Some-clause-found g c clean = rw c.in-Some.is (c.has_range.ensures.found clean)

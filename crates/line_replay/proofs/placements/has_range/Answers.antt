@@ -1,9 +1,9 @@
 use Rattle.std.proofs.Common.{arith}
 use Rattle.sqlite.specs.State.{HasCleanDisk}
 use Rattle.sqlite.specs.Held.{state}
-use Rattle.line_audit.proofs.MatchedEntries.{reads_before}
-use Rattle.line_audit.proofs.PlacementsFound.{all_here, more_before}
-use Rattle.line_audit.proofs.placements.has_range.Goals as goal
+use Rattle.line_replay.proofs.MatchedEntries.{reads_before}
+use Rattle.line_replay.proofs.PlacementsFound.{all_here, more_before}
+use Rattle.line_replay.proofs.placements.has_range.Goals as goal
 
 pub returns-then-branch-clause-found : goal.returns-then-branch-clause-found
 returns-then-branch-clause-found g c clean =

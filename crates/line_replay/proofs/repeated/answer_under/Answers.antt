@@ -1,7 +1,7 @@
 use Rattle.std.proofs.Common.{rules, ◌≡◌, ◌∙◌, ap, ap₂, string_bytes}
 use Rattle.desk_answers.specs.declared.answer.Answer.TheVariants.{Accepted, IdReused}
-use Rattle.line_rows.proofs.Repeats.{again, reused}
-use Rattle.line_rows.proofs.repeated.answer_under.Goals as goal
+use Rattle.line_replay.proofs.Repeats.{again, reused}
+use Rattle.line_replay.proofs.repeated.answer_under.Goals as goal
 
 pub returns-then-is_row_of : goal.returns-then-is_row_of
 returns-then-is_row_of c G e is_entry uid row =

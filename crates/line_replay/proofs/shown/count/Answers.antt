@@ -1,5 +1,5 @@
-use Rattle.line_audit.proofs.Texts.{counted}
-use Rattle.line_audit.proofs.shown.count.Goals as goal
+use Rattle.line_replay.proofs.Texts.{counted}
+use Rattle.line_replay.proofs.shown.count.Goals as goal
 
 pub returns-clause-counted : goal.returns-clause-counted
 returns-clause-counted g c clean =

@@ -5,7 +5,7 @@ use Rattle.sqlite.specs.declared.types.Value.TheVariants.{Null}
 use Rattle.sqlite_value.specs.Value.{owned}
 use Rattle.sqlite_value.specs.declared.value.ValueRef.TheVariants as lent
 use Rattle.line_tables.specs.StateRows.{values_of}
-use Rattle.line_audit.proofs.shown.is_row.Goals as goal
+use Rattle.line_replay.proofs.shown.is_row.Goals as goal
 
 pub loop-at-preserved : goal.loop-at-preserved
 loop-at-preserved c =

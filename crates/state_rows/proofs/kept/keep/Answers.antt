@@ -2,9 +2,9 @@ use Rattle.std.proofs.Common.{rules, ◌≡◌, Option, List, [], ◌∷◌, ◌
 use Rattle.std.specs.BTreeMap.{BTreeMap}
 use Rattle.desk_types.specs.Id.{Name, same}
 use Rattle.desk_types.proofs.Keys.{name-written}
-use Rattle.trace_lists.specs.Lists.{kept_at}
-use Rattle.trace_lists.proofs.KeptUnderNames.{one-more}
-use Rattle.trace_lists.proofs.kept.keep.Goals as goal
+use Rattle.state_rows.specs.Lists.{kept_at}
+use Rattle.state_rows.proofs.KeptUnderNames.{one-more}
+use Rattle.state_rows.proofs.kept.keep.Goals as goal
 
 pub returns-in_ok-push-in-Some : goal.returns-in_ok-push-in-Some
 returns-in_ok-push-in-Some g c = λ n.

@@ -2,9 +2,9 @@ use Rattle.std.proofs.Common.{rules, ◌≡◌, Option, List, [], unwrap_or, con
 use Rattle.std.specs.BTreeMap.{BTreeMap}
 use Rattle.desk_types.specs.Id.{Name, same}
 use Rattle.desk_types.proofs.Keys.{name-written}
-use Rattle.trace_lists.specs.Lists.{kept_at}
-use Rattle.trace_lists.proofs.KeptUnderNames.{no-more}
-use Rattle.trace_lists.proofs.kept.make_room.Goals as goal
+use Rattle.state_rows.specs.Lists.{kept_at}
+use Rattle.state_rows.proofs.KeptUnderNames.{no-more}
+use Rattle.state_rows.proofs.kept.make_room.Goals as goal
 
 pub returns-in_err-reserve-in-Some : goal.returns-in_err-reserve-in-Some
 returns-in_err-reserve-in-Some g c = λ n.

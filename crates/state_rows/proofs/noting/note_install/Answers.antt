@@ -1,8 +1,8 @@
 use Rattle.std.proofs.Common.{arith}
 use Rattle.desk_types.specs.Id.{same}
-use Rattle.trace_lists.specs.Lists.{HasPieces}
-use Rattle.trace_lists.proofs.KeptUnderNames.{all-kept}
-use Rattle.trace_lists.proofs.noting.note_install.Goals as goal
+use Rattle.state_rows.specs.Lists.{HasPieces}
+use Rattle.state_rows.proofs.KeptUnderNames.{all-kept}
+use Rattle.state_rows.proofs.noting.note_install.Goals as goal
 
 pub returns-in_ok-keep-clause-pieces : goal.returns-in_ok-keep-clause-pieces
 returns-in_ok-keep-clause-pieces c = λ n all.

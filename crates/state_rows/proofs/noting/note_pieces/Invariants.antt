@@ -1,8 +1,8 @@
 use Rattle.std.proofs.Common.{◌≡◌, ℕ, ◌+◌, ◌++◌, map, drop}
 use Rattle.desk_types.specs.Id.{Name, same}
-use Rattle.trace_lists.specs.Lists.{kept_at, key_of}
-use Rattle.trace_lists.specs.Noting.{keys_in}
-use Rattle.trace_lists.proofs.noting.note_pieces.Given as goal
+use Rattle.state_rows.specs.Lists.{kept_at, key_of}
+use Rattle.state_rows.specs.Noting.{keys_in}
+use Rattle.state_rows.proofs.noting.note_pieces.Given as goal
 
 abbrev pub invariant-loop-i : goal.invariant-loop-i
 invariant-loop-i l = record {

@@ -4,10 +4,10 @@ use Rattle.std.specs.List.{filter}
 use Rattle.std.proofs.lemmas.List.{drop_all}
 use Rattle.desk_types.specs.declared.view.ReelView.{ReelView}
 use Rattle.setup_sheets.specs.Names.{is_among}
-use Rattle.report_texts.specs.Kit.{enough}
-use Rattle.report_texts.proofs.Prefixes.{step-chosen, step-past, end-reached, end-of_reels}
-use Rattle.report_texts.proofs.kit.enough.Goals as goal
-use Rattle.report_texts.proofs.kit.enough.Goals.{then-not-contains+in_ok-push, else-not-contains}
+use Rattle.trace_reports.specs.Kit.{enough}
+use Rattle.trace_reports.proofs.Prefixes.{step-chosen, step-past, end-reached, end-of_reels}
+use Rattle.trace_reports.proofs.kit.enough.Goals as goal
+use Rattle.trace_reports.proofs.kit.enough.Goals.{then-not-contains+in_ok-push, else-not-contains}
 
 pub returns-then-missing-eq0 : goal.returns-then-missing-eq0
 returns-then-missing-eq0 c = λ names has.

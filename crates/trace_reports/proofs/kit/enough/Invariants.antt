@@ -4,8 +4,8 @@ use Rattle.std.specs.List.{filter}
 use Rattle.desk_types.specs.declared.view.ReelView.{ReelView}
 use Rattle.desk_types.specs.Id.{Name}
 use Rattle.setup_sheets.specs.Names.{is_among, HasSeen}
-use Rattle.report_texts.specs.Kit.{enough}
-use Rattle.report_texts.proofs.kit.enough.Given as goal
+use Rattle.trace_reports.specs.Kit.{enough}
+use Rattle.trace_reports.proofs.kit.enough.Given as goal
 
 -- The chosen reels, with enough of the rest, are the result.
 abbrev pub invariant-loop-reel : goal.invariant-loop-reel

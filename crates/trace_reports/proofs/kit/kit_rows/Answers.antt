@@ -6,9 +6,9 @@ use Rattle.desk_types.specs.declared.view.ReelView.{ReelView}
 use Rattle.desk_types.specs.Id.{Name}
 use Rattle.desk_types.specs.Free.{free_reels}
 use Rattle.setup_sheets.specs.Names.{is_among}
-use Rattle.report_texts.specs.Kit.{needed_by, enough, reels_for}
-use Rattle.report_texts.proofs.KitRows.{kit-next, kit-end}
-use Rattle.report_texts.proofs.kit.kit_rows.Goals as goal
+use Rattle.trace_reports.specs.Kit.{needed_by, enough, reels_for}
+use Rattle.trace_reports.proofs.KitRows.{kit-next, kit-end}
+use Rattle.trace_reports.proofs.kit.kit_rows.Goals as goal
 
 pub loop-row-preserved : goal.loop-row-preserved
 loop-row-preserved g c = λ H stands.

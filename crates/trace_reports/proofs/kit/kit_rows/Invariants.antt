@@ -2,8 +2,8 @@ use Rattle.std.proofs.Common.{◌≡◌, ◌++◌, List, [], drop}
 use Rattle.desk_types.specs.Id.{Name}
 use Rattle.desk_types.specs.History.{History}
 use Rattle.setup_sheets.specs.Names.{HasSeen}
-use Rattle.report_texts.specs.Kit.{kit_rows}
-use Rattle.report_texts.proofs.kit.kit_rows.Given as goal
+use Rattle.trace_reports.specs.Kit.{kit_rows}
+use Rattle.trace_reports.proofs.kit.kit_rows.Given as goal
 
 -- The rows so far, with those of the remaining sheet rows, are the kit.
 abbrev pub invariant-loop-row : goal.invariant-loop-row

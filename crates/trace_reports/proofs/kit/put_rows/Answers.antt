@@ -2,9 +2,9 @@ use Rattle.std.proofs.Common.{◌++◌, ◌∷◌, [], map, take, sym, ap, subst
 use Rattle.desk_types.specs.declared.view.ReelView.{ReelView}
 use Rattle.setup_sheets.specs.Names.{HasSeen}
 use Rattle.setup_sheets.proofs.SeenNames.{HasSeen-push}
-use Rattle.report_texts.specs.Kit.{reel_row}
-use Rattle.report_texts.proofs.KitRows.{read-next, pieces-next}
-use Rattle.report_texts.proofs.kit.put_rows.Goals as goal
+use Rattle.trace_reports.specs.Kit.{reel_row}
+use Rattle.trace_reports.proofs.KitRows.{read-next, pieces-next}
+use Rattle.trace_reports.proofs.kit.put_rows.Goals as goal
 
 pub loop-reel-preserved : goal.loop-reel-preserved
 loop-reel-preserved c =

@@ -2,8 +2,8 @@ use Rattle.std.proofs.Common.{◌≡◌, ◌-◌, ◌++◌, List, map, take}
 use Rattle.desk_types.specs.declared.view.ReelView.{ReelView}
 use Rattle.desk_types.specs.Id.{Name}
 use Rattle.setup_sheets.specs.Names.{HasSeen}
-use Rattle.report_texts.specs.Kit.{pieces_of_reels, reel_row}
-use Rattle.report_texts.proofs.kit.put_rows.Given as goal
+use Rattle.trace_reports.specs.Kit.{pieces_of_reels, reel_row}
+use Rattle.trace_reports.proofs.kit.put_rows.Given as goal
 
 -- The reels so far are given and have rows, and their pieces are no longer missing.
 abbrev pub invariant-loop-reel : goal.invariant-loop-reel

@@ -2,10 +2,10 @@ use Rattle.std.proofs.Common.{◌≡◌, ◌+◌, ◌-◌, ◌∙◌, ◌∷◌,
 use Rattle.std.specs.BTreeSet.{insert_key}
 use Rattle.desk_types.specs.declared.placement.Placement.{Placement}
 use Rattle.desk_types.proofs.LoopSteps.{drop-next}
-use Rattle.report_texts.specs.Sets.{by_fields, set_of, bytes_of}
-use Rattle.report_texts.specs.Traces.{project, board_columns, on_board}
-use Rattle.report_texts.proofs.BorrowedSets.{put-same}
-use Rattle.report_texts.proofs.records.board_rows.Goals as goal
+use Rattle.trace_reports.specs.Sets.{by_fields, set_of, bytes_of}
+use Rattle.trace_reports.specs.Traces.{project, board_columns, on_board}
+use Rattle.trace_reports.proofs.BorrowedSets.{put-same}
+use Rattle.trace_reports.proofs.records.board_rows.Goals as goal
 
 pub loop-i-preserved : goal.loop-i-preserved
 loop-i-preserved c =

@@ -1,7 +1,7 @@
 use Rattle.std.proofs.Common.{◌≡◌, drop, map}
-use Rattle.report_texts.specs.Traces.{project, lot_columns, of_lot}
-use Rattle.report_texts.specs.Sets.{set_of, bytes_of}
-use Rattle.report_texts.proofs.records.lot_rows.Given as goal
+use Rattle.trace_reports.specs.Traces.{project, lot_columns, of_lot}
+use Rattle.trace_reports.specs.Sets.{set_of, bytes_of}
+use Rattle.trace_reports.proofs.records.lot_rows.Given as goal
 
 -- The set has the rows of the pieces from here on.
 abbrev pub invariant-loop-i : goal.invariant-loop-i

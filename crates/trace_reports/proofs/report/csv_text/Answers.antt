@@ -1,7 +1,7 @@
 use Rattle.std.proofs.Common.{map, take, sym, subst}
-use Rattle.report_texts.specs.Csv.{csv_text, HasWritten}
-use Rattle.report_texts.proofs.NextRecord.{text-next}
-use Rattle.report_texts.proofs.report.csv_text.Goals as goal
+use Rattle.trace_reports.specs.Csv.{csv_text, HasWritten}
+use Rattle.trace_reports.proofs.NextRecord.{text-next}
+use Rattle.trace_reports.proofs.report.csv_text.Goals as goal
 
 pub loop-row-preserved : goal.loop-row-preserved
 loop-row-preserved g c =

@@ -1,7 +1,7 @@
 use Rattle.std.specs.Prelude.{map}
-use Rattle.report_texts.specs.Traces.{project, board_columns, lot_columns, board_header, lot_header, board_rows, lot_rows, overdue_header, overdue_row}
-use Rattle.report_texts.proofs.FieldsOfRecords.{board-whole, lot-whole, overdue-whole}
-use Rattle.report_texts.proofs.laws.reports_read_back.Goals as goal
+use Rattle.trace_reports.specs.Traces.{project, board_columns, lot_columns, board_header, lot_header, board_rows, lot_rows, overdue_header, overdue_row}
+use Rattle.trace_reports.proofs.FieldsOfRecords.{board-whole, lot-whole, overdue-whole}
+use Rattle.trace_reports.proofs.text_laws.reports_read_back.Goals as goal
 
 pub returns-clause-board : goal.returns-clause-board
 returns-clause-board c = λ detail pieces. c.texts_read_back.ensures (project (board_columns detail) board_header) (board_rows detail pieces) (board-whole detail pieces)

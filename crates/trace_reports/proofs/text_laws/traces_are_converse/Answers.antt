@@ -1,5 +1,5 @@
-use Rattle.report_texts.proofs.RecordSets.{lots-converse, parts-converse, reels-converse}
-use Rattle.report_texts.proofs.laws.traces_are_converse.Goals as goal
+use Rattle.trace_reports.proofs.RecordSets.{lots-converse, parts-converse, reels-converse}
+use Rattle.trace_reports.proofs.text_laws.traces_are_converse.Goals as goal
 
 pub returns-clause-lots : goal.returns-clause-lots
 returns-clause-lots c = lots-converse

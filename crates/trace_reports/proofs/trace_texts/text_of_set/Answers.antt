@@ -1,7 +1,7 @@
 use Rattle.std.proofs.Common.{◌≡◌, ◌∙◌, ◌++◌, ◌∷◌, List, ℕ, map, flat_map, sym, ap, append_assoc}
-use Rattle.report_texts.specs.Csv.{record_text}
-use Rattle.report_texts.specs.Sets.{bytes_of}
-use Rattle.report_texts.proofs.traces.text_of_set.Goals as goal
+use Rattle.trace_reports.specs.Csv.{record_text}
+use Rattle.trace_reports.specs.Sets.{bytes_of}
+use Rattle.trace_reports.proofs.trace_texts.text_of_set.Goals as goal
 
 pub loop-row-preserved : goal.loop-row-preserved
 loop-row-preserved c =

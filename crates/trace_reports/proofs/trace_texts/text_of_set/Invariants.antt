@@ -1,8 +1,8 @@
 use Rattle.std.proofs.Common.{◌≡◌, ◌++◌, List, ℕ, map}
 use Rattle.std.specs.List.{flat_map}
-use Rattle.report_texts.specs.Csv.{record_text, csv_text, HasWritten}
-use Rattle.report_texts.specs.Sets.{bytes_of}
-use Rattle.report_texts.proofs.traces.text_of_set.Given as goal
+use Rattle.trace_reports.specs.Csv.{record_text, csv_text, HasWritten}
+use Rattle.trace_reports.specs.Sets.{bytes_of}
+use Rattle.trace_reports.proofs.trace_texts.text_of_set.Given as goal
 
 -- The written rows, then the remaining ones.
 abbrev pub invariant-loop-row : goal.invariant-loop-row

@@ -1,7 +1,7 @@
 use Rattle.std.proofs.Common.{arith, ap, sym, subst, ◌∙◌, length}
 use Rattle.desk_types.specs.Bounds.{IsListLength}
-use Rattle.stored_texts.proofs.Readers.{length_read, list_unread}
-use Rattle.stored_texts.proofs.composed.BoundedStored.read.Goals as goal
+use Rattle.desk_types.proofs.Readers.{length_read, list_unread}
+use Rattle.desk_types.proofs.stored_composed.BoundedStored.read.Goals as goal
 
 pub returns-then-count : goal.returns-then-count
 returns-then-count g c xs more is e =

@@ -1,11 +1,11 @@
 use Rattle.std.proofs.Common.{refl}
 use Rattle.desk_types.specs.Command.{IsCountRow}
-use Rattle.stored_texts.specs.Fields.{PairInRange, pair_fields, number_fields}
+use Rattle.desk_types.specs.Fields.{PairInRange, pair_fields, number_fields}
 use Rattle.desk_types.specs.Id.{IsId}
 use Rattle.desk_types.specs.Number.{IsCountedQuantity}
-use Rattle.stored_texts.specs.StoredText.{name_fields, count_fields}
-use Rattle.stored_texts.proofs.Readers.{unread_as}
-use Rattle.stored_texts.proofs.composed.CountRowStored.read.Goals as goal
+use Rattle.desk_types.specs.StoredText.{name_fields, count_fields}
+use Rattle.desk_types.proofs.Readers.{unread_as}
+use Rattle.desk_types.proofs.stored_composed.CountRowStored.read.Goals as goal
 
 pub returns-in_err-reel : goal.returns-in_err-reel
 returns-in_err-reel c =

@@ -1,11 +1,11 @@
 use Rattle.std.proofs.Common.{refl}
 use Rattle.desk_types.specs.Command.{IsSheetRow, IsListOf}
 use Rattle.desk_types.specs.Designator.{IsDesignator}
-use Rattle.stored_texts.specs.Fields.{TripleInRange, triple_fields}
+use Rattle.desk_types.specs.Fields.{TripleInRange, triple_fields}
 use Rattle.desk_types.specs.Id.{IsId}
-use Rattle.stored_texts.specs.StoredText.{name_fields, list_fields, row_fields}
-use Rattle.stored_texts.proofs.Readers.{unread_as}
-use Rattle.stored_texts.proofs.composed.SheetRowStored.read.Goals as goal
+use Rattle.desk_types.specs.StoredText.{name_fields, list_fields, row_fields}
+use Rattle.desk_types.proofs.Readers.{unread_as}
+use Rattle.desk_types.proofs.stored_composed.SheetRowStored.read.Goals as goal
 
 pub returns-in_err-slot : goal.returns-in_err-slot
 returns-in_err-slot c =

@@ -1,8 +1,8 @@
 use Rattle.std.proofs.Common.{ℕ, Bor, refl, ◌≡◌, sym, ◌∙◌, Option, Some, None, Bool, true, false, not, IsTrue, List, []}
 use Rattle.std.specs.Option.{option_copied, is_some}
-use Rattle.stored_texts.specs.Fields.{fields_left}
-use Rattle.stored_texts.proofs.Splitting.{some_field}
-use Rattle.stored_texts.proofs.fields.Fields.is_empty.Goals as goal
+use Rattle.desk_types.specs.Fields.{fields_left}
+use Rattle.desk_types.proofs.Splitting.{some_field}
+use Rattle.desk_types.proofs.stored_fields.Fields.is_empty.Goals as goal
 
 none_left : (rest : Option (Bor (List ℕ))) (is : Bool) → is_some rest ≡ not is → (IsTrue is → fields_left (option_copied rest) ≡ []) × (fields_left (option_copied rest) ≡ [] → IsTrue is)
 none_left None true e = (λ _. refl, λ _. refl)

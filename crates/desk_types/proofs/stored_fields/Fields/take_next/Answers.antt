@@ -1,9 +1,9 @@
 use Rattle.std.proofs.Common.{ℕ, ◌+◌, ◌∷◌, take, drop, sym, ap, ◌∙◌, arith}
 use Rattle.std.proofs.lemmas.List.{take_all, length-drop}
 use Rattle.std.specs.Option.{option_copied}
-use Rattle.stored_texts.specs.Fields.{fields_in, fields_left}
-use Rattle.stored_texts.proofs.Splitting.{cut_at, cut_nowhere}
-use Rattle.stored_texts.proofs.fields.Fields.take_next.Goals as goal
+use Rattle.desk_types.specs.Fields.{fields_in, fields_left}
+use Rattle.desk_types.proofs.Splitting.{cut_at, cut_nowhere}
+use Rattle.desk_types.proofs.stored_fields.Fields.take_next.Goals as goal
 
 pub returns-in-Some : goal.returns-in-Some
 returns-in-Some c =

@@ -1,8 +1,8 @@
 use Rattle.std.proofs.Common.{sym, subst, ◌∙◌}
-use Rattle.stored_texts.specs.Apart.{numbers_apart, quantities_fit}
-use Rattle.stored_texts.specs.Fields.{IsNumber}
+use Rattle.desk_types.specs.Apart.{numbers_apart, quantities_fit}
+use Rattle.desk_types.specs.Fields.{IsNumber}
 use Rattle.desk_types.specs.Number.{IsQuantity}
-use Rattle.stored_texts.proofs.value.QuantityStored.read.Goals as goal
+use Rattle.desk_types.proofs.stored_value.QuantityStored.read.Goals as goal
 
 pub returns-in_default : goal.returns-in_default
 returns-in_default c quantity more is e =

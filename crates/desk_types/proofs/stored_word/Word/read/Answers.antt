@@ -1,6 +1,6 @@
 use Rattle.std.proofs.Common.{◌∙◌}
-use Rattle.stored_texts.proofs.Words.{word_in-read, word_in-refused}
-use Rattle.stored_texts.proofs.word.Word.read.Goals as goal
+use Rattle.desk_types.proofs.Words.{word_in-read, word_in-refused}
+use Rattle.desk_types.proofs.stored_word.Word.read.Goals as goal
 
 pub returns-clause-read : goal.returns-clause-read
 returns-clause-read c = word_in-read c.args.text.now c.copied.result (c.copied.ensures ∙ c.first_named.ensures)

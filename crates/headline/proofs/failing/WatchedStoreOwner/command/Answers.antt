@@ -1,7 +1,7 @@
 use Rattle.std.proofs.Common.{refl}
-use Rattle.many_runs.specs.Failing.{own_kept}
-use Rattle.many_runs.proofs.FailingDisks.{answer_so, step, watched_so}
-use Rattle.many_runs.proofs.failing.WatchedStoreOwner.command.Goals as goal
+use Rattle.headline.specs.Failing.{own_kept}
+use Rattle.headline.proofs.FailingDisks.{answer_so, step, watched_so}
+use Rattle.headline.proofs.failing.WatchedStoreOwner.command.Goals as goal
 
 pub returns-clause-answer : goal.returns-clause-answer
 returns-clause-answer g c = λ G watched clean.

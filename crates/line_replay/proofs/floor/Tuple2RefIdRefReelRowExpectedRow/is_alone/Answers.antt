@@ -1,6 +1,6 @@
 use Rattle.std.proofs.lemmas.Result.{IfOk-weaker}
-use Rattle.line_audit.proofs.Texts.{reel_alone}
-use Rattle.line_audit.proofs.floor.Tuple2RefIdRefReelRowExpectedRow.is_alone.Goals as goal
+use Rattle.line_replay.proofs.Texts.{reel_alone}
+use Rattle.line_replay.proofs.floor.Tuple2RefIdRefReelRowExpectedRow.is_alone.Goals as goal
 
 pub returns-clause-found : goal.returns-clause-found
 returns-clause-found g c clean =

@@ -1,6 +1,6 @@
 use Rattle.std.proofs.lemmas.Result.{IfOk-weaker}
-use Rattle.line_audit.proofs.Texts.{found_alone}
-use Rattle.line_audit.proofs.pieces.Tuple2RefIdRefU64ExpectedRow.is_alone.Goals as goal
+use Rattle.line_replay.proofs.Texts.{found_alone}
+use Rattle.line_replay.proofs.pieces.Tuple2RefIdRefU64ExpectedRow.is_alone.Goals as goal
 
 pub returns-clause-found : goal.returns-clause-found
 returns-clause-found g c clean =

@@ -1,6 +1,6 @@
 use Rattle.std.proofs.lemmas.Result.{IfOk-weaker}
-use Rattle.line_audit.proofs.Texts.{sheet_row_alone}
-use Rattle.line_audit.proofs.sheets.Tuple2RefTuple3IdIdU64RefSheetRowExpectedRow.is_alone.Goals as goal
+use Rattle.line_replay.proofs.Texts.{sheet_row_alone}
+use Rattle.line_replay.proofs.sheets.Tuple2RefTuple3IdIdU64RefSheetRowExpectedRow.is_alone.Goals as goal
 
 pub returns-clause-found : goal.returns-clause-found
 returns-clause-found g c clean =

@@ -5,8 +5,8 @@ use Rattle.std.proofs.lemmas.List.Elements.{All-same}
 use Rattle.desk_types.specs.Id.{by_name}
 use Rattle.desk_types.specs.Number.{IsMinute}
 use Rattle.desk_types.specs.Placements.{takes_of}
-use Rattle.trace_lists.specs.Lists.{HasPieces, key_of, keys_of_installs, minute_in}
-use Rattle.trace_lists.proofs.lists.TraceLists.new.Goals as goal
+use Rattle.state_rows.specs.Lists.{HasPieces, key_of, keys_of_installs, minute_in}
+use Rattle.state_rows.proofs.lists.TraceLists.new.Goals as goal
 
 none-in : (n : ℕ) → minute_in [] n ≡ None
 none-in zero = refl

@@ -5,12 +5,12 @@ use Rattle.desk_types.specs.Id.{same}
 use Rattle.desk_types.specs.History.{entry_of}
 use Rattle.desk_types.specs.Number.{IsMinute}
 use Rattle.desk_types.specs.Outcome.{takes_by}
-use Rattle.trace_lists.specs.Lists.{keys_of_installs, minute_in, kept_at}
-use Rattle.trace_lists.specs.Noting.{keys_in}
-use Rattle.trace_lists.proofs.Installs.{keys-installed}
-use Rattle.trace_lists.proofs.Keys.{keys-noted}
-use Rattle.trace_lists.proofs.Minutes.{minutes-accepted, count-accepted}
-use Rattle.trace_lists.proofs.lists.TraceLists.note.Goals as goal
+use Rattle.state_rows.specs.Lists.{keys_of_installs, minute_in, kept_at}
+use Rattle.state_rows.specs.Noting.{keys_in}
+use Rattle.state_rows.proofs.Installs.{keys-installed}
+use Rattle.state_rows.proofs.Keys.{keys-noted}
+use Rattle.state_rows.proofs.Minutes.{minutes-accepted, count-accepted}
+use Rattle.state_rows.proofs.lists.TraceLists.note.Goals as goal
 
 pub returns : goal.returns
 returns c = record {

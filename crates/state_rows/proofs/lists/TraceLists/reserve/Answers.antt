@@ -1,6 +1,6 @@
 use Rattle.std.proofs.Common.{refl}
-use Rattle.trace_lists.proofs.KeptUnderNames.{listed-still}
-use Rattle.trace_lists.proofs.lists.TraceLists.reserve.Goals as goal
+use Rattle.state_rows.proofs.KeptUnderNames.{listed-still}
+use Rattle.state_rows.proofs.lists.TraceLists.reserve.Goals as goal
 
 pub returns-in_err-room_for_install-clause-same : goal.returns-in_err-room_for_install-clause-same
 returns-in_err-room_for_install-clause-same c H is = listed-still c.args.self.now _ H (λ n. refl) c.room_for_install.ensures c.reserve-2.ensures.items c.reserve.ensures.items is
