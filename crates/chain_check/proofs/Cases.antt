@@ -7,8 +7,8 @@ use Rattle.desk_types.proofs.RowsCommon.{P, L2, M, S1, K2, B2, R1, R2, at, recei
 use Rattle.desk_laws.proofs.Judgements.{judged-prefix}
 use Rattle.desk_laws.specs.Alike.{AreAlike}
 use Rattle.desk_laws.specs.Chain.{DeskFile, Carries, IsChain}
-use Rattle.desk_laws.proofs.AlikeRows.{with, old, new}
-use Rattle.desk_laws.proofs.ChainRows.{the_files_are_a_chain, the_second_file_is_carried}
+use Rattle.desk_laws.proofs.AlikeCases.{with, old, new}
+use Rattle.desk_laws.proofs.ChainCases.{the_files_are_a_chain, the_second_file_is_carried}
 use Rattle.chain_check.specs.Counted.{IsChainBy}
 
 abbrev first_file : DeskFile

@@ -1,4 +1,5 @@
-//! Whether desk files are a chain, and the rows of what is asked of them.
+//! Whether a new desk is alike to the old desk that it follows, whether desk files are a chain, and the
+//! rows of what is asked of them.
 #![tactic(auto)]
 
 mod carried;

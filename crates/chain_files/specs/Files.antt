@@ -34,7 +34,7 @@ use Rattle.chain_check.specs.Rows.{answer_over, asked_of, facts_of, rows_in, row
 use Rattle.chain_files.specs.declared.chain.Fault.{Fault}
 use Rattle.chain_files.specs.declared.chain.Fault.TheVariants.{Refused, BegunFrom, Differs}
 use Rattle.chain_files.specs.declared.chain.Stopped.{Stopped}
-use Rattle.chain_files.specs.declared.closed.ClosedFiles.{ClosedFiles}
+use Rattle.chain_files.specs.declared.closed.ClosedChain.{ClosedChain}
 
 -- ---- the closed files
 
@@ -43,7 +43,7 @@ abbrev pub all_at : {T : Type 0} → start.Ghosts T → ℕ → Image
 all_at first place = image_at first
 
 -- The first to be closed comes first.
-abbrev pub files_in : {D : Type 0} → ClosedFiles D → List (Files D)
+abbrev pub files_in : {D : Type 0} → ClosedChain D → List (Files D)
 files_in closed = closed.files.items
 
 -- No disk lied until its file was closed, and each file held only a desk's tables, or those first.

@@ -1,5 +1,6 @@
 //! Answers to commands, with a number and as a text: from judging the command, or from an earlier
-//! command with the same UniqueID.
+//! command with the same UniqueID. And how answers get in and out: a read buffer, whole writes, counts
+//! of answers, and faults.
 #![tactic(auto)]
 
 mod answer;

@@ -8,8 +8,8 @@ use Rattle.desk_answers.specs.declared.serving.ServeFault.TheVariants.{Read, Wri
 use Rattle.desk_answers.specs.Counts.{none_served}
 use Rattle.desk_answers.specs.Sent.{SendsFront}
 use Rattle.http_stream.specs.Answers.{Told}
-use Rattle.http_stream.specs.declared.response.Kind.{Kind}
-use Rattle.http_stream.specs.declared.response.Kind.TheVariants.{Json, Csv}
+use Rattle.http_stream.specs.declared.response.MediaType.{MediaType}
+use Rattle.http_stream.specs.declared.response.MediaType.TheVariants.{Json, Csv}
 use Rattle.desk_feed.specs.declared.options.BadOption.{BadOption}
 use Rattle.desk_feed.specs.declared.options.BadOption.TheVariants as option
 
@@ -24,7 +24,7 @@ abbrev pub version_line : List ℕ
 version_line = codes "version 2\n"
 
 -- A text of this kind as printed. If it is not CSV, a line feed is added.
-abbrev pub with_end : Kind → List ℕ → List ℕ
+abbrev pub with_end : MediaType → List ℕ → List ℕ
 with_end Csv text = text
 with_end Json text = text ++ 10 ∷ []
 

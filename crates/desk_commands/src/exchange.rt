@@ -12,7 +12,7 @@ ghost use Rattle.desk_commands.specs.Runs.{HasNoDesk, LeavesDesk, Refuses, RunsI
 
 use crate::exit::unavailable;
 use crate::import::import_rows;
-use crate::left::Left;
+use crate::left::ToClose;
 use crate::lines::feed_lines;
 use crate::refusal::tell_refusal;
 use desk_feed::Folder;
@@ -63,7 +63,7 @@ pub fn feed_in_file<T: Start, R: Read, W: Write, E: Write>(
     input: &mut Wire<R>,
     output: &mut Wire<W>,
     errors: &mut Wire<E>,
-) -> (u8, Left<FileFrom<T>>)
+) -> (u8, ToClose<FileFrom<T>>)
     requires least { 1 ≤ greatest }
     requires most { greatest ≤ MOST_ENTRIES }
     requires few { HaveFewCounts input.old output.old errors.old }
@@ -79,11 +79,11 @@ pub fn feed_in_file<T: Start, R: Read, W: Write, E: Write>(
         Ok(store) => {
             let mut store = store;
             let status = feed_lines(rt.alloc(), input, output, errors, &mut store);
-            (status, Left::Desk(store))
+            (status, ToClose::Desk(store))
         }
         Err(refusal) => (
             tell_refusal(rt.alloc(), &refusal.fault, errors),
-            Left::Refused(refusal),
+            ToClose::Refused(refusal),
         ),
     }
 }
@@ -98,7 +98,7 @@ pub fn import_in_file<T: Start, F: Folder, W: Write, E: Write>(
     from: &str,
     output: &mut Wire<W>,
     errors: &mut Wire<E>,
-) -> (u8, Left<FileFrom<T>>)
+) -> (u8, ToClose<FileFrom<T>>)
     requires few { HaveFewFailures output.old errors.old }
     ensures ends { ImportEnds W.contents E.contents output.old output.new errors.old errors.new
         import.now (F.holds folder.now from.now) (F.may_fail folder.now from.now)
@@ -112,11 +112,11 @@ pub fn import_in_file<T: Start, F: Folder, W: Write, E: Write>(
         Ok(store) => {
             let mut store = store;
             let status = import_rows(rt.alloc(), &mut store, import, folder, from, output, errors);
-            (status, Left::Desk(store))
+            (status, ToClose::Desk(store))
         }
         Err(refusal) => (
             tell_refusal(rt.alloc(), &refusal.fault, errors),
-            Left::Refused(refusal),
+            ToClose::Refused(refusal),
         ),
     }
 }

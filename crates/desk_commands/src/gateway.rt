@@ -12,7 +12,7 @@ ghost use Rattle.desk_commands.specs.Wires.{HaveFewFailures};
 ghost use Rattle.desk_commands.specs.Runs.{HasNoDesk, LeavesDesk, Refuses, RunsOn};
 
 use crate::clients::Clients;
-use crate::left::Left;
+use crate::left::ToClose;
 use crate::port::{serve_port, tell_report};
 use crate::refusal::tell_refusal;
 use desk_file::open_desk;
@@ -33,7 +33,7 @@ pub fn serve_in_file<T: Start, C: Clients, W: Write, E: Write>(
     greatest: u32,
     output: &mut Wire<W>,
     errors: &mut Wire<E>,
-) -> (u8, Left<FileFrom<T>>)
+) -> (u8, ToClose<FileFrom<T>>)
     requires some { 1 ≤ connections }
     requires least { 1 ≤ greatest }
     requires most { greatest ≤ MOST_ENTRIES }
@@ -57,11 +57,11 @@ pub fn serve_in_file<T: Start, C: Clients, W: Write, E: Write>(
                 errors,
                 &mut store,
             );
-            (status, Left::Desk(store))
+            (status, ToClose::Desk(store))
         }
         Err(refusal) => (
             tell_refusal(rt.alloc(), &refusal.fault, errors),
-            Left::Refused(refusal),
+            ToClose::Refused(refusal),
         ),
     }
 }
@@ -75,7 +75,7 @@ pub fn report_in_file<T: Start, W: Write, E: Write>(
     target: &str,
     output: &mut Wire<W>,
     errors: &mut Wire<E>,
-) -> (u8, Left<FileFrom<T>>)
+) -> (u8, ToClose<FileFrom<T>>)
     requires few { HaveFewFailures output.old errors.old }
     ensures ends { ReportEnds W.contents E.contents output.old output.new errors.old errors.new
         (λ answer. RunsOn T.Start None result.1 (AnswersReport report_of target.now answer))
@@ -87,11 +87,11 @@ pub fn report_in_file<T: Start, W: Write, E: Write>(
         Ok(store) => {
             let mut store = store;
             let status = tell_report(rt.alloc(), target, output, errors, &mut store);
-            (status, Left::Desk(store))
+            (status, ToClose::Desk(store))
         }
         Err(refusal) => (
             tell_refusal(rt.alloc(), &refusal.fault, errors),
-            Left::Refused(refusal),
+            ToClose::Refused(refusal),
         ),
     }
 }

@@ -8,7 +8,7 @@ ghost use Rattle.desk_commands.specs.Wires.{HaveFewFailures};
 
 use crate::exit::{Exit, tell_line, unavailable};
 use desk_answers::Owner;
-use desk_feed::{Folder, Unread, serve_import};
+use desk_feed::{Folder, UnreadFile, serve_import};
 use desk_types::Wire;
 use imports::Import;
 use std::alloc::Global;
@@ -36,11 +36,11 @@ pub fn import_rows<F: Folder, W: Write, E: Write, L: Owner>(
 {
     let bytes = match folder.read(alloc, from) {
         Ok(bytes) => bytes,
-        Err(Unread::Failed) => {
+        Err(UnreadFile::Failed) => {
             tell_line(errors, "tracedesk: Read");
             return Exit::Failed as u8;
         }
-        Err(Unread::NoMemory) => return unavailable(errors),
+        Err(UnreadFile::NoMemory) => return unavailable(errors),
     };
     match serve_import(alloc, output, owner, import, &bytes) {
         Ok(false) => Exit::Done as u8,

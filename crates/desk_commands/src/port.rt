@@ -20,7 +20,7 @@ use crate::exit::{Exit, tell_line};
 use crate::serving::serve_listener;
 use desk_answers::{WriteFailed, send, send_line};
 use desk_types::Wire;
-use gateway_http::{Kind, ReportedOwner, Response, ask};
+use gateway_http::{MediaType, ReportedOwner, Response, ask};
 use std::alloc::Global;
 use std::io::Write;
 
@@ -109,7 +109,7 @@ fn send_report<W: Write>(output: &mut Wire<W>, response: &Response) -> Result<()
         (report_output (response_told response.now))) }
 {
     match response.kind {
-        Kind::Csv => send(output, response.body.as_slice()),
-        Kind::Json => send_line(output, response.body.as_slice()),
+        MediaType::Csv => send(output, response.body.as_slice()),
+        MediaType::Json => send_line(output, response.body.as_slice()),
     }
 }

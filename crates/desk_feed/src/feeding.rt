@@ -13,7 +13,7 @@ ghost use Rattle.desk_feed.specs.Lines.{lines_in};
 ghost use Rattle.desk_feed.specs.Stream.{AnswersInput, ReadsInput};
 
 use crate::line::answer_line;
-use crate::taking::{RawLine, Taken, take_line};
+use crate::taking::{RawLine, TakenLine, take_line};
 use desk_answers::{Block, Owner, ReadFault, ServeFault, Served, WriteFailed, send_line};
 use desk_types::{MOST_READS, Wire};
 use std::alloc::Global;
@@ -49,7 +49,7 @@ pub fn feed<R: Read, W: Write, L: Owner>(
     };
     'lines: loop {
         match take_line(alloc, &mut block, input, most_reads) {
-            Ok(Taken { line: raw, last }) => {
+            Ok(TakenLine { line: raw, last }) => {
                 match serve_line(alloc, output, owner, raw, &mut served) {
                     Ok(()) if last => return Ok(served),
                     Ok(()) => {}

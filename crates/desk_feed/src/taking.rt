@@ -31,7 +31,7 @@ pub enum RawLine {
 
 /// A line, and whether it comes after the last line feed.
 #[derive(Drop)]
-pub struct Taken {
+pub struct TakenLine {
     pub line: RawLine,
     pub last: bool,
 }
@@ -43,7 +43,7 @@ pub fn take_line<R: Read>(
     block: &mut Block,
     wire: &mut Wire<R>,
     most_reads: u64,
-) -> Result<Taken, ReadFault>
+) -> Result<TakenLine, ReadFault>
     requires reads { MayReadInto most_reads wire.old block.old }
     ensures reads { ReadsInto most_reads result wire.old wire.new block.new }
     ensures line { IfOk result
@@ -63,7 +63,7 @@ pub fn take_line<R: Read>(
             Some(count) => {
                 let line = extend_line(line, &bytes[..count]);
                 block.give(count + 1);
-                return Ok(Taken { line, last: false });
+                return Ok(TakenLine { line, last: false });
             }
             None => {
                 line = extend_line(line, bytes);
@@ -71,7 +71,7 @@ pub fn take_line<R: Read>(
             }
         }
     }
-    Ok(Taken { line, last: true })
+    Ok(TakenLine { line, last: true })
 }
 
 /// Reads at most once, so that a byte is pending. Returns false at the end.

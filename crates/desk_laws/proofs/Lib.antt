@@ -2,12 +2,12 @@ pub mod Accepted
 pub mod AfterCommands
 pub mod Agreeing
 pub mod AgreeingNext
-pub mod AlikeRows
+pub mod AlikeCases
 pub mod Balance
 pub mod BoardsInWork
 pub mod ChainLots
 pub mod ChainPieces
-pub mod ChainRows
+pub mod ChainCases
 pub mod Chains
 pub mod CountedReels
 pub mod Designators
@@ -36,6 +36,6 @@ pub mod RulesOne
 pub mod SlotsLater
 pub mod Tapes
 pub mod Totals
-pub mod UnlikeRows
+pub mod UnlikeCases
 pub mod VerifiedReels
 pub mod WholeInstalls

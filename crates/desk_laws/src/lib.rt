@@ -5,6 +5,9 @@
 //! histories that either set of rules accepts, and so for every history that a desk represents.
 //! Laws that hold for any history say so. The lemmas in `proofs/` are stated for rules Two, which
 //! accept every history that rules One accept.
+//!
+//! The laws of `law.rt` are about a new desk that answers as the desk that it follows, and about a chain
+//! of desk files.
 #![tactic(auto)]
 
 mod consistent;

@@ -20,8 +20,8 @@ use Rattle.desk_commands.specs.Connections.{AnswersEach, TellsConnections}
 use Rattle.desk_commands.specs.Ends.{FeedEnds, ImportEnds, PrintEnds, ReportEnds, ServingEnds}
 use Rattle.desk_commands.specs.OpenRuns.{AnswersAll, AnswersImport, AnswersReport, AnswersUpTo, CutsImport, StaysSame}
 use Rattle.desk_commands.specs.Told.{lawful_line, report_output, unavailable_line, version_line, TellsLine}
-use Rattle.desk_commands.specs.declared.left.Left.{Left}
-use Rattle.desk_commands.specs.declared.left.Left.TheVariants as left
+use Rattle.desk_commands.specs.declared.left.ToClose.{ToClose}
+use Rattle.desk_commands.specs.declared.left.ToClose.TheVariants as left
 use Rattle.desk_commands.specs.Runs.{HasNoDesk, LeavesDesk, LeavesFile, RunsInMemory, ServesEach}
 use Rattle.desk_program.specs.Program.{Bad, LeavesAs, Names, NamesDesk, NamesMigrated, RefusesNamed, RunsAs, RunsAsked, RunsImport, RunsReport, RunsServing}
 use Rattle.desk_program.specs.Ways.{Ways}
@@ -49,13 +49,13 @@ pub has_none : (IsRefused IsRefused' : OpenFault → Type 0) (IsLeft IsLeft' : T
 has_none IsRefused IsRefused' IsLeft IsLeft' Told refused left (inl (fault, is, told)) = inl (fault, refused fault is, told)
 has_none IsRefused IsRefused' IsLeft IsLeft' Told refused left (inr (is, told)) = inr (left is, told)
 
-pub names_desk : {D : Type 0} {g : disk.Ghosts D} (words : List (List ℕ)) (it : Left D g) → LeavesDesk it → NamesDesk words → Names words it
+pub names_desk : {D : Type 0} {g : disk.Ghosts D} (words : List (List ℕ)) (it : ToClose D g) → LeavesDesk it → NamesDesk words → Names words it
 names_desk words left.Nothing leaves names = tt
 names_desk words (left.Desk d) leaves names = names
 names_desk words (left.Migrated conn) leaves names = absurd leaves
 names_desk words (left.Refused r) leaves names = inl names
 
-pub names_migrated : {D : Type 0} {g : disk.Ghosts D} (words : List (List ℕ)) (it : Left D g) → LeavesFile it → NamesMigrated words → Names words it
+pub names_migrated : {D : Type 0} {g : disk.Ghosts D} (words : List (List ℕ)) (it : ToClose D g) → LeavesFile it → NamesMigrated words → Names words it
 names_migrated words left.Nothing leaves names = tt
 names_migrated words (left.Desk d) leaves names = absurd leaves
 names_migrated words (left.Migrated conn) leaves names = names

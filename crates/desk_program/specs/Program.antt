@@ -25,8 +25,8 @@ use Rattle.desk_commands.specs.Connections.{TellsConnections}
 use Rattle.desk_commands.specs.OpenRuns.{AnswersAll, AnswersImport, AnswersUpTo, CutsImport, StaysSame, AnswersReport}
 use Rattle.desk_commands.specs.Told.{fault_line, lawful_line, option_line, report_output, unavailable_line, version_line, TellsEnd, TellsLine}
 use Rattle.desk_commands.specs.Told as told
-use Rattle.desk_commands.specs.declared.left.Left.{Left}
-use Rattle.desk_commands.specs.declared.left.Left.TheVariants as left
+use Rattle.desk_commands.specs.declared.left.ToClose.{ToClose}
+use Rattle.desk_commands.specs.declared.left.ToClose.TheVariants as left
 use Rattle.desk_commands.specs.Runs.{HasNoDesk, RunsInMemory, ServesEach}
 use Rattle.desk_commands.specs.Closed.{Close, whole, failed}
 use Rattle.desk_program.specs.Ways.{Ways}
@@ -90,7 +90,7 @@ abbrev pub NamesFile : List (List ℕ) → Type 0
 NamesFile words = NamesDesk words ⊎ NamesMigrated words
 
 -- The open file is the one that the arguments name.
-abbrev pub Names : {D : Type 0} {g : disk.Ghosts D} → List (List ℕ) → Left D g → Type 0
+abbrev pub Names : {D : Type 0} {g : disk.Ghosts D} → List (List ℕ) → ToClose D g → Type 0
 Names words left.Nothing = ⊤
 Names words (left.Desk d) = NamesDesk words
 Names words (left.Migrated conn) = NamesMigrated words

@@ -1,5 +1,5 @@
-//! The shared types of the trace desk: commands, the history, refusals, replies and the desk
-//! itself.
+//! The shared types of the trace desk: commands and their stored texts, the history, refusals, replies
+//! and the desk itself.
 //!
 //! The definitions are in `specs/`, one file for each topic. `docs/definitions.md` introduces them.
 #![tactic(auto)]

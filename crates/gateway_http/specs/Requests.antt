@@ -17,7 +17,7 @@ use Rattle.gateway_http.specs.declared.fault.AskFault.{AskFault}
 use Rattle.http_stream.specs.Answers.{Told, unavailable}
 use Rattle.http_stream.specs.Cut.{Request}
 use Rattle.http_stream.specs.Stream.{Outcome, Rule}
-use Rattle.http_stream.specs.declared.response.Kind.TheVariants.{Json, Csv}
+use Rattle.http_stream.specs.declared.response.MediaType.TheVariants.{Json, Csv}
 use Rattle.http_stream.specs.declared.response.Status.{Status}
 use Rattle.http_stream.specs.declared.response.Status.TheVariants as status
 use Rattle.imports.specs.Import.{command_said}

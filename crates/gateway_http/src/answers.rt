@@ -11,8 +11,8 @@ use crate::fault::AskFault;
 use crate::message_answers::{answer_fault, answer_import, answer_message, json};
 use crate::reported::ReportedOwner;
 use crate::routes::RouteTable;
-use crate::unavailable::Unavailable;
-use http_stream::{Body, Kind, Response, Status};
+use http_stream::{Body, MediaType, Response, Status};
+use line_schema::Unavailable;
 use std::alloc::Global;
 use trace_reports::not_found_text;
 
@@ -55,7 +55,7 @@ fn answer_report<L: ReportedOwner>(
     match owner.report(alloc, report)? {
         Some(text) => Ok(Response {
             status: Status::Ok,
-            kind: Kind::Csv,
+            kind: MediaType::Csv,
             body: Body::Made(text),
         }),
         None => Ok(answer_none(alloc, kind_of(report))?),

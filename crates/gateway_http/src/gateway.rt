@@ -13,10 +13,10 @@ ghost use Rattle.gateway_http.specs.Requests.{request_rule};
 use crate::answers::answer_request;
 use crate::reported::ReportedOwner;
 use crate::routes::RouteTable;
-use crate::unavailable::Unavailable;
 use desk_answers::{ServeFault, Served};
 use desk_types::Wire;
 use http_stream::{Handler, Response};
+use line_schema::Unavailable;
 use std::alloc::Global;
 use std::io::{Read, Write};
 

@@ -10,12 +10,12 @@ ghost use Rattle.gateway_http.specs.Statuses.{request_fault_status};
 
 use crate::fault::AskFault;
 use crate::statuses::{request_fault_status, verdict_status};
-use crate::unavailable::Unavailable;
 use desk_answers::Owner;
 use desk_feed::AnswerText;
 use desk_types::Text;
-use http_stream::{Body, Kind, Response, Status};
+use http_stream::{Body, MediaType, Response, Status};
 use imports::Import;
+use line_schema::Unavailable;
 use std::alloc::Global;
 
 /// Returns an answer with a JSON text.
@@ -24,7 +24,7 @@ pub fn json(status: Status, text: Text) -> Response
 {
     Response {
         status,
-        kind: Kind::Json,
+        kind: MediaType::Json,
         body: Body::Made(text),
     }
 }

@@ -1,9 +1,9 @@
 //! An owner with reports.
 
 use crate::asked::Report;
-use crate::unavailable::Unavailable;
 use desk_answers::Owner;
 use desk_types::Text;
+use line_schema::Unavailable;
 use std::alloc::Global;
 
 /// Answers commands and returns reports of those accepted.

@@ -6,9 +6,8 @@ ghost use Rattle.trace_reports.specs.Reports.{Answers};
 
 use crate::asked::Report;
 use crate::reported::ReportedOwner;
-use crate::unavailable::Unavailable;
 use desk_types::Text;
-use line_schema::LineStore;
+use line_schema::{LineStore, Unavailable};
 use sqlite::Alter;
 use state_rows::KeepsRows;
 use std::alloc::Global;

@@ -16,7 +16,7 @@ use Rattle.desk_answers.specs.declared.serving.ServeFault.TheVariants.{Read, Wri
 use Rattle.gateway_http.specs.Reports.{report_of}
 use Rattle.headline.specs.Calls.{AnswersByTheList, Call, Calls, Feeds, Imports, Serves}
 use Rattle.headline.specs.Calls.Call.{asked, fed, imported}
-use Rattle.desk_commands.specs.declared.left.Left.TheVariants.{Desk}
+use Rattle.desk_commands.specs.declared.left.ToClose.TheVariants.{Desk}
 use Rattle.desk_commands.specs.Runs.{RunsOn, ServesEach}
 use Rattle.desk_commands.specs.Closed.{RunsTo, whole}
 use Rattle.headline.specs.Runs.{by_two, IsRun}

@@ -18,7 +18,7 @@ use Rattle.http_stream.specs.Stream as requests
 use Rattle.http_stream.specs.Stream.{Rule}
 use Rattle.gateway_http.specs.Gateways.{AnswersGet}
 use Rattle.gateway_http.specs.Requests.{Reports, request_rule}
-use Rattle.gateway_http.specs.declared.unavailable.Unavailable.{Unavailable}
+use Rattle.line_schema.specs.declared.unavailable.Unavailable.{Unavailable}
 
 -- The end of a feed or connection: the counts of answers, and the fault, if any.
 abbrev pub Ended : Type 0

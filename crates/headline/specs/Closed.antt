@@ -16,7 +16,7 @@ use Rattle.feeder_state.specs.contracts.desk.StateDeskDesk.TheImpl.{ghosts as st
 use Rattle.line_schema.specs.declared.store.LineStore.{LineStore}
 use Rattle.line_schema.specs.Stands.{state_of}
 use Rattle.desk_file.specs.Files.{Closes, MayRead}
-use Rattle.desk_commands.specs.declared.left.Left.TheVariants.{Desk}
+use Rattle.desk_commands.specs.declared.left.ToClose.TheVariants.{Desk}
 use Rattle.desk_commands.specs.Closed.{RunsTo, whole}
 use Rattle.desk_commands.specs.Runs.{RunsOn, ServesEach}
 use Rattle.desk_commands.specs.Clients.{Ended, Exchange}

@@ -1,15 +1,14 @@
 //! The headline: the answers of any number of calls on one desk, and its history and tables after
-//! them. This crate is for proofs; only its tests run.
+//! them; then of any number of runs on the same files. This crate is for proofs, and nothing of it runs.
 //!
 //! `specs/Calls.antt` defines the effect of one call and of several in sequence. `feed`, `serve`,
 //! `command`, `ask`, `report` and `import` show it for each call that the program makes.
+//! `specs/Runs.antt` defines a run, and how runs combine.
 #![tactic(auto)]
 
 mod calls;
 mod failing;
 mod runs;
-#[cfg(test)]
-mod tests;
 mod whole;
 
 ghost use Rattle.std.specs.Prelude.{List};

@@ -8,7 +8,7 @@ ghost use Rattle.sqlite_wal.specs.Recovery.{Image};
 ghost use Rattle.gateway_http.specs.Requests.{Reports};
 ghost use Rattle.gateway_http.specs.Reports.{report_of};
 ghost use Rattle.desk_commands.specs.OpenRuns.{StaysSame};
-ghost use Rattle.desk_commands.specs.declared.left.Left.TheVariants.{Desk};
+ghost use Rattle.desk_commands.specs.declared.left.ToClose.TheVariants.{Desk};
 ghost use Rattle.desk_commands.specs.Runs.{RunsOn};
 ghost use Rattle.desk_commands.specs.Closed.{RefusesTo, RefusesToMigrateTo, whole};
 ghost use Rattle.line_schema.specs.declared.fault.OpenFault.{OpenFault};

@@ -1,5 +1,6 @@
-//! Replays the history from its table: a desk judges each row again. It keeps the rows that the other
-//! tables should have, and their placements are looked up on the way.
+//! The history from its table: a command written as a row, a row read as a command, and a replay in
+//! which a desk judges each row again. A replay keeps the rows that the other tables should have, and
+//! looks up their placements on the way; `audit` compares the state tables with those rows.
 #![tactic(auto)]
 
 mod auditing;

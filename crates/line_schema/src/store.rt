@@ -27,7 +27,7 @@ mod view;
 
 use crate::fault::OpenFault;
 use crate::opening::{Opened, read_tables};
-use crate::settling::{reserve, settle};
+use crate::settling::settle;
 use crate::unavailable::Unavailable;
 use desk_answers::Answer;
 use desk_types::{Change, JudgeFault, Rules, Stamped};
@@ -354,7 +354,10 @@ impl<S: Alter, D: KeepsRows + Drop> LineStore<S, D> {
             unreachable!()
         };
         let Acceptance { text, row, edits } = prepare(self.alloc, number, &working.desk, &change)?;
-        reserve(&mut self.working, &change)?;
+        let Some(Working { desk: _, lists }) = &mut self.working else {
+            unreachable!()
+        };
+        lists.reserve(&change)?;
         append(self.alloc, &mut self.conn, &row, edits.as_slice())?;
         self.count = number;
         settle(&mut self.working, number, change, edits.as_slice());

@@ -11,11 +11,11 @@ use std::marker::Model;
 
 /// The elements under one name, oldest first.
 #[derive(Drop)]
-pub struct Kept<T> {
+pub struct KeptList<T> {
     pub items: Vec<T>,
 }
 
-impl<T> Model for Kept<T> {
+impl<T> Model for KeptList<T> {
     ghost use Rattle.std.specs.Prelude.{List};
 
     ghost Value = { List T };
@@ -26,7 +26,7 @@ impl<T> Model for Kept<T> {
 /// Reserves memory for this many more elements under a name.
 pub fn make_room<T: Drop>(
     alloc: Global,
-    map: &mut BTreeMap<Id, Kept<T>>,
+    map: &mut BTreeMap<Id, KeptList<T>>,
     name: &Id,
     more: usize,
 ) -> Result<(), AllocError>
@@ -36,7 +36,7 @@ pub fn make_room<T: Drop>(
         Some(kept) => kept.items.reserve(more)?,
         None => {
             let items = Vec::with_capacity(alloc, more)?;
-            map.insert(*name, Kept { items })?;
+            map.insert(*name, KeptList { items })?;
         }
     }
     Ok(())
@@ -45,7 +45,7 @@ pub fn make_room<T: Drop>(
 /// Adds an element under its name.
 pub fn keep<T: Drop>(
     alloc: Global,
-    map: &mut BTreeMap<Id, Kept<T>>,
+    map: &mut BTreeMap<Id, KeptList<T>>,
     name: &Id,
     thing: T,
 ) -> Result<(), AllocError>
@@ -58,14 +58,14 @@ pub fn keep<T: Drop>(
         None => {
             let mut items = Vec::new(alloc);
             items.push(thing)?;
-            map.insert(*name, Kept { items })?;
+            map.insert(*name, KeptList { items })?;
         }
     }
     Ok(())
 }
 
 /// Returns the elements under the name.
-pub fn kept_under<'a, T>(map: &'a BTreeMap<Id, Kept<T>>, name: &Id) -> &'a [T]
+pub fn kept_under<'a, T>(map: &'a BTreeMap<Id, KeptList<T>>, name: &Id) -> &'a [T]
     ensures { result.now ≡ kept_at map.now name.now }
 {
     match map.get(name) {

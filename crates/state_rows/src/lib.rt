@@ -1,4 +1,8 @@
 //! The edits that each accepted command makes in the state tables, and sets of their rows.
+//!
+//! `TraceLists` has the trace indexes of a history: the placed pieces of each lot, the installs on each
+//! board, the overdue pieces, and the effective minute of each entry. They only locate rows; readers
+//! check each row of the table.
 #![tactic(auto)]
 
 mod counted;

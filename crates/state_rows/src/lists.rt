@@ -6,7 +6,7 @@ ghost use Rattle.desk_types.specs.History.{History, accept};
 ghost use Rattle.desk_types.specs.Outcome.{change_of};
 ghost use Rattle.state_rows.specs.Lists.{HasRoomFor, IsListed, key_of, keys_of_installs, keys_where, minute_of};
 
-use crate::kept::{Kept, kept_under};
+use crate::kept::{KeptList, kept_under};
 use crate::noting::{note_install, note_pieces, room_for_install, room_for_pieces};
 use desk_types::{Change, Id, Minute};
 use std::alloc::{AllocError, Global};
@@ -32,8 +32,8 @@ pub struct Install {
 #[derive(Drop)]
 pub struct TraceLists {
     alloc: Global,
-    lots: BTreeMap<Id, Kept<PieceKey>>,
-    boards: BTreeMap<Id, Kept<Install>>,
+    lots: BTreeMap<Id, KeptList<PieceKey>>,
+    boards: BTreeMap<Id, KeptList<Install>>,
     overdue: Vec<PieceKey>,
     minutes: Vec<u32>,
 }

@@ -6,7 +6,7 @@ ghost use Rattle.desk_types.specs.Pieces.{is_placed};
 ghost use Rattle.state_rows.specs.Lists.{HasPieces, kept_at, key_of, keys_of_installs};
 ghost use Rattle.state_rows.specs.Noting.{keys_in, install_keys};
 
-use crate::kept::{Kept, keep, make_room};
+use crate::kept::{KeptList, keep, make_room};
 use crate::lists::{Install, PieceKey};
 use desk_types::{Command, Id, Take};
 use std::alloc::{AllocError, Global};
@@ -15,7 +15,7 @@ use std::collections::BTreeMap;
 /// Reserves memory for a command's install.
 pub fn room_for_install(
     alloc: Global,
-    boards: &mut BTreeMap<Id, Kept<Install>>,
+    boards: &mut BTreeMap<Id, KeptList<Install>>,
     command: &Command,
 ) -> Result<(), AllocError>
     ensures { (n : Name) → kept_at boards.new n ≡ kept_at boards.old n }
@@ -30,7 +30,7 @@ pub fn room_for_install(
 /// are mostly from one lot and share one lookup.
 pub fn room_for_pieces(
     alloc: Global,
-    lots: &mut BTreeMap<Id, Kept<PieceKey>>,
+    lots: &mut BTreeMap<Id, KeptList<PieceKey>>,
     takes: &[Take],
 ) -> Result<(), AllocError>
     ensures { (n : Name) → kept_at lots.new n ≡ kept_at lots.old n }
@@ -47,7 +47,7 @@ pub fn room_for_pieces(
 /// Adds the install of a command to those on its board, if it placed any piece.
 pub fn note_install(
     alloc: Global,
-    boards: &mut BTreeMap<Id, Kept<Install>>,
+    boards: &mut BTreeMap<Id, KeptList<Install>>,
     command: &Command,
     install: Install,
 ) -> Result<(), AllocError>
@@ -70,7 +70,7 @@ pub fn note_install(
 /// Adds the placed pieces to their lots, and the overdue ones to the overdue list.
 pub fn note_pieces(
     alloc: Global,
-    lots: &mut BTreeMap<Id, Kept<PieceKey>>,
+    lots: &mut BTreeMap<Id, KeptList<PieceKey>>,
     overdue: &mut Vec<PieceKey>,
     install: Install,
     takes: &[Take],
@@ -97,7 +97,7 @@ pub fn note_pieces(
 
 fn note_piece(
     alloc: Global,
-    lots: &mut BTreeMap<Id, Kept<PieceKey>>,
+    lots: &mut BTreeMap<Id, KeptList<PieceKey>>,
     overdue: &mut Vec<PieceKey>,
     piece: PieceKey,
     take: &Take,

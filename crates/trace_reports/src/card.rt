@@ -5,7 +5,7 @@ ghost use Rattle.desk_types.specs.History.{History};
 ghost use Rattle.desk_types.specs.Level.{text_of};
 ghost use Rattle.trace_reports.specs.Card.{state_text, reel_card};
 
-use crate::report::{Report, TextWriter, csv_text, write_fields};
+use crate::report::{CsvReport, TextWriter, csv_text, write_fields};
 use crate::shown::left_text;
 use desk_types::{Desk, Id, ReelView, Text};
 use itoa::Buffer;
@@ -31,7 +31,7 @@ fn level_text(view: &ReelView) -> &str
 
 struct ReelCard;
 
-impl Report<ReelView> for ReelCard {
+impl CsvReport<ReelView> for ReelCard {
     ghost use Rattle.trace_reports.specs.Card.{card_header, card_fields};
 
     ghost header = { λ _. card_header };

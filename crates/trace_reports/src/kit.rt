@@ -8,7 +8,7 @@ ghost use Rattle.desk_types.specs.History.{History};
 ghost use Rattle.setup_sheets.specs.Names.{is_among, HasSeen};
 ghost use Rattle.trace_reports.specs.Kit.{needed_by, enough, rows_for, kit_rows, kit_list};
 
-use crate::report::{Report, TextWriter, csv_text, write_fields};
+use crate::report::{CsvReport, TextWriter, csv_text, write_fields};
 use crate::shown::left_text;
 use desk_types::{Boards, Desk, Id, Left, ReelView, SheetRow, Text};
 use itoa::Buffer;
@@ -37,7 +37,7 @@ pub enum Supply {
 
 struct KitList;
 
-impl Report<KitRow> for KitList {
+impl CsvReport<KitRow> for KitList {
     ghost use Rattle.trace_reports.specs.Kit.{kit_header, kit_fields};
 
     ghost header = { λ _. kit_header };

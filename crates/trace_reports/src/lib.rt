@@ -2,6 +2,10 @@
 //!
 //! `specs/Reports.antt` defines each report over the history. No report changes the history or its
 //! tables. A report that needs the desk loads it first.
+//!
+//! The texts themselves are made from any desk or from placed pieces, with no store (`card`, `slots`,
+//! `kit`, `trace_texts`). A trace has four details, after the idea of IPC-1782's levels: detail 4 has all
+//! columns of a piece, lower ones have fewer.
 #![tactic(auto)]
 
 mod card;
@@ -24,7 +28,7 @@ pub use kind::{Kind, not_found_text};
 pub use kit::{KitRow, Supply};
 pub use laws::reports_are_converse;
 pub use lists::{kit_list, reel_card, slot_list};
-pub use report::{Report, TextWriter, csv_text, write_fields};
+pub use report::{CsvReport, TextWriter, csv_text, write_fields};
 pub use text_laws::{
     no_reel_is_given_twice, reports_read_back, texts_read_back, traces_are_converse,
 };

@@ -14,7 +14,7 @@ use std::alloc::{AllocError, Global};
 pub type TextWriter = Writer<Vec<u8>>;
 
 /// The content of a report: a header, and a record for each row.
-pub trait Report<T> {
+pub trait CsvReport<T> {
     ghost use Rattle.std.specs.Prelude.{List, ℕ};
 
     /// The names of the report's columns.
@@ -46,7 +46,11 @@ pub fn write_fields(writer: &mut TextWriter, fields: &[&[u8]]) -> Result<(), All
 }
 
 /// Returns the report's header and a record for each row in order.
-pub fn csv_text<T, R: Report<T>>(alloc: Global, report: &R, rows: &[T]) -> Result<Text, AllocError>
+pub fn csv_text<T, R: CsvReport<T>>(
+    alloc: Global,
+    report: &R,
+    rows: &[T],
+) -> Result<Text, AllocError>
     ensures { IfOk result
         (λ text. text ≡ csv_text (R.header report.now) (map (R.fields report.now) rows.now)) }
 {

@@ -4,7 +4,7 @@ ghost use Rattle.std.specs.Prelude.{◌≡◌, IfOk};
 ghost use Rattle.desk_types.specs.History.{History};
 ghost use Rattle.trace_reports.specs.Slots.{slot_list};
 
-use crate::report::{Report, TextWriter, csv_text, write_fields};
+use crate::report::{CsvReport, TextWriter, csv_text, write_fields};
 use crate::shown::left_text;
 use desk_types::{Desk, Id, Mount, Text};
 use itoa::Buffer;
@@ -12,7 +12,7 @@ use std::alloc::{AllocError, Global};
 
 struct SlotList;
 
-impl Report<Mount> for SlotList {
+impl CsvReport<Mount> for SlotList {
     ghost use Rattle.trace_reports.specs.Slots.{slots_header, slot_fields};
 
     ghost header = { λ _. slots_header };

@@ -6,7 +6,7 @@ ghost use Rattle.trace_reports.specs.Traces.{board_text, lot_text, overdue_text}
 ghost use Rattle.trace_reports.specs.Sets.{bytes_of};
 
 use crate::records::{Record, board_header, board_rows, lot_header, lot_rows};
-use crate::report::{Report, TextWriter, csv_text, write_fields};
+use crate::report::{CsvReport, TextWriter, csv_text, write_fields};
 use csv::WriterBuilder;
 use desk_types::{Listing, Placement, Text, TraceDetail};
 use itoa::Buffer;
@@ -58,7 +58,7 @@ pub fn lot_text(
 
 struct OverdueList;
 
-impl Report<Placement> for OverdueList {
+impl CsvReport<Placement> for OverdueList {
     ghost use Rattle.trace_reports.specs.Traces.{overdue_header, overdue_row};
 
     ghost header = { λ _. overdue_header };

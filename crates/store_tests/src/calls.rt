@@ -1,10 +1,10 @@
 //! Each call once, on an owner that represents no history.
 
-use crate::{ask, command, feed, headline, import, report, serve};
 use desk_answers::{Answer, Owner};
 use desk_feed::counts_import;
 use desk_types::{Command, Id, Minute, Stamped, Text, Wire};
 use gateway_http::{Report, ReportedOwner, Unavailable};
+use headline::{ask, command, feed, headline, import, report, serve};
 use std::alloc::Global;
 use std::test::Fail;
 

@@ -27,7 +27,7 @@ use Rattle.desk_types.proofs.Keys.{same-true}
 use Rattle.desk_types.proofs.RowsCommon.{P, Q, L1, L2, PR, M, S1, K1, K2, B1, B2, R1, R2, R3, R4, R5, at, received, base}
 use Rattle.desk_laws.specs.Chain.{DeskFile, quantity_of, Carries, IsChain, received_over, placed_over, scrapped_over, left_over, lots_over, boards_over}
 use Rattle.desk_laws.proofs.AfterCommands.{judged-run}
-use Rattle.desk_laws.proofs.AlikeRows.{with, old_begin, old_end, old, new_begin, new, old_is_accepted, new_is_accepted, a_carried_desk_is_alike}
+use Rattle.desk_laws.proofs.AlikeCases.{with, old_begin, old_end, old, new_begin, new, old_is_accepted, new_is_accepted, a_carried_desk_is_alike}
 
 -- The first file: 50 pieces of reel K1, of lot L1, are received, and three of them placed on board B1.
 abbrev first_file : DeskFile
