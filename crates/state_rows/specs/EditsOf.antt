@@ -1,6 +1,6 @@
 -- The edits of a command, by the history before it. These are no definitions of the tables; the code and its proof use
 -- them.
-use Rattle.std.specs.Prelude.{◌≡◌, ◌<◌, ◌^◌, ℕ, ◌+◌, ◌-◌, ◌==◌, nat_lt, Bool, false, Option, Some, None, List, [], ◌∷◌, ◌++◌, map, if◌then◌else◌, unwrap_or}
+use Rattle.std.specs.Prelude.{◌≡◌, ◌<◌, ◌^◌, ℕ, ◌+◌, ◌-◌, ◌==◌, nat_lt, Bool, true, false, Option, Some, None, List, [], ◌∷◌, ◌++◌, map, if◌then◌else◌, unwrap_or}
 use Rattle.std.specs.Option.{option_map, option_and_then, option_or, option_to_list, option_map_or}
 use Rattle.std.specs.List.{AllByRecursion, list_any, filter_map, flat_map}
 use Rattle.desk_types.specs.declared.command.Command.{Command}
