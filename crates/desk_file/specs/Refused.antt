@@ -84,7 +84,8 @@ abbrev pub LeavesMade : Option ℕ → State → Trees → Type 0
 LeavesMade make s trees = IsSomeAnd make (λ greatest. LeavesBlank greatest s trees)
 
 -- A run that may make a desk up to this number refused them.
-abbrev pub RefusesRun : {D : Type 0} {g : disk.Ghosts D} → Image → Option ℕ → RefusedFile D g → Type 0
+abbrev pub RefusesRun : {D : Type 0} {g : disk.Ghosts D}
+    → Image → Option ℕ → RefusedFile D g → Type 0
 RefusesRun image make = IsRefused image (IsFaultFor image make) (LeavesMade make) (make ≡ None)
 
 -- A migration refused them, by rules One. A crash may still leave the desk by version 2.

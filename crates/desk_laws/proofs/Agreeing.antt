@@ -23,13 +23,13 @@ use Rattle.desk_types.specs.Level.{LevelWithLabel}
 use Rattle.desk_types.specs.History.{History, desk_minute, now_of, effective_minute}
 use Rattle.desk_types.specs.Setup.{is_part, is_alternate, sheet_of, selected_on, sheet_on, row_in, row_on, slot_in, slot_on, receipt_of}
 use Rattle.desk_types.specs.Tape.{tape_of}
-use Rattle.desk_types.specs.Pieces.{install_picks, scrap_picks, count_picks, picks_of, left_of, live_on, first, front_of, is_mounted}
+use Rattle.desk_types.specs.Pieces.{bench_of, install_picks, scrap_picks, count_picks, picks_of, left_of, live_on, first, front_of, is_mounted}
 use Rattle.desk_types.specs.FloorLife.{exposure_of, floor_life, is_expired, minutes_left, is_unbaked, out_since}
 use Rattle.desk_types.specs.Work.{in_work_on, is_in_work, product_of, is_placed_on}
 use Rattle.desk_types.specs.Refusals.{first_refusal, part_refusal, alternate_refusal, sheet_refusal, definition_refusal, selection_refusal, receipt_refusal, opening_refusal, closing_refusal, is_wrong_for, is_wrong_part, mounting_refusal, unload_refusal, scrap_refusal, front_refusal, slots_refusal, differ, start_refusal, completion_refusal, designators_refusal, install_refusal, is_above, counts_refusal, command_refusal, is_clock, refusal_of}
 use Rattle.desk_types.specs.Outcome.{reels_of, pieces_of, detail_of}
 use Rattle.desk_laws.proofs.Accepted.{mountable}
-use Rattle.desk_laws.proofs.Lives.{picks-live, designators-live, scrap-live}
+use Rattle.desk_laws.proofs.Lives.{live_bench, picks-live, designators-live, scrap-live}
 use Rattle.desk_laws.specs.Past.{is_started, boards_named, reels_named}
 
 -- What stays of a receipt: the part, the lot, and the moisture level with its label.
@@ -168,6 +168,9 @@ module _ (past_board past_reel : Name → Bool) where
   slot : (G H : History) (machine : Name) → Agree past_board past_reel G H → slot_on G machine ≡ slot_on H machine
   slot G H machine a = λ j designator. option_and_then (λ rows. slot_in rows designator) (sheet G H machine a j)
 
+  bench : (G H : History) (machine board : Name) → Agree past_board past_reel G H → live_bench G machine board ≡ live_bench H machine board
+  bench G H machine board a = λ j. record { machine = machine; board = board; slot_of = slot G H machine a j; tape = a.live j machine; pieces = a.left j }
+
   -- ---- refusals
 
   wrong-part : (G H : History) (machine s reel : Name) → Agree past_board past_reel G H → IsSame G H reel → is_wrong_part G machine s reel ≡ is_wrong_part H machine s reel
@@ -221,11 +224,11 @@ module _ (past_board past_reel : Name → Bool) where
       → install_refusal G machine board ds ≡ install_refusal H machine board ds
   unfolding install_refusal
   designators G H machine board ds a new =
-      let refused : designators_refusal (slot_on G machine) (tape_of G machine) (left_of G) (is_placed_on G board) machine board [] [] ds
-      ≡ designators_refusal (slot_on H machine) (tape_of H machine) (left_of H) (is_placed_on H board) machine board [] [] ds =
-      sym (designators-live G (slot_on G machine) (is_placed_on G board) machine board [] [] ds)
-      ∙ (λ j. designators_refusal (slot G H machine a j) (a.live j machine) (a.left j) (a.placed board new j) machine board [] [] ds)
-      ∙ designators-live H (slot_on H machine) (is_placed_on H board) machine board [] [] ds in
+      let refused : designators_refusal (bench_of G machine board) (is_placed_on G board) [] [] ds
+      ≡ designators_refusal (bench_of H machine board) (is_placed_on H board) [] [] ds =
+      sym (designators-live G (is_placed_on G board) machine board [] [] ds)
+      ∙ (λ j. designators_refusal (bench G H machine board a j) (a.placed board new j) [] [] ds)
+      ∙ designators-live H (is_placed_on H board) machine board [] [] ds in
       λ j. if option_map_or (same board) (a.running j machine) false then refused j else Some (NotInWork board)
 
   -- The refusal of a command that takes effect at the minute.
@@ -299,9 +302,9 @@ module _ (past_board past_reel : Name → Bool) where
 
   pub picks-same : (G H : History) (command : Command) → Agree past_board past_reel G H → picks_of G command ≡ picks_of H command
   picks-same G H (MaterialsInstalled machine board ds) a =
-      sym (picks-live G (slot_on G machine) machine board ds)
-      ∙ (λ j. install_picks (slot G H machine a j) (a.live j machine) (a.left j) machine board [] ds)
-      ∙ picks-live H (slot_on H machine) machine board ds
+      sym (picks-live G machine board [] ds)
+      ∙ (λ j. install_picks (bench G H machine board a j) [] ds)
+      ∙ picks-live H machine board [] ds
   picks-same G H (MaterialsScrapped machine s quantity) a =
       sym (scrap-live G (Rejected machine s) machine s quantity)
       ∙ (λ j. scrap_picks (a.left j) (Rejected machine s) (a.live j machine s) quantity)

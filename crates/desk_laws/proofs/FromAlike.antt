@@ -14,9 +14,8 @@ use Rattle.desk_types.specs.declared.rules.Rules.TheVariants.{Two}
 use Rattle.desk_types.specs.Id.{Name, same}
 use Rattle.desk_types.specs.Level.{LevelWithLabel, limit_of}
 use Rattle.desk_types.specs.History.{History}
-use Rattle.desk_types.specs.Setup.{receipt_of, selected_on, slot_on}
-use Rattle.desk_types.specs.Tape.{tape_of}
-use Rattle.desk_types.specs.Pieces.{left_of, is_mounted}
+use Rattle.desk_types.specs.Setup.{receipt_of, selected_on}
+use Rattle.desk_types.specs.Pieces.{bench_of, left_of, is_mounted}
 use Rattle.desk_types.specs.FloorLife.{IsUntouched, out_since, since_after, exposure_of, is_six, is_baked}
 use Rattle.desk_types.specs.Work.{in_work_on, is_in_work, is_in_work_on, start_by, product_of, places, is_placed_on}
 use Rattle.desk_types.specs.Refusals.{designators_refusal, install_refusal, command_refusal}
@@ -83,7 +82,7 @@ installed-in-work : (H : History) (machine board : Name) (ds : List Name) → in
 unfolding install_refusal
 installed-in-work H machine board ds none = by (is_in_work_on H machine board) none
   where
-    by : (b : Bool) → (if b then designators_refusal (slot_on H machine) (tape_of H machine) (left_of H) (is_placed_on H board) machine board [] [] ds else Some (NotInWork board)) ≡ None
+    by : (b : Bool) → (if b then designators_refusal (bench_of H machine board) (is_placed_on H board) [] [] ds else Some (NotInWork board)) ≡ None
         → b ≡ true
     by true none = refl
     by false none = cc

@@ -39,8 +39,8 @@ use Rattle.line_schema.specs.Answered.{AnswersOrFails, Commits}
 use Rattle.line_schema.specs.Stands.{HasRows, Kept, Stands, StaysOpen, ShowsTables, WorksFor, with_command}
 use Rattle.state_rows.specs.Kept.{KeptRows}
 use Rattle.line_schema.specs.Frames.{ReadsStore}
-use Rattle.trace_lists.specs.declared.lists.TraceLists.{TraceLists}
-use Rattle.trace_lists.specs.Lists.{IsListed}
+use Rattle.state_rows.specs.declared.lists.TraceLists.{TraceLists}
+use Rattle.state_rows.specs.Lists.{IsListed}
 use Rattle.line_traces.specs.declared.working.Working.{Working}
 use Rattle.line_traces.specs.Working.{IsWorking}
 

@@ -11,9 +11,8 @@ use Rattle.desk_types.specs.declared.take.Pick.{Pick}
 use Rattle.desk_types.specs.declared.take.Purpose.TheVariants.{Placed, Rejected, Counted}
 use Rattle.desk_types.specs.Id.{Name, same}
 use Rattle.desk_types.specs.History.{History}
-use Rattle.desk_types.specs.Setup.{slot_on}
 use Rattle.desk_types.specs.Tape.{tape_of}
-use Rattle.desk_types.specs.Pieces.{pieces_picked, pick_for, install_picks, scrap_picks, count_picks, left_of, picks_of}
+use Rattle.desk_types.specs.Pieces.{Bench, bench_of, pieces_picked, pick_for, install_picks, scrap_picks, count_picks, left_of, picks_of}
 use Rattle.desk_types.specs.Outcome.{take_of, takes_by}
 use Rattle.desk_types.specs.Placements.{placement_of}
 use Rattle.state_rows.specs.Lists.{Key}
@@ -31,27 +30,27 @@ on-append : (board : Name) (ps qs : List Pick) → ArePlacedOn board ps → AreP
 on-append board [] qs all more = more
 on-append board (p ∷ ps) qs (first, all) more = (first, on-append board ps qs all more)
 
-module _ (slot_of : Name → Option Name) (tape : Name → List Name) (pieces : Name → ℕ) (machine board : Name) where
-  one-on : (before : List Pick) (d : Name) → ArePlacedOn board (option_to_list (pick_for slot_of tape pieces machine board before d))
-  one-on before d = by (slot_of d)
+module _ (bench : Bench) where
+  one-on : (before : List Pick) (d : Name) → ArePlacedOn bench.board (option_to_list (pick_for bench before d))
+  one-on before d = by (bench.slot_of d)
     where
       pick : Name → Name → Pick
-      pick slot reel = record { reel = reel; quantity = 1; purpose = Placed board d machine slot }
+      pick slot reel = record { reel = reel; quantity = 1; purpose = Placed bench.board d bench.machine slot }
 
-      found : (slot : Name) (reel : Option Name) → ArePlacedOn board (option_to_list (option_map (pick slot) reel))
+      found : (slot : Name) (reel : Option Name) → ArePlacedOn bench.board (option_to_list (option_map (pick slot) reel))
       found slot None = tt
-      found slot (Some reel) = ((d, machine, slot, refl), tt)
+      found slot (Some reel) = ((d, bench.machine, slot, refl), tt)
 
-      by : (slot : Option Name) → ArePlacedOn board (option_to_list (option_and_then (λ s. option_map (pick s) (find (λ r. nat_lt (pieces_picked before r) (pieces r)) (tape s))) slot))
+      by : (slot : Option Name) → ArePlacedOn bench.board (option_to_list (option_and_then (λ s. option_map (pick s) (find (λ r. nat_lt (pieces_picked before r) (bench.pieces r)) (bench.tape s))) slot))
       by None = tt
-      by (Some slot) = found slot (find (λ r. nat_lt (pieces_picked before r) (pieces r)) (tape slot))
+      by (Some slot) = found slot (find (λ r. nat_lt (pieces_picked before r) (bench.pieces r)) (bench.tape slot))
 
-  all-on : (before : List Pick) (ds : List Name) → ArePlacedOn board before → ArePlacedOn board (install_picks slot_of tape pieces machine board before ds)
+  all-on : (before : List Pick) (ds : List Name) → ArePlacedOn bench.board before → ArePlacedOn bench.board (install_picks bench before ds)
   unfolding install_picks
   all-on before [] all = all
   all-on before (d ∷ ds) all =
-      all-on (before ++ option_to_list (pick_for slot_of tape pieces machine board before d)) ds
-      (on-append board before (option_to_list (pick_for slot_of tape pieces machine board before d)) all (one-on before d))
+      all-on (before ++ option_to_list (pick_for bench before d)) ds
+      (on-append bench.board before (option_to_list (pick_for bench before d)) all (one-on before d))
 
 abbrev is_on : Name → Placement → Bool
 is_on board p = same p.board board
@@ -120,7 +119,7 @@ pub keys-installed : (H : History) (minute number count : ℕ) (board : Name) (c
     → keys_in (λ p. same p.board board) number minute 1 (takes_by H minute command) ≡ install_keys board command (record { number = number; pieces = count })
 keys-installed H minute number count board (MaterialsInstalled machine b designators) is =
     let picks = picks_of H (MaterialsInstalled machine b designators) in
-    keys-on H minute number 1 picks b board (all-on (slot_on H machine) (tape_of H machine) (left_of H) machine b [] designators tt)
+    keys-on H minute number 1 picks b board (all-on (bench_of H machine b) [] designators tt)
     ∙ ap (λ k. if same b board then map (λ place. (number, place)) (range_with_len 1 k) else []) (sym (is ∙ length-map picks (take_of H minute)))
 keys-installed H minute number count board (MaterialsScrapped machine slot quantity) is = keys-scrapped _ H minute number (left_of H) machine slot (tape_of H machine slot) quantity 1
 keys-installed H minute number count board (CountsTaken counts) is = keys-counted _ H minute number (left_of H) counts 1
