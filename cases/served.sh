@@ -1,4 +1,4 @@
-# For scripts of rows that a step of the kind `tool` runs: sourced by them, in the row's own folder. The desk in `desk` is
+# For scripts of cases that a step of the kind `tool` runs: sourced by them, in the folder where the case runs. The desk in `desk` is
 # served at a free port, and `here` are the words by which ops/rollover and ops/backup know that service.
 set -u
 export PYTHONDONTWRITEBYTECODE=1

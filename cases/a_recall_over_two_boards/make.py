@@ -1,4 +1,4 @@
-"""Looks that the reports and the queries of this row, and what they give, are those of docs/recall.md."""
+"""Looks that the reports and the queries of this case, and what they give, are those of docs/recall.md."""
 import csv
 import io
 import json
@@ -7,7 +7,7 @@ import re
 
 HERE = pathlib.Path(__file__).resolve().parent
 page = (HERE.parents[1] / "docs/recall.md").read_text(encoding="utf-8")
-steps = json.loads((HERE / "row.json").read_text(encoding="utf-8"))["steps"]
+steps = json.loads((HERE / "case.json").read_text(encoding="utf-8"))["steps"]
 told = [list(it) for it in re.findall(r"^```sh\ntracedesk report --db desk --get '(\S+)'\n```\n\n```csv\n(.*?)^```$", page, re.M | re.S)]
 assert told == next(step["cases"] for step in steps if "reports" in step), "the page has other reports"
 asked = [step for step in steps if "look" in step]
