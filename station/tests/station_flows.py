@@ -1,6 +1,7 @@
 """What an operator does at the station, and what fails in the midst of it: each flow on a desk of its own."""
 import collections
 import concurrent.futures
+import contextlib
 import csv
 import http.server
 import io
@@ -41,7 +42,7 @@ def plant(site, selected=("M1", "M2")):
 def accepted(site):
     """How often each UniqueID is in the desk's file, and the messages' sources."""
     site.report("/overdue")
-    with sqlite3.connect(site.room / "copy") as database:
+    with contextlib.closing(sqlite3.connect(site.room / "copy")) as database:
         return collections.Counter(uid for (uid,) in database.execute("SELECT uid FROM accepted"))
 
 

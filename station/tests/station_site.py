@@ -164,7 +164,9 @@ class Site:
             self.desk = None
 
     def pause_desk(self):
+        """Stops the desk where it is; it may be in the midst of a checkpoint until the kernel says that it is stopped."""
         self.desk.send_signal(signal.SIGSTOP)
+        wait_for("the desk is stopped", lambda: "\nState:\tT" in pathlib.Path(f"/proc/{self.desk.pid}/status").read_text())
 
     def resume_desk(self):
         self.desk.send_signal(signal.SIGCONT)
