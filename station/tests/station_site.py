@@ -134,7 +134,7 @@ class Site:
         return [shutil.which("nginx", path=os.environ["PATH"] + ":/usr/sbin"), "-c", self.room / "nginx.conf", "-e", self.room / "log/start.log"]
 
     def start_nginx(self):
-        self.nginx = subprocess.Popen(self.proxy_words(), start_new_session=True)
+        self.nginx = subprocess.Popen(self.proxy_words(), process_group=0)
         wait_for("nginx listens", lambda: self.nginx.poll() is None and socket.create_connection(("127.0.0.1", self.port), 1).close() is None)
 
     def stop_nginx(self):

@@ -65,7 +65,7 @@ class Run:
             if part not in self.running or self.running[part].poll() is not None:
                 self.kill(part)
                 with open(self.at / f"{part}.txt", "ab") as told:
-                    self.running[part] = subprocess.Popen(words, stdin=subprocess.DEVNULL, stdout=subprocess.DEVNULL, stderr=told, start_new_session=True)
+                    self.running[part] = subprocess.Popen(words, stdin=subprocess.DEVNULL, stdout=subprocess.DEVNULL, stderr=told, process_group=0)
 
     def kill(self, part):
         """Ends a part with its workers, as a power cut does."""
