@@ -233,6 +233,14 @@ class Sending(unittest.TestCase):
             self.server.script = [reused]
             self.assertEqual(self.send("--stop-at-refusal").returncode, 1)
 
+    def test_a_name_that_this_spool_used_before_is_no_archive(self):
+        """A ClockSet from here was accepted under that UniqueID, so a yes to the question says nothing of the message."""
+        self.send("--follow", "-", given=line("u1", "ClockSet"))
+        self.send("--put", "-", given=line("u1"))
+        self.server.script = [(502, {}, {}), (409, {}, {"Answer": "Refused", "Number": 1, "Refusal": "IdReused", "UniqueID": "u1"}), (200, {}, {"Answer": "Accepted", "Number": 1, "UniqueID": "u1"})]
+        done = self.send()
+        self.assertEqual((done.returncode, len(self.server.script), len(list((self.spool / "aside").glob("*.json")))), (1, 1, 1), done.stderr)
+
     def test_two_files_and_an_archive(self):
         messages, known = self.room / "messages", self.room / "answers"
         messages.write_bytes(line("u1") + b"\n")

@@ -65,6 +65,16 @@ class Spools(unittest.TestCase):
         self.assertEqual(spool.Spool(self.folder).put(b"6"), "000000000007")
         self.assertEqual(self.texts(), [b"5", b"6"])
 
+    def test_damaged_files_of_its_own_hold_no_message_up(self):
+        for number, (name, text) in enumerate(((".lock", "999999999999 free\n"), (".sender", "[]"), (".sender", '{"Tried":null,"Again":[1]}'), (".intake", '{"File":3,"First":"x","Before":null}')), 1):
+            spool.Spool(self.folder).put(b"a")
+            (self.folder / name).write_text(text)
+            it = spool.Spool(self.folder)
+            self.assertEqual(it.put(b"b"), f"{2 * number:012}", text)
+            with it.sending():
+                for one in it.names():
+                    it.done(one, accepted(1))
+
     def test_one_sends(self):
         with spool.Spool(self.folder).sending():
             with self.assertRaises(spool.SpoolError):
