@@ -232,10 +232,11 @@ def lacks(entry):
 
 
 def is_database(file):
-    if not file.is_file():
-        return False
-    with open(file, "rb") as it:
-        return it.read(len(MAGIC)) == MAGIC
+    with contextlib.suppress(FileNotFoundError):  # a log goes once the run ends that has it
+        if file.is_file():
+            with open(file, "rb") as it:
+                return it.read(len(MAGIC)) == MAGIC
+    return False
 
 
 # --- The archives themselves
