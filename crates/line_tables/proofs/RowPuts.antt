@@ -1,5 +1,5 @@
 -- The effect of the statements on the state tables.
-use Rattle.std.proofs.Common.{◌≡◌, ◌∙◌, inl, inr, ◌||◌, ◌&&◌, ◌==◌, not, if◌then◌else◌, ℕ, ℤ, pos, Bool, List, [], ◌∷◌, map, drop, length, slice_get, true, false, IsTrue, Option, Some, None, refl, ap, ap₂, subst, sym}
+use Rattle.std.proofs.Common.{◌≡◌, ◌∙◌, inl, inr, ◌||◌, ◌&&◌, ◌==◌, not, if◌then◌else◌, ◌/◌, ℕ, ℤ, pos, Bool, List, [], ◌∷◌, map, drop, length, slice_get, true, false, IsTrue, Option, Some, None, refl, ap, ap₂, subst, sym}
 use Rattle.std.proofs.lemmas.Bool.{and_parts, and_from}
 use Rattle.sqlite.specs.declared.types.Value.TheVariants.{Null, Int, Real, Text, Blob}
 use Rattle.std.proofs.lemmas.Simd.{map-map}
@@ -22,7 +22,7 @@ use Rattle.sqlite_trees.specs.Tree.{rowid}
 use Rattle.sqlite_trees.specs.View.{is_int}
 use Rattle.sqlite.specs.Term.{Term, col}
 use Rattle.sqlite.specs.State.{State}
-use Rattle.sqlite.specs.Effect.{Database}
+use Rattle.sqlite.specs.Effect.{Database, value_rows}
 use Rattle.sqlite.specs.Command.TheVariants.{Update}
 use Rattle.sqlite.specs.Listing.{understood}
 use Rattle.sqlite.proofs.Callers.{IsPlain, command_of}
@@ -48,7 +48,7 @@ use Rattle.line_tables.proofs.Finds.{and_true}
 use Rattle.line_tables.proofs.Altering.{without, put_in, rows_at, found_kept, far_from_found, Alters, alters_then, alters_writes}
 use Rattle.line_tables.proofs.Keyed.{changed, added, one_text, one_pair, one_sheet_place, own_text, own_int, same_pair, same_sheet_place, tells_text, tells_pair, tells_sheet_place}
 use Rattle.line_tables.proofs.Alterations.{deletes, inserts, updates_none, updates_one}
-use Rattle.line_tables.proofs.RowTexts.{delete_part, part_tests, delete_part_is, delete_alternate, alternate_tests, delete_alternate_is, delete_sheet_row, sheet_row_tests, delete_sheet_row_is, delete_mount, mount_tests, delete_mount_is, insert_part, part_terms, insert_part_is, insert_alternate, alternate_terms, insert_alternate_is, insert_sheet_row, sheet_row_terms, insert_sheet_row_is, insert_selected, selected_terms, insert_selected_is, insert_reel, reel_terms, insert_reel_is, insert_board, board_terms, insert_board_is, insert_found, found_terms, insert_found_is, insert_mount, mount_terms, insert_mount_is, key_tests, update_selected, selected_renewed, update_selected_is, update_reel, reel_renewed, update_reel_is, update_board, board_renewed, update_board_is, update_found, found_renewed, update_found_is}
+use Rattle.line_tables.proofs.RowTexts.{IsInsert, delete_part, part_tests, delete_part_is, delete_alternate, alternate_tests, delete_alternate_is, delete_sheet_row, sheet_row_tests, delete_sheet_row_is, delete_mount, mount_tests, delete_mount_is, insert_part, part_terms, insert_part_is, insert_alternate, alternate_terms, insert_alternate_is, insert_sheet_row, sheet_row_terms, insert_sheet_row_is, insert_selected, selected_terms, insert_selected_is, insert_reel, reel_terms, insert_reel_is, insert_board, board_terms, insert_board_is, insert_found, found_terms, insert_found_is, insert_mount, mount_terms, insert_mount_is, key_tests, update_selected, selected_renewed, update_selected_is, update_reel, reel_renewed, update_reel_is, update_board, board_renewed, update_board_is, update_found, found_renewed, update_found_is}
 use Rattle.line_tables.specs.Line.Layout.{Indexed, Plain}
 
 -- Values are bound unchanged, except a NaN.
@@ -76,75 +76,33 @@ module _ (i : Layout) (old new : State) where
       deletes i mount (has_text 3 r) mount_tests (col 1 0 ∷ []) (Text r ∷ []) old new (λ r. and_true _) (λ r. refl) ran.shown.was_open
       (λ has. delete_does delete_mount (Text r ∷ []) old new (schema_of Two i) has 7 mount mount_tests (col 1 0 ∷ []) refl (quiet i 13 refl) (delete_mount_is i).1 ran.count ran.executed (delete_mount_is i).0)
 
-  part_cast : (p : Name) → cast_row part (Null ∷ part_columns p) ≡ Null ∷ part_columns p
-  part_cast p = rw (cast_null) refl
+  -- An insert of values that their columns keep as they are, under the next rowid.
+  puts : (table : Table) (at : ℕ) (terms : List Term) (width : ℕ) (sql : List ℕ) (row : Row) → slice_get (schema_tables Two i) at ≡ Some table → table.is_counted ≡ false → table.stamps.terms ≡ [] → IsInsert sql at terms width → value_rows row width (length terms / width) terms ≡ (Null ∷ row) ∷ []
+      → is_low i table.tree ≡ true → cast_row table (Null ∷ row) ≡ Null ∷ row → ((id : ℤ) → columns table (Int id ∷ row) ≡ row) → Runs sql row old new → Alters i table (λ rows. row ∷ rows) old new
+  puts table at terms width sql row listed uncounted unstamped is single low cast shown ran =
+      inserts i table (Null ∷ row) row (λ rows. Int (next_rowid rows) ∷ row) old new (λ rows. ap (with_rowid Chosen rows) cast) (λ rows. refl) (λ rows. shown (next_rowid rows)) ran.shown.was_open
+      (λ has. subst (λ rows. Inserted (schema_of Two i) table rows old new) single (insert_does sql row old new (schema_of Two i) has at table terms width listed uncounted unstamped (is i).0 (is i).1 ran.count ran.executed (quiet i table.tree low [])))
 
-  part_in : (p : Name) → (ran : Runs insert_part (part_columns p) old new) → old.now.schema ≡ schema_of Two i → Inserted (schema_of Two i) part ((Null ∷ part_columns p) ∷ []) old new
-  part_in p ran has = insert_does insert_part (part_columns p) old new (schema_of Two i) has 2 part part_terms 2 refl refl refl (insert_part_is i).0 (insert_part_is i).1 ran.count ran.executed (quiet i 3 refl [])
+  pub puts_part : (p : Name) → Runs insert_part (part_columns p) old new → Alters i part (λ rows. part_columns p ∷ rows) old new
+  puts_part p = puts part 2 part_terms 2 insert_part (part_columns p) refl refl refl insert_part_is refl refl (rw (cast_null) refl) (λ id. refl)
 
-  pub puts_part : (p : Name) → Runs insert_part (part_columns p) old new → Alters i part (λ rows. (part_columns p) ∷ rows) old new
-  puts_part p ran =
-      inserts i part (Null ∷ part_columns p) (part_columns p) (λ rows. Int (next_rowid rows) ∷ part_columns p) old new (λ rows. ap (with_rowid Chosen rows) (part_cast p)) (λ rows. refl) (λ rows. refl) ran.shown.was_open (part_in p ran)
-
-  alternate_cast : (p : Name) (q : Name) → cast_row alternate (Null ∷ alternate_columns (p, q)) ≡ Null ∷ alternate_columns (p, q)
-  alternate_cast p q = rw (cast_null) refl
-
-  alternate_in : (p : Name) (q : Name) → (ran : Runs insert_alternate (alternate_columns (p, q)) old new) → old.now.schema ≡ schema_of Two i → Inserted (schema_of Two i) alternate ((Null ∷ alternate_columns (p, q)) ∷ []) old new
-  alternate_in p q ran has = insert_does insert_alternate (alternate_columns (p, q)) old new (schema_of Two i) has 3 alternate alternate_terms 3 refl refl refl (insert_alternate_is i).0 (insert_alternate_is i).1 ran.count ran.executed (quiet i 5 refl [])
-
-  pub puts_alternate : (p : Name) (q : Name) → Runs insert_alternate (alternate_columns (p, q)) old new → Alters i alternate (λ rows. (alternate_columns (p, q)) ∷ rows) old new
-  puts_alternate p q ran =
-      inserts i alternate (Null ∷ alternate_columns (p, q)) (alternate_columns (p, q)) (λ rows. Int (next_rowid rows) ∷ alternate_columns (p, q)) old new (λ rows. ap (with_rowid Chosen rows) (alternate_cast p q)) (λ rows. refl) (λ rows. refl) ran.shown.was_open (alternate_in p q ran)
-
-  sheet_row_cast : (p : Name) (m : Name) (n : ℕ) (row : SheetRow) → cast_row sheet_row (Null ∷ sheet_columns (p, m, n) row) ≡ Null ∷ sheet_columns (p, m, n) row
-  sheet_row_cast p m n row = rw (cast_null, cast_int (pos n)) refl
-
-  sheet_row_in : (p : Name) (m : Name) (n : ℕ) (row : SheetRow) → (ran : Runs insert_sheet_row (sheet_columns (p, m, n) row) old new) → old.now.schema ≡ schema_of Two i → Inserted (schema_of Two i) sheet_row ((Null ∷ sheet_columns (p, m, n) row) ∷ []) old new
-  sheet_row_in p m n row ran has = insert_does insert_sheet_row (sheet_columns (p, m, n) row) old new (schema_of Two i) has 4 sheet_row sheet_row_terms 7 refl refl refl (insert_sheet_row_is i).0 (insert_sheet_row_is i).1 ran.count ran.executed (quiet i 7 refl [])
+  pub puts_alternate : (p : Name) (q : Name) → Runs insert_alternate (alternate_columns (p, q)) old new → Alters i alternate (λ rows. alternate_columns (p, q) ∷ rows) old new
+  puts_alternate p q = puts alternate 3 alternate_terms 3 insert_alternate (alternate_columns (p, q)) refl refl refl insert_alternate_is refl refl (rw (cast_null) refl) (λ id. refl)
 
   pub puts_sheet_row : (p : Name) (m : Name) (n : ℕ) (row : SheetRow) → Runs insert_sheet_row (sheet_columns (p, m, n) row) old new → Alters i sheet_row (λ rows. sheet_columns (p, m, n) row ∷ rows) old new
-  puts_sheet_row p m n row ran =
-      inserts i sheet_row (Null ∷ sheet_columns (p, m, n) row) (sheet_columns (p, m, n) row) (λ rows. Int (next_rowid rows) ∷ sheet_columns (p, m, n) row) old new (λ rows. ap (with_rowid Chosen rows) (sheet_row_cast p m n row)) (λ rows. refl) (λ rows. refl) ran.shown.was_open (sheet_row_in p m n row ran)
+  puts_sheet_row p m n row = puts sheet_row 4 sheet_row_terms 7 insert_sheet_row (sheet_columns (p, m, n) row) refl refl refl insert_sheet_row_is refl refl (rw (cast_null, cast_int (pos n)) refl) (λ id. refl)
 
-  selected_cast : (m : Name) (p : Name) → cast_row selected (Null ∷ selected_columns m p) ≡ Null ∷ selected_columns m p
-  selected_cast m p = rw (cast_null) refl
+  pub puts_selected : (m : Name) (p : Name) → Runs insert_selected (selected_columns m p) old new → Alters i selected (λ rows. selected_columns m p ∷ rows) old new
+  puts_selected m p = puts selected 5 selected_terms 3 insert_selected (selected_columns m p) refl refl refl insert_selected_is refl refl (rw (cast_null) refl) (λ id. refl)
 
-  selected_in : (m : Name) (p : Name) → (ran : Runs insert_selected (selected_columns m p) old new) → old.now.schema ≡ schema_of Two i → Inserted (schema_of Two i) selected ((Null ∷ selected_columns m p) ∷ []) old new
-  selected_in m p ran has = insert_does insert_selected (selected_columns m p) old new (schema_of Two i) has 5 selected selected_terms 3 refl refl refl (insert_selected_is i).0 (insert_selected_is i).1 ran.count ran.executed (quiet i 9 refl [])
+  pub puts_reel : (row : ReelRow) → Runs insert_reel (reel_columns row) old new → Alters i reel (λ rows. reel_columns row ∷ rows) old new
+  puts_reel row = puts reel 6 reel_terms 13 insert_reel (reel_columns row) refl refl refl insert_reel_is refl refl (rw (cast_null, cast_int (pos row.label), cast_int (pos row.received), cast_int (pos row.placed), cast_int (pos row.scrapped), cast_int (pos row.remaining), cast_int (pos row.used), cast_int (since_or_none row.open_since), cast_int (flag row.baked)) refl) (λ id. refl)
 
-  pub puts_selected : (m : Name) (p : Name) → Runs insert_selected (selected_columns m p) old new → Alters i selected (λ rows. (selected_columns m p) ∷ rows) old new
-  puts_selected m p ran =
-      inserts i selected (Null ∷ selected_columns m p) (selected_columns m p) (λ rows. Int (next_rowid rows) ∷ selected_columns m p) old new (λ rows. ap (with_rowid Chosen rows) (selected_cast m p)) (λ rows. refl) (λ rows. refl) ran.shown.was_open (selected_in m p ran)
+  pub puts_board : (row : BoardRow) → Runs insert_board (board_columns row) old new → Alters i board (λ rows. board_columns row ∷ rows) old new
+  puts_board row = puts board 8 board_terms 4 insert_board (board_columns row) refl refl refl insert_board_is refl refl (rw (cast_null) refl) (λ id. refl)
 
-  reel_cast : (row : ReelRow) → cast_row reel (Null ∷ reel_columns row) ≡ Null ∷ reel_columns row
-  reel_cast row = rw (cast_null, cast_int (pos row.label), cast_int (pos row.received), cast_int (pos row.placed), cast_int (pos row.scrapped), cast_int (pos row.remaining), cast_int (pos row.used), cast_int (since_or_none row.open_since), cast_int (flag row.baked)) refl
-
-  reel_in : (row : ReelRow) → (ran : Runs insert_reel (reel_columns row) old new) → old.now.schema ≡ schema_of Two i → Inserted (schema_of Two i) reel ((Null ∷ reel_columns row) ∷ []) old new
-  reel_in row ran has = insert_does insert_reel (reel_columns row) old new (schema_of Two i) has 6 reel reel_terms 13 refl refl refl (insert_reel_is i).0 (insert_reel_is i).1 ran.count ran.executed (quiet i 11 refl [])
-
-  pub puts_reel : (row : ReelRow) → Runs insert_reel (reel_columns row) old new → Alters i reel (λ rows. (reel_columns row) ∷ rows) old new
-  puts_reel row ran =
-      inserts i reel (Null ∷ reel_columns row) (reel_columns row) (λ rows. Int (next_rowid rows) ∷ reel_columns row) old new (λ rows. ap (with_rowid Chosen rows) (reel_cast row)) (λ rows. refl) (λ rows. refl) ran.shown.was_open (reel_in row ran)
-
-  board_cast : (row : BoardRow) → cast_row board (Null ∷ board_columns row) ≡ Null ∷ board_columns row
-  board_cast row = rw (cast_null) refl
-
-  board_in : (row : BoardRow) → (ran : Runs insert_board (board_columns row) old new) → old.now.schema ≡ schema_of Two i → Inserted (schema_of Two i) board ((Null ∷ board_columns row) ∷ []) old new
-  board_in row ran has = insert_does insert_board (board_columns row) old new (schema_of Two i) has 8 board board_terms 4 refl refl refl (insert_board_is i).0 (insert_board_is i).1 ran.count ran.executed (quiet i 15 refl [])
-
-  pub puts_board : (row : BoardRow) → Runs insert_board (board_columns row) old new → Alters i board (λ rows. (board_columns row) ∷ rows) old new
-  puts_board row ran =
-      inserts i board (Null ∷ board_columns row) (board_columns row) (λ rows. Int (next_rowid rows) ∷ board_columns row) old new (λ rows. ap (with_rowid Chosen rows) (board_cast row)) (λ rows. refl) (λ rows. refl) ran.shown.was_open (board_in row ran)
-
-  found_cast : (r : Name) (n : ℕ) → cast_row (found_by i) (Null ∷ found_columns r n) ≡ Null ∷ found_columns r n
-  found_cast r n = rw (cast_null, cast_int (pos n)) refl
-
-  found_in : (r : Name) (n : ℕ) → (ran : Runs insert_found (found_columns r n) old new) → old.now.schema ≡ schema_of Two i → Inserted (schema_of Two i) (found_by i) ((Null ∷ found_columns r n) ∷ []) old new
-  found_in r n ran has = insert_does insert_found (found_columns r n) old new (schema_of Two i) has 10 (found_by i) found_terms 3 refl refl refl (insert_found_is i).0 (insert_found_is i).1 ran.count ran.executed (quiet i (found_tree i) (found_low i) [])
-
-  pub puts_found : (r : Name) (n : ℕ) → Runs insert_found (found_columns r n) old new → Alters i (found_by i) (λ rows. (found_columns r n) ∷ rows) old new
-  puts_found r n ran =
-      inserts i (found_by i) (Null ∷ found_columns r n) (found_columns r n) (λ rows. Int (next_rowid rows) ∷ found_columns r n) old new (λ rows. ap (with_rowid Chosen rows) (found_cast r n)) (λ rows. refl) (λ rows. refl) ran.shown.was_open (found_in r n ran)
+  pub puts_found : (r : Name) (n : ℕ) → Runs insert_found (found_columns r n) old new → Alters i (found_by i) (λ rows. found_columns r n ∷ rows) old new
+  puts_found r n = puts (found_by i) 10 found_terms 3 insert_found (found_columns r n) refl refl refl insert_found_is refl (found_low i) (rw (cast_null, cast_int (pos n)) refl) (λ id. refl)
 
   -- The number of a mount is its rowid.
   abbrev mount_kept : MountRow → Row
