@@ -7,7 +7,7 @@ examples:
   dev/bench/run plant                                       1,000 files of 200,000 pieces: 25 GB of disk, and an hour
   dev/bench/run plant --boards 1 --files 10000              10,000 files of 178 pieces: 3 GB
   dev/bench/run plant --archives 41 --boards 5180 --files 40    40 archives of a million pieces, all loaded by ops/plant-load
-  dev/bench/run plant --recall                              52 archives of 800,000 pieces: 10 GB of disk, and an hour
+  dev/bench/run plant --recall                              52 archives of 810,000 pieces: 10 GB of disk, and an hour
 
 One shift of dev/lib/tracedesk_dev/shift.py is fed to the program: that is the first archive. The others, each of a line of its own, are its
 bytes with other names of boards, machines, reels and lots of the same length; the audit of the second has to be lawful.
@@ -197,7 +197,8 @@ def recall_bench(asked, room):
         tell({f"{name}, by the clock, of the processor, bytes of memory, lines": measured})
 
     copies = [shutil.copy(it, room / it.name) for it in files]  # an audit leaves a log
-    of("check of the last two", measured(asked.chain, "check", "--from-middle", *copies[-2:]))
+    if len(copies) > 2:
+        of("check of the last two", measured(asked.chain, "check", "--from-middle", *copies[-2:]))
     audits = [measured(asked.program, "audit", "--db", it) for it in copies]
     of("the sum of their audits", (round(sum(it[0] for it in audits), 2), round(sum(it[1] for it in audits), 2), max(it[2] for it in audits), len(audits)))
     of("check", measured(asked.chain, "check", *copies))
@@ -316,7 +317,7 @@ def words(reader):
     program.offer(reader)
     reader.add_argument("--folder", type=pathlib.Path)
     reader.add_argument("--recall", action="store_true")
-    reader.add_argument("--pieces", type=int, default=800_000)
+    reader.add_argument("--pieces", type=int, default=810_000)
     reader.add_argument("--archives", type=int)
     reader.add_argument("--minutes", type=float, default=600)
     reader.add_argument("--boards", type=int, default=1_040)
