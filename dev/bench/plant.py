@@ -225,7 +225,9 @@ def timed(server, *words):
     """The seconds of one call of psql by the clock and of the processor, its start among them, and what it printed."""
     began = taken(server)
     told = postgres.asked("--csv", "-t", *words)
-    return since(server, began), told
+    clock, _ = since(server, began)
+    time.sleep(0.3)  # until the server counts the session's seconds
+    return (clock, since(server, began)[1]), told
 
 
 def medians(pairs):
@@ -270,13 +272,34 @@ def copied(asked, server, last):
     template, ticks, end = server.folder / "template", program.Ticks(), time.monotonic() + 60 * asked.minutes
     restarted(server, fsync="off", wal_level="minimal", max_wal_senders="0")
     postgres.asked("-c", f"COPY plant.placement_1 TO '{template}'", "-c", RENAMED)
-    name = postgres.asked("-At", "-c", "SELECT left(board, 4) FROM plant.start LIMIT 1").strip()
+    name = postgres.asked("-At", "-c", "SELECT left(board, 4) FROM plant.start WHERE file = 1 LIMIT 1").strip()
     while last < asked.files and time.monotonic() < end:
         first, last = last + 1, min(asked.files, last + 20)
         postgres.asked("-c", "SET search_path TO plant", "-c", COPIES.format(first=first, last=last, name=name, file=template))
         ticks.tell(f"{last} files")
     template.unlink()
     return last
+
+
+def ask(server):
+    """Asks for the lot, one of its reels and a board, cold and warm, and for no piece; and how many pages of 8,192 bytes are read, cold."""
+    board, reel = postgres.asked("-At", "-F", " ", "-c", f"""SELECT (SELECT board FROM plant.start WHERE file = (SELECT max(id) / 2 FROM plant.file) ORDER BY number LIMIT 1),
+        (SELECT min(reel) FROM plant.reel WHERE lot = '{LOT}')""").split()
+    names = {"lot": LOT, "reel": reel, "board": board}
+    calls = {f"{kind}, its pieces": ("-v", f"{kind}={name}", "-f", postgres.SQL / "pieces.sql") for kind, name in names.items()}
+    calls |= {"lot, its boards": ("-v", f"lot={LOT}", "-f", postgres.SQL / "recall.sql"), "files.sql": ("-f", postgres.SQL / "files.sql"), "nothing": ("-c", "SELECT 1")}
+    for kind, name in names.items():
+        restarted(server)
+        plan = json.loads(postgres.asked("-At", "-c", f"EXPLAIN (ANALYZE, BUFFERS, FORMAT JSON) SELECT FROM plant.pieces_of('{kind}', '{name}')"))[0]["Plan"]
+        tell({f"{kind}, pages read cold, of so many pieces": (plan["Shared Read Blocks"], plan["Actual Rows"])})
+    for name, words in calls.items():
+        cold = []
+        for _ in range(COLD):
+            restarted(server)
+            its, printed = timed(server, *words)
+            cold.append(its)
+        warm = [timed(server, *words)[0] for _ in range(WARM)]
+        tell({name: {"rows": printed.count("\n"), "cold, by the clock and of the processor": cold, "warm, the least": least(warm), "warm, median": medians(warm)}})
 
 
 def postgres_bench(asked):
@@ -294,18 +317,7 @@ def postgres_bench(asked):
             restarted(server)
             tell({"files": count, "a load then, of its own archive": [it[0] for it in loading]})
             tell(json.loads(postgres.asked("-At", "-c", SIZES)))
-            board, reel = postgres.asked("-At", "-F", " ", "-c", f"""SELECT (SELECT board FROM plant.start WHERE file = {count // 2} ORDER BY number LIMIT 1),
-                (SELECT min(reel) FROM plant.reel WHERE file = {of_the_lot[1]} AND lot = '{LOT}')""").split()
-            for name, *words in (("lot, its boards", "-v", f"lot={LOT}", "-f", postgres.SQL / "recall.sql"), ("lot, its pieces", "-v", f"lot={LOT}", "-f", postgres.SQL / "pieces.sql"),
-                                 ("lot, its pieces counted", "-c", f"SELECT count(*) FROM plant.pieces_of('lot', '{LOT}')"), ("reel", "-v", f"reel={reel}", "-f", postgres.SQL / "pieces.sql"),
-                                 ("board", "-v", f"board={board}", "-f", postgres.SQL / "pieces.sql"), ("nothing", "-c", "SELECT 1"), ("files.sql", "-f", postgres.SQL / "files.sql")):
-                cold = []
-                for _ in range(COLD):
-                    restarted(server)
-                    its, printed = timed(server, *words)
-                    cold.append(its)
-                warm = [timed(server, *words)[0] for _ in range(WARM)]
-                tell({name: {"rows": printed.count("\n"), "cold, by the clock and of the processor": cold, "warm, the least": least(warm), "warm, median": medians(warm)}})
+            ask(server)
             tell({"drop.sql, of all": timed(server, "-v", "before=2027-01-01", "-f", postgres.SQL / "drop.sql")[0]})
 
 
