@@ -12,6 +12,7 @@ the desk's (identity.py), empty where it had none yet; up to 0.3.0 there was no 
 The catalogue is an index of the files: each file says itself from which one it was begun, and tracedesk-settle makes
 the catalogue anew from them.
 """
+import collections
 import contextlib
 import csv
 import datetime
@@ -86,11 +87,8 @@ def sha256_within(file):
 # --- Reading
 
 
-class Survey(NamedTuple):
-    """A catalogue as it is read by those who ask the archives that it does name: its bytes, and what is wrong with it."""
-    text: bytes
-    archives: list
-    faults: list
+# a catalogue as it is read by those who ask the archives that it does name: its bytes, and what is wrong with it
+Survey = collections.namedtuple("Survey", "text archives faults")
 
 
 def read(path):
