@@ -24,7 +24,7 @@ import sqlite3
 import tempfile
 from typing import NamedTuple
 
-from tracedesk_ops import catalogue, identity, untraced
+from tracedesk_ops import catalogue, identity, plant, untraced
 
 WORDS = (*untraced.HANDLING, "MaterialsInstalled", "MaterialsScrapped")
 LOADED, SPLICED, UNLOADED = untraced.HANDLING
@@ -406,8 +406,9 @@ class Line(NamedTuple):
     story: Story
 
 
-def look(path, archives, is_running=False):
-    """Looks at what is around a catalogue. The archives are in the order of their chain; the running desk's file lies beside their folder."""
+def look(path, archives, is_running=False, running=()):
+    """Looks at what is around a catalogue. The archives are in the order of their chain; the running desk's file lies beside their folder.
+    `running` has for each desk that runs a call that says whether it has a UniqueID, or None; in a copy of a line no desk runs."""
     notes: list = []
     book, faults, pieces = untraced.read(path.parent), [], []
     refused, desk, decided = untraced.refused(book.records), path.parent.parent / "desk", untraced.decisions(book.records)
@@ -416,10 +417,11 @@ def look(path, archives, is_running=False):
     try:
         with contextlib.ExitStack() as held:
             files = {it.file: held.enter_context(catalogue.unchanged(path, it, False)) for it in archives}
-            if is_running and (database := held.enter_context(copied(desk)) if desk.exists() else None) and goes_on(database, archives):
-                files[catalogue.RUNNING] = database
-            elif is_running:
-                faults.append(f"{desk} is not here, or is not the running desk's: whether pieces since the last archive may be of other reels isn't known")
+            if is_running and desk.exists():
+                files[catalogue.RUNNING] = held.enter_context(copied(desk))
+            if is_running and (why := why_not(desk, files.get(catalogue.RUNNING), archives, running)):
+                files.pop(catalogue.RUNNING, None)
+                faults.append(f"{why}: whether pieces since the last archive may be of other reels isn't known")
             for name, database in files.items():
                 story.read(name, database)
             for place, database in enumerate(files.values()):
@@ -430,10 +432,22 @@ def look(path, archives, is_running=False):
     return Line([(it, decided.get(it.id), story.reels_of(work_of(it))) for it in works], pieces, [*book.faults, *faults, *waiting(path.parent.parent / STATUS)], notes, story)
 
 
-def goes_on(database, archives):
-    """Whether a desk was begun from the newest archive of a line, or no line has any."""
+def why_not(desk, database, archives, running):
+    """Why a file is not the running desk's as it is now, if so; `database` is a copy of it. It may be an older copy, or another desk's."""
+    if database is None:
+        return f"{desk} is not here"
     ends, mark = [it for it in archives if not it.went_on_to], identity.read(database).mark
-    return not ends or any(identity.follows(mark, it) for it in ends)
+    if ends and not any(identity.follows(mark, it) for it in ends):
+        return f"{desk} is not the running desk's: it didn't go on from the newest archive"
+    newest = database.execute("SELECT uid FROM accepted ORDER BY number DESC LIMIT 1").fetchone()
+    said = [has(newest[0]) if newest else True for has in running]
+    if not said or None in said:
+        return ""  # who asks says that the desk gave no answer
+    if False in said:
+        return f"{desk} is not the running desk's: that doesn't have {newest[0]}, the newest message in the file"
+    if not plant.is_open(desk):
+        return f"{desk} may be older than the running desk: no desk of this machine has it open. Ask on the desk's machine"
+    return ""
 
 
 def work_of(record):
