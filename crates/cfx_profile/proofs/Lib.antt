@@ -1,4 +1,4 @@
-pub mod ConstantRows
+pub mod ConstantCases
 pub mod Faults
 pub mod Items
 pub mod Names

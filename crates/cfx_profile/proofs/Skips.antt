@@ -9,8 +9,8 @@ use Rattle.cfx_profile.specs.declared.fault.MessageFault.{MessageFault}
 use Rattle.cfx_profile.specs.declared.fault.MessageFault.TheVariants.{EnvelopeMember}
 use Rattle.cfx_profile.specs.declared.member.Member.{Member}
 use Rattle.cfx_profile.specs.declared.member.Member.TheVariants.{MessageName, UniqueId, Source, TimeStamp, PartNumber, Alternate, Product, Machine, Rows, Slot, Designators, Reel, Lot, Level as level, Quantity, LabelMinutes, Board, Counts}
-use Rattle.stored_texts.specs.declared.word.Word.{Word}
-use Rattle.stored_texts.specs.declared.word.Word.TheVariants as word
+use Rattle.desk_types.specs.declared.stored_word.Word.{Word}
+use Rattle.desk_types.specs.declared.stored_word.Word.TheVariants as word
 use Rattle.cfx_profile.specs.Bodies.{command_in, sheet_row_in, count_row_in}
 use Rattle.cfx_profile.specs.Fault.{◌>>=◌}
 use Rattle.cfx_profile.specs.Forms.{text_at, id_in, designator_in, number_in, quantity_in, counted_in, level_in, label_in}

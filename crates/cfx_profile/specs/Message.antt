@@ -12,7 +12,7 @@ use Rattle.cfx_profile.specs.declared.member.Member.{Member}
 use Rattle.cfx_profile.specs.declared.member.Member.TheVariants.{MessageName, UniqueId, Source, TimeStamp, MessageBody}
 use Rattle.cfx_profile.specs.declared.message.Said.{Said}
 use Rattle.cfx_profile.specs.declared.message.Said.TheVariants.{Ignored, Asked}
-use Rattle.stored_texts.specs.declared.word.Word.{Word}
+use Rattle.desk_types.specs.declared.stored_word.Word.{Word}
 use Rattle.cfx_profile.specs.Fault.{◌>>=◌}
 use Rattle.cfx_profile.specs.Bodies.{command_in}
 use Rattle.cfx_profile.specs.Forms.{text_at, id_at}

@@ -6,8 +6,8 @@ use Rattle.serde_json.specs.Find.{get}
 use Rattle.desk_types.specs.declared.level.Level.TheVariants.{Six}
 use Rattle.cfx_profile.specs.declared.member.Member.{Member}
 use Rattle.cfx_profile.specs.declared.member.Member.TheVariants.{MessageName, UniqueId, Source, TimeStamp, MessageBody, PartNumber, Alternate, Product, Machine, Rows, Slot, Designators, Reel, Lot, Level, Quantity, LabelMinutes, Board, Counts}
-use Rattle.stored_texts.specs.declared.word.Word.{Word}
-use Rattle.stored_texts.specs.declared.word.Word.TheVariants as word
+use Rattle.desk_types.specs.declared.stored_word.Word.{Word}
+use Rattle.desk_types.specs.declared.stored_word.Word.TheVariants as word
 use Rattle.cfx_profile.specs.Forms.{text_at, level_in}
 use Rattle.cfx_profile.specs.Lists.{items_list}
 use Rattle.cfx_profile.specs.Member.{member_text}

@@ -1,8 +1,8 @@
 -- The messages of this project's profile, by name.
 use Rattle.std.specs.Prelude.{ℕ, List, ◌++◌, Option, codes, find}
 use Rattle.desk_types.specs.Id.{same}
-use Rattle.stored_texts.specs.declared.word.Word.{Word}
-use Rattle.stored_texts.specs.StoredText.{word_text, words}
+use Rattle.desk_types.specs.declared.stored_word.Word.{Word}
+use Rattle.desk_types.specs.StoredText.{word_text, words}
 
 -- The message's name.
 unfoldable pub message_name : Word → List ℕ

@@ -9,10 +9,9 @@ use crate::fault::MessageFault;
 use crate::forms::{counted_in, id_in, label_in, level_in, quantity_in};
 use crate::lists::{Element, list_in, row_in};
 use crate::member::Member;
-use desk_types::{Command, CountRow, Moisture, SheetRow};
+use desk_types::{Command, CountRow, Moisture, SheetRow, Word};
 use serde_json::Value;
 use std::alloc::Global;
-use stored_texts::Word;
 
 /// Reads the command in a message's body.
 pub fn command_in(alloc: Global, word: Word, body: &Value) -> Result<Command, MessageFault>

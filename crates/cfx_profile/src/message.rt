@@ -12,11 +12,10 @@ use crate::forms::{id_at, text_at};
 use crate::member::Member;
 use crate::minute::read_minute;
 use crate::word::word_of;
-use desk_types::{Id, Listing, Minute, Stamped, Text};
+use desk_types::{Id, Listing, Minute, Stamped, Text, Word};
 use serde_json::Value;
 use serde_json::error::Category;
 use std::alloc::Global;
-use stored_texts::Word;
 
 /// The content of a message.
 #[derive(PartialEq, Eq, Drop)]

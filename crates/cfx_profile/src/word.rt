@@ -1,10 +1,10 @@
 //! The messages of this project's profile, by name.
 
 ghost use Rattle.std.specs.Prelude.{◌≡◌, Some};
-ghost use Rattle.stored_texts.specs.declared.word.Word.{Word};
+ghost use Rattle.desk_types.specs.declared.stored_word.Word.{Word};
 ghost use Rattle.cfx_profile.specs.Word.{message_name, word_of};
 
-use stored_texts::Word;
+use desk_types::Word;
 
 /// Returns the kind of message with this name, if there is one.
 pub fn word_of(name: &str) -> Option<Word>

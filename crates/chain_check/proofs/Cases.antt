@@ -5,10 +5,10 @@ use Rattle.desk_types.specs.declared.command.Stamped.{Stamped}
 use Rattle.desk_types.specs.declared.rules.Rules.TheVariants.{Two}
 use Rattle.desk_types.proofs.RowsCommon.{P, L2, M, S1, K2, B2, R1, R2, at, received}
 use Rattle.desk_laws.proofs.Judgements.{judged-prefix}
-use Rattle.alike.specs.Alike.{AreAlike}
-use Rattle.alike.specs.Chain.{DeskFile, Carries, IsChain}
-use Rattle.alike.proofs.AlikeRows.{with, old, new}
-use Rattle.alike.proofs.ChainRows.{the_files_are_a_chain, the_second_file_is_carried}
+use Rattle.desk_laws.specs.Alike.{AreAlike}
+use Rattle.desk_laws.specs.Chain.{DeskFile, Carries, IsChain}
+use Rattle.desk_laws.proofs.AlikeCases.{with, old, new}
+use Rattle.desk_laws.proofs.ChainCases.{the_files_are_a_chain, the_second_file_is_carried}
 use Rattle.chain_check.specs.Counted.{IsChainBy}
 
 abbrev first_file : DeskFile

@@ -12,8 +12,8 @@ use Rattle.desk_types.specs.History.{History}
 use Rattle.desk_types.specs.Placements.{boards_of}
 use Rattle.desk_types.proofs.Keys.{same-true}
 use Rattle.desk_laws.proofs.Mounts.{has}
-use Rattle.alike.specs.Chain.{DeskFile, IsChain, boards_over, lots_over}
-use Rattle.alike.proofs.ChainLots.{boards-union, lots-union}
+use Rattle.desk_laws.specs.Chain.{DeskFile, IsChain, boards_over, lots_over}
+use Rattle.desk_laws.proofs.ChainLots.{boards-union, lots-union}
 use Rattle.chain_check.specs.declared.question.Question.TheVariants.{Names}
 use Rattle.chain_check.specs.declared.question.Subject.{Subject}
 use Rattle.chain_check.specs.declared.question.Subject.TheVariants.{Board, Lot}

@@ -8,8 +8,8 @@ use Rattle.desk_types.specs.declared.command.Entry.{Entry}
 use Rattle.desk_types.specs.History.{History, IsPrefix, now_of}
 use Rattle.desk_types.specs.Id.{Name}
 use Rattle.desk_types.specs.Pieces.{left_of, found_of, placed_of, scrapped_of}
-use Rattle.alike.specs.Chain.{DeskFile, Carries, IsChain, new_in, received_over, placed_over, scrapped_over}
-use Rattle.alike.proofs.ChainPieces.{balance-over}
+use Rattle.desk_laws.specs.Chain.{DeskFile, Carries, IsChain, new_in, received_over, placed_over, scrapped_over}
+use Rattle.desk_laws.proofs.ChainPieces.{balance-over}
 use Rattle.chain_check.specs.Counted.{Moves}
 
 now-later : (later : List Entry) (G : History) → now_of G ≤ now_of (later ++ G)

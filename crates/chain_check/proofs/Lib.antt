@@ -1,4 +1,14 @@
 pub mod Cases
+pub mod Covered
+pub mod EqualLists
 pub mod FoundBoards
 pub mod Gaps
+pub mod Refuted
+pub mod SameMinutes
+pub mod SameReels
+pub mod SameRows
+pub mod SameSheets
+pub mod SameSlots
+pub mod SameTables
+pub mod StartedBoards
 pub mod WrittenRows

@@ -4,9 +4,9 @@ use Rattle.std.specs.List.{flat_map}
 use Rattle.std.proofs.lemmas.List.{flat_map_more, map-append}
 use Rattle.std.proofs.lemmas.List.Concat.{flat_map-append}
 use Rattle.desk_types.proofs.LoopSteps.{take-next}
-use Rattle.report_texts.specs.Csv.{csv_text, record_text}
-use Rattle.report_texts.specs.Sets.{Fields}
-use Rattle.alike.specs.Chain.{DeskFile}
+use Rattle.trace_reports.specs.Csv.{csv_text, record_text}
+use Rattle.trace_reports.specs.Sets.{Fields}
+use Rattle.desk_laws.specs.Chain.{DeskFile}
 use Rattle.chain_check.specs.declared.question.Question.{Question}
 use Rattle.chain_check.specs.Rows.{answer_over, asked_of, facts_of, header_of, rows_in, rows_over, rows_text}
 

@@ -3,9 +3,9 @@ use Rattle.std.specs.Prelude.{List, [], ◌∷◌}
 use Rattle.desk_types.specs.History.{History}
 use Rattle.feeder_state.specs.declared.desk.StateDesk.{StateDesk}
 use Rattle.feeder_state.specs.State.{IsState}
-use Rattle.alike.specs.Chain.{DeskFile, IsChain}
-use Rattle.alike_check.specs.declared.difference.Difference.{Difference}
-use Rattle.alike_check.specs.Difference.{IsDifference, Refutes}
+use Rattle.desk_laws.specs.Chain.{DeskFile, IsChain}
+use Rattle.chain_check.specs.declared.difference.Difference.{Difference}
+use Rattle.chain_check.specs.Difference.{IsDifference, Refutes}
 use Rattle.chain_check.specs.declared.chain.Chain.{Chain}
 
 -- The desk is that of the newest file.

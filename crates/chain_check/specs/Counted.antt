@@ -2,7 +2,7 @@
 use Rattle.std.specs.Prelude.{◌≡◌, ◌<◌, ◌-◌, ℕ, List, length, map, drop}
 use Rattle.desk_types.specs.declared.rules.Rules.TheVariants.{Two}
 use Rattle.desk_types.specs.History.{History, now_of}
-use Rattle.alike.specs.Chain.{DeskFile, IsChain}
+use Rattle.desk_laws.specs.Chain.{DeskFile, IsChain}
 
 -- The first commands of a history, whose newest entry comes first.
 abbrev pub first_of : ℕ → History → History

@@ -5,10 +5,10 @@ use Rattle.desk_types.specs.declared.placement.Placement.{Placement}
 use Rattle.desk_types.specs.Id.{Name, same}
 use Rattle.desk_types.specs.History.{History, desk_minute}
 use Rattle.desk_types.specs.Placements.{placements_of, set_of}
-use Rattle.report_texts.specs.Sets.{Fields}
-use Rattle.report_texts.specs.Csv.{csv_text, record_text}
-use Rattle.report_texts.specs.Traces.{yes_or_no}
-use Rattle.alike.specs.Chain.{DeskFile}
+use Rattle.trace_reports.specs.Sets.{Fields}
+use Rattle.trace_reports.specs.Csv.{csv_text, record_text}
+use Rattle.trace_reports.specs.Traces.{yes_or_no}
+use Rattle.desk_laws.specs.Chain.{DeskFile}
 use Rattle.chain_check.specs.declared.question.Question.{Question}
 use Rattle.chain_check.specs.declared.question.Question.TheVariants.{Chain, Names, Pieces}
 use Rattle.chain_check.specs.declared.question.Subject.{Subject}

@@ -3,8 +3,8 @@ use Rattle.std.specs.Prelude.{ℕ, List, ◌++◌, Bool, true, false, Option, So
 use Rattle.desk_types.specs.Id.{Name}
 use Rattle.desk_types.specs.declared.view.Left.{Left}
 use Rattle.desk_types.specs.declared.view.Left.TheVariants.{Minutes, Unlimited, Unbaked}
-use Rattle.alike_check.specs.declared.difference.Difference.{Difference}
-use Rattle.alike_check.specs.declared.difference.Difference.TheVariants.{Minute, Part, Alternate, Sheet, Selection, OldWork, NewWork, Board, Reel, Remaining, Received, ReelPart, Lot, Level, Open, Life, Slot}
+use Rattle.chain_check.specs.declared.difference.Difference.{Difference}
+use Rattle.chain_check.specs.declared.difference.Difference.TheVariants.{Minute, Part, Alternate, Sheet, Selection, OldWork, NewWork, Board, Reel, Remaining, Received, ReelPart, Lot, Level, Open, Life, Slot}
 
 abbrev pub minute_text : Option ℕ → List ℕ
 minute_text (Some minute) = decimal minute

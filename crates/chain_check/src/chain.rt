@@ -4,10 +4,11 @@ ghost use Rattle.std.specs.Prelude.{◌≡◌, [], ◌∷◌, IfOk, IfErr, List}
 ghost use Rattle.desk_types.specs.declared.rules.Rules.TheVariants.{Two};
 ghost use Rattle.desk_types.specs.History.{History, IsPrefix};
 ghost use Rattle.feeder_state.specs.State.{IsState, rules_of};
-ghost use Rattle.alike.specs.Chain.{DeskFile};
+ghost use Rattle.desk_laws.specs.Chain.{DeskFile};
 ghost use Rattle.chain_check.specs.Chained.{IsReason, IsSoFar};
 
-use alike_check::{Difference, first_difference};
+use crate::check::first_difference;
+use crate::difference::Difference;
 use feeder_state::StateDesk;
 
 /// The files so far are a chain, and this is the desk of the newest one.

@@ -4,8 +4,8 @@ ghost use Rattle.std.specs.Prelude.{◌≡◌, ◌↔◌, ◌+◌, ◌<◌, ℕ,
 ghost use Rattle.desk_types.specs.Id.{Name};
 ghost use Rattle.desk_types.specs.History.{History, now_of, desk_minute};
 ghost use Rattle.desk_types.specs.Pieces.{left_of, found_of, placed_of, scrapped_of};
-ghost use Rattle.alike.specs.Chain.{DeskFile, IsChain, Carries, boards_over, lots_over, new_in};
-ghost use Rattle.report_texts.specs.Sets.{Fields};
+ghost use Rattle.desk_laws.specs.Chain.{DeskFile, IsChain, Carries, boards_over, lots_over, new_in};
+ghost use Rattle.trace_reports.specs.Sets.{Fields};
 ghost use Rattle.chain_check.specs.declared.question.Question.TheVariants.{Names};
 ghost use Rattle.chain_check.specs.declared.question.Subject.TheVariants.{Board, Lot};
 ghost use Rattle.chain_check.specs.Counted.{Moves};

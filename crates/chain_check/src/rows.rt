@@ -2,8 +2,8 @@
 
 ghost use Rattle.std.specs.Prelude.{◌≡◌, ◌++◌, [], List, ℕ, IfOk, OnOk, map};
 ghost use Rattle.desk_types.specs.Id.{Name};
-ghost use Rattle.report_texts.specs.Csv.{csv_text, record_text, HasWritten};
-ghost use Rattle.report_texts.specs.Traces.{yes_or_no};
+ghost use Rattle.trace_reports.specs.Csv.{csv_text, record_text, HasWritten};
+ghost use Rattle.trace_reports.specs.Traces.{yes_or_no};
 ghost use Rattle.chain_check.specs.Texts.{minute_text};
 ghost use Rattle.chain_check.specs.Rows.{file_row, header_of, name_of, name_row, names_header, names_of, piece_row, rows_in, rows_text};
 
@@ -11,9 +11,9 @@ use crate::question::{Question, Subject};
 use csv::WriterBuilder;
 use desk_types::{Id, IdList, Listing, Minute, Placement, Text};
 use itoa::Buffer;
-use report_texts::{TextWriter, write_fields};
 use std::alloc::{AllocError, Global};
 use std::collections::BTreeSet;
+use trace_reports::{TextWriter, write_fields};
 
 /// The facts of a file of a chain.
 #[derive(Clone, Copy)]

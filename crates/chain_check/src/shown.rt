@@ -1,6 +1,6 @@
 //! The texts of differences.
 
-use alike_check::Difference;
+use crate::difference::Difference;
 use desk_types::{Id, Left, Minute};
 use std::fmt;
 

@@ -1,6 +1,6 @@
 -- The chain of an answer; and which statuses a run without an answer has.
 use Rattle.std.proofs.Common.{◌≡◌, ◌⊎◌, ℕ, Option, Some, None, List, sym, subst, inl, inr, arith}
-use Rattle.alike.specs.Chain.{DeskFile, IsChain}
+use Rattle.desk_laws.specs.Chain.{DeskFile, IsChain}
 use Rattle.chain_check.specs.declared.chain.Chain.{Chain}
 use Rattle.chain_files.specs.Files.{Continues}
 use Rattle.chain_files.specs.Whole.{IsStopped}

@@ -11,12 +11,12 @@ use Rattle.desk_types.specs.History.{History, IsPrefix}
 use Rattle.feeder_state.specs.declared.desk.StateDesk.{StateDesk}
 use Rattle.feeder_state.specs.State.{IsState}
 use Rattle.feeder_state.specs.contracts.desk.StateDeskDesk.TheImpl.{ghosts as state}
-use Rattle.line_prefix.specs.declared.looking.Looked.{Looked}
-use Rattle.line_prefix.specs.Look.{Says}
+use Rattle.chain_files.specs.declared.looking.Looked.{Looked}
+use Rattle.chain_files.specs.Look.{Says}
 use Rattle.desk_file.specs.Files.{HasOursFirst}
-use Rattle.alike.specs.Chain.{DeskFile}
-use Rattle.alike_check.specs.declared.difference.Difference.{Difference}
-use Rattle.report_texts.specs.Csv.{HasWritten}
+use Rattle.desk_laws.specs.Chain.{DeskFile}
+use Rattle.chain_check.specs.declared.difference.Difference.{Difference}
+use Rattle.trace_reports.specs.Csv.{HasWritten}
 use Rattle.chain_check.specs.declared.chain.Chain.{Chain}
 use Rattle.chain_check.specs.declared.question.Question.{Question}
 use Rattle.chain_check.specs.Chained.{IsReason, IsSoFar}

@@ -10,15 +10,15 @@ use Rattle.sqlite_wal.specs.Reads.{AreClean}
 use Rattle.sqlite_wal.proofs.LogLemmas.{SeenMayStay}
 use Rattle.sqlite.specs.Held.{Held}
 use Rattle.line_schema.specs.declared.fault.OpenFault.{OpenFault}
-use Rattle.desk_file.specs.declared.refusal.Refusal.{Refusal}
+use Rattle.desk_file.specs.declared.refusal.RefusedFile.{RefusedFile}
 use Rattle.desk_file.specs.Refused.{RefusesRun}
-use Rattle.desk_commands.specs.declared.left.Left.TheVariants.{Refused}
+use Rattle.desk_commands.specs.declared.left.ToClose.TheVariants.{Refused}
 use Rattle.desk_commands.specs.Closed.{Close, whole, ClosesConn}
 use Rattle.desk_commands.proofs.ClosedFiles.{refuses_to}
 use Rattle.chain_files.specs.Files.{IsFaultOf, IsRefused}
 use Rattle.chain_files.proofs.OneFileMore.{last-clean}
 
-module _ {T D : Type 0} {g : disk.Ghosts D} (stays : SeenMayStay g) (first : start.Ghosts T) (r : Refusal D g) (refuses : RefusesRun (image_at first) None r) (closed closed' : List (Files D)) where
+module _ {T D : Type 0} {g : disk.Ghosts D} (stays : SeenMayStay g) (first : start.Ghosts T) (r : RefusedFile D g) (refuses : RefusesRun (image_at first) None r) (closed closed' : List (Files D)) where
   -- It was not opened.
   pub not-opened : r.file ≡ None → closed' ≡ closed → IsRefused first g closed closed' r.fault
   not-opened none same =

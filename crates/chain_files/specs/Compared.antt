@@ -9,11 +9,11 @@ use Rattle.sqlite_wal.specs.Reads.{AreClean}
 use Rattle.desk_types.specs.declared.wire.Wire.{Wire}
 use Rattle.desk_types.specs.Wire.{inner_of}
 use Rattle.desk_types.specs.History.{History}
-use Rattle.desk_runs.specs.Told.{unavailable_line, TellsLine}
+use Rattle.desk_commands.specs.Told.{unavailable_line, TellsLine}
 use Rattle.line_schema.specs.Opening.{fault_text}
 use Rattle.desk_file.specs.Files.{HasOursFirst}
-use Rattle.alike.specs.Chain.{Carries}
-use Rattle.alike_check.specs.Difference.{IsDifference, Refutes}
+use Rattle.desk_laws.specs.Chain.{Carries}
+use Rattle.chain_check.specs.Difference.{IsDifference, Refutes}
 use Rattle.chain_check.specs.Texts.{both, difference_text}
 use Rattle.chain_files.specs.declared.compared.Compared.{Compared}
 use Rattle.chain_files.specs.declared.compared.Compared.TheVariants.{Alike, Differs, Refused}

@@ -17,16 +17,16 @@ use Rattle.desk_laws.specs.Consistent.{IsConsistent}
 use Rattle.feeder_state.specs.declared.desk.StateDesk.{StateDesk}
 use Rattle.feeder_state.specs.contracts.desk.StateDeskDesk.TheImpl.{ghosts as state}
 use Rattle.line_tables.specs.Rows.{Tables}
-use Rattle.line_rows.specs.Rows.{ledger_tables}
+use Rattle.line_replay.specs.Rows.{ledger_tables}
 use Rattle.line_schema.specs.declared.fault.OpenFault.{OpenFault}
 use Rattle.line_schema.specs.declared.fault.OpenFault.TheVariants as open_fault
-use Rattle.line_prefix.specs.declared.looking.Looked.{Looked}
-use Rattle.line_prefix.specs.Look.{Says}
+use Rattle.chain_files.specs.declared.looking.Looked.{Looked}
+use Rattle.chain_files.specs.Look.{Says}
 use Rattle.desk_file.specs.Files.{HasOursFirst, HasTables, IsWhole}
 use Rattle.desk_file.specs.Refused.{IsFaultFor}
 use Rattle.desk_commands.specs.Closed.{Close, whole, failed, RefusesTo}
-use Rattle.report_texts.specs.Csv.{HasWritten}
-use Rattle.alike.specs.Chain.{DeskFile, IsChain}
+use Rattle.trace_reports.specs.Csv.{HasWritten}
+use Rattle.desk_laws.specs.Chain.{DeskFile, IsChain}
 use Rattle.chain_check.specs.declared.chain.Chain.{Chain}
 use Rattle.chain_check.specs.declared.question.Question.{Question}
 use Rattle.chain_check.specs.Chained.{IsReason, IsSoFar}
@@ -34,7 +34,7 @@ use Rattle.chain_check.specs.Rows.{answer_over, asked_of, facts_of, rows_in, row
 use Rattle.chain_files.specs.declared.chain.Fault.{Fault}
 use Rattle.chain_files.specs.declared.chain.Fault.TheVariants.{Refused, BegunFrom, Differs}
 use Rattle.chain_files.specs.declared.chain.Stopped.{Stopped}
-use Rattle.chain_files.specs.declared.closed.ClosedFiles.{ClosedFiles}
+use Rattle.chain_files.specs.declared.closed.ClosedChain.{ClosedChain}
 
 -- ---- the closed files
 
@@ -43,7 +43,7 @@ abbrev pub all_at : {T : Type 0} → start.Ghosts T → ℕ → Image
 all_at first place = image_at first
 
 -- The first to be closed comes first.
-abbrev pub files_in : {D : Type 0} → ClosedFiles D → List (Files D)
+abbrev pub files_in : {D : Type 0} → ClosedChain D → List (Files D)
 files_in closed = closed.files.items
 
 -- No disk lied until its file was closed, and each file held only a desk's tables, or those first.

@@ -7,8 +7,8 @@ use Rattle.sqlite_disk.specs.declared.start.Start as start
 use Rattle.sqlite_wal.specs.Recovery.{Image}
 use Rattle.desk_types.specs.declared.wire.Wire.{Wire}
 use Rattle.desk_types.specs.Wire.{inner_of}
-use Rattle.desk_runs.specs.Told.{unavailable_line, TellsLine, TellsUnwritten}
-use Rattle.alike.specs.Chain.{DeskFile, IsChain}
+use Rattle.desk_commands.specs.Told.{unavailable_line, TellsLine, TellsUnwritten}
+use Rattle.desk_laws.specs.Chain.{DeskFile, IsChain}
 use Rattle.chain_check.specs.declared.question.Question.{Question}
 use Rattle.chain_check.specs.Rows.{answer_over}
 use Rattle.chain_files.specs.declared.chain.Fault.{Fault}

@@ -7,29 +7,31 @@ ghost use Rattle.desk_file.specs.Refused.{RefusesRun};
 ghost use Rattle.desk_types.specs.History.{History};
 ghost use Rattle.desk_types.specs.Wire.{failures_of};
 ghost use Rattle.feeder_state.specs.contracts.desk.StateDeskDesk.TheImpl.{ghosts as state};
-ghost use Rattle.alike.specs.Chain.{DeskFile};
-ghost use Rattle.report_texts.specs.Csv.{HasWritten};
+ghost use Rattle.desk_laws.specs.Chain.{DeskFile};
+ghost use Rattle.trace_reports.specs.Csv.{HasWritten};
 ghost use Rattle.chain_check.specs.Chained.{IsSoFar};
-ghost use Rattle.line_prefix.specs.Look.{Says};
+ghost use Rattle.chain_files.specs.Look.{Says};
 ghost use Rattle.chain_files.specs.Files.{Adds, Continues, IsRefused, IsWhyStopped, Recalled, Stops, Takes, all_at, close_of, files_in};
 
-use crate::closed::{ClosedFiles, add_closed};
+use crate::begin::Begin;
+use crate::closed::{ClosedChain, add_closed};
+use crate::looking::{Looked, look};
 use crate::opener::Fresh;
 use crate::paths::path_at;
-use alike_check::Difference;
-use chain_check::{Chain, ChainFile, Question, ShownDifference, begin_rows, write_rows};
-use desk_file::{Refusal, close_file, open_desk};
-use desk_runs::tell_line;
+use chain_check::{
+    Chain, ChainFile, Difference, Question, ShownDifference, begin_rows, write_rows,
+};
+use desk_commands::tell_line;
+use desk_file::{RefusedFile, close_file, open_desk};
 use desk_types::{Desk, Wire};
 use feeder_state::StateDesk;
-use line_prefix::{Begin, Looked, look};
 use line_schema::OpenFault;
-use report_texts::TextWriter;
 use sqlite::{Connection, FileFrom, FileStore, Files};
 use sqlite_disk::Disk;
 use std::alloc::{AllocError, Global};
 use std::fmt;
 use std::io::Write;
+use trace_reports::TextWriter;
 
 /// Why there is no answer.
 #[derive(Drop)]
@@ -73,7 +75,7 @@ pub fn look_at<T: Fresh>(
     place: u64,
     path: &str,
     question: &Question,
-    closed: &mut ClosedFiles<FileFrom<T>>,
+    closed: &mut ClosedChain<FileFrom<T>>,
 ) -> Result<Looked<StateDesk>, OpenFault>
     ensures takes { IfOk result
         (Takes ⟦<FileFrom<T> as Disk>⟧ (image_at T.Start) question.now
@@ -100,12 +102,15 @@ pub fn look_at<T: Fresh>(
 }
 
 /// Closes a file that was refused. Returns its fault.
-fn shut<T: Fresh>(refusal: Refusal<FileFrom<T>>, closed: &mut ClosedFiles<FileFrom<T>>) -> OpenFault
+fn shut<T: Fresh>(
+    refusal: RefusedFile<FileFrom<T>>,
+    closed: &mut ClosedChain<FileFrom<T>>,
+) -> OpenFault
     ensures { RefusesRun (image_at T.Start) None refusal
         → IsRefused T.Start ⟦<FileFrom<T> as Disk>⟧ (files_in closed.old) (files_in closed.new)
         result }
 {
-    let Refusal { fault, file } = refusal;
+    let RefusedFile { fault, file } = refusal;
     let Some(file) = file else {
         return fault;
     };
@@ -234,7 +239,7 @@ pub fn recall_files<T: Fresh, E: Write>(
     question: &Question,
     from_middle: bool,
     errors: &mut Wire<E>,
-    closed: &mut ClosedFiles<FileFrom<T>>,
+    closed: &mut ClosedChain<FileFrom<T>>,
 ) -> Result<TextWriter, Stopped>
     requires none { files_in closed.old ≡ [] }
     requires few { failures_of errors.old < 2 ^ 63 }

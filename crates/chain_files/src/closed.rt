@@ -9,16 +9,16 @@ use std::alloc::{AllocError, Global};
 
 /// Files that were closed, the oldest of the chain first. Clauses name them; a caller can only drop them.
 #[derive(Drop)]
-pub struct ClosedFiles<D: Disk + Drop> {
+pub struct ClosedChain<D: Disk + Drop> {
     files: Vec<Files<D>>,
 }
 
-impl<D: Disk + Drop> ClosedFiles<D> {
+impl<D: Disk + Drop> ClosedChain<D> {
     /// None yet.
-    pub fn new(alloc: Global) -> ClosedFiles<D>
+    pub fn new(alloc: Global) -> ClosedChain<D>
         ensures { files_in result ≡ [] }
     {
-        ClosedFiles {
+        ClosedChain {
             files: Vec::new(alloc),
         }
     }
@@ -26,7 +26,7 @@ impl<D: Disk + Drop> ClosedFiles<D> {
 
 /// Adds the files of one place.
 pub fn add_closed<D: Disk + Drop>(
-    closed: &mut ClosedFiles<D>,
+    closed: &mut ClosedChain<D>,
     files: Files<D>,
 ) -> Result<(), AllocError>
     ensures { OnOk result (files_in closed.new ≡ files_in closed.old ++ files ∷ []) }

@@ -1,7 +1,6 @@
 //! The result of a comparison.
 
-use alike_check::Difference;
-use chain_check::ShownDifference;
+use chain_check::{Difference, ShownDifference};
 use line_schema::OpenFault;
 use std::fmt;
 

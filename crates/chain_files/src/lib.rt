@@ -1,9 +1,15 @@
 //! A recall over the files of a line, opened one after the other: whether they are a chain, and what is in them.
+//!
+//! `first_desk` makes the desk of a store's first commands and its whole desk, and `look` finds the pieces that a
+//! question is about.
 #![tactic(auto)]
 
+mod begin;
 mod chain;
 mod closed;
 mod compared;
+mod first;
+mod looking;
 mod opener;
 mod paths;
 mod telling;
@@ -11,7 +17,10 @@ mod two_files;
 mod whole;
 mod words;
 
+pub use begin::{Begin, begin_of};
 pub use chain::{Fault, Stopped, recall_files};
-pub use closed::ClosedFiles;
+pub use closed::ClosedChain;
+pub use first::first_desk;
+pub use looking::{Looked, look};
 pub use opener::Fresh;
 pub use whole::program;

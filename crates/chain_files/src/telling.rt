@@ -3,12 +3,12 @@
 ghost use Rattle.std.specs.Prelude.{◌≡◌, ◌⊎◌, ◌^◌, ◌<◌};
 ghost use Rattle.std.specs.Io.KnownBytes.{Appends};
 ghost use Rattle.desk_types.specs.Wire.{inner_of, failures_of};
-ghost use Rattle.desk_runs.specs.Told.{unavailable_line, TellsLine, TellsUnwritten};
-ghost use Rattle.desk_runs.specs.Wires.{HaveFewFailures};
+ghost use Rattle.desk_commands.specs.Told.{unavailable_line, TellsLine, TellsUnwritten};
+ghost use Rattle.desk_commands.specs.Wires.{HaveFewFailures};
 ghost use Rattle.chain_files.specs.Compared.{found_line, refused_line, found_status};
 
 use crate::compared::Compared;
-use desk_runs::{Exit, send_text, tell_line, unavailable};
+use desk_commands::{Exit, send_text, tell_line, unavailable};
 use desk_types::Wire;
 use std::alloc::Global;
 use std::io::Write;

@@ -1,18 +1,17 @@
 //! The comparison of two files.
 
 ghost use Rattle.std.specs.Prelude.{◌≡◌, ◌⊎◌, []};
-ghost use Rattle.desk_runs.specs.Told.{TellsUnwritten};
-ghost use Rattle.desk_runs.specs.Wires.{HaveFewFailures};
+ghost use Rattle.desk_commands.specs.Told.{TellsUnwritten};
+ghost use Rattle.desk_commands.specs.Wires.{HaveFewFailures};
 ghost use Rattle.chain_files.specs.Compared.{Finds, NoDesk, Shows};
 ghost use Rattle.chain_files.specs.Files.{files_in};
 
 use crate::chain::look_at;
-use crate::closed::ClosedFiles;
+use crate::closed::ClosedChain;
 use crate::compared::{Compared, Side};
 use crate::opener::Fresh;
 use crate::telling::tell_found;
-use alike_check::first_difference;
-use chain_check::Question;
+use chain_check::{Question, first_difference};
 use desk_types::Wire;
 use sqlite::FileFrom;
 use sqlite_disk::Disk;
@@ -27,7 +26,7 @@ pub fn alike<T: Fresh, U: Fresh, W: Write, E: Write>(
     new: &str,
     output: &mut Wire<W>,
     errors: &mut Wire<E>,
-) -> (u8, ClosedFiles<FileFrom<T>>, ClosedFiles<FileFrom<U>>)
+) -> (u8, ClosedChain<FileFrom<T>>, ClosedChain<FileFrom<U>>)
     requires few { HaveFewFailures output.old errors.old }
     ensures status { (result.0 ≡ 0) ⊎ (result.0 ≡ 1) ⊎ (result.0 ≡ 3) ⊎ (result.0 ≡ 4) }
     ensures shown { (result.0 ≡ 0) ⊎ (result.0 ≡ 1)
@@ -42,8 +41,8 @@ pub fn alike<T: Fresh, U: Fresh, W: Write, E: Write>(
     ensures failed { result.0 ≡ 4
         → TellsUnwritten E.contents output.old output.new errors.old errors.new }
 {
-    let mut of_old = ClosedFiles::new(rt.alloc());
-    let mut of_new = ClosedFiles::new(rt.alloc());
+    let mut of_old = ClosedChain::new(rt.alloc());
+    let mut of_new = ClosedChain::new(rt.alloc());
     let found = compare_files(rt, old, new, &mut of_old, &mut of_new);
     let status = tell_found(rt.alloc(), &found, output, errors);
     (status, of_old, of_new)
@@ -54,8 +53,8 @@ fn compare_files<T: Fresh, U: Fresh>(
     rt: &HostRuntime,
     old: &str,
     new: &str,
-    of_old: &mut ClosedFiles<FileFrom<T>>,
-    of_new: &mut ClosedFiles<FileFrom<U>>,
+    of_old: &mut ClosedChain<FileFrom<T>>,
+    of_new: &mut ClosedChain<FileFrom<U>>,
 ) -> Compared
     requires none_old { files_in of_old.old ≡ [] }
     requires none_new { files_in of_new.old ≡ [] }

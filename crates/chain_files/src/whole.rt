@@ -3,29 +3,29 @@
 ghost use Rattle.std.specs.Prelude.{◌≡◌, ◌⊎◌, ◌≤◌, ◌^◌, ◌<◌, List, ℕ, map, string_bytes};
 ghost use Rattle.std.specs.Io.KnownBytes.{Appends};
 ghost use Rattle.desk_types.specs.Wire.{inner_of, failures_of};
-ghost use Rattle.desk_runs.specs.Told.{unavailable_line, TellsLine};
-ghost use Rattle.desk_runs.specs.Wires.{HaveFewFailures};
-ghost use Rattle.report_texts.specs.Csv.{HasWritten};
+ghost use Rattle.desk_commands.specs.Told.{unavailable_line, TellsLine};
+ghost use Rattle.desk_commands.specs.Wires.{HaveFewFailures};
+ghost use Rattle.trace_reports.specs.Csv.{HasWritten};
 ghost use Rattle.chain_files.specs.Compared.{Shows};
 ghost use Rattle.chain_files.specs.Files.{all_at, files_in};
 ghost use Rattle.chain_files.specs.Stops.{status_of, stop_line};
 ghost use Rattle.chain_files.specs.Whole.{Answers, Compares, Done, Fails, IsStopped, Stops, StopsAt, Unlike};
 
 use crate::chain::{Fault, Stopped, recall_files};
-use crate::closed::ClosedFiles;
+use crate::closed::ClosedChain;
 use crate::opener::Fresh;
 use crate::paths::path_at;
 use crate::two_files::alike;
-use crate::words::{Asked, HELP, VERSION, read_words};
+use crate::words::{ChainCommand, HELP, VERSION, read_words};
 use chain_check::{Question, end_rows};
-use desk_runs::{Exit, send_text, tell, tell_line, unavailable};
+use desk_answers::send;
+use desk_commands::{Exit, send_text, tell, tell_line, unavailable};
 use desk_types::Wire;
-use report_texts::TextWriter;
-use served::send;
 use sqlite::FileFrom;
 use sqlite_disk::Disk;
 use std::alloc::Global;
 use std::io::Write;
+use trace_reports::TextWriter;
 
 /// Runs the program with these arguments. Returns the exit status, and the files that it closed, which clauses name: those
 /// of a recall, or the old file of a comparison, and its new file.
@@ -34,7 +34,7 @@ pub fn program<T: Fresh, U: Fresh, W: Write, E: Write>(
     words: &[String],
     output: &mut Wire<W>,
     errors: &mut Wire<E>,
-) -> (u8, ClosedFiles<FileFrom<T>>, ClosedFiles<FileFrom<U>>)
+) -> (u8, ClosedChain<FileFrom<T>>, ClosedChain<FileFrom<U>>)
     requires few { HaveFewFailures output.old errors.old }
     ensures status { result.0 ≤ 5 }
     ensures done { result.0 ≡ 0
@@ -58,34 +58,34 @@ pub fn program<T: Fresh, U: Fresh, W: Write, E: Write>(
         errors.new }
 {
     match read_words(words) {
-        Asked::Recall {
+        ChainCommand::Recall {
             question,
             from_middle,
             files,
         } => {
             let (status, closed) = answer(rt, &question, from_middle, files, output, errors);
-            (status, closed, ClosedFiles::new(rt.alloc()))
+            (status, closed, ClosedChain::new(rt.alloc()))
         }
-        Asked::Alike { old, new } => alike(rt, old, new, output, errors),
-        Asked::Help => (
+        ChainCommand::Alike { old, new } => alike(rt, old, new, output, errors),
+        ChainCommand::Help => (
             send_text(HELP, output, errors),
-            ClosedFiles::new(rt.alloc()),
-            ClosedFiles::new(rt.alloc()),
+            ClosedChain::new(rt.alloc()),
+            ClosedChain::new(rt.alloc()),
         ),
-        Asked::Version => (
+        ChainCommand::Version => (
             send_text(VERSION, output, errors),
-            ClosedFiles::new(rt.alloc()),
-            ClosedFiles::new(rt.alloc()),
+            ClosedChain::new(rt.alloc()),
+            ClosedChain::new(rt.alloc()),
         ),
-        Asked::Bad => {
+        ChainCommand::Bad => {
             tell(
                 errors,
                 "usage: tracedesk-chain check|lot NAME|board NAME|reel NAME [--pieces] [--from-middle] FILE.., alike OLD NEW, or --help\n",
             );
             (
                 Exit::BadCommandLine as u8,
-                ClosedFiles::new(rt.alloc()),
-                ClosedFiles::new(rt.alloc()),
+                ClosedChain::new(rt.alloc()),
+                ClosedChain::new(rt.alloc()),
             )
         }
     }
@@ -99,7 +99,7 @@ fn answer<T: Fresh, W: Write, E: Write>(
     paths: &[String],
     output: &mut Wire<W>,
     errors: &mut Wire<E>,
-) -> (u8, ClosedFiles<FileFrom<T>>)
+) -> (u8, ClosedChain<FileFrom<T>>)
     requires few { HaveFewFailures output.old errors.old }
     ensures status { (result.0 ≤ 1) ⊎ (3 ≤ result.0) × (result.0 ≤ 5) }
     ensures done { result.0 ≡ 0
@@ -110,7 +110,7 @@ fn answer<T: Fresh, W: Write, E: Write>(
         × StopsAt ⟦<FileFrom<T> as Disk>⟧ (all_at T.Start) (files_in result.1)
         (map string_bytes paths.now) E.contents errors.new result.0 }
 {
-    let mut closed = ClosedFiles::new(rt.alloc());
+    let mut closed = ClosedChain::new(rt.alloc());
     match recall_files(rt, paths, question, from_middle, errors, &mut closed) {
         Ok(answer) => (send_answer(answer, output, errors), closed),
         Err(stopped) => {

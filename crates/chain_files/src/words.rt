@@ -8,7 +8,7 @@ use desk_types::Id;
 
 /// The meaning of a command line.
 #[derive(Clone, Copy)]
-pub enum Asked<'a> {
+pub enum ChainCommand<'a> {
     /// Recall over these files, the oldest first.
     Recall {
         question: Question,
@@ -78,44 +78,44 @@ Examples:
 pub const VERSION: &str = "tracedesk-chain 0.3.0\n";
 
 /// Reads the arguments.
-pub fn read_words<'a>(words: &'a [String]) -> Asked<'a>
+pub fn read_words<'a>(words: &'a [String]) -> ChainCommand<'a>
     ensures { Asks (map string_bytes words.now) result }
 {
     let Some((verb, rest)) = words.split_first() else {
-        return Asked::Bad;
+        return ChainCommand::Bad;
     };
     match verb.as_str() {
         "check" => files_of(Question::Chain, rest),
         "lot" => match name_in(rest) {
             Some((lot, rest)) => about(Subject::Lot(lot), rest),
-            None => Asked::Bad,
+            None => ChainCommand::Bad,
         },
         "board" => match name_in(rest) {
             Some((board, rest)) => about(Subject::Board(board), rest),
-            None => Asked::Bad,
+            None => ChainCommand::Bad,
         },
         "reel" => match name_in(rest) {
             Some((reel, rest)) => about(Subject::Reel(reel), rest),
-            None => Asked::Bad,
+            None => ChainCommand::Bad,
         },
         "alike" => files_to_compare(rest),
-        "--help" => Asked::Help,
-        "--version" => Asked::Version,
-        _ => Asked::Bad,
+        "--help" => ChainCommand::Help,
+        "--version" => ChainCommand::Version,
+        _ => ChainCommand::Bad,
     }
 }
 
 /// Exactly two files, and no word that looks like an option.
-fn files_to_compare<'a>(words: &'a [String]) -> Asked<'a>
+fn files_to_compare<'a>(words: &'a [String]) -> ChainCommand<'a>
     ensures { Asks (codes "alike" ∷ map string_bytes words.now) result }
 {
     let [old, new] = words else {
-        return Asked::Bad;
+        return ChainCommand::Bad;
     };
     if old.as_str().starts_with("-") || new.as_str().starts_with("-") {
-        return Asked::Bad;
+        return ChainCommand::Bad;
     }
-    Asked::Alike {
+    ChainCommand::Alike {
         old: old.as_str(),
         new: new.as_str(),
     }
@@ -133,11 +133,11 @@ fn name_in<'a>(words: &'a [String]) -> Option<(Id, &'a [String])>
     }
 }
 
-fn about<'a>(subject: Subject, rest: &'a [String]) -> Asked<'a>
+fn about<'a>(subject: Subject, rest: &'a [String]) -> ChainCommand<'a>
     ensures { AsksAbout subject (map string_bytes rest.now) result }
 {
     let Some((first, files)) = rest.split_first() else {
-        return Asked::Bad;
+        return ChainCommand::Bad;
     };
     if first.as_str() == "--pieces" {
         return files_of(Question::Pieces(subject), files);
@@ -145,11 +145,11 @@ fn about<'a>(subject: Subject, rest: &'a [String]) -> Asked<'a>
     files_of(Question::Names(subject), rest)
 }
 
-fn files_of<'a>(question: Question, rest: &'a [String]) -> Asked<'a>
+fn files_of<'a>(question: Question, rest: &'a [String]) -> ChainCommand<'a>
     ensures { AsksFiles question (map string_bytes rest.now) result }
 {
     let Some((first, files)) = rest.split_first() else {
-        return Asked::Bad;
+        return ChainCommand::Bad;
     };
     if first.as_str() == "--from-middle" {
         return named(question, true, files);
@@ -158,18 +158,18 @@ fn files_of<'a>(question: Question, rest: &'a [String]) -> Asked<'a>
 }
 
 /// At least one file, and no word that looks like an option.
-fn named<'a>(question: Question, from_middle: bool, files: &'a [String]) -> Asked<'a>
+fn named<'a>(question: Question, from_middle: bool, files: &'a [String]) -> ChainCommand<'a>
     ensures { Recalls question from_middle (map string_bytes files.now) result }
 {
     if files.is_empty() {
-        return Asked::Bad;
+        return ChainCommand::Bad;
     }
     for file in files {
         if file.as_str().starts_with("-") {
-            return Asked::Bad;
+            return ChainCommand::Bad;
         }
     }
-    Asked::Recall {
+    ChainCommand::Recall {
         question,
         from_middle,
         files,

@@ -1,4 +1,10 @@
+pub mod Block
 pub mod Commands
+pub mod Counts
 pub mod Ledger
+pub mod Owners
+pub mod Reads
 pub mod Repeats
+pub mod Sent
+pub mod Shown
 pub mod Texts

@@ -22,7 +22,7 @@ use Rattle.desk_types.specs.declared.rules.Rules.TheVariants.{One}
 use Rattle.desk_types.specs.History.{History}
 use Rattle.desk_answers.specs.Ledger.{Ledger}
 use Rattle.line_tables.specs.Calls.{LeavesMigrated}
-use Rattle.line_rows.specs.Rows.{ledger_tables}
+use Rattle.line_replay.specs.Rows.{ledger_tables}
 use Rattle.line_schema.specs.declared.fault.OpenFault.{OpenFault}
 use Rattle.line_schema.specs.declared.fault.OpenFault.TheVariants.{NotADesk, Unavailable}
 use Rattle.feeder_state.specs.declared.desk.StateDesk.{StateDesk}
@@ -32,8 +32,8 @@ use Rattle.line_schema.specs.Stands.{Kept, Stands, conn_of}
 use Rattle.desk_file.proofs.FirstLists.{found}
 use Rattle.desk_file.specs.Files.{IsFoundIn, IsLeft}
 use Rattle.desk_file.specs.Refused.{IsFaultFor, IsFaultIn, IsRefused, IsUnchangedSince, LeavesMade, idle_state}
-use Rattle.desk_commands.specs.declared.left.Left.{Left}
-use Rattle.desk_commands.specs.declared.left.Left.TheVariants.{Nothing, Desk, Migrated, Refused}
+use Rattle.desk_commands.specs.declared.left.ToClose.{ToClose}
+use Rattle.desk_commands.specs.declared.left.ToClose.TheVariants.{Nothing, Desk, Migrated, Refused}
 use Rattle.desk_commands.specs.Runs.{Audits, Migrates, Refuses, RefusesToMigrate, RunsOn}
 use Rattle.desk_commands.specs.Closed.{Close, whole, failed, ClosesLeft, HoldsDesk, HoldsFound, IsRefusedTo, AuditsTo, MigratesTo, RefusesTo, RefusesToMigrateTo, RunsTo}
 
@@ -83,7 +83,7 @@ found_left stays conn first f image Commits calm left since =
     )
 
 module _ {T D : Type 0} {g : disk.Ghosts D} (first : start.Ghosts T) where
-  pub runs_to : (how : Close) (left : Left D g) (files : Option (Files D)) (make : Option ℕ) (Fact : Ledger → History → Type 0) → ClosesLeft how left files
+  pub runs_to : (how : Close) (left : ToClose D g) (files : Option (Files D)) (make : Option ℕ) (Fact : Ledger → History → Type 0) → ClosesLeft how left files
       → RunsOn first make left Fact → RunsTo how first g files make Fact
   runs_to how Nothing files make Fact closed runs = absurd runs
   runs_to whole (Desk d) (Some f) make Fact closed runs = λ clean alone.
@@ -99,13 +99,13 @@ module _ {T D : Type 0} {g : disk.Ghosts D} (first : start.Ghosts T) where
   runs_to how (Migrated conn) files make Fact closed runs = absurd runs
   runs_to how (Refused r) files make Fact closed runs = absurd runs
 
-  pub audits_to : (how : Close) (left : Left D g) (files : Option (Files D)) (count : ℕ) → ClosesLeft how left files → Audits first left count → AuditsTo how first g files count
+  pub audits_to : (how : Close) (left : ToClose D g) (files : Option (Files D)) (count : ℕ) → ClosesLeft how left files → Audits first left count → AuditsTo how first g files count
   audits_to how Nothing files count closed audits = absurd audits
   audits_to how (Desk d) files count closed audits = runs_to how (Desk d) files None (λ G H. (H ≡ G.history) × (count ≡ length H)) closed audits.1
   audits_to how (Migrated conn) files count closed audits = absurd audits
   audits_to how (Refused r) files count closed audits = absurd audits
 
-  pub migrates_to : (how : Close) (left : Left D g) (files : Option (Files D)) → ClosesLeft how left files → Migrates first left → MigratesTo how first g files
+  pub migrates_to : (how : Close) (left : ToClose D g) (files : Option (Files D)) → ClosesLeft how left files → Migrates first left → MigratesTo how first g files
   migrates_to how Nothing files closed migrates = absurd migrates
   migrates_to how (Desk d) files closed migrates = absurd migrates
   migrates_to whole (Migrated conn) (Some f) closed migrates = λ clean alone.
@@ -151,7 +151,7 @@ module _ {T D : Type 0} {g : disk.Ghosts D} (first : start.Ghosts T) where
     is.never,
   )
 
-  pub refuses_to : SeenMayStay g → (how : Close) (left : Left D g) (files : Option (Files D)) (make : Option ℕ) (fault : OpenFault) → ClosesLeft how left files → Refuses first make left fault → RefusesTo how first g files make fault
+  pub refuses_to : SeenMayStay g → (how : Close) (left : ToClose D g) (files : Option (Files D)) (make : Option ℕ) (fault : OpenFault) → ClosesLeft how left files → Refuses first make left fault → RefusesTo how first g files make fault
   refuses_to stays how Nothing files make fault closed refuses = absurd refuses
   refuses_to stays how (Desk d) files make fault closed refuses = absurd refuses
   refuses_to stays how (Migrated conn) files make fault closed refuses = absurd refuses
@@ -159,7 +159,7 @@ module _ {T D : Type 0} {g : disk.Ghosts D} (first : start.Ghosts T) where
       subst (λ (it : OpenFault). RefusesTo how first g files make it) refuses.0
       (refused_to stays how (IsFaultFor (image_at first) make) (LeavesMade make) (calm_made make) (make ≡ None) r.fault r.file files closed refuses.1)
 
-  pub refuses_to_migrate : SeenMayStay g → (how : Close) (left : Left D g) (files : Option (Files D)) (fault : OpenFault) → ClosesLeft how left files → RefusesToMigrate first left fault → RefusesToMigrateTo how first g files fault
+  pub refuses_to_migrate : SeenMayStay g → (how : Close) (left : ToClose D g) (files : Option (Files D)) (fault : OpenFault) → ClosesLeft how left files → RefusesToMigrate first left fault → RefusesToMigrateTo how first g files fault
   refuses_to_migrate stays how Nothing files fault closed refuses = absurd refuses
   refuses_to_migrate stays how (Desk d) files fault closed refuses = absurd refuses
   refuses_to_migrate stays how (Migrated conn) files fault closed refuses = absurd refuses

@@ -14,8 +14,8 @@ use Rattle.feeder_state.specs.contracts.desk.StateDeskDesk.TheImpl.{ghosts as st
 use Rattle.line_schema.specs.declared.store.LineStore.{LineStore}
 use Rattle.line_schema.specs.Stands.{Kept, Stands, state_of}
 use Rattle.desk_file.specs.Files.{Begins, HasOursFirst}
-use Rattle.desk_runs.specs.Runs.{StaysSame}
-use Rattle.desk_commands.specs.declared.left.Left.TheVariants.{Desk}
+use Rattle.desk_commands.specs.OpenRuns.{StaysSame}
+use Rattle.desk_commands.specs.declared.left.ToClose.TheVariants.{Desk}
 use Rattle.desk_commands.specs.Runs.{Audits, RunsOn}
 
 -- The store of a file represents the history by rules Two, with its own tables.

@@ -22,15 +22,15 @@ use Rattle.feeder_state.specs.declared.desk.StateDesk.{StateDesk}
 use Rattle.feeder_state.specs.contracts.desk.StateDeskDesk.TheImpl.{ghosts as state}
 use Rattle.line_tables.specs.Calls.{LeavesMigrated}
 use Rattle.line_tables.specs.Rows.{Tables, HoldsAt}
-use Rattle.line_rows.specs.Rows.{ledger_tables}
+use Rattle.line_replay.specs.Rows.{ledger_tables}
 use Rattle.line_schema.specs.declared.fault.OpenFault.{OpenFault}
 use Rattle.line_schema.specs.declared.fault.OpenFault.TheVariants.{NotADesk, NotBlank, Unavailable}
 use Rattle.line_schema.specs.declared.store.LineStore.{LineStore}
 use Rattle.line_schema.specs.Stands.{HasFailed, conn_of}
 use Rattle.desk_file.specs.Files.{Begins, Closes, Copies, HasOursFirst, IsFoundIn, IsLeft, IsOfOne, IsWhole, KeepsTables, Leaves, MayRead, ReadsAs}
 use Rattle.desk_file.specs.Refused.{IsFaultFor, IsFaultIn, LeavesMade, idle_state}
-use Rattle.desk_commands.specs.declared.left.Left.{Left}
-use Rattle.desk_commands.specs.declared.left.Left.TheVariants.{Nothing, Desk, Migrated, Refused}
+use Rattle.desk_commands.specs.declared.left.ToClose.{ToClose}
+use Rattle.desk_commands.specs.declared.left.ToClose.TheVariants.{Nothing, Desk, Migrated, Refused}
 
 -- ---- how files are closed
 
@@ -53,7 +53,7 @@ ClosesDesk whole desk files =
 ClosesDesk failed desk files = Leaves (conn_of desk) files
 
 -- So were the files that a command left, if it opened any.
-abbrev pub ClosesLeft : {D : Type 0} {g : disk.Ghosts D} → Close → Left D g → Option (Files D)
+abbrev pub ClosesLeft : {D : Type 0} {g : disk.Ghosts D} → Close → ToClose D g → Option (Files D)
     → Type 0
 ClosesLeft how Nothing files = files ≡ None
 ClosesLeft how (Desk desk) files = IsSomeAnd files (ClosesDesk how desk)

@@ -16,13 +16,13 @@ use Rattle.line_schema.specs.Opening.{fault_text}
 use Rattle.line_schema.specs.Stands.{Kept, Stands, state_of}
 use Rattle.desk_file.specs.Files.{Begins, HasOursFirst, MigratedFrom}
 use Rattle.desk_file.specs.Refused.{RefusesMigration, RefusesRun}
-use Rattle.http_answers.specs.Requests.{request_rule}
-use Rattle.desk_runs.specs.Told.{unavailable_line}
-use Rattle.desk_runs.specs.Clients.{Exchange}
-use Rattle.desk_runs.specs.Connections.{AnswersEach}
+use Rattle.gateway_http.specs.Requests.{request_rule}
+use Rattle.desk_commands.specs.Told.{unavailable_line}
+use Rattle.desk_commands.specs.Clients.{Exchange}
+use Rattle.desk_commands.specs.Connections.{AnswersEach}
 use Rattle.gateway_http.specs.Reports.{report_of}
-use Rattle.desk_commands.specs.declared.left.Left.{Left}
-use Rattle.desk_commands.specs.declared.left.Left.TheVariants.{Desk, Migrated, Refused}
+use Rattle.desk_commands.specs.declared.left.ToClose.{ToClose}
+use Rattle.desk_commands.specs.declared.left.ToClose.TheVariants.{Desk, Migrated, Refused}
 
 -- A desk of rules Two that has accepted nothing.
 abbrev pub fresh : ℕ → Ledger
@@ -34,7 +34,7 @@ RunsInMemory greatest Fact = (H : History) × IsConsistent H × Fact (fresh grea
 
 -- If the disk did not lie and the file held only the desk's tables, the open desk went from their history to one that
 -- the fact gives. A run begins with tables of version 2 or with none, so a file of version 1 gives no answers.
-abbrev pub RunsOn : {T D : Type 0} {g : disk.Ghosts D} → start.Ghosts T → Option ℕ → Left D g
+abbrev pub RunsOn : {T D : Type 0} {g : disk.Ghosts D} → start.Ghosts T → Option ℕ → ToClose D g
     → (Ledger → History → Type 0) → Type 0
 RunsOn first make (Desk d) Fact =
     HasCleanDisk (state_of over_files d) → HasOursFirst (image_at first)
@@ -48,7 +48,7 @@ RunsOn first make _ Fact = ⊥
 
 -- An audit found this number of commands, the length of a judged history, even if the disk lied. If it did not lie, and
 -- the file held only the desk's tables, this is the history at the start of the run.
-abbrev pub Audits : {T D : Type 0} {g : disk.Ghosts D} → start.Ghosts T → Left D g → ℕ → Type 0
+abbrev pub Audits : {T D : Type 0} {g : disk.Ghosts D} → start.Ghosts T → ToClose D g → ℕ → Type 0
 Audits first (Desk d) count =
     ((L : Kept) × Stands over_files state.Stands state.kept_rules d L × (count ≡ length L.history))
     × RunsOn first None (Desk d) (λ G H. (H ≡ G.history) × (count ≡ length H))
@@ -56,31 +56,31 @@ Audits first _ count = ⊥
 
 -- A file was migrated. If its disk did not lie, and it held only the desk's tables, its connection holds those of its
 -- history by version 2, and a crash leaves only these.
-abbrev pub Migrates : {T D : Type 0} {g : disk.Ghosts D} → start.Ghosts T → Left D g → Type 0
+abbrev pub Migrates : {T D : Type 0} {g : disk.Ghosts D} → start.Ghosts T → ToClose D g → Type 0
 Migrates first (Migrated conn) =
     HasCleanDisk (file_state conn) → HasOursFirst (image_at first)
     → MigratedFrom (image_at first) conn
 Migrates first _ = ⊥
 
 -- A run that may make a desk up to this number refused the files for this fault.
-abbrev pub Refuses : {T D : Type 0} {g : disk.Ghosts D} → start.Ghosts T → Option ℕ → Left D g
+abbrev pub Refuses : {T D : Type 0} {g : disk.Ghosts D} → start.Ghosts T → Option ℕ → ToClose D g
     → OpenFault → Type 0
 Refuses first make (Refused r) fault = (r.fault ≡ fault) × RefusesRun (image_at first) make r
 Refuses first make _ fault = ⊥
 
 -- A migration refused them.
-abbrev pub RefusesToMigrate : {T D : Type 0} {g : disk.Ghosts D} → start.Ghosts T → Left D g
+abbrev pub RefusesToMigrate : {T D : Type 0} {g : disk.Ghosts D} → start.Ghosts T → ToClose D g
     → OpenFault → Type 0
 RefusesToMigrate first (Refused r) fault = (r.fault ≡ fault) × RefusesMigration (image_at first) r
 RefusesToMigrate first _ fault = ⊥
 
 -- A command on a desk leaves the desk, a refused file, or nothing.
-abbrev pub LeavesDesk : {D : Type 0} {g : disk.Ghosts D} → Left D g → Type 0
+abbrev pub LeavesDesk : {D : Type 0} {g : disk.Ghosts D} → ToClose D g → Type 0
 LeavesDesk (Migrated conn) = ⊥
 LeavesDesk _ = ⊤
 
 -- A migration leaves the file, migrated or refused.
-abbrev pub LeavesFile : {D : Type 0} {g : disk.Ghosts D} → Left D g → Type 0
+abbrev pub LeavesFile : {D : Type 0} {g : disk.Ghosts D} → ToClose D g → Type 0
 LeavesFile (Desk d) = ⊥
 LeavesFile _ = ⊤
 

@@ -4,17 +4,19 @@ ghost use Rattle.std.specs.Prelude.{◌+◌, ◌≤◌, None, Some};
 ghost use Rattle.desk_types.specs.declared.limits.TheConstants.{MOST_ENTRIES, MOST_READS};
 ghost use Rattle.desk_types.specs.Wire.{reads_of};
 ghost use Rattle.line_schema.specs.declared.fault.OpenFault.TheVariants.{Unavailable};
-ghost use Rattle.desk_runs.specs.Ends.{FeedEnds, ImportEnds};
-ghost use Rattle.desk_runs.specs.Runs.{StaysSame};
-ghost use Rattle.desk_runs.specs.Told.{TellsLine};
-ghost use Rattle.desk_runs.specs.Wires.{HaveFewCounts, HaveFewFailures};
+ghost use Rattle.desk_commands.specs.Ends.{FeedEnds, ImportEnds};
+ghost use Rattle.desk_commands.specs.OpenRuns.{StaysSame};
+ghost use Rattle.desk_commands.specs.Told.{TellsLine};
+ghost use Rattle.desk_commands.specs.Wires.{HaveFewCounts, HaveFewFailures};
 ghost use Rattle.desk_commands.specs.Runs.{HasNoDesk, LeavesDesk, Refuses, RunsInMemory, RunsOn, refusal_line};
 
-use crate::left::Left;
+use crate::exit::unavailable;
+use crate::import::import_rows;
+use crate::left::ToClose;
+use crate::lines::feed_lines;
 use crate::refusal::tell_refusal;
+use desk_feed::Folder;
 use desk_file::{in_memory, open_desk};
-use desk_import::Folder;
-use desk_runs::{feed_lines, import_rows, unavailable};
 use desk_types::Wire;
 use feeder_state::StateDesk;
 use imports::Import;
@@ -61,7 +63,7 @@ pub fn feed_in_file<T: Start, R: Read, W: Write, E: Write>(
     input: &mut Wire<R>,
     output: &mut Wire<W>,
     errors: &mut Wire<E>,
-) -> (u8, Left<FileFrom<T>>)
+) -> (u8, ToClose<FileFrom<T>>)
     requires least { 1 ≤ greatest }
     requires most { greatest ≤ MOST_ENTRIES }
     requires few { HaveFewCounts input.old output.old errors.old }
@@ -77,11 +79,11 @@ pub fn feed_in_file<T: Start, R: Read, W: Write, E: Write>(
         Ok(store) => {
             let mut store = store;
             let status = feed_lines(rt.alloc(), input, output, errors, &mut store);
-            (status, Left::Desk(store))
+            (status, ToClose::Desk(store))
         }
         Err(refusal) => (
             tell_refusal(rt.alloc(), &refusal.fault, errors),
-            Left::Refused(refusal),
+            ToClose::Refused(refusal),
         ),
     }
 }
@@ -96,7 +98,7 @@ pub fn import_in_file<T: Start, F: Folder, W: Write, E: Write>(
     from: &str,
     output: &mut Wire<W>,
     errors: &mut Wire<E>,
-) -> (u8, Left<FileFrom<T>>)
+) -> (u8, ToClose<FileFrom<T>>)
     requires few { HaveFewFailures output.old errors.old }
     ensures ends { ImportEnds W.contents E.contents output.old output.new errors.old errors.new
         import.now (F.holds folder.now from.now) (F.may_fail folder.now from.now)
@@ -110,11 +112,11 @@ pub fn import_in_file<T: Start, F: Folder, W: Write, E: Write>(
         Ok(store) => {
             let mut store = store;
             let status = import_rows(rt.alloc(), &mut store, import, folder, from, output, errors);
-            (status, Left::Desk(store))
+            (status, ToClose::Desk(store))
         }
         Err(refusal) => (
             tell_refusal(rt.alloc(), &refusal.fault, errors),
-            Left::Refused(refusal),
+            ToClose::Refused(refusal),
         ),
     }
 }

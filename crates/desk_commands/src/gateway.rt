@@ -2,19 +2,20 @@
 
 ghost use Rattle.std.specs.Prelude.{◌≡◌, ◌≤◌, None, Some};
 ghost use Rattle.desk_types.specs.declared.limits.TheConstants.{MOST_ENTRIES};
-ghost use Rattle.http_answers.specs.Requests.{request_rule};
+ghost use Rattle.gateway_http.specs.Requests.{request_rule};
 ghost use Rattle.gateway_http.specs.Reports.{report_of};
-ghost use Rattle.desk_runs.specs.Clients.{ServesAt};
-ghost use Rattle.desk_runs.specs.Ends.{ReportEnds, ServingEnds};
-ghost use Rattle.desk_runs.specs.Runs.{AnswersReport};
-ghost use Rattle.desk_runs.specs.Told.{TellsLine};
-ghost use Rattle.desk_runs.specs.Wires.{HaveFewFailures};
+ghost use Rattle.desk_commands.specs.Clients.{ServesAt};
+ghost use Rattle.desk_commands.specs.Ends.{ReportEnds, ServingEnds};
+ghost use Rattle.desk_commands.specs.OpenRuns.{AnswersReport};
+ghost use Rattle.desk_commands.specs.Told.{TellsLine};
+ghost use Rattle.desk_commands.specs.Wires.{HaveFewFailures};
 ghost use Rattle.desk_commands.specs.Runs.{HasNoDesk, LeavesDesk, Refuses, RunsOn};
 
-use crate::left::Left;
+use crate::clients::Clients;
+use crate::left::ToClose;
+use crate::port::{serve_port, tell_report};
 use crate::refusal::tell_refusal;
 use desk_file::open_desk;
-use desk_runs::{Clients, serve_port, tell_report};
 use desk_types::Wire;
 use feeder_state::StateDesk;
 use sqlite::{FileFrom, Start};
@@ -32,7 +33,7 @@ pub fn serve_in_file<T: Start, C: Clients, W: Write, E: Write>(
     greatest: u32,
     output: &mut Wire<W>,
     errors: &mut Wire<E>,
-) -> (u8, Left<FileFrom<T>>)
+) -> (u8, ToClose<FileFrom<T>>)
     requires some { 1 ≤ connections }
     requires least { 1 ≤ greatest }
     requires most { greatest ≤ MOST_ENTRIES }
@@ -56,11 +57,11 @@ pub fn serve_in_file<T: Start, C: Clients, W: Write, E: Write>(
                 errors,
                 &mut store,
             );
-            (status, Left::Desk(store))
+            (status, ToClose::Desk(store))
         }
         Err(refusal) => (
             tell_refusal(rt.alloc(), &refusal.fault, errors),
-            Left::Refused(refusal),
+            ToClose::Refused(refusal),
         ),
     }
 }
@@ -74,7 +75,7 @@ pub fn report_in_file<T: Start, W: Write, E: Write>(
     target: &str,
     output: &mut Wire<W>,
     errors: &mut Wire<E>,
-) -> (u8, Left<FileFrom<T>>)
+) -> (u8, ToClose<FileFrom<T>>)
     requires few { HaveFewFailures output.old errors.old }
     ensures ends { ReportEnds W.contents E.contents output.old output.new errors.old errors.new
         (λ answer. RunsOn T.Start None result.1 (AnswersReport report_of target.now answer))
@@ -86,11 +87,11 @@ pub fn report_in_file<T: Start, W: Write, E: Write>(
         Ok(store) => {
             let mut store = store;
             let status = tell_report(rt.alloc(), target, output, errors, &mut store);
-            (status, Left::Desk(store))
+            (status, ToClose::Desk(store))
         }
         Err(refusal) => (
             tell_refusal(rt.alloc(), &refusal.fault, errors),
-            Left::Refused(refusal),
+            ToClose::Refused(refusal),
         ),
     }
 }

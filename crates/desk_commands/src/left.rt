@@ -1,13 +1,13 @@
 //! The files that a command leaves open.
 
-use desk_file::Refusal;
+use desk_file::RefusedFile;
 use feeder_state::StateDesk;
 use line_schema::LineStore;
 use sqlite::{Connection, FileStore};
 use sqlite_disk::Disk;
 
 /// The connection to close after a command.
-pub enum Left<D: Disk + Drop> {
+pub enum ToClose<D: Disk + Drop> {
     /// Nothing was opened.
     Nothing,
     /// The desk of a file.
@@ -15,5 +15,5 @@ pub enum Left<D: Disk + Drop> {
     /// A file that was migrated.
     Migrated(Connection<FileStore<D>>),
     /// A file that was refused.
-    Refused(Refusal<D>),
+    Refused(RefusedFile<D>),
 }

@@ -1,16 +1,16 @@
 //! A desk in a file, audited or migrated.
 
 ghost use Rattle.std.specs.Prelude.{◌≡◌, ◌⊎◌, None, ℕ};
-ghost use Rattle.desk_runs.specs.Ends.{PrintEnds};
-ghost use Rattle.desk_runs.specs.Runs.{StaysSame};
-ghost use Rattle.desk_runs.specs.Told.{lawful_line, version_line, TellsLine};
-ghost use Rattle.desk_runs.specs.Wires.{HaveFewFailures};
+ghost use Rattle.desk_commands.specs.Ends.{PrintEnds};
+ghost use Rattle.desk_commands.specs.OpenRuns.{StaysSame};
+ghost use Rattle.desk_commands.specs.Told.{lawful_line, version_line, TellsLine};
+ghost use Rattle.desk_commands.specs.Wires.{HaveFewFailures};
 ghost use Rattle.desk_commands.specs.Runs.{Audits, HasNoDesk, LeavesDesk, LeavesFile, Migrates, Refuses, RefusesToMigrate, RunsOn};
 
-use crate::left::Left;
+use crate::left::ToClose;
 use crate::refusal::tell_refusal;
+use crate::texts::{send_text, tell_lawful};
 use desk_file::{migrate_desk, open_desk};
-use desk_runs::{send_text, tell_lawful};
 use desk_types::Wire;
 use feeder_state::StateDesk;
 use sqlite::{FileFrom, Start};
@@ -24,7 +24,7 @@ pub fn audit_file<T: Start, W: Write, E: Write>(
     start: T,
     output: &mut Wire<W>,
     errors: &mut Wire<E>,
-) -> (u8, Left<FileFrom<T>>)
+) -> (u8, ToClose<FileFrom<T>>)
     requires few { HaveFewFailures output.old errors.old }
     ensures ends { (count : ℕ)
         × PrintEnds W.contents E.contents output.old output.new errors.old errors.new
@@ -37,11 +37,11 @@ pub fn audit_file<T: Start, W: Write, E: Write>(
     match open_desk::<T, StateDesk>(rt, file, start, None) {
         Ok(store) => {
             let status = tell_lawful(rt.alloc(), store.count(), output, errors);
-            (status, Left::Desk(store))
+            (status, ToClose::Desk(store))
         }
         Err(refusal) => (
             tell_refusal(rt.alloc(), &refusal.fault, errors),
-            Left::Refused(refusal),
+            ToClose::Refused(refusal),
         ),
     }
 }
@@ -54,7 +54,7 @@ pub fn migrate_file<T: Start, W: Write, E: Write>(
     start: T,
     output: &mut Wire<W>,
     errors: &mut Wire<E>,
-) -> (u8, Left<FileFrom<T>>)
+) -> (u8, ToClose<FileFrom<T>>)
     requires few { HaveFewFailures output.old errors.old }
     ensures ends { PrintEnds W.contents E.contents output.old output.new errors.old errors.new
         version_line (HasNoDesk (RefusesToMigrate T.Start result.1) ⊥
@@ -65,11 +65,11 @@ pub fn migrate_file<T: Start, W: Write, E: Write>(
     match migrate_desk::<T, StateDesk>(rt, file, start) {
         Ok(conn) => {
             let status = send_text("version 2\n", output, errors);
-            (status, Left::Migrated(conn))
+            (status, ToClose::Migrated(conn))
         }
         Err(refusal) => (
             tell_refusal(rt.alloc(), &refusal.fault, errors),
-            Left::Refused(refusal),
+            ToClose::Refused(refusal),
         ),
     }
 }

@@ -2,10 +2,10 @@
 
 ghost use Rattle.std.specs.Prelude.{◌≡◌, ◌⊎◌, ◌^◌, ◌<◌};
 ghost use Rattle.desk_types.specs.Wire.{failures_of};
-ghost use Rattle.desk_runs.specs.Told.{unavailable_line, TellsLine};
+ghost use Rattle.desk_commands.specs.Told.{unavailable_line, TellsLine};
 ghost use Rattle.desk_commands.specs.Runs.{refusal_line};
 
-use desk_runs::{Exit, tell_line, unavailable};
+use crate::exit::{Exit, tell_line, unavailable};
 use desk_types::Wire;
 use line_schema::OpenFault;
 use std::alloc::Global;

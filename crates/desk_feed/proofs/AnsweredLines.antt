@@ -8,7 +8,7 @@ use Rattle.std.specs.Io.KnownBytes.{Appends}
 use Rattle.std.proofs.KnownBytes.{Appends-trans}
 use Rattle.desk_types.specs.declared.rules.Rules.{Rules}
 use Rattle.desk_types.specs.History.{History}
-use Rattle.served.specs.declared.serving.Served.{Served}
+use Rattle.desk_answers.specs.declared.serving.Served.{Served}
 use Rattle.desk_types.specs.declared.limits.TheConstants.{LONGEST_INPUT}
 use Rattle.desk_feed.specs.declared.line.LineAnswer.TheVariants.{TooLong}
 use Rattle.desk_feed.specs.declared.message.AnswerText.{AnswerText}

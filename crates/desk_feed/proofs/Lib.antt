@@ -1,5 +1,6 @@
 pub mod AnsweredLines
-pub mod ConstantRows
+pub mod ConstantCases
+pub mod FileFronts
 pub mod LinesOfInputs
 pub mod OwnersOfLines
 pub mod TakenLines

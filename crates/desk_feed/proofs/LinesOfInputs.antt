@@ -7,7 +7,7 @@ use Rattle.std.specs.Io.KnownBytes.{Consumes, IsAtEnd, prepend_known}
 use Rattle.std.proofs.KnownBytes.{Consumes-trans}
 use Rattle.desk_feed.specs.Lines.{is_feed, is_empty, without_return, lines_in, lines_of, ended_lines}
 use Rattle.desk_feed.specs.Taking.{HasNoFeed, TakesLine, LinesGone}
-use Rattle.served.specs.declared.serving.Served.{Served}
+use Rattle.desk_answers.specs.declared.serving.Served.{Served}
 use Rattle.desk_feed.specs.Stream.{IsFront, AnswersEnded}
 
 kept : (b : Bool) (x : List ℕ) (xs : List (List ℕ)) → cond (not b) (x ∷ xs) xs ≡ cond b [] (x ∷ []) ++ xs

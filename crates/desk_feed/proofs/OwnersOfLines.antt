@@ -2,10 +2,10 @@
 use Rattle.std.proofs.Common.{◌≡◌, ℕ, List, [], ◌∷◌, ◌++◌, Option, IfSome, sym, subst}
 use Rattle.std.proofs.KnownBytes.{Appends-nil}
 use Rattle.desk_answers.specs.Ledger.{Ledger, ForLists}
-use Rattle.served.specs.declared.serving.Served.{Served}
+use Rattle.desk_answers.specs.declared.serving.Served.{Served}
 use Rattle.desk_feed.specs.LineAnswers.{Serves, Breaks}
 use Rattle.desk_feed.specs.Lines.{lines_of}
-use Rattle.served.specs.Counts.{none_served}
+use Rattle.desk_answers.specs.Counts.{none_served}
 use Rattle.desk_feed.specs.Stream.{IsFront, AnsweredInto}
 use Rattle.desk_feed.proofs.AnsweredLines.{none_answered, answered_more}
 

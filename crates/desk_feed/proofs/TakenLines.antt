@@ -2,7 +2,7 @@
 use Rattle.std.proofs.Common.{◌≡◌, ◌∙◌, ◌<◌, ◌+◌, ℕ, List, [], ◌∷◌, ◌++◌, sym, ap, take, drop, length, get_or, Option, arith, append_assoc, append-nil}
 use Rattle.std.proofs.lemmas.List.{drop_more, take-append-drop, drop_all}
 use Rattle.std.specs.Io.KnownBytes.{prepend_known, Consumes}
-use Rattle.served.proofs.Blocks.{front_goes}
+use Rattle.desk_answers.proofs.Blocks.{front_goes}
 
 cut_at : (xs : List ℕ) (n : ℕ) → n < length xs → get_or xs n 0 ≡ 10 → xs ≡ (take n xs ++ 10 ∷ []) ++ drop (n + 1) xs
 cut_at xs n lt e =

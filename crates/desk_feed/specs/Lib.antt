@@ -1,6 +1,9 @@
+pub mod Folder
+pub mod Import
 pub mod LineAnswers
 pub mod Lines
 pub mod Messages
+pub mod Options
 pub mod Repeats
 pub mod Stream
 pub mod Taking

@@ -4,8 +4,8 @@ use Rattle.cfx_profile.specs.Answer.{unavailable_text}
 use Rattle.desk_types.specs.declared.rules.Rules.{Rules}
 use Rattle.desk_types.specs.History.{History}
 use Rattle.desk_answers.specs.Ledger.{Ledger}
-use Rattle.served.specs.Counts.{CountsUpToOne}
-use Rattle.served.specs.declared.serving.Served.{Served}
+use Rattle.desk_answers.specs.Counts.{CountsUpToOne}
+use Rattle.desk_answers.specs.declared.serving.Served.{Served}
 use Rattle.desk_feed.specs.declared.line.LineAnswer.{LineAnswer}
 use Rattle.desk_feed.specs.declared.line.LineAnswer.TheVariants.{Made, TooLong, Unavailable}
 use Rattle.desk_feed.specs.declared.message.AnswerText.{AnswerText}
@@ -13,7 +13,7 @@ use Rattle.desk_feed.specs.declared.message.Verdict.TheVariants as verdict
 use Rattle.desk_feed.specs.declared.taking.RawLine.{RawLine}
 use Rattle.desk_feed.specs.Lines.{lines_in, without_return}
 use Rattle.desk_feed.specs.Taking.{HoldsLine}
-use Rattle.served.specs.Sent.{SendsFront}
+use Rattle.desk_answers.specs.Sent.{SendsFront}
 use Rattle.desk_feed.specs.Stream.{Answered, sent_line, line_answer, line_after, too_long_text}
 
 -- The answer's text, including fixed texts.

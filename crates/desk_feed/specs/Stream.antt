@@ -7,17 +7,17 @@ use Rattle.cfx_profile.specs.Answer.{faulty, unavailable_text}
 use Rattle.desk_types.specs.declared.rules.Rules.{Rules}
 use Rattle.desk_types.specs.History.{History}
 use Rattle.desk_answers.specs.Ledger.{Ledger}
-use Rattle.served.specs.declared.serving.Served.{Served}
-use Rattle.served.specs.declared.serving.ServeFault.{ServeFault}
-use Rattle.served.specs.declared.serving.ServeFault.TheVariants.{Read, Write, TooManyReads}
+use Rattle.desk_answers.specs.declared.serving.Served.{Served}
+use Rattle.desk_answers.specs.declared.serving.ServeFault.{ServeFault}
+use Rattle.desk_answers.specs.declared.serving.ServeFault.TheVariants.{Read, Write, TooManyReads}
 use Rattle.desk_types.specs.declared.limits.TheConstants.{LONGEST_INPUT}
 use Rattle.desk_feed.specs.declared.message.AnswerText.{AnswerText}
 use Rattle.desk_feed.specs.declared.message.Verdict.TheVariants as verdict
 use Rattle.desk_feed.specs.Lines.{lines_of, ended_lines}
 use Rattle.desk_feed.specs.Messages.{answer_to, list_after}
 use Rattle.desk_feed.specs.Verdicts.{is_refused}
-use Rattle.served.specs.Counts.{none_served}
-use Rattle.served.specs.Sent.{SendsFront}
+use Rattle.desk_answers.specs.Counts.{none_served}
+use Rattle.desk_answers.specs.Sent.{SendsFront}
 
 -- ---- one line
 

@@ -2,12 +2,12 @@
 use Rattle.std.specs.Prelude.{◌≡◌, ℕ, ◌<◌, ◌≤◌, Bool, true, false, All, List, [], ◌∷◌, ◌++◌, length, take, get_or, Option, Some, None, Result, Ok, OnOk}
 use Rattle.std.specs.Io.KnownBytes.{Consumes, IsAtEnd}
 use Rattle.desk_types.specs.declared.wire.Wire.{Wire}
-use Rattle.served.specs.declared.block.Block.{Block}
-use Rattle.served.specs.Block.{fuel, pending_bytes, source}
+use Rattle.desk_answers.specs.declared.block.Block.{Block}
+use Rattle.desk_answers.specs.Block.{fuel, pending_bytes, source}
 use Rattle.desk_feed.specs.Lines.{is_feed, is_empty, without_return, lines_of}
 use Rattle.desk_feed.specs.declared.taking.TheConstants.{LONGEST_RAW}
 use Rattle.desk_feed.specs.declared.taking.RawLine.{RawLine}
-use Rattle.desk_feed.specs.declared.taking.Taken.{Taken}
+use Rattle.desk_feed.specs.declared.taking.TakenLine.{TakenLine}
 use Rattle.desk_feed.specs.declared.taking.RawLine.TheVariants.{Whole, Over, NoMemory, NoMemoryReturn}
 
 abbrev pub HasNoFeed : List ℕ → Type 0
@@ -31,7 +31,7 @@ TakesLine old raw true new = HasNoFeed raw × Consumes old new raw × IsAtEnd ne
 TakesLine old raw false new = HasNoFeed raw × Consumes old new (raw ++ 10 ∷ [])
 
 -- The next line was taken.
-abbrev pub TakesNext : Option (List ℕ) → Taken → Option (List ℕ) → Type 0
+abbrev pub TakesNext : Option (List ℕ) → TakenLine → Option (List ℕ) → Type 0
 TakesNext old taken new = (raw : List ℕ) × HoldsLine taken.line raw
     × TakesLine old raw taken.last new
 

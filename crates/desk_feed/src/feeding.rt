@@ -3,20 +3,19 @@
 ghost use Rattle.std.specs.Prelude.{ℕ, List};
 ghost use Rattle.desk_types.specs.Wire.{inner_of};
 ghost use Rattle.desk_answers.specs.Ledger.{ForLists};
-ghost use Rattle.served.specs.Counts.{CanCountAnswer};
-ghost use Rattle.served.specs.Owners.{StaysReady};
-ghost use Rattle.served.specs.Sent.{CountsWrite};
-ghost use Rattle.served.specs.Shown.{CanCountRun, CountsRun};
+ghost use Rattle.desk_answers.specs.Counts.{CanCountAnswer};
+ghost use Rattle.desk_answers.specs.Owners.{StaysReady};
+ghost use Rattle.desk_answers.specs.Sent.{CountsWrite};
+ghost use Rattle.desk_answers.specs.Shown.{CanCountRun, CountsRun};
 ghost use Rattle.desk_feed.specs.Taking.{HoldsLine};
 ghost use Rattle.desk_feed.specs.LineAnswers.{CountsLine, SendsLine};
 ghost use Rattle.desk_feed.specs.Lines.{lines_in};
 ghost use Rattle.desk_feed.specs.Stream.{AnswersInput, ReadsInput};
 
 use crate::line::answer_line;
-use crate::taking::{RawLine, Taken, take_line};
-use desk_answers::Owner;
+use crate::taking::{RawLine, TakenLine, take_line};
+use desk_answers::{Block, Owner, ReadFault, ServeFault, Served, WriteFailed, send_line};
 use desk_types::{MOST_READS, Wire};
-use served::{Block, ReadFault, ServeFault, Served, WriteFailed, send_line};
 use std::alloc::Global;
 use std::io::{Read, Write};
 
@@ -50,7 +49,7 @@ pub fn feed<R: Read, W: Write, L: Owner>(
     };
     'lines: loop {
         match take_line(alloc, &mut block, input, most_reads) {
-            Ok(Taken { line: raw, last }) => {
+            Ok(TakenLine { line: raw, last }) => {
                 match serve_line(alloc, output, owner, raw, &mut served) {
                     Ok(()) if last => return Ok(served),
                     Ok(()) => {}

@@ -3,13 +3,13 @@
 ghost use Rattle.std.specs.Prelude.{◌≡◌, ◌<◌, ◌++◌, ℕ, List, IfOk, OnOk, OnErr};
 ghost use Rattle.std.specs.Io.KnownBytes.{Keeps};
 ghost use Rattle.desk_types.specs.Wire.{inner_of};
-ghost use Rattle.served.specs.Block.{source, fuel};
-ghost use Rattle.served.specs.Reads.{MayReadInto, ReadsInto};
+ghost use Rattle.desk_answers.specs.Block.{source, fuel};
+ghost use Rattle.desk_answers.specs.Reads.{MayReadInto, ReadsInto};
 ghost use Rattle.desk_feed.specs.Taking.{FallsAtEnd, HasPending, IsFirstFeed, HoldsLine, ReadsInside, TakesNext};
 ghost use Rattle.desk_feed.specs.Lines.{without_return};
 
+use desk_answers::{Block, ReadFault};
 use desk_types::{LONGEST_INPUT, Wire};
-use served::{Block, ReadFault};
 use std::alloc::Global;
 use std::io::Read;
 
@@ -31,7 +31,7 @@ pub enum RawLine {
 
 /// A line, and whether it comes after the last line feed.
 #[derive(Drop)]
-pub struct Taken {
+pub struct TakenLine {
     pub line: RawLine,
     pub last: bool,
 }
@@ -43,7 +43,7 @@ pub fn take_line<R: Read>(
     block: &mut Block,
     wire: &mut Wire<R>,
     most_reads: u64,
-) -> Result<Taken, ReadFault>
+) -> Result<TakenLine, ReadFault>
     requires reads { MayReadInto most_reads wire.old block.old }
     ensures reads { ReadsInto most_reads result wire.old wire.new block.new }
     ensures line { IfOk result
@@ -63,7 +63,7 @@ pub fn take_line<R: Read>(
             Some(count) => {
                 let line = extend_line(line, &bytes[..count]);
                 block.give(count + 1);
-                return Ok(Taken { line, last: false });
+                return Ok(TakenLine { line, last: false });
             }
             None => {
                 line = extend_line(line, bytes);
@@ -71,7 +71,7 @@ pub fn take_line<R: Read>(
             }
         }
     }
-    Ok(Taken { line, last: true })
+    Ok(TakenLine { line, last: true })
 }
 
 /// Reads at most once, so that a byte is pending. Returns false at the end.

@@ -22,7 +22,7 @@ use Rattle.sqlite.specs.State.{HasCleanDisk, IsLive}
 use Rattle.desk_types.specs.declared.rules.Rules.{Rules}
 use Rattle.desk_types.specs.History.{History}
 use Rattle.line_tables.specs.Rows.{Holds}
-use Rattle.line_rows.specs.Rows.{ledger_tables}
+use Rattle.line_replay.specs.Rows.{ledger_tables}
 use Rattle.line_schema.specs.declared.store.LineStore.{LineStore}
 use Rattle.line_schema.specs.Stands.{conn_of}
 use Rattle.desk_file.specs.Files.{Closes, KeepsTables, Leaves, MayRead, ReadsAs}

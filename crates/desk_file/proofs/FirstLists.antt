@@ -22,7 +22,7 @@ use Rattle.line_tables.specs.Names.{has_name, is_version}
 use Rattle.line_tables.specs.Rows.{Tables, Holds, HoldsAt}
 use Rattle.line_tables.proofs.Holding.{held_at}
 use Rattle.line_tables.proofs.Ours.{is_blank_of, is_ours_of}
-use Rattle.line_rows.specs.Rows.{rows_of, ledger_tables}
+use Rattle.line_replay.specs.Rows.{rows_of, ledger_tables}
 use Rattle.line_schema.specs.Opening.{IsNamed, IsNamedBy}
 use Rattle.line_schema.specs.Versions.{IsMigrated}
 use Rattle.desk_file.specs.Found.{FindsAs}

@@ -18,7 +18,7 @@ use Rattle.line_tables.specs.Names.{has_name, has_state, is_accepted, is_version
 use Rattle.line_schema.specs.declared.fault.OpenFault.{OpenFault}
 use Rattle.line_schema.specs.declared.fault.OpenFault.TheVariants.{NotADesk, OtherVersion, NotLawful, TableDiffers, NotBlank, Unavailable}
 use Rattle.line_schema.specs.Opening.{IsFaultBy, IsNamedBy, IsNoDeskBy, IsToldBy}
-use Rattle.desk_file.specs.declared.refusal.Refusal.{Refusal}
+use Rattle.desk_file.specs.declared.refusal.RefusedFile.{RefusedFile}
 use Rattle.desk_file.specs.Files.{IsFoundIn}
 use Rattle.desk_file.specs.Refused.{IsFaultFor, IsFaultIn, IsRefused, IsUnchangedSince, LeavesMade, RefusesRun, idle_state}
 use Rattle.desk_file.proofs.FirstLists.{found}
@@ -137,10 +137,10 @@ refuses_so image make fault (Some conn) never is = record {
   never = λ _. never;
 }
 
-refuses_run : {D : Type 0} {g : disk.Ghosts D} (image : Image) (make : Option ℕ) (r : Refusal D g) → r.fault ≢ NotBlank → IsRefused image (IsFaultIn image Two) (λ _ _. ⊥) ⊥ r → RefusesRun image make r
+refuses_run : {D : Type 0} {g : disk.Ghosts D} (image : Image) (make : Option ℕ) (r : RefusedFile D g) → r.fault ≢ NotBlank → IsRefused image (IsFaultIn image Two) (λ _ _. ⊥) ⊥ r → RefusesRun image make r
 refuses_run image make r never is = refuses_so image make r.fault r.file never is
 
-pub refuses : {X D : Type 0} {g : disk.Ghosts D} (image : Image) (make : Option ℕ) (result : Result X (Refusal D g)) → IfErr result (λ r. r.fault ≢ NotBlank) → IfErr result (IsRefused image (IsFaultIn image Two) (λ _ _. ⊥) ⊥)
+pub refuses : {X D : Type 0} {g : disk.Ghosts D} (image : Image) (make : Option ℕ) (result : Result X (RefusedFile D g)) → IfErr result (λ r. r.fault ≢ NotBlank) → IfErr result (IsRefused image (IsFaultIn image Two) (λ _ _. ⊥) ⊥)
     → IfErr result (RefusesRun image make)
 refuses image make (Ok x) never is = tt
 refuses image make (Err r) never is = refuses_run image make r never is

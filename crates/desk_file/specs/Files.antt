@@ -27,7 +27,7 @@ use Rattle.desk_types.specs.History.{History}
 use Rattle.desk_types.specs.Judged.{IsLawful}
 use Rattle.line_tables.specs.Line.{IsOurs, no_schema}
 use Rattle.line_tables.specs.Rows.{Tables, Holds, HoldsAt, HoldsBy}
-use Rattle.line_rows.specs.Rows.{ledger_tables}
+use Rattle.line_replay.specs.Rows.{ledger_tables}
 use Rattle.line_schema.specs.declared.store.LineStore.{LineStore}
 use Rattle.line_schema.specs.Stands.{Kept, Stands}
 

@@ -17,7 +17,7 @@ use Rattle.line_tables.specs.Names.{has_name}
 use Rattle.line_schema.specs.declared.fault.OpenFault.{OpenFault}
 use Rattle.line_schema.specs.declared.fault.OpenFault.TheVariants.{NotADesk, NotBlank, Unavailable}
 use Rattle.line_schema.specs.Opening.{IsFaultBy, IsToldBy}
-use Rattle.desk_file.specs.declared.refusal.Refusal.{Refusal}
+use Rattle.desk_file.specs.declared.refusal.RefusedFile.{RefusedFile}
 use Rattle.desk_file.specs.Files.{IsFoundIn}
 
 -- ---- the fault
@@ -70,7 +70,7 @@ pub record IsUnchangedSince {D : Type 0} {g : disk.Ghosts D} (image : Image)
 -- has committed. Without a connection it is Unavailable, or NotADesk if none may be made.
 pub record IsRefused {D : Type 0} {g : disk.Ghosts D} (image : Image)
     (StandsIn : OpenFault → Type 0) (Leaves : State → Trees → Type 0) (MakesNone : Type 0)
-    (r : Refusal D g) : Type 0 where
+    (r : RefusedFile D g) : Type 0 where
   pub unopened : r.file ≡ None → (r.fault ≡ Unavailable) ⊎ ((r.fault ≡ NotADesk) × MakesNone)
   pub fault : IfSome r.file (λ conn. HasCleanDisk (file_state conn) → StandsIn r.fault)
   pub found : IfSome r.file (λ conn. HasCleanDisk (file_state conn)
@@ -84,9 +84,10 @@ abbrev pub LeavesMade : Option ℕ → State → Trees → Type 0
 LeavesMade make s trees = IsSomeAnd make (λ greatest. LeavesBlank greatest s trees)
 
 -- A run that may make a desk up to this number refused them.
-abbrev pub RefusesRun : {D : Type 0} {g : disk.Ghosts D} → Image → Option ℕ → Refusal D g → Type 0
+abbrev pub RefusesRun : {D : Type 0} {g : disk.Ghosts D}
+    → Image → Option ℕ → RefusedFile D g → Type 0
 RefusesRun image make = IsRefused image (IsFaultFor image make) (LeavesMade make) (make ≡ None)
 
 -- A migration refused them, by rules One. A crash may still leave the desk by version 2.
-abbrev pub RefusesMigration : {D : Type 0} {g : disk.Ghosts D} → Image → Refusal D g → Type 0
+abbrev pub RefusesMigration : {D : Type 0} {g : disk.Ghosts D} → Image → RefusedFile D g → Type 0
 RefusesMigration image = IsRefused image (IsFaultIn image One) LeavesMigrated ⊤

@@ -9,10 +9,10 @@ ghost use Rattle.desk_types.specs.declared.rules.Rules.TheVariants.{Two};
 ghost use Rattle.desk_types.specs.History.{History};
 ghost use Rattle.desk_types.specs.Judged.{IsJudged};
 ghost use Rattle.line_tables.specs.Rows.{Holds, HoldsAt};
-ghost use Rattle.line_rows.specs.Rows.{ledger_tables};
+ghost use Rattle.line_replay.specs.Rows.{ledger_tables};
 ghost use Rattle.desk_file.specs.Files.{Begins, HasOursFirst, IsFoundIn};
 
-use line_rows::rows_tell_lists_apart;
+use line_replay::rows_tell_lists_apart;
 
 /// A law: each run on files that hold the tables of a judged history begins with that history and its greatest number,
 /// whatever greatest number is requested. It serves proofs and does nothing when it runs.

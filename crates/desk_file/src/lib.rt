@@ -13,4 +13,4 @@ pub use law::next_run_goes_on;
 pub use memory::in_memory;
 pub use memory_file::MemoryFile;
 pub use opening::{DeskFile, FileDesk, close_desk, close_file, migrate_desk, open_desk};
-pub use refusal::Refusal;
+pub use refusal::RefusedFile;

@@ -17,7 +17,7 @@ ghost use Rattle.desk_file.specs.Files.{Begins, Closes, Copies, FindsNoTable, Ha
 ghost use Rattle.desk_file.specs.Refused.{IsFaultFor, IsFaultIn, IsRefused, LeavesMade, RefusesMigration, RefusesRun};
 
 use crate::path::open_path;
-use crate::refusal::Refusal;
+use crate::refusal::RefusedFile;
 use line_schema::{LineStore, OpenFault};
 use sqlite::{Connection, FileFrom, FileStore, Files, Start};
 use state_rows::KeepsRows;
@@ -39,7 +39,7 @@ pub fn open_desk<T: Start, D: KeepsRows + Drop>(
     path: &str,
     start: T,
     make: Option<u32>,
-) -> Result<FileDesk<T, D>, Refusal<FileFrom<T>>>
+) -> Result<FileDesk<T, D>, RefusedFile<FileFrom<T>>>
     requires range { IfSome make (λ greatest. (1 ≤ greatest) × (greatest ≤ MOST_ENTRIES)) }
     ensures stands { IfOk result
         (λ store. (L : Kept) × Stands over_files D.Stands D.kept_rules store L) }
@@ -57,7 +57,7 @@ pub fn open_desk<T: Start, D: KeepsRows + Drop>(
     let is_blank = is_blank::<T>(rt, path)?;
     match make {
         Some(greatest) if is_blank => new_desk(rt, path, start, greatest),
-        None if is_blank => Err(Refusal {
+        None if is_blank => Err(RefusedFile {
             fault: OpenFault::NotADesk,
             file: None,
         }),
@@ -72,14 +72,14 @@ pub fn migrate_desk<T: Start, D: KeepsRows + Drop>(
     rt: &HostRuntime,
     path: &str,
     start: T,
-) -> Result<DeskFile<T>, Refusal<FileFrom<T>>>
+) -> Result<DeskFile<T>, RefusedFile<FileFrom<T>>>
     ensures migrated { IfOk result
         (λ conn. HasCleanDisk (file_state conn) → HasOursFirst (image_at T.Start)
         → MigratedFrom (image_at T.Start) conn) }
     ensures refused { IfErr result (RefusesMigration (image_at T.Start)) }
 {
     if is_blank::<T>(rt, path)? {
-        return Err(Refusal {
+        return Err(RefusedFile {
             fault: OpenFault::NotADesk,
             file: None,
         });
@@ -87,7 +87,7 @@ pub fn migrate_desk<T: Start, D: KeepsRows + Drop>(
     let mut conn = connect(rt, path, start)?;
     match LineStore::<FileStore<FileFrom<T>>, D>::migrate(rt.alloc(), &mut conn) {
         Ok(_) => Ok(conn),
-        Err(fault) => Err(Refusal {
+        Err(fault) => Err(RefusedFile {
             fault,
             file: Some(conn),
         }),
@@ -125,7 +125,7 @@ pub fn close_file<T: Start>(
 }
 
 /// Returns whether the path has no file, or an empty one.
-fn is_blank<T: Start>(rt: &HostRuntime, path: &str) -> Result<bool, Refusal<FileFrom<T>>>
+fn is_blank<T: Start>(rt: &HostRuntime, path: &str) -> Result<bool, RefusedFile<FileFrom<T>>>
     ensures { IfErr result (λ r. r ≡ record { fault = Fault.Unavailable; file = None }) }
 {
     match fs::metadata(rt, path) {
@@ -151,10 +151,10 @@ fn has_no_byte(found: &Metadata) -> Option<bool>
     }
 }
 
-fn no_connection<T: Start>() -> Refusal<FileFrom<T>>
+fn no_connection<T: Start>() -> RefusedFile<FileFrom<T>>
     ensures { result ≡ record { fault = Fault.Unavailable; file = None } }
 {
-    Refusal {
+    RefusedFile {
         fault: OpenFault::Unavailable,
         file: None,
     }
@@ -166,7 +166,7 @@ fn new_desk<T: Start, D: KeepsRows + Drop>(
     path: &str,
     start: T,
     greatest: u32,
-) -> Result<FileDesk<T, D>, Refusal<FileFrom<T>>>
+) -> Result<FileDesk<T, D>, RefusedFile<FileFrom<T>>>
     requires least { 1 ≤ greatest }
     requires most { greatest ≤ MOST_ENTRIES }
     ensures refused { IfErr result (RefusesRun (image_at T.Start) (Some greatest)) }
@@ -185,7 +185,7 @@ fn new_desk<T: Start, D: KeepsRows + Drop>(
     let conn = connect(rt, path, start)?;
     match LineStore::create(rt.alloc(), conn, greatest) {
         Ok(store) => Ok(store),
-        Err((fault, conn)) => Err(Refusal {
+        Err((fault, conn)) => Err(RefusedFile {
             fault,
             file: Some(conn),
         }),
@@ -196,7 +196,7 @@ fn kept_desk<T: Start, D: KeepsRows + Drop>(
     rt: &HostRuntime,
     path: &str,
     start: T,
-) -> Result<FileDesk<T, D>, Refusal<FileFrom<T>>>
+) -> Result<FileDesk<T, D>, RefusedFile<FileFrom<T>>>
     ensures stands { IfOk result
         (λ store. (L : Kept) × Stands over_files D.Stands D.kept_rules store L) }
     ensures begins { IfOk result
@@ -211,7 +211,7 @@ fn kept_desk<T: Start, D: KeepsRows + Drop>(
     let conn = connect(rt, path, start)?;
     match LineStore::open(rt.alloc(), conn) {
         Ok(store) => Ok(store),
-        Err((fault, conn)) => Err(Refusal {
+        Err((fault, conn)) => Err(RefusedFile {
             fault,
             file: Some(conn),
         }),
@@ -223,7 +223,7 @@ fn connect<T: Start>(
     rt: &HostRuntime,
     path: &str,
     start: T,
-) -> Result<DeskFile<T>, Refusal<FileFrom<T>>>
+) -> Result<DeskFile<T>, RefusedFile<FileFrom<T>>>
     ensures opened { IfOk result (λ conn. HasCleanDisk (file_state conn) → IsOpened conn) }
     ensures found { IfOk result (λ conn. HasCleanDisk (file_state conn)
         → FindsAs (image_at T.Start) (file_state conn)) }

@@ -5,7 +5,7 @@ use sqlite::{Connection, FileStore};
 use sqlite_disk::Disk;
 
 /// Why the desk's file was refused, and the connection to it, if any, which the caller closes.
-pub struct Refusal<D: Disk + Drop> {
+pub struct RefusedFile<D: Disk + Drop> {
     pub fault: OpenFault,
     pub file: Option<Connection<FileStore<D>>>,
 }

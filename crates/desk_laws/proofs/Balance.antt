@@ -11,9 +11,9 @@ use Rattle.desk_types.specs.declared.rules.Rules.TheVariants.{Two}
 use Rattle.desk_types.specs.declared.take.Purpose.TheVariants.{Rejected}
 use Rattle.desk_types.specs.Id.{Name, same}
 use Rattle.desk_types.specs.History.{History}
-use Rattle.desk_types.specs.Setup.{slot_on, receipt_by, receipt_of}
+use Rattle.desk_types.specs.Setup.{receipt_by, receipt_of}
 use Rattle.desk_types.specs.Tape.{tape_of}
-use Rattle.desk_types.specs.Pieces.{pieces_picked, picks_of, pieces_by, left_of, all_picks, found_by, found_of, received_of, placed_of, scrapped_of}
+use Rattle.desk_types.specs.Pieces.{bench_of, pieces_picked, picks_of, pieces_by, left_of, all_picks, found_by, found_of, received_of, placed_of, scrapped_of}
 use Rattle.desk_types.specs.Refusals.{command_refusal}
 use Rattle.desk_types.specs.Judged.{IsJudged}
 use Rattle.desk_laws.proofs.Accepted.{next-accepted, received-once}
@@ -44,7 +44,7 @@ taken-by H minute (ReelReceived r part lot moisture quantity) reel judged accept
     by true other = cc
     by false other = and-nothing _
 taken-by H minute (MaterialsInstalled machine board designators) reel judged accepted other =
-    record { within = install-within (slot_on H machine) (tape_of H machine) (left_of H) machine board [] designators reel (omega arith); rest = and-nothing _; spent = λ empty. refl }
+    record { within = install-within (bench_of H machine board) [] designators reel (omega arith); rest = and-nothing _; spent = λ empty. refl }
 taken-by H minute (MaterialsScrapped machine slot quantity) reel judged accepted other =
     record { within = scrap-within (left_of H) (Rejected machine slot) (tape_of H machine slot) quantity reel (tape-distinct H machine slot judged); rest = and-nothing _; spent = λ empty. refl }
 taken-by H minute (CountsTaken counts) reel judged accepted other =

@@ -18,9 +18,8 @@ use Rattle.desk_types.specs.declared.take.Purpose.TheVariants.{Placed, Rejected,
 use Rattle.desk_types.specs.Id.{Name, same}
 use Rattle.desk_types.specs.Pair.{same_pair}
 use Rattle.desk_types.specs.History.{History}
-use Rattle.desk_types.specs.Setup.{slot_on}
 use Rattle.desk_types.specs.Tape.{tape_of}
-use Rattle.desk_types.specs.Pieces.{left_of, is_placed, picks_of}
+use Rattle.desk_types.specs.Pieces.{bench_of, left_of, is_placed, picks_of}
 use Rattle.desk_types.specs.Work.{places, is_placed_on}
 use Rattle.desk_types.specs.Refusals.{command_refusal}
 use Rattle.desk_types.specs.Outcome.{take_of}
@@ -101,14 +100,14 @@ named-distinct : (H : History) (minute : ℕ) (command : Command) → command_re
 unfolding command_refusal IsDistinct
 named-distinct H minute (MaterialsInstalled machine board ds) none =
     board-distinct board ds (
-    designators-differ (slot_on H machine) (tape_of H machine) (left_of H) (is_placed_on H board) machine board [] [] ds (installable H machine board ds none) tt)
+    designators-differ (bench_of H machine board) (is_placed_on H board) [] [] ds (installable H machine board ds none) tt)
 named-distinct H minute _ none = tt
 
 named-new : (H : History) (minute : ℕ) (command : Command) → command_refusal Two H minute command ≡ None
     → AllByRecursion (λ (s : Name × Name). is_placed_on H s.0 s.1 ≡ false) (spots_named command)
 unfolding command_refusal
 named-new H minute (MaterialsInstalled machine board ds) none =
-    each ds (designators-new (slot_on H machine) (tape_of H machine) (left_of H) (is_placed_on H board) machine board [] [] ds (installable H machine board ds none))
+    each ds (designators-new (bench_of H machine board) (is_placed_on H board) [] [] ds (installable H machine board ds none))
   where
     each : (xs : List Name) → AllByRecursion (λ d. is_placed_on H board d ≡ false) xs
         → AllByRecursion (λ (s : Name × Name). is_placed_on H s.0 s.1 ≡ false) (map (λ (x : Name). (board, x)) xs)

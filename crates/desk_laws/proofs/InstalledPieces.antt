@@ -19,7 +19,7 @@ use Rattle.desk_types.specs.Id.{Name, same}
 use Rattle.desk_types.specs.History.{History}
 use Rattle.desk_types.specs.Setup.{slot_on, receipt_of}
 use Rattle.desk_types.specs.Tape.{tape_of}
-use Rattle.desk_types.specs.Pieces.{pieces_off, pick_for, install_picks, scrap_picks, count_picks, left_of, is_placed, picks_of}
+use Rattle.desk_types.specs.Pieces.{bench_of, pieces_off, pick_for, install_picks, scrap_picks, count_picks, left_of, is_placed, picks_of}
 use Rattle.desk_types.specs.Outcome.{take_of}
 use Rattle.desk_types.specs.Judged.{IsJudged}
 use Rattle.desk_types.specs.Placements.{entry_takes, takes_of, placement_of, placements_of}
@@ -59,7 +59,7 @@ picked-push H command before (x ∷ xs) p (first, all) last =
     (first, picked-push H command (before ++ x ∷ []) xs p all (subst (λ b. IsPicked H command b p.reel p.purpose) (sym (append_assoc before (x ∷ []) xs)) last))
 
 one-picked : (H : History) (machine board : Name) (all : List Name) (before : List Pick) (d : Name) → ArePicked H (MaterialsInstalled machine board all) [] before
-    → ArePicked H (MaterialsInstalled machine board all) [] (before ++ option_to_list (pick_for (slot_on H machine) (tape_of H machine) (left_of H) machine board before d))
+    → ArePicked H (MaterialsInstalled machine board all) [] (before ++ option_to_list (pick_for (bench_of H machine board) before d))
 one-picked H machine board all before d right = by (slot_on H machine d) refl
   where
     pick : Name → Name → Pick
@@ -81,11 +81,11 @@ one-picked H machine board all before d right = by (slot_on H machine d) refl
 
 install-picked : (H : History) (machine board : Name) (all : List Name) (before : List Pick) (ds : List Name)
     → ArePicked H (MaterialsInstalled machine board all) [] before
-    → ArePicked H (MaterialsInstalled machine board all) [] (install_picks (slot_on H machine) (tape_of H machine) (left_of H) machine board before ds)
+    → ArePicked H (MaterialsInstalled machine board all) [] (install_picks (bench_of H machine board) before ds)
 unfolding install_picks
 install-picked H machine board all before [] right = right
 install-picked H machine board all before (d ∷ ds) right =
-    install-picked H machine board all (before ++ option_to_list (pick_for (slot_on H machine) (tape_of H machine) (left_of H) machine board before d)) ds
+    install-picked H machine board all (before ++ option_to_list (pick_for (bench_of H machine board) before d)) ds
     (one-picked H machine board all before d right)
 
 -- ---- other takes

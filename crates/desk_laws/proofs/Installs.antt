@@ -13,9 +13,7 @@ use Rattle.desk_types.specs.declared.take.Pick.{Pick}
 use Rattle.desk_types.specs.declared.take.Purpose.TheVariants.{Placed}
 use Rattle.desk_types.specs.Id.{Name, same}
 use Rattle.desk_types.specs.History.{History}
-use Rattle.desk_types.specs.Setup.{slot_on}
-use Rattle.desk_types.specs.Tape.{tape_of}
-use Rattle.desk_types.specs.Pieces.{pieces_picked, pick_for, install_picks, left_of, picks_of}
+use Rattle.desk_types.specs.Pieces.{Bench, bench_of, pieces_picked, pick_for, install_picks, picks_of}
 use Rattle.desk_types.specs.Work.{is_placed_on, is_in_work_on}
 use Rattle.desk_types.specs.Refusals.{first_refusal, designators_refusal, install_refusal, command_refusal}
 use Rattle.desk_laws.proofs.Accepted.{none-holds}
@@ -46,32 +44,32 @@ placed-at m b (x ∷ xs) (q ∷ qs) ps p board d machine slot (first, all) is = 
 
 -- ---- one message
 
-module _ (slot_of : Name → Option Name) (tape : Name → List Name) (pieces : Name → ℕ) (placed : Name → Bool) (machine board : Name) where
+module _ (bench : Bench) (placed : Name → Bool) where
   -- The tests of one designator.
   pub record IsPlaceable (before : List Pick) (seen : List Name) (d : Name) : Type 0 where
     pub once : list_any (same d) seen ≡ false
     pub new : placed d ≡ false
-    pub there : is_none (pick_for slot_of tape pieces machine board before d) ≡ false
+    pub there : is_none (pick_for bench before d) ≡ false
 
   abbrev pub next_picks : List Pick → Name → List Pick
-  next_picks before d = before ++ option_to_list (pick_for slot_of tape pieces machine board before d)
+  next_picks before d = before ++ option_to_list (pick_for bench before d)
 
-  pub placeable : (before : List Pick) (seen : List Name) (d : Name) (ds : List Name) → designators_refusal slot_of tape pieces placed machine board before seen (d ∷ ds) ≡ None
-      → IsPlaceable before seen d × (designators_refusal slot_of tape pieces placed machine board (next_picks before d) (seen ++ d ∷ []) ds ≡ None)
+  pub placeable : (before : List Pick) (seen : List Name) (d : Name) (ds : List Name) → designators_refusal bench placed before seen (d ∷ ds) ≡ None
+      → IsPlaceable before seen d × (designators_refusal bench placed (next_picks before d) (seen ++ d ∷ []) ds ≡ None)
   placeable before seen d ds none =
-      let both = or-none (first_refusal tests) (designators_refusal slot_of tape pieces placed machine board (next_picks before d) (seen ++ d ∷ []) ds) none in
+      let both = or-none (first_refusal tests) (designators_refusal bench placed (next_picks before d) (seen ++ d ∷ []) ds) none in
       let all = none-holds tests both.0 in
       (record { once = all.1.0; new = all.1.1.0; there = all.1.1.1.0 }, both.1)
     where
       tests : List (Bool × Refusal)
       tests =
-          (is_none (slot_of d), DesignatorNotOnSheet d)
+          (is_none (bench.slot_of d), DesignatorNotOnSheet d)
           ∷ (list_any (same d) seen, DesignatorTwice d)
           ∷ (placed d, AlreadyPlaced d)
-          ∷ (is_none (pick_for slot_of tape pieces machine board before d), ReelShort d)
+          ∷ (is_none (pick_for bench before d), ReelShort d)
           ∷ []
 
-  pub designators-differ : (before : List Pick) (seen ds : List Name) → designators_refusal slot_of tape pieces placed machine board before seen ds ≡ None → IsDistinct same seen
+  pub designators-differ : (before : List Pick) (seen ds : List Name) → designators_refusal bench placed before seen ds ≡ None → IsDistinct same seen
       → IsDistinct same (seen ++ ds)
   designators-differ before seen [] none distinct = subst (IsDistinct same) (sym (append-nil seen)) distinct
   designators-differ before seen (d ∷ ds) none distinct =
@@ -79,48 +77,48 @@ module _ (slot_of : Name → Option Name) (tape : Name → List Name) (pieces : 
       subst (IsDistinct same) (append_assoc seen (d ∷ []) ds)
       (designators-differ (next_picks before d) (seen ++ d ∷ []) ds both.1 (one-more seen d distinct both.0.once))
 
-  pub designators-new : (before : List Pick) (seen ds : List Name) → designators_refusal slot_of tape pieces placed machine board before seen ds ≡ None
+  pub designators-new : (before : List Pick) (seen ds : List Name) → designators_refusal bench placed before seen ds ≡ None
       → AllByRecursion (λ d. placed d ≡ false) ds
   designators-new before seen [] none = tt
   designators-new before seen (d ∷ ds) none =
       let both = placeable before seen d ds none in (both.0.new, designators-new (next_picks before d) (seen ++ d ∷ []) ds both.1)
 
-  next-placed : (before : List Pick) (seen : List Name) (d : Name) → is_none (pick_for slot_of tape pieces machine board before d) ≡ false
-      → ArePlacedFor machine board seen before → ArePlacedFor machine board (seen ++ d ∷ []) (next_picks before d)
-  next-placed before seen d some all = by (slot_of d) some
+  next-placed : (before : List Pick) (seen : List Name) (d : Name) → is_none (pick_for bench before d) ≡ false
+      → ArePlacedFor bench.machine bench.board seen before → ArePlacedFor bench.machine bench.board (seen ++ d ∷ []) (next_picks before d)
+  next-placed before seen d some all = by (bench.slot_of d) some
     where
       pick : Name → Name → Pick
-      pick slot reel = record { reel = reel; quantity = 1; purpose = Placed board d machine slot }
+      pick slot reel = record { reel = reel; quantity = 1; purpose = Placed bench.board d bench.machine slot }
 
       found : (slot : Name) (reel : Option Name) → is_none (option_map (pick slot) reel) ≡ false
-          → ArePlacedFor machine board (seen ++ d ∷ []) (before ++ option_to_list (option_map (pick slot) reel))
+          → ArePlacedFor bench.machine bench.board (seen ++ d ∷ []) (before ++ option_to_list (option_map (pick slot) reel))
       found slot None some = cc
-      found slot (Some reel) some = placed-push machine board seen before d slot (pick slot reel) all refl
+      found slot (Some reel) some = placed-push bench.machine bench.board seen before d slot (pick slot reel) all refl
 
-      by : (slot : Option Name) → is_none (option_and_then (λ s. option_map (pick s) (find (λ r. nat_lt (pieces_picked before r) (pieces r)) (tape s))) slot) ≡ false
-          → ArePlacedFor machine board (seen ++ d ∷ [])
-          (before ++ option_to_list (option_and_then (λ s. option_map (pick s) (find (λ r. nat_lt (pieces_picked before r) (pieces r)) (tape s))) slot))
+      by : (slot : Option Name) → is_none (option_and_then (λ s. option_map (pick s) (find (λ r. nat_lt (pieces_picked before r) (bench.pieces r)) (bench.tape s))) slot) ≡ false
+          → ArePlacedFor bench.machine bench.board (seen ++ d ∷ [])
+          (before ++ option_to_list (option_and_then (λ s. option_map (pick s) (find (λ r. nat_lt (pieces_picked before r) (bench.pieces r)) (bench.tape s))) slot))
       by None some = cc
-      by (Some slot) some = found slot (find (λ r. nat_lt (pieces_picked before r) (pieces r)) (tape slot)) some
+      by (Some slot) some = found slot (find (λ r. nat_lt (pieces_picked before r) (bench.pieces r)) (bench.tape slot)) some
 
-  pub install-placed : (before : List Pick) (seen ds : List Name) → designators_refusal slot_of tape pieces placed machine board before seen ds ≡ None
-      → ArePlacedFor machine board seen before → ArePlacedFor machine board (seen ++ ds) (install_picks slot_of tape pieces machine board before ds)
+  pub install-placed : (before : List Pick) (seen ds : List Name) → designators_refusal bench placed before seen ds ≡ None
+      → ArePlacedFor bench.machine bench.board seen before → ArePlacedFor bench.machine bench.board (seen ++ ds) (install_picks bench before ds)
   unfolding install_picks
-  install-placed before seen [] none all = subst (λ names. ArePlacedFor machine board names before) (sym (append-nil seen)) all
+  install-placed before seen [] none all = subst (λ names. ArePlacedFor bench.machine bench.board names before) (sym (append-nil seen)) all
   install-placed before seen (d ∷ ds) none all =
       let both = placeable before seen d ds none in
-      subst (λ names. ArePlacedFor machine board names (install_picks slot_of tape pieces machine board (next_picks before d) ds)) (append_assoc seen (d ∷ []) ds)
+      subst (λ names. ArePlacedFor bench.machine bench.board names (install_picks bench (next_picks before d) ds)) (append_assoc seen (d ∷ []) ds)
       (install-placed (next_picks before d) (seen ++ d ∷ []) ds both.1 (next-placed before seen d both.0.there all))
 
 -- ---- one command
 
 pub installable : (H : History) (machine board : Name) (ds : List Name) → install_refusal H machine board ds ≡ None
-    → designators_refusal (slot_on H machine) (tape_of H machine) (left_of H) (is_placed_on H board) machine board [] [] ds ≡ None
+    → designators_refusal (bench_of H machine board) (is_placed_on H board) [] [] ds ≡ None
 unfolding install_refusal
 installable H machine board ds none = by (is_in_work_on H machine board) none
   where
-    by : (b : Bool) → (if b then designators_refusal (slot_on H machine) (tape_of H machine) (left_of H) (is_placed_on H board) machine board [] [] ds else Some (NotInWork board)) ≡ None
-        → designators_refusal (slot_on H machine) (tape_of H machine) (left_of H) (is_placed_on H board) machine board [] [] ds ≡ None
+    by : (b : Bool) → (if b then designators_refusal (bench_of H machine board) (is_placed_on H board) [] [] ds else Some (NotInWork board)) ≡ None
+        → designators_refusal (bench_of H machine board) (is_placed_on H board) [] [] ds ≡ None
     by true none = none
     by false none = cc
 
@@ -129,12 +127,12 @@ pub each-placed : (H : History) (minute : ℕ) (command : Command) (machine boar
 unfolding command_refusal
 each-placed H minute command machine board ds none is =
     subst (λ c. ArePlacedFor machine board ds (picks_of H c)) (sym is)
-    (install-placed (slot_on H machine) (tape_of H machine) (left_of H) (is_placed_on H board) machine board [] [] ds
+    (install-placed (bench_of H machine board) (is_placed_on H board) [] [] ds
     (installable H machine board ds (sym (ap (command_refusal Two H minute) is) ∙ none)) tt)
 
 pub named-once : (H : History) (minute : ℕ) (command : Command) (machine board : Name) (ds : List Name) → command_refusal Two H minute command ≡ None
     → command ≡ MaterialsInstalled machine board ds → IsDistinct same ds
 unfolding command_refusal IsDistinct
 named-once H minute command machine board ds none is =
-    designators-differ (slot_on H machine) (tape_of H machine) (left_of H) (is_placed_on H board) machine board [] [] ds
+    designators-differ (bench_of H machine board) (is_placed_on H board) [] [] ds
     (installable H machine board ds (sym (ap (command_refusal Two H minute) is) ∙ none)) tt

@@ -1,10 +1,20 @@
 pub mod Accepted
+pub mod AfterCommands
+pub mod Agreeing
+pub mod AgreeingNext
+pub mod AlikeCases
 pub mod Balance
 pub mod BoardsInWork
+pub mod ChainLots
+pub mod ChainPieces
+pub mod ChainCases
+pub mod Chains
 pub mod CountedReels
 pub mod Designators
 pub mod Distinct
 pub mod Exposures
+pub mod FloorNext
+pub mod FromAlike
 pub mod GrowingTapes
 pub mod InstalledPieces
 pub mod Installs
@@ -26,5 +36,6 @@ pub mod RulesOne
 pub mod SlotsLater
 pub mod Tapes
 pub mod Totals
+pub mod UnlikeCases
 pub mod VerifiedReels
 pub mod WholeInstalls

@@ -16,9 +16,9 @@ use Rattle.desk_types.specs.declared.take.Purpose.{Purpose}
 use Rattle.desk_types.specs.declared.take.Purpose.TheVariants.{Placed}
 use Rattle.desk_types.specs.Id.{Name, same}
 use Rattle.desk_types.specs.History.{History}
-use Rattle.desk_types.specs.Setup.{receipt_by}
+use Rattle.desk_types.specs.Setup.{slot_on, receipt_by}
 use Rattle.desk_types.specs.Tape.{tape_with, tape_after, tape_of}
-use Rattle.desk_types.specs.Pieces.{pieces_picked, pieces_off, pick_for, install_picks, scrap_picks, left_of, live_on, first}
+use Rattle.desk_types.specs.Pieces.{Bench, bench_by, bench_of, pieces_picked, pieces_off, pick_for, install_picks, scrap_picks, left_of, live_on, first}
 use Rattle.desk_types.specs.Refusals.{designator_refusal, designators_refusal, command_refusal}
 use Rattle.desk_types.specs.Judged.{IsJudged}
 use Rattle.desk_types.proofs.Keys.{same-refl}
@@ -113,35 +113,31 @@ find-live H machine slot test some = find-filter test (λ r. nat_lt 0 (left_of H
 more-some : (k n : ℕ) → nat_lt k n ≡ true → nat_lt 0 n ≡ true
 more-some k n more = let above = ltb-true k n more in lt-ltb 0 n (omega (arith, above))
 
-pub pick-live : (H : History) (slot_of : Name → Option Name) (machine board : Name) (before : List Pick) (d : Name)
-    → pick_for slot_of (live_on H machine) (left_of H) machine board before d ≡ pick_for slot_of (tape_of H machine) (left_of H) machine board before d
-pick-live H slot_of machine board before d =
-    ap (λ (pick_at : Name → Option Pick). option_and_then pick_at (slot_of d))
+-- The context of an install, with live reels alone.
+abbrev pub live_bench : History → Name → Name → Bench
+live_bench H machine board = bench_by (live_on H) (left_of H) H machine board
+
+pub pick-live : (H : History) (machine board : Name) (before : List Pick) (d : Name) → pick_for (live_bench H machine board) before d ≡ pick_for (bench_of H machine board) before d
+pick-live H machine board before d =
+    ap (λ (pick_at : Name → Option Pick). option_and_then pick_at (slot_on H machine d))
     (λ j slot. option_map (λ reel. record { reel = reel; quantity = 1; purpose = Placed board d machine slot })
     (find-live H machine slot (λ r. nat_lt (pieces_picked before r) (left_of H r)) (λ r. more-some (pieces_picked before r) (left_of H r)) j))
 
-pub picks-live-after : (H : History) (slot_of : Name → Option Name) (machine board : Name) (before : List Pick) (ds : List Name)
-    → install_picks slot_of (live_on H machine) (left_of H) machine board before ds ≡ install_picks slot_of (tape_of H machine) (left_of H) machine board before ds
+pub picks-live : (H : History) (machine board : Name) (before : List Pick) (ds : List Name) → install_picks (live_bench H machine board) before ds ≡ install_picks (bench_of H machine board) before ds
 unfolding install_picks
-picks-live-after H slot_of machine board before [] = refl
-picks-live-after H slot_of machine board before (d ∷ ds) =
-    ap (λ (o : Option Pick). install_picks slot_of (live_on H machine) (left_of H) machine board (before ++ option_to_list o) ds) (pick-live H slot_of machine board before d)
-    ∙ picks-live-after H slot_of machine board (before ++ option_to_list (pick_for slot_of (tape_of H machine) (left_of H) machine board before d)) ds
+picks-live H machine board before [] = refl
+picks-live H machine board before (d ∷ ds) =
+    ap (λ (o : Option Pick). install_picks (live_bench H machine board) (before ++ option_to_list o) ds) (pick-live H machine board before d)
+    ∙ picks-live H machine board (before ++ option_to_list (pick_for (bench_of H machine board) before d)) ds
 
-pub picks-live : (H : History) (slot_of : Name → Option Name) (machine board : Name) (ds : List Name)
-    → install_picks slot_of (live_on H machine) (left_of H) machine board [] ds ≡ install_picks slot_of (tape_of H machine) (left_of H) machine board [] ds
-picks-live H slot_of machine board ds = picks-live-after H slot_of machine board [] ds
-
-pub designators-live : (H : History) (slot_of : Name → Option Name) (placed : Name → Bool) (machine board : Name) (before : List Pick) (seen ds : List Name)
-    → designators_refusal slot_of (live_on H machine) (left_of H) placed machine board before seen ds
-    ≡ designators_refusal slot_of (tape_of H machine) (left_of H) placed machine board before seen ds
-designators-live H slot_of placed machine board before seen [] = refl
-designators-live H slot_of placed machine board before seen (d ∷ ds) =
-    ap (λ (o : Option Pick). option_or (designator_refusal d (slot_of d) (list_any (same d) seen) (placed d) o)
-    (designators_refusal slot_of (live_on H machine) (left_of H) placed machine board (before ++ option_to_list o) (seen ++ d ∷ []) ds)) (pick-live H slot_of machine board before d)
-    ∙ ap (λ (o : Option Refusal). option_or (designator_refusal d (slot_of d) (list_any (same d) seen) (placed d)
-    (pick_for slot_of (tape_of H machine) (left_of H) machine board before d)) o)
-    (designators-live H slot_of placed machine board (before ++ option_to_list (pick_for slot_of (tape_of H machine) (left_of H) machine board before d)) (seen ++ d ∷ []) ds)
+pub designators-live : (H : History) (placed : Name → Bool) (machine board : Name) (before : List Pick) (seen ds : List Name)
+    → designators_refusal (live_bench H machine board) placed before seen ds ≡ designators_refusal (bench_of H machine board) placed before seen ds
+designators-live H placed machine board before seen [] = refl
+designators-live H placed machine board before seen (d ∷ ds) =
+    ap (λ (o : Option Pick). option_or (designator_refusal d (slot_on H machine d) (list_any (same d) seen) (placed d) o)
+    (designators_refusal (live_bench H machine board) placed (before ++ option_to_list o) (seen ++ d ∷ []) ds)) (pick-live H machine board before d)
+    ∙ ap (λ (o : Option Refusal). option_or (designator_refusal d (slot_on H machine d) (list_any (same d) seen) (placed d) (pick_for (bench_of H machine board) before d)) o)
+    (designators-live H placed machine board (before ++ option_to_list (pick_for (bench_of H machine board) before d)) (seen ++ d ∷ []) ds)
 
 scrap-filter : (pieces : Name → ℕ) (purpose : Purpose) (reels : List Name) (n : ℕ)
     → scrap_picks pieces purpose (filter (λ r. nat_lt 0 (pieces r)) reels) n ≡ scrap_picks pieces purpose reels n

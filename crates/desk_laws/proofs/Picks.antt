@@ -18,7 +18,7 @@ use Rattle.desk_types.specs.declared.take.Purpose.TheVariants.{Placed, Counted}
 use Rattle.desk_types.specs.Id.{Name, same}
 use Rattle.desk_types.specs.History.{History}
 use Rattle.desk_types.specs.Setup.{receipt_of}
-use Rattle.desk_types.specs.Pieces.{pieces_picked, pieces_off, pick_for, install_picks, scrap_picks, count_picks, found_by, left_of, is_mounted}
+use Rattle.desk_types.specs.Pieces.{Bench, pieces_picked, pieces_off, pick_for, install_picks, scrap_picks, count_picks, found_by, left_of, is_mounted}
 use Rattle.desk_types.specs.Refusals.{first_refusal, counts_refusal}
 use Rattle.desk_types.proofs.Keys.{same-refl, same-sym, same-true}
 use Rattle.desk_laws.proofs.Accepted.{none-holds}
@@ -71,25 +71,24 @@ one-within pieces purpose before reel (Some r) has within = by (same r reel) ref
         let less = ltb-true _ _ (ap (λ x. nat_lt (pieces_picked before x) (pieces x)) (sym (same-true r reel here)) ∙ has r refl) in omega (arith, all, less)
     by false away all = omega (arith, all, within)
 
-picks-one : (slot_of : Name → Option Name) (tape : Name → List Name) (pieces : Name → ℕ) (machine board : Name) (before : List Pick) (d reel : Name)
-    → pieces_picked before reel ≤ pieces reel → pieces_picked (before ++ option_to_list (pick_for slot_of tape pieces machine board before d)) reel ≤ pieces reel
-picks-one slot_of tape pieces machine board before d reel within = by (slot_of d)
+picks-one : (bench : Bench) (before : List Pick) (d reel : Name)
+    → pieces_picked before reel ≤ bench.pieces reel → pieces_picked (before ++ option_to_list (pick_for bench before d)) reel ≤ bench.pieces reel
+picks-one bench before d reel within = by (bench.slot_of d)
   where
     by : (slot : Option Name)
-        → pieces_picked (before ++ option_to_list (option_and_then (λ s. option_map (λ r. record { reel = r; quantity = 1; purpose = Placed board d machine s })
-        (find (λ r. nat_lt (pieces_picked before r) (pieces r)) (tape s))) slot)) reel ≤ pieces reel
+        → pieces_picked (before ++ option_to_list (option_and_then (λ s. option_map (λ r. record { reel = r; quantity = 1; purpose = Placed bench.board d bench.machine s })
+        (find (λ r. nat_lt (pieces_picked before r) (bench.pieces r)) (bench.tape s))) slot)) reel ≤ bench.pieces reel
     by None = let all = pieces_picked-append before [] reel in omega (arith, all, within)
     by (Some s) =
-        one-within pieces (Placed board d machine s) before reel (find (λ r. nat_lt (pieces_picked before r) (pieces r)) (tape s))
-        (λ r found. find-passes (λ x. nat_lt (pieces_picked before x) (pieces x)) (tape s) r found) within
+        one-within bench.pieces (Placed bench.board d bench.machine s) before reel (find (λ r. nat_lt (pieces_picked before r) (bench.pieces r)) (bench.tape s))
+        (λ r found. find-passes (λ x. nat_lt (pieces_picked before x) (bench.pieces x)) (bench.tape s) r found) within
 
-pub install-within : (slot_of : Name → Option Name) (tape : Name → List Name) (pieces : Name → ℕ) (machine board : Name) (before : List Pick) (ds : List Name) (reel : Name)
-    → pieces_picked before reel ≤ pieces reel → pieces_picked (install_picks slot_of tape pieces machine board before ds) reel ≤ pieces reel
+pub install-within : (bench : Bench) (before : List Pick) (ds : List Name) (reel : Name)
+    → pieces_picked before reel ≤ bench.pieces reel → pieces_picked (install_picks bench before ds) reel ≤ bench.pieces reel
 unfolding install_picks
-install-within slot_of tape pieces machine board before [] reel within = within
-install-within slot_of tape pieces machine board before (d ∷ ds) reel within =
-    install-within slot_of tape pieces machine board (before ++ option_to_list (pick_for slot_of tape pieces machine board before d)) ds reel
-    (picks-one slot_of tape pieces machine board before d reel within)
+install-within bench before [] reel within = within
+install-within bench before (d ∷ ds) reel within =
+    install-within bench (before ++ option_to_list (pick_for bench before d)) ds reel (picks-one bench before d reel within)
 
 -- ---- scraps
 

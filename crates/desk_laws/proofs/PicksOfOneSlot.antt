@@ -23,7 +23,7 @@ use Rattle.desk_types.proofs.Keys.{same-refl, same-true}
 use Rattle.desk_laws.specs.Slots.{IsOnItsSlot}
 use Rattle.desk_laws.proofs.Accepted.{next-accepted}
 use Rattle.desk_laws.proofs.Distinct.{all-append}
-use Rattle.desk_laws.proofs.Lives.{picks-live, scrap-live}
+use Rattle.desk_laws.proofs.Lives.{live_bench, picks-live, scrap-live}
 use Rattle.desk_laws.proofs.Mounts.{has, has-live_on, live-mounted}
 use Rattle.desk_laws.proofs.Picks.{all-off, countable}
 use Rattle.desk_laws.proofs.Places.{one-slot}
@@ -41,9 +41,9 @@ alone H m s machine slot reel judged here there =
 -- ---- installs
 
 -- A designator's reel is live only on the designator's slot.
-pick-alone : (H : History) (slot_of : Name → Option Name) (machine board : Name) (before : List Pick) (d : Name) → IsJudged Two H
-    → AllByRecursion (IsOnItsSlot (live_on H)) (option_to_list (pick_for slot_of (live_on H machine) (left_of H) machine board before d))
-pick-alone H slot_of machine board before d judged = by (slot_of d)
+pick-alone : (H : History) (machine board : Name) (before : List Pick) (d : Name) → IsJudged Two H
+    → AllByRecursion (IsOnItsSlot (live_on H)) (option_to_list (pick_for (live_bench H machine board) before d))
+pick-alone H machine board before d judged = by (slot_on H machine d)
   where
     pick : Name → Name → Pick
     pick slot reel = record { reel = reel; quantity = 1; purpose = Placed board d machine slot }
@@ -60,13 +60,13 @@ pick-alone H slot_of machine board before d judged = by (slot_of d)
         found slot (find (λ r. nat_lt (pieces_picked before r) (left_of H r)) (live_on H machine slot))
         (λ r is. find-there (λ x. nat_lt (pieces_picked before x) (left_of H x)) (live_on H machine slot) r is)
 
-install-alone : (H : History) (slot_of : Name → Option Name) (machine board : Name) (before : List Pick) (ds : List Name) → IsJudged Two H
-    → AllByRecursion (IsOnItsSlot (live_on H)) before → AllByRecursion (IsOnItsSlot (live_on H)) (install_picks slot_of (live_on H machine) (left_of H) machine board before ds)
+install-alone : (H : History) (machine board : Name) (before : List Pick) (ds : List Name) → IsJudged Two H
+    → AllByRecursion (IsOnItsSlot (live_on H)) before → AllByRecursion (IsOnItsSlot (live_on H)) (install_picks (live_bench H machine board) before ds)
 unfolding install_picks
-install-alone H slot_of machine board before [] judged all = all
-install-alone H slot_of machine board before (d ∷ ds) judged all =
-    install-alone H slot_of machine board (before ++ option_to_list (pick_for slot_of (live_on H machine) (left_of H) machine board before d)) ds judged
-    (all-append (IsOnItsSlot (live_on H)) before _ all (pick-alone H slot_of machine board before d judged))
+install-alone H machine board before [] judged all = all
+install-alone H machine board before (d ∷ ds) judged all =
+    install-alone H machine board (before ++ option_to_list (pick_for (live_bench H machine board) before d)) ds judged
+    (all-append (IsOnItsSlot (live_on H)) before _ all (pick-alone H machine board before d judged))
 
 -- ---- scraps and counts
 
@@ -94,7 +94,7 @@ alone-by : (H : History) (minute : ℕ) (command : Command) → IsJudged Two H �
     → AllByRecursion (IsOnItsSlot (live_on H)) (picks_of H command)
 unfolding command_refusal
 alone-by H minute (MaterialsInstalled machine board ds) judged accepted =
-    subst (AllByRecursion (IsOnItsSlot (live_on H))) (picks-live H (slot_on H machine) machine board ds) (install-alone H (slot_on H machine) machine board [] ds judged tt)
+    subst (AllByRecursion (IsOnItsSlot (live_on H))) (picks-live H machine board [] ds) (install-alone H machine board [] ds judged tt)
 alone-by H minute (MaterialsScrapped m s n) judged accepted =
     subst (AllByRecursion (IsOnItsSlot (live_on H))) (scrap-live H (Rejected m s) m s n) (scrap-alone H m s (live_on H m s) n judged (λ r there. there))
 alone-by H minute (CountsTaken counts) judged accepted = count-alone H [] counts accepted

@@ -30,68 +30,40 @@ use Rattle.desk_laws.proofs.Installs.{ArePlacedFor, each-placed}
 
 -- ---- installs
 
-spots-placed : (H : History) (e : Entry) (machine board : Name) (place : ℕ) (ds : List Name) (ps : List Pick) → ArePlacedFor machine board ds ps
-    → map spot_of (filter_map placement_of (
-    map (λ (place, take). record { number = e.number; place = place; effective = e.effective; take = take }) (enumerate_from place (map (take_of H e.effective) ps))))
-    ≡ spots_from place machine board ds
-spots-placed H e machine board place [] [] all = refl
-spots-placed H e machine board place (d ∷ ds) (p ∷ ps) ((slot, is), all) =
-    ap (λ purpose. map spot_of (
-    cons_option (
+-- The placements of an entry's picks, the first of them at this place of the message.
+abbrev placed_from : History → Entry → ℕ → List Pick → List Placement
+placed_from H e place ps = filter_map placement_of (map (λ (place, take). record { number = e.number; place = place; effective = e.effective; take = take }) (enumerate_from place (map (take_of H e.effective) ps)))
+
+all-placed : (H : History) (e : Entry) (machine board : Name) (place : ℕ) (ds : List Name) (ps : List Pick) → ArePlacedFor machine board ds ps
+    → (map spot_of (placed_from H e place ps) ≡ spots_from place machine board ds) × (map (λ p. p.reel) (placed_from H e place ps) ≡ reels_of ps)
+all-placed H e machine board place [] [] all = (refl, refl)
+all-placed H e machine board place (d ∷ ds) (p ∷ ps) ((slot, is), all) =
+    let rest = all-placed H e machine board (place + 1) ds ps all in
+    let one = ap (λ purpose. cons_option (
     placement_of (
     record { number = e.number; place = place; effective = e.effective; take = take_of H e.effective (record { reel = p.reel; quantity = p.quantity; purpose = purpose }) }))
-    rest)) is
-    ∙ ap (λ l. record { place = place; machine = machine; board = board; designator = d } ∷ l) (spots-placed H e machine board (place + 1) ds ps all)
-  where
-    rest : List Placement
-    rest =
-        filter_map placement_of (
-        map (λ (place, take). record { number = e.number; place = place; effective = e.effective; take = take }) (enumerate_from (place + 1) (map (take_of H e.effective) ps)))
-spots-placed H e machine board place [] (p ∷ ps) all = absurd all
-spots-placed H e machine board place (d ∷ ds) [] all = absurd all
+    (placed_from H e (place + 1) ps)) is in (
+      ap (map spot_of) one ∙ ap (λ l. record { place = place; machine = machine; board = board; designator = d } ∷ l) rest.0,
+      ap (map (λ (q : Placement). q.reel)) one ∙ ap (λ l. p.reel ∷ l) rest.1,
+    )
+all-placed H e machine board place [] (p ∷ ps) all = absurd all
+all-placed H e machine board place (d ∷ ds) [] all = absurd all
 
 pub install-whole : (H : History) (s : Stamped) (machine board : Name) (ds : List Name) → refusal_of Two H s ≡ None → s.command ≡ MaterialsInstalled machine board ds
-    → (more : List Placement) × (placements_of (accept H s) ≡ placements_of H ++ more) × (map spot_of more ≡ spots_named machine board ds)
+    → (more : List Placement) × (placements_of (accept H s) ≡ placements_of H ++ more) × (map spot_of more ≡ spots_named machine board ds) × (map (λ p. p.reel) more ≡ reels_of (picks_of H s.command))
 unfolding takes_of
-install-whole H s machine board ds none is = (
-  filter_map placement_of (entry_takes H (entry_of H s)),
-  filter_map-append placement_of (takes_of H) (entry_takes H (entry_of H s)),
-  spots-placed H (entry_of H s) machine board 1 ds (picks_of H s.command) (each-placed H (effective_minute H s.minute) s.command machine board ds (command-accepted H s none) is),
-)
-
-reels-placed : (H : History) (e : Entry) (machine board : Name) (place : ℕ) (ds : List Name) (ps : List Pick) → ArePlacedFor machine board ds ps
-    → map (λ (p : Placement). p.reel) (filter_map placement_of (
-    map (λ (place, take). record { number = e.number; place = place; effective = e.effective; take = take }) (enumerate_from place (map (take_of H e.effective) ps))))
-    ≡ reels_of ps
-reels-placed H e machine board place [] [] all = refl
-reels-placed H e machine board place (d ∷ ds) (p ∷ ps) ((slot, is), all) =
-    ap (λ purpose. map (λ (q : Placement). q.reel) (
-    cons_option (
-    placement_of (
-    record { number = e.number; place = place; effective = e.effective; take = take_of H e.effective (record { reel = p.reel; quantity = p.quantity; purpose = purpose }) }))
-    rest)) is
-    ∙ ap (λ l. p.reel ∷ l) (reels-placed H e machine board (place + 1) ds ps all)
-  where
-    rest : List Placement
-    rest =
-        filter_map placement_of (
-        map (λ (place, take). record { number = e.number; place = place; effective = e.effective; take = take }) (enumerate_from (place + 1) (map (take_of H e.effective) ps)))
-reels-placed H e machine board place [] (p ∷ ps) all = absurd all
-reels-placed H e machine board place (d ∷ ds) [] all = absurd all
+install-whole H s machine board ds none is =
+    let both = all-placed H (entry_of H s) machine board 1 ds (picks_of H s.command) (each-placed H (effective_minute H s.minute) s.command machine board ds (command-accepted H s none) is) in
+    (filter_map placement_of (entry_takes H (entry_of H s)), filter_map-append placement_of (takes_of H) (entry_takes H (entry_of H s)), both.0, both.1)
 
 pub install-told : (H : History) (s : Stamped) (machine board : Name) (ds : List Name) (more : List Placement) (minute : ℕ) → refusal_of Two H s ≡ None
     → s.command ≡ MaterialsInstalled machine board ds → placements_of (accept H s) ≡ placements_of H ++ more
     → detail_of H minute s.command ≡ Reels (map (λ (p : Placement). p.reel) more)
-unfolding takes_of
 install-told H s machine board ds more minute none is placed =
+    let whole = install-whole H s machine board ds none is in
     ap (detail_of H minute) is
     ∙ ap (λ c. Reels (reels_of (picks_of H c))) (sym is)
-    ∙ ap Reels (
-    sym (
-    reels-placed H (entry_of H s) machine board 1 ds (picks_of H s.command) (each-placed H (effective_minute H s.minute) s.command machine board ds (command-accepted H s none) is))
-    ∙ ap (map (λ (p : Placement). p.reel)) (
-    append_cancel_left (placements_of H) (filter_map placement_of (entry_takes H (entry_of H s))) more (
-    sym (filter_map-append placement_of (takes_of H) (entry_takes H (entry_of H s))) ∙ placed)))
+    ∙ ap Reels (sym whole.3 ∙ ap (map (λ (p : Placement). p.reel)) (append_cancel_left (placements_of H) whole.0 more (sym whole.1 ∙ placed)))
 
 -- ---- scraps
 

@@ -1,4 +1,7 @@
+pub mod Alike
+pub mod Chain
 pub mod Consistent
+pub mod Past
 pub mod Place
 pub mod Slots
 pub mod TapeOrder

@@ -5,10 +5,14 @@
 //! histories that either set of rules accepts, and so for every history that a desk represents.
 //! Laws that hold for any history say so. The lemmas in `proofs/` are stated for rules Two, which
 //! accept every history that rules One accept.
+//!
+//! The laws of `law.rt` are about a new desk that answers as the desk that it follows, and about a chain
+//! of desk files.
 #![tactic(auto)]
 
 mod consistent;
 mod desks;
+mod law;
 mod pieces;
 mod placements;
 mod runs;
@@ -19,6 +23,10 @@ mod traces;
 
 pub use consistent::judged_lists_are_consistent;
 pub use desks::desk_is_consistent;
+pub use law::{
+    alike_desks_answer_alike, alike_desks_chain, chain_keeps_receipts, chain_pieces_balance,
+    chain_recalls_agree,
+};
 pub use pieces::{
     counts_are_exact, mounted_reels_gain_nothing, nothing_is_found_by_rules_one, pieces_balance,
     scraps_are_whole, spent_stays_spent,

@@ -7,21 +7,21 @@ use Rattle.desk_types.specs.History.{History}
 use Rattle.desk_types.specs.Wire.{inner_of, failures_of}
 use Rattle.desk_answers.specs.Ledger.{Ledger}
 use Rattle.line_schema.specs.declared.fault.OpenFault.{OpenFault}
-use Rattle.served.specs.declared.serving.ServeFault.TheVariants.{Write}
-use Rattle.served.specs.Counts.{none_served}
-use Rattle.served.specs.Sent.{SendsFront}
+use Rattle.desk_answers.specs.declared.serving.ServeFault.TheVariants.{Write}
+use Rattle.desk_answers.specs.Counts.{none_served}
+use Rattle.desk_answers.specs.Sent.{SendsFront}
 use Rattle.imports.specs.declared.import.Import.{Import}
 use Rattle.desk_words.specs.CommandLine.{AsksForAudit, AsksForFeed, AsksForImport, AsksForMigration, AsksForReport, AsksForServing}
 use Rattle.http_stream.specs.Answers.{Told, code_of}
 use Rattle.http_stream.specs.Stream.{RuleBy}
 use Rattle.gateway_http.specs.Reports.{report_of}
-use Rattle.desk_runs.specs.Clients.{Exchange, Serving, ends_of}
-use Rattle.desk_runs.specs.Connections.{AnswersEach, TellsConnections}
-use Rattle.desk_runs.specs.Ends.{FeedEnds, ImportEnds, PrintEnds, ReportEnds, ServingEnds}
-use Rattle.desk_runs.specs.Runs.{AnswersAll, AnswersImport, AnswersReport, AnswersUpTo, CutsImport, StaysSame}
-use Rattle.desk_runs.specs.Told.{lawful_line, report_output, unavailable_line, version_line, TellsLine}
-use Rattle.desk_commands.specs.declared.left.Left.{Left}
-use Rattle.desk_commands.specs.declared.left.Left.TheVariants as left
+use Rattle.desk_commands.specs.Clients.{Exchange, Serving, ends_of}
+use Rattle.desk_commands.specs.Connections.{AnswersEach, TellsConnections}
+use Rattle.desk_commands.specs.Ends.{FeedEnds, ImportEnds, PrintEnds, ReportEnds, ServingEnds}
+use Rattle.desk_commands.specs.OpenRuns.{AnswersAll, AnswersImport, AnswersReport, AnswersUpTo, CutsImport, StaysSame}
+use Rattle.desk_commands.specs.Told.{lawful_line, report_output, unavailable_line, version_line, TellsLine}
+use Rattle.desk_commands.specs.declared.left.ToClose.{ToClose}
+use Rattle.desk_commands.specs.declared.left.ToClose.TheVariants as left
 use Rattle.desk_commands.specs.Runs.{HasNoDesk, LeavesDesk, LeavesFile, RunsInMemory, ServesEach}
 use Rattle.desk_program.specs.Program.{Bad, LeavesAs, Names, NamesDesk, NamesMigrated, RefusesNamed, RunsAs, RunsAsked, RunsImport, RunsReport, RunsServing}
 use Rattle.desk_program.specs.Ways.{Ways}
@@ -49,13 +49,13 @@ pub has_none : (IsRefused IsRefused' : OpenFault → Type 0) (IsLeft IsLeft' : T
 has_none IsRefused IsRefused' IsLeft IsLeft' Told refused left (inl (fault, is, told)) = inl (fault, refused fault is, told)
 has_none IsRefused IsRefused' IsLeft IsLeft' Told refused left (inr (is, told)) = inr (left is, told)
 
-pub names_desk : {D : Type 0} {g : disk.Ghosts D} (words : List (List ℕ)) (it : Left D g) → LeavesDesk it → NamesDesk words → Names words it
+pub names_desk : {D : Type 0} {g : disk.Ghosts D} (words : List (List ℕ)) (it : ToClose D g) → LeavesDesk it → NamesDesk words → Names words it
 names_desk words left.Nothing leaves names = tt
 names_desk words (left.Desk d) leaves names = names
 names_desk words (left.Migrated conn) leaves names = absurd leaves
 names_desk words (left.Refused r) leaves names = inl names
 
-pub names_migrated : {D : Type 0} {g : disk.Ghosts D} (words : List (List ℕ)) (it : Left D g) → LeavesFile it → NamesMigrated words → Names words it
+pub names_migrated : {D : Type 0} {g : disk.Ghosts D} (words : List (List ℕ)) (it : ToClose D g) → LeavesFile it → NamesMigrated words → Names words it
 names_migrated words left.Nothing leaves names = tt
 names_migrated words (left.Desk d) leaves names = absurd leaves
 names_migrated words (left.Migrated conn) leaves names = names

@@ -12,13 +12,13 @@ use Rattle.desk_answers.specs.Ledger.{Ledger}
 use Rattle.line_schema.specs.declared.fault.OpenFault.{OpenFault}
 use Rattle.imports.specs.declared.import.Import.{Import}
 use Rattle.http_stream.specs.Answers.{Told, code_of}
-use Rattle.served.specs.Sent.{SendsFront}
+use Rattle.desk_answers.specs.Sent.{SendsFront}
 use Rattle.gateway_http.specs.Reports.{report_of}
-use Rattle.desk_runs.specs.Clients.{Serving}
-use Rattle.desk_runs.specs.Runs.{AnswersAll, AnswersImport, AnswersUpTo, CutsImport, StaysSame, AnswersReport}
-use Rattle.desk_runs.specs.Told.{report_output, unavailable_line, TellsEnd, TellsLine}
-use Rattle.desk_commands.specs.declared.left.Left.{Left}
-use Rattle.desk_commands.specs.declared.left.Left.TheVariants as left
+use Rattle.desk_commands.specs.Clients.{Serving}
+use Rattle.desk_commands.specs.OpenRuns.{AnswersAll, AnswersImport, AnswersUpTo, CutsImport, StaysSame, AnswersReport}
+use Rattle.desk_commands.specs.Told.{report_output, unavailable_line, TellsEnd, TellsLine}
+use Rattle.desk_commands.specs.declared.left.ToClose.{ToClose}
+use Rattle.desk_commands.specs.declared.left.ToClose.TheVariants as left
 use Rattle.desk_commands.specs.Runs.{ServesEach}
 use Rattle.desk_commands.specs.Closed.{Close, ClosesLeft}
 use Rattle.desk_commands.proofs.ClosedFiles.{audits_to, migrates_to, refuses_to, refuses_to_migrate, runs_to}
@@ -35,9 +35,9 @@ pub record Follows (ways ways' : Ways) : Type 1 where
   pub refuses : (make : Option ℕ) (fault : OpenFault) → ways.Refuses make fault → ways'.Refuses make fault
   pub refuses_to_migrate : (fault : OpenFault) → ways.RefusesToMigrate fault → ways'.RefusesToMigrate fault
 
-pub follows : {T D : Type 0} {g : disk.Ghosts D} → SeenMayStay g → (how : Close) (first : start.Ghosts T) (it : Left D g) (files : Option (Files D)) → ClosesLeft how it files → Follows (ways_when_open first it) (ways_when_closed how first g files)
+pub follows : {T D : Type 0} {g : disk.Ghosts D} → SeenMayStay g → (how : Close) (first : start.Ghosts T) (it : ToClose D g) (files : Option (Files D)) → ClosesLeft how it files → Follows (ways_when_open first it) (ways_when_closed how first g files)
 follows stays how first it files closed = record {
-  none = λ is. subst (λ (l : Left _ _). ClosesLeft how l files) is closed;
+  none = λ is. subst (λ (l : ToClose _ _). ClosesLeft how l files) is closed;
   runs = λ make Fact. runs_to first how it files make Fact closed;
   audits = λ count. audits_to first how it files count closed;
   migrates = migrates_to first how it files closed;
@@ -45,7 +45,7 @@ follows stays how first it files closed = record {
   refuses_to_migrate = λ fault. refuses_to_migrate first stays how it files fault closed;
 }
 
-pub names_file : {D : Type 0} {g : disk.Ghosts D} (how : Close) (words : List (List ℕ)) (it : Left D g) (files : Option (Files D)) → ClosesLeft how it files → Names words it → OnSome files (NamesFile words)
+pub names_file : {D : Type 0} {g : disk.Ghosts D} (how : Close) (words : List (List ℕ)) (it : ToClose D g) (files : Option (Files D)) → ClosesLeft how it files → Names words it → OnSome files (NamesFile words)
 names_file how words left.Nothing files closed names = subst (λ (o : Option (Files _)). OnSome o (NamesFile words)) (sym closed) tt
 names_file how words (left.Desk d) None closed names = tt
 names_file how words (left.Desk d) (Some f) closed names = inl names

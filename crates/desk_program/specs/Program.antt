@@ -9,24 +9,24 @@ use Rattle.desk_types.specs.declared.limits.TheConstants.{MOST_READS}
 use Rattle.desk_answers.specs.Ledger.{Ledger}
 use Rattle.line_schema.specs.declared.fault.OpenFault.{OpenFault}
 use Rattle.desk_feed.specs.Stream.{LeavesNone}
-use Rattle.desk_import.specs.declared.options.BadOption.{BadOption}
+use Rattle.desk_feed.specs.declared.options.BadOption.{BadOption}
 use Rattle.imports.specs.declared.import.Import.{Import}
 use Rattle.desk_words.specs.CommandLine.{AsksForAudit, AsksForFeed, AsksForImport, AsksForMigration, AsksForNothing, AsksForReport, AsksForServing, AsksForText, HasBadOption}
 use Rattle.http_stream.specs.Answers.{Told, code_of}
 use Rattle.gateway_http.specs.Reports.{report_of}
-use Rattle.served.specs.declared.serving.Served.{Served}
-use Rattle.served.specs.declared.serving.ServeFault.{ServeFault}
-use Rattle.served.specs.declared.serving.ServeFault.TheVariants.{Read as ReadFault}
-use Rattle.served.specs.Counts.{none_served}
-use Rattle.served.specs.Sent.{SendsFront}
-use Rattle.served.specs.Shown.{FailsNever, IsShown}
-use Rattle.desk_runs.specs.Clients.{Serving, ends_of}
-use Rattle.desk_runs.specs.Connections.{TellsConnections}
-use Rattle.desk_runs.specs.Runs.{AnswersAll, AnswersImport, AnswersUpTo, CutsImport, StaysSame, AnswersReport}
-use Rattle.desk_runs.specs.Told.{fault_line, lawful_line, option_line, report_output, unavailable_line, version_line, TellsEnd, TellsLine}
-use Rattle.desk_runs.specs.Told as told
-use Rattle.desk_commands.specs.declared.left.Left.{Left}
-use Rattle.desk_commands.specs.declared.left.Left.TheVariants as left
+use Rattle.desk_answers.specs.declared.serving.Served.{Served}
+use Rattle.desk_answers.specs.declared.serving.ServeFault.{ServeFault}
+use Rattle.desk_answers.specs.declared.serving.ServeFault.TheVariants.{Read as ReadFault}
+use Rattle.desk_answers.specs.Counts.{none_served}
+use Rattle.desk_answers.specs.Sent.{SendsFront}
+use Rattle.desk_answers.specs.Shown.{FailsNever, IsShown}
+use Rattle.desk_commands.specs.Clients.{Serving, ends_of}
+use Rattle.desk_commands.specs.Connections.{TellsConnections}
+use Rattle.desk_commands.specs.OpenRuns.{AnswersAll, AnswersImport, AnswersUpTo, CutsImport, StaysSame, AnswersReport}
+use Rattle.desk_commands.specs.Told.{fault_line, lawful_line, option_line, report_output, unavailable_line, version_line, TellsEnd, TellsLine}
+use Rattle.desk_commands.specs.Told as told
+use Rattle.desk_commands.specs.declared.left.ToClose.{ToClose}
+use Rattle.desk_commands.specs.declared.left.ToClose.TheVariants as left
 use Rattle.desk_commands.specs.Runs.{HasNoDesk, RunsInMemory, ServesEach}
 use Rattle.desk_commands.specs.Closed.{Close, whole, failed}
 use Rattle.desk_program.specs.Ways.{Ways}
@@ -90,7 +90,7 @@ abbrev pub NamesFile : List (List ℕ) → Type 0
 NamesFile words = NamesDesk words ⊎ NamesMigrated words
 
 -- The open file is the one that the arguments name.
-abbrev pub Names : {D : Type 0} {g : disk.Ghosts D} → List (List ℕ) → Left D g → Type 0
+abbrev pub Names : {D : Type 0} {g : disk.Ghosts D} → List (List ℕ) → ToClose D g → Type 0
 Names words left.Nothing = ⊤
 Names words (left.Desk d) = NamesDesk words
 Names words (left.Migrated conn) = NamesMigrated words

@@ -1,7 +1,7 @@
 -- The system, as the contract of a run sees it: nothing is known of the bytes of its files, and nothing of its ports.
 use Rattle.std.specs.Prelude.{⊤, ℕ, List, Option, None}
 use Rattle.sqlite_disk.specs.declared.Files.{Files}
-use Rattle.desk_runs.specs.Clients.{Serving, ServesAt}
+use Rattle.desk_commands.specs.Clients.{Serving, ServesAt}
 use Rattle.desk_program.specs.declared.run.ClosedFiles.{ClosedFiles}
 
 -- The contents of the file of an import, which aren't known.

@@ -6,8 +6,8 @@ use Rattle.sqlite_disk.specs.declared.start.Start as start
 use Rattle.desk_types.specs.History.{History}
 use Rattle.desk_answers.specs.Ledger.{Ledger}
 use Rattle.line_schema.specs.declared.fault.OpenFault.{OpenFault}
-use Rattle.desk_commands.specs.declared.left.Left.{Left}
-use Rattle.desk_commands.specs.declared.left.Left.TheVariants as left
+use Rattle.desk_commands.specs.declared.left.ToClose.{ToClose}
+use Rattle.desk_commands.specs.declared.left.ToClose.TheVariants as left
 use Rattle.desk_commands.specs.Runs as run
 use Rattle.desk_commands.specs.Closed.{Close, AuditsTo, MigratesTo, RefusesTo, RefusesToMigrateTo, RunsTo}
 
@@ -27,7 +27,7 @@ pub record Ways : Type 1 where
   pub RefusesToMigrate : OpenFault → Type 0
 
 -- For a run with this open, in files with these initial contents.
-abbrev pub ways_when_open : {T D : Type 0} {g : disk.Ghosts D} → start.Ghosts T → Left D g → Ways
+abbrev pub ways_when_open : {T D : Type 0} {g : disk.Ghosts D} → start.Ghosts T → ToClose D g → Ways
 ways_when_open first it = record {
   OpensNone = it ≡ left.Nothing;
   Runs = λ make Fact. run.RunsOn first make it Fact;

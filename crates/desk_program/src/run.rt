@@ -4,7 +4,7 @@ ghost use Rattle.std.specs.Prelude.{◌≡◌, ◌≢◌, ◌^◌, ◌<◌, map,
 ghost use Rattle.std.specs.IoError.{error_kind};
 ghost use Rattle.desk_types.specs.Wire.{failures_of};
 ghost use Rattle.line_schema.specs.declared.fault.OpenFault.TheVariants.{Unavailable};
-ghost use Rattle.desk_runs.specs.Told.{TellsLine};
+ghost use Rattle.desk_commands.specs.Told.{TellsLine};
 ghost use Rattle.desk_commands.specs.Runs.{refusal_line};
 ghost use Rattle.desk_program.specs.Program.{ClosesAs, HaveRoom, NamesFile, ReadsAsked};
 ghost use Rattle.desk_program.specs.System.{any_bytes, any_clients, any_failure, files_in};
@@ -12,7 +12,7 @@ ghost use Rattle.desk_program.specs.Ways.{ways_when_closed};
 
 use crate::system::{SystemClients, SystemFiles};
 use crate::whole::whole_run;
-use desk_runs::{Exit, tell_line, unavailable};
+use desk_commands::{Exit, tell_line, unavailable};
 use desk_types::Wire;
 use desk_words::words_behind_name;
 use sqlite::{FileFrom, Files, Start};

@@ -1,7 +1,7 @@
 //! The files and the ports of the system. Their contents are not known before they are read.
 
-use desk_import::{Folder, Unread, read_file};
-use desk_runs::{Clients, NoClient};
+use desk_commands::{Clients, NoClient};
+use desk_feed::{Folder, UnreadFile, read_file};
 use std::alloc::Global;
 use std::fs::File;
 use std::net::{TcpListener, TcpStream};
@@ -25,7 +25,7 @@ impl Folder for SystemFiles<'_> {
 
     ghost may_fail = { λ _ _. ⊤ };
 
-    fn read(&self, alloc: Global, path: &str) -> Result<Vec<u8>, Unread> {
+    fn read(&self, alloc: Global, path: &str) -> Result<Vec<u8>, UnreadFile> {
         read_file(alloc, File::open(self.rt, path)?)
     }
 }

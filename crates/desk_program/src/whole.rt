@@ -1,21 +1,20 @@
 //! A whole run of the program, over any files, folder, clients, input and output.
 
 ghost use Rattle.std.specs.Prelude.{◌≡◌, ◌⊎◌, true, is_some, map, string_bytes, IfOk, IfErr, OnSome};
-ghost use Rattle.desk_runs.specs.Clients.{ServesAt};
-ghost use Rattle.desk_runs.specs.Wires.{HaveFewCounts};
+ghost use Rattle.desk_commands.specs.Clients.{ServesAt};
+ghost use Rattle.desk_commands.specs.Wires.{HaveFewCounts};
 ghost use Rattle.desk_commands.specs.Closed.{ClosesLeft, failed, whole};
 ghost use Rattle.desk_program.specs.Program.{AsksForNoServing, ClosesAs, HaveRoom, LeavesAs, Names, NamesFile, ReadsAsked};
 ghost use Rattle.desk_program.specs.Ways.{ways_when_closed, ways_when_open};
 
 use desk_commands::{
-    Left, audit_file, feed_in_file, feed_in_memory, import_in_file, migrate_file, report_in_file,
-    serve_in_file,
+    Clients, Exit, ToClose, audit_file, bad_option, feed_in_file, feed_in_memory, import_in_file,
+    migrate_file, report_in_file, send_text, serve_in_file, tell, unavailable,
 };
-use desk_file::{Refusal, close_desk, close_file};
-use desk_import::Folder;
-use desk_runs::{Clients, Exit, bad_option, send_text, tell, unavailable};
+use desk_feed::Folder;
+use desk_file::{RefusedFile, close_desk, close_file};
 use desk_types::Wire;
-use desk_words::{Asked, read_words};
+use desk_words::{CommandLine, read_words};
 use sqlite::{FileFrom, Files, Start};
 use sqlite_disk::Disk;
 use std::alloc::AllocError;
@@ -55,22 +54,22 @@ pub fn whole_run<T: Start, F: Folder, C: Clients, R: Read, W: Write, E: Write>(
 }
 
 fn close_run<T: Start>(
-    left: Left<FileFrom<T>>,
+    left: ToClose<FileFrom<T>>,
 ) -> Result<Option<Files<FileFrom<T>>>, Option<Files<FileFrom<T>>>>
     ensures ok { IfOk result (ClosesLeft whole left) }
     ensures err { IfErr result (λ files. ClosesLeft failed left files × (is_some files ≡ true)) }
 {
     match left {
-        Left::Nothing => Ok(None),
-        Left::Desk(desk) => match close_desk(desk) {
+        ToClose::Nothing => Ok(None),
+        ToClose::Desk(desk) => match close_desk(desk) {
             Ok(files) => Ok(Some(files)),
             Err((_, files)) => Err(Some(files)),
         },
-        Left::Migrated(file) => match close_file(file) {
+        ToClose::Migrated(file) => match close_file(file) {
             Ok(files) => Ok(Some(files)),
             Err((_, files)) => Err(Some(files)),
         },
-        Left::Refused(Refusal { fault: _, file }) => match file {
+        ToClose::Refused(RefusedFile { fault: _, file }) => match file {
             None => Ok(None),
             Some(file) => match close_file(file) {
                 Ok(files) => Ok(Some(files)),
@@ -90,7 +89,7 @@ fn open_run<T: Start, F: Folder, C: Clients, R: Read, W: Write, E: Write>(
     input: &mut Wire<R>,
     output: &mut Wire<W>,
     errors: &mut Wire<E>,
-) -> (u8, Left<FileFrom<T>>)
+) -> (u8, ToClose<FileFrom<T>>)
     requires few { HaveFewCounts input.old output.old errors.old }
     ensures runs { LeavesAs (ways_when_open T.Start result.1)
         (F.holds folder.now) (F.may_fail folder.now) (ServesAt C.Saw clients.old clients.new)
@@ -103,15 +102,15 @@ fn open_run<T: Start, F: Folder, C: Clients, R: Read, W: Write, E: Write>(
         ⊎ AsksForNoServing (map string_bytes words.now) → clients.new ≡ clients.old }
 {
     match read_words(rt.alloc(), words) {
-        Ok(Asked::Feed { file, greatest }) => match file {
+        Ok(CommandLine::Feed { file, greatest }) => match file {
             Some(file) => feed_in_file(rt, file.as_str(), start, greatest, input, output, errors),
             None => (
                 feed_in_memory(rt.alloc(), greatest, input, output, errors),
-                Left::Nothing,
+                ToClose::Nothing,
             ),
         },
         Ok(
-            Asked::Serve {
+            CommandLine::Serve {
                 file,
                 port,
                 connections,
@@ -128,7 +127,7 @@ fn open_run<T: Start, F: Folder, C: Clients, R: Read, W: Write, E: Write>(
             output,
             errors,
         ),
-        Ok(Asked::Report { file, target }) => report_in_file(
+        Ok(CommandLine::Report { file, target }) => report_in_file(
             rt,
             file.as_str(),
             start,
@@ -136,9 +135,9 @@ fn open_run<T: Start, F: Folder, C: Clients, R: Read, W: Write, E: Write>(
             output,
             errors,
         ),
-        Ok(Asked::Audit { file }) => audit_file(rt, file.as_str(), start, output, errors),
-        Ok(Asked::Migrate { file }) => migrate_file(rt, file.as_str(), start, output, errors),
-        Ok(Asked::Import { file, import, from }) => import_in_file(
+        Ok(CommandLine::Audit { file }) => audit_file(rt, file.as_str(), start, output, errors),
+        Ok(CommandLine::Migrate { file }) => migrate_file(rt, file.as_str(), start, output, errors),
+        Ok(CommandLine::Import { file, import, from }) => import_in_file(
             rt,
             file.as_str(),
             start,
@@ -148,12 +147,12 @@ fn open_run<T: Start, F: Folder, C: Clients, R: Read, W: Write, E: Write>(
             output,
             errors,
         ),
-        Ok(Asked::BadOption(option)) => (bad_option(option, errors), Left::Nothing),
-        Ok(Asked::Text(text)) => (send_text(text.as_str(), output, errors), Left::Nothing),
-        Ok(Asked::Bad(text)) => {
+        Ok(CommandLine::BadOption(option)) => (bad_option(option, errors), ToClose::Nothing),
+        Ok(CommandLine::Text(text)) => (send_text(text.as_str(), output, errors), ToClose::Nothing),
+        Ok(CommandLine::Bad(text)) => {
             tell(errors, text.as_str());
-            (Exit::BadCommandLine as u8, Left::Nothing)
+            (Exit::BadCommandLine as u8, ToClose::Nothing)
         }
-        Err(AllocError) => (unavailable(errors), Left::Nothing),
+        Err(AllocError) => (unavailable(errors), ToClose::Nothing),
     }
 }

@@ -1,9 +1,11 @@
+pub mod Apart
 pub mod Boards
 pub mod Bounds
 pub mod Command
 pub mod Designator
 pub mod Desk
 pub mod Edits
+pub mod Fields
 pub mod Fixed
 pub mod FloorLife
 pub mod Free
@@ -20,6 +22,7 @@ pub mod Placements
 pub mod Refusals
 pub mod Row
 pub mod Setup
+pub mod StoredText
 pub mod Tables
 pub mod Tape
 pub mod TraceDetail

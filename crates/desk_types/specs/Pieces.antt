@@ -27,23 +27,37 @@ abbrev pub pieces_off : Name → ℕ → Purpose → List Pick
 pieces_off reel n purpose =
     if nat_lt 0 n then record { reel = reel; quantity = n; purpose = purpose } ∷ [] else []
 
+-- The context of an install: machine, board, and lookups.
+pub record Bench : Type 0 where
+  pub machine : Name
+  pub board : Name
+  pub slot_of : Name → Option Name
+  pub tape : Name → List Name
+  pub pieces : Name → ℕ
+
+-- The context after H, with these tapes and pieces.
+abbrev pub bench_by : (Name → Name → List Name) → (Name → ℕ) → History → Name → Name → Bench
+bench_by tape pieces H machine board = record {
+  machine = machine;
+  board = board;
+  slot_of = slot_on H machine;
+  tape = tape machine;
+  pieces = pieces;
+}
+
 -- One piece for a designator, from the first reel on its slot's tape with a piece left after
 -- earlier picks.
-abbrev pub pick_for : (Name → Option Name) → (Name → List Name) → (Name → ℕ) → Name → Name
-    → List Pick → Name → Option Pick
-pick_for slot_of tape pieces machine board before designator =
-    option_and_then (λ slot. option_map (λ reel.
-    record { reel = reel; quantity = 1; purpose = Placed board designator machine slot })
-    (find (λ reel. nat_lt (pieces_picked before reel) (pieces reel)) (tape slot)))
-    (slot_of designator)
+abbrev pub pick_for : Bench → List Pick → Name → Option Pick
+pick_for bench before d = option_and_then (λ slot. option_map (λ reel.
+    record { reel = reel; quantity = 1; purpose = Placed bench.board d bench.machine slot })
+    (find (λ reel. nat_lt (pieces_picked before reel) (bench.pieces reel)) (bench.tape slot)))
+    (bench.slot_of d)
 
 -- Earlier picks, followed by one piece for each designator in order.
-unfoldable pub install_picks : (Name → Option Name) → (Name → List Name) → (Name → ℕ) → Name → Name
-    → List Pick → List Name → List Pick
-install_picks slot_of tape pieces machine board before [] = before
-install_picks slot_of tape pieces machine board before (d ∷ ds) =
-    install_picks slot_of tape pieces machine board
-    (before ++ option_to_list (pick_for slot_of tape pieces machine board before d)) ds
+unfoldable pub install_picks : Bench → List Pick → List Name → List Pick
+install_picks bench before [] = before
+install_picks bench before (d ∷ ds) =
+    install_picks bench (before ++ option_to_list (pick_for bench before d)) ds
 
 -- The picks of n pieces from the tape, starting at its front reel.
 abbrev pub scrap_picks : (Name → ℕ) → Purpose → List Name → ℕ → List Pick
@@ -60,7 +74,7 @@ count_picks pieces (row ∷ rows) = pieces_off row.reel (pieces row.reel - row.q
 -- The command's picks after H, if `pieces` gives the pieces left on each reel.
 abbrev pub picks_from : (Name → ℕ) → History → Command → List Pick
 picks_from pieces H (MaterialsInstalled machine board designators) =
-    install_picks (slot_on H machine) (tape_of H machine) pieces machine board [] designators
+    install_picks (bench_by (tape_of H) pieces H machine board) [] designators
 picks_from pieces H (MaterialsScrapped machine slot quantity) =
     scrap_picks pieces (Rejected machine slot) (tape_of H machine slot) quantity
 picks_from pieces H (CountsTaken counts) = count_picks pieces counts
@@ -81,6 +95,10 @@ unfoldable pub left_of : History → Name → ℕ
 left_of [] reel = 0
 left_of (e ∷ H) reel = unwrap_or (pieces_by reel e.stamped.command)
     (left_of H reel - pieces_picked (picks_from (left_of H) H e.stamped.command) reel)
+
+-- The context of an install after H.
+abbrev pub bench_of : History → Name → Name → Bench
+bench_of H machine board = bench_by (tape_of H) (left_of H) H machine board
 
 -- The command's picks after H.
 abbrev pub picks_of : History → Command → List Pick

@@ -16,9 +16,8 @@ use Rattle.desk_types.specs.declared.sheet.SheetRow.{SheetRow}
 use Rattle.desk_types.specs.declared.take.Pick.{Pick}
 use Rattle.desk_types.specs.Id.{Name, same}
 use Rattle.desk_types.specs.History.{History, desk_minute, effective_minute}
-use Rattle.desk_types.specs.Setup.{is_part, is_allowed, sheet_of, selected_on, sheet_on, row_on, slot_on, receipt_of}
-use Rattle.desk_types.specs.Tape.{tape_of}
-use Rattle.desk_types.specs.Pieces.{left_of, live_on, front_of, is_mounted, pick_for}
+use Rattle.desk_types.specs.Setup.{is_part, is_allowed, sheet_of, selected_on, sheet_on, row_on, receipt_of}
+use Rattle.desk_types.specs.Pieces.{left_of, live_on, front_of, is_mounted, Bench, bench_of, pick_for}
 use Rattle.desk_types.specs.FloorLife.{is_expired, is_unbaked}
 use Rattle.desk_types.specs.Work.{in_work_on, is_in_work_on, is_in_work, product_of, is_placed_on}
 
@@ -195,20 +194,19 @@ designator_refusal d slot twice placed pick = first_refusal (
     ∷ [])
 
 -- The fault of the first faulty designator in a message.
-abbrev pub designators_refusal : (Name → Option Name) → (Name → List Name) → (Name → ℕ)
-    → (Name → Bool) → Name → Name → List Pick → List Name → List Name → Option Refusal
-designators_refusal slot_of tape pieces placed machine board before seen [] = None
-designators_refusal slot_of tape pieces placed machine board before seen (d ∷ ds) = option_or
-    (designator_refusal d (slot_of d) (list_any (same d) seen) (placed d)
-    (pick_for slot_of tape pieces machine board before d))
-    (designators_refusal slot_of tape pieces placed machine board (before ++ option_to_list
-    (pick_for slot_of tape pieces machine board before d)) (seen ++ d ∷ []) ds)
+abbrev pub designators_refusal : Bench → (Name → Bool) → List Pick → List Name → List Name
+    → Option Refusal
+designators_refusal bench placed before seen [] = None
+designators_refusal bench placed before seen (d ∷ ds) = option_or
+    (designator_refusal d (bench.slot_of d) (list_any (same d) seen) (placed d)
+    (pick_for bench before d))
+    (designators_refusal bench placed (before ++ option_to_list (pick_for bench before d))
+    (seen ++ d ∷ []) ds)
 
 unfoldable pub install_refusal : History → Name → Name → List Name → Option Refusal
 install_refusal H machine board designators =
     if is_in_work_on H machine board
-    then designators_refusal (slot_on H machine) (tape_of H machine) (left_of H)
-    (is_placed_on H board) machine board [] [] designators
+    then designators_refusal (bench_of H machine board) (is_placed_on H board) [] [] designators
     else Some (NotInWork board)
 
 -- ---- counts

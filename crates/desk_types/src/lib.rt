@@ -1,5 +1,5 @@
-//! The shared types of the trace desk: commands, the history, refusals, replies and the desk
-//! itself.
+//! The shared types of the trace desk: commands and their stored texts, the history, refusals, replies
+//! and the desk itself.
 //!
 //! The definitions are in `specs/`, one file for each topic. `docs/definitions.md` introduces them.
 #![tactic(auto)]
@@ -24,6 +24,15 @@ mod range;
 mod row;
 mod rules;
 mod sheet;
+mod stored_command;
+mod stored_composed;
+mod stored_fields;
+mod stored_law;
+mod stored_number;
+mod stored_reading;
+mod stored_value;
+mod stored_word;
+mod stored_writing;
 mod take;
 mod trace_detail;
 mod view;
@@ -52,6 +61,9 @@ pub use placement::Placement;
 pub use row::{BoardRow, MountRow, PlacementRow, ReelRow};
 pub use rules::Rules;
 pub use sheet::{Designators, SheetRow, SheetRows};
+pub use stored_command::Kept;
+pub use stored_law::texts_tell_commands_apart;
+pub use stored_word::Word;
 pub use take::{Pick, Purpose, Take};
 pub use trace_detail::TraceDetail;
 pub use view::{Left, Mount, Mounts, ReelView, ReelViews};

@@ -1,2 +1,2 @@
-pub mod CommandLineRows
+pub mod CommandLineCases
 pub mod OneCommand

@@ -9,11 +9,11 @@ use Rattle.clap.specs.Walk.{Row, Rule, first_of}
 use Rattle.clap.specs.declared.error.kind.ErrorKind.{ErrorKind}
 use Rattle.clap.specs.declared.error.kind.ErrorKind.TheVariants.{DisplayHelp, DisplayVersion}
 use Rattle.desk_types.specs.declared.limits.TheConstants.{MOST_CONNECTIONS, MOST_ENTRIES, MOST_PORT}
-use Rattle.desk_import.specs.declared.options.BadOption.{BadOption}
+use Rattle.desk_feed.specs.declared.options.BadOption.{BadOption}
 use Rattle.imports.specs.declared.import.Import.{Import}
-use Rattle.desk_import.specs.Options.{counts_import, setup_import}
-use Rattle.desk_words.specs.declared.command_line.Asked.{Asked}
-use Rattle.desk_words.specs.declared.command_line.Asked.TheVariants.{Feed, Serve, Report, Audit, Migrate, Import as ToImport, BadOption as OfBadOption, Text, Bad}
+use Rattle.desk_feed.specs.Options.{counts_import, setup_import}
+use Rattle.desk_words.specs.declared.command_line.CommandLine.{CommandLine}
+use Rattle.desk_words.specs.declared.command_line.CommandLine.TheVariants.{Feed, Serve, Report, Audit, Migrate, Import as ToImport, BadOption as OfBadOption, Text, Bad}
 
 -- ---- the grammar
 
@@ -257,7 +257,7 @@ AsksForOther words =
     ⊎ ((option : BadOption) × HasBadOption words option) ⊎ AsksForText words ⊎ AsksForNothing words
 
 -- The meaning of the arguments.
-abbrev pub Asks : List (List ℕ) → Asked → Type 0
+abbrev pub Asks : List (List ℕ) → CommandLine → Type 0
 Asks words (Feed file greatest) = AsksForFeed words (option_map string_bytes file) greatest
 Asks words (Serve file port connections greatest) =
     AsksForServing words (string_bytes file) port connections greatest
@@ -271,7 +271,7 @@ Asks words (Text text) = AsksForText words
 Asks words (Bad text) = AsksForNothing words
 
 -- The greatest number is valid for a desk, and at least one connection is served.
-abbrev pub IsInRange : Asked → Type 0
+abbrev pub IsInRange : CommandLine → Type 0
 IsInRange (Feed file greatest) = (1 ≤ greatest) × (greatest ≤ MOST_ENTRIES)
 IsInRange (Serve file port connections greatest) = (1 ≤ connections) × (1 ≤ greatest)
     × (greatest ≤ MOST_ENTRIES)

@@ -11,14 +11,14 @@ ghost use Rattle.desk_words.specs.CommandLine.{audit_shape, bare, commands, coun
 
 use clap::error::ErrorKind;
 use clap::{Arg, ArgMatches};
-use desk_import::{BadOption, counts_import, setup_import};
+use desk_feed::{BadOption, counts_import, setup_import};
 use desk_types::{MOST_CONNECTIONS, MOST_ENTRIES, MOST_PORT};
 use imports::Import;
 use std::alloc::{AllocError, Global};
 
 /// The meaning of a command line.
 #[derive(Drop)]
-pub enum Asked {
+pub enum CommandLine {
     /// Answer the lines of standard input.
     Feed {
         /// The desk's file. Without one it is in memory.
@@ -72,7 +72,7 @@ Exit status:
   4  Input or output failed, the import's file can't be read, or the port can't be had";
 
 /// Reads the arguments.
-pub fn read_words(alloc: Global, words: &[String]) -> Result<Asked, AllocError>
+pub fn read_words(alloc: Global, words: &[String]) -> Result<CommandLine, AllocError>
     ensures asks { IfOk result (Asks (map string_bytes words.now)) }
     ensures range { IfOk result IsInRange }
 {
@@ -83,7 +83,7 @@ pub fn read_words(alloc: Global, words: &[String]) -> Result<Asked, AllocError>
     }
 }
 
-fn help_or_mistake(alloc: Global, error: &clap::Error) -> Result<Asked, AllocError>
+fn help_or_mistake(alloc: Global, error: &clap::Error) -> Result<CommandLine, AllocError>
     ensures asks { (words : List (List ℕ)) → HasKind (told_of words) error.now
         → IfOk result (Asks words) }
     ensures range { IfOk result IsInRange }
@@ -93,13 +93,13 @@ fn help_or_mistake(alloc: Global, error: &clap::Error) -> Result<Asked, AllocErr
     }
     let text = format!(in alloc; "{error}")?;
     if error.use_stderr() {
-        Ok(Asked::Bad(text))
+        Ok(CommandLine::Bad(text))
     } else {
-        Ok(Asked::Text(text))
+        Ok(CommandLine::Text(text))
     }
 }
 
-fn command_of(alloc: Global, matches: &ArgMatches<'_>) -> Result<Asked, AllocError>
+fn command_of(alloc: Global, matches: &ArgMatches<'_>) -> Result<CommandLine, AllocError>
     requires named { (words : List (List ℕ)) × (told_of words ≡ [])
         × (subcommand_rows_of matches.now ≡ named_by words) }
     ensures asks { (words : List (List ℕ)) → told_of words ≡ []
@@ -125,88 +125,88 @@ fn command_of(alloc: Global, matches: &ArgMatches<'_>) -> Result<Asked, AllocErr
     }
 }
 
-fn feed_of(alloc: Global, found: &ArgMatches<'_>) -> Result<Asked, AllocError>
+fn feed_of(alloc: Global, found: &ArgMatches<'_>) -> Result<CommandLine, AllocError>
     ensures asks { (words : List (List ℕ))
         → Names words (codes "feed") (rows_of (found_of found.now))
         → IfOk result (Asks words) }
     ensures range { IfOk result IsInRange }
 {
     let Some(greatest) = greatest_in(found) else {
-        return Ok(Asked::Bad(no_greatest(alloc, found)?));
+        return Ok(CommandLine::Bad(no_greatest(alloc, found)?));
     };
     let file = match found.get_str("db") {
         None => None,
         Some(file) => Some(String::from_str(alloc, file)?),
     };
-    Ok(Asked::Feed { file, greatest })
+    Ok(CommandLine::Feed { file, greatest })
 }
 
-fn serve_of(alloc: Global, found: &ArgMatches<'_>) -> Result<Asked, AllocError>
+fn serve_of(alloc: Global, found: &ArgMatches<'_>) -> Result<CommandLine, AllocError>
     ensures asks { (words : List (List ℕ))
         → Names words (codes "serve") (rows_of (found_of found.now))
         → IfOk result (Asks words) }
     ensures range { IfOk result IsInRange }
 {
     let Some(port) = number_in(found, "port", MOST_PORT) else {
-        return Ok(Asked::Bad(no_number(alloc, found, "port", MOST_PORT)?));
+        return Ok(CommandLine::Bad(no_number(alloc, found, "port", MOST_PORT)?));
     };
     let Some(connections) = number_in(found, "connections", MOST_CONNECTIONS) else {
-        return Ok(Asked::Bad(no_number(alloc, found, "connections", MOST_CONNECTIONS)?));
+        return Ok(CommandLine::Bad(no_number(alloc, found, "connections", MOST_CONNECTIONS)?));
     };
     let Some(greatest) = greatest_in(found) else {
-        return Ok(Asked::Bad(no_greatest(alloc, found)?));
+        return Ok(CommandLine::Bad(no_greatest(alloc, found)?));
     };
     match found.get_str("db") {
-        Some(file) => Ok(Asked::Serve {
+        Some(file) => Ok(CommandLine::Serve {
             file: String::from_str(alloc, file)?,
             port: port as u16,
             connections,
             greatest,
         }),
-        None => Ok(Asked::Bad(no_file(alloc)?)),
+        None => Ok(CommandLine::Bad(no_file(alloc)?)),
     }
 }
 
-fn report_of(alloc: Global, found: &ArgMatches<'_>) -> Result<Asked, AllocError>
+fn report_of(alloc: Global, found: &ArgMatches<'_>) -> Result<CommandLine, AllocError>
     ensures asks { (words : List (List ℕ))
         → Names words (codes "report") (rows_of (found_of found.now))
         → IfOk result (Asks words) }
     ensures range { IfOk result IsInRange }
 {
     match (found.get_str("db"), found.get_str("get")) {
-        (Some(file), Some(target)) => Ok(Asked::Report {
+        (Some(file), Some(target)) => Ok(CommandLine::Report {
             file: String::from_str(alloc, file)?,
             target: String::from_str(alloc, target)?,
         }),
-        _ => Ok(Asked::Bad(no_file(alloc)?)),
+        _ => Ok(CommandLine::Bad(no_file(alloc)?)),
     }
 }
 
-fn audit_of(alloc: Global, found: &ArgMatches<'_>) -> Result<Asked, AllocError>
+fn audit_of(alloc: Global, found: &ArgMatches<'_>) -> Result<CommandLine, AllocError>
     ensures asks { (words : List (List ℕ))
         → Names words (codes "audit") (rows_of (found_of found.now))
         → IfOk result (Asks words) }
     ensures range { IfOk result IsInRange }
 {
     match found.get_str("db") {
-        Some(file) => Ok(Asked::Audit {
+        Some(file) => Ok(CommandLine::Audit {
             file: String::from_str(alloc, file)?,
         }),
-        None => Ok(Asked::Bad(no_file(alloc)?)),
+        None => Ok(CommandLine::Bad(no_file(alloc)?)),
     }
 }
 
-fn migrate_of(alloc: Global, found: &ArgMatches<'_>) -> Result<Asked, AllocError>
+fn migrate_of(alloc: Global, found: &ArgMatches<'_>) -> Result<CommandLine, AllocError>
     ensures asks { (words : List (List ℕ))
         → Names words (codes "migrate") (rows_of (found_of found.now))
         → IfOk result (Asks words) }
     ensures range { IfOk result IsInRange }
 {
     match found.get_str("db") {
-        Some(file) => Ok(Asked::Migrate {
+        Some(file) => Ok(CommandLine::Migrate {
             file: String::from_str(alloc, file)?,
         }),
-        None => Ok(Asked::Bad(no_file(alloc)?)),
+        None => Ok(CommandLine::Bad(no_file(alloc)?)),
     }
 }
 
@@ -214,22 +214,22 @@ fn import_of(
     alloc: Global,
     found: &ArgMatches<'_>,
     said: Result<Import, BadOption>,
-) -> Result<Asked, AllocError>
+) -> Result<CommandLine, AllocError>
     ensures asks { (words : List (List ℕ)) → NamesImport words (rows_of (found_of found.now)) said
         → IfOk result (Asks words) }
     ensures range { IfOk result IsInRange }
 {
     let import = match said {
         Ok(import) => import,
-        Err(option) => return Ok(Asked::BadOption(option)),
+        Err(option) => return Ok(CommandLine::BadOption(option)),
     };
     match (found.get_str("db"), found.get_str("file")) {
-        (Some(file), Some(from)) => Ok(Asked::Import {
+        (Some(file), Some(from)) => Ok(CommandLine::Import {
             file: String::from_str(alloc, file)?,
             import,
             from: String::from_str(alloc, from)?,
         }),
-        _ => Ok(Asked::Bad(no_file(alloc)?)),
+        _ => Ok(CommandLine::Bad(no_file(alloc)?)),
     }
 }
 

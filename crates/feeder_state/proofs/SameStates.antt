@@ -17,10 +17,10 @@ use Rattle.desk_types.specs.Outcome.{replies_to}
 use Rattle.desk_types.specs.Judged.{IsJudged}
 use Rattle.reels.specs.Reel.{StandsFor}
 use Rattle.state_rows.specs.Kept.{unnumbered}
-use Rattle.alike.proofs.AfterCommands.{many-commands}
-use Rattle.alike.proofs.Agreeing.{mark, marks_of, marked, IsSame, Agree}
-use Rattle.alike.proofs.FloorNext.{life-marked}
-use Rattle.alike.proofs.FromAlike.{same-absent}
+use Rattle.desk_laws.proofs.AfterCommands.{many-commands}
+use Rattle.desk_laws.proofs.Agreeing.{mark, marks_of, marked, IsSame, Agree}
+use Rattle.desk_laws.proofs.FloorNext.{life-marked}
+use Rattle.desk_laws.proofs.FromAlike.{same-absent}
 use Rattle.feeder_state.specs.declared.desk.StateDesk.{StateDesk}
 use Rattle.feeder_state.specs.declared.held.Held.{Held}
 use Rattle.feeder_state.specs.Held.{IsHeldOf}

@@ -12,11 +12,11 @@ use std::marker::Model;
 /// The designators of one board, in one sorted piece of memory with no room to spare: they stay for
 /// ever, 17 bytes each. Contracts see it as its names.
 #[derive(Drop)]
-pub struct Placed {
+pub struct PlacedNames {
     names: Vec<Designator>,
 }
 
-impl Model for Placed {
+impl Model for PlacedNames {
     ghost use Rattle.std.specs.Prelude.{List};
     ghost use Rattle.std.specs.List.Sorted.{IsSorted};
     ghost use Rattle.desk_types.specs.Id.{Name, by_name};
@@ -28,12 +28,12 @@ impl Model for Placed {
     ghost invariant = { λ a. IsSorted by_name a.names.items };
 }
 
-impl Placed {
+impl PlacedNames {
     /// No designators. Takes no memory.
-    pub fn new(alloc: Global) -> Placed
+    pub fn new(alloc: Global) -> PlacedNames
         ensures { result ≡ [] }
     {
-        Placed {
+        PlacedNames {
             names: Vec::new(alloc),
         }
     }

@@ -13,7 +13,7 @@ ghost use Rattle.judging.specs.Facts.{ArePlacedOn};
 ghost use Rattle.feeder_state.specs.Work.{IsWork, running_at, is_placed_at};
 
 pub use self::rows::work_of;
-use crate::placed::Placed;
+use crate::placed::PlacedNames;
 use desk_types::{Command, Designator, Id};
 use std::alloc::{AllocError, Global};
 use std::collections::BTreeMap;
@@ -22,7 +22,7 @@ use std::collections::BTreeMap;
 #[derive(Drop)]
 pub struct Work {
     running: BTreeMap<Id, Id>,
-    placed: BTreeMap<Id, Placed>,
+    placed: BTreeMap<Id, PlacedNames>,
 }
 
 impl Work {
@@ -97,7 +97,7 @@ fn note_running(running: &mut BTreeMap<Id, Id>, command: &Command) -> Result<(),
 
 fn place(
     alloc: Global,
-    placed: &mut BTreeMap<Id, Placed>,
+    placed: &mut BTreeMap<Id, PlacedNames>,
     board: &Id,
     designators: &[Designator],
 ) -> Result<(), AllocError>
@@ -109,7 +109,7 @@ fn place(
     match placed.get_mut(board) {
         Some(names) => names.add_all(designators)?,
         None => {
-            let mut names = Placed::new(alloc);
+            let mut names = PlacedNames::new(alloc);
             names.add_all(designators)?;
             placed.insert(*board, names)?;
         }
@@ -119,7 +119,7 @@ fn place(
 
 fn note_placed(
     alloc: Global,
-    placed: &mut BTreeMap<Id, Placed>,
+    placed: &mut BTreeMap<Id, PlacedNames>,
     command: &Command,
 ) -> Result<(), AllocError>
     ensures { (b d : Name)

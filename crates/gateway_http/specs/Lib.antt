@@ -1,1 +1,12 @@
+pub mod Answer
+pub mod Asked
+pub mod Fault
+pub mod Gateways
+pub mod Parameter
+pub mod Query
+pub mod Repeats
 pub mod Reports
+pub mod Requests
+pub mod Routes
+pub mod Statuses
+pub mod Values

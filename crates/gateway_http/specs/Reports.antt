@@ -1,10 +1,10 @@
 -- The reports of the gateway.
 use Rattle.std.specs.Prelude.{Some}
-use Rattle.http_answers.specs.Requests.{Reports}
-use Rattle.http_routes.specs.declared.asked.Report.TheVariants.{BoardTrace, LotTrace, ReelCard, SlotList, KitList, OverdueList}
-use Rattle.report_texts.specs.Card.{reel_card}
-use Rattle.report_texts.specs.Kit.{kit_list}
-use Rattle.report_texts.specs.Slots.{slot_list}
+use Rattle.gateway_http.specs.Requests.{Reports}
+use Rattle.gateway_http.specs.declared.asked.Report.TheVariants.{BoardTrace, LotTrace, ReelCard, SlotList, KitList, OverdueList}
+use Rattle.trace_reports.specs.Card.{reel_card}
+use Rattle.trace_reports.specs.Kit.{kit_list}
+use Rattle.trace_reports.specs.Slots.{slot_list}
 use Rattle.trace_reports.specs.Reports.{board_trace, lot_trace, overdue_list}
 
 -- The text of each report on a history, if there is one. The overdue list always exists.

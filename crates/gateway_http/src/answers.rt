@@ -1,17 +1,20 @@
 //! Answers to requests: those of `http_answers`, and reports.
 
 ghost use Rattle.std.specs.Prelude.{◌≡◌, IfOk};
-ghost use Rattle.http_routes.specs.Asked.{asked_of};
+ghost use Rattle.gateway_http.specs.Asked.{asked_of};
 ghost use Rattle.http_stream.specs.Answers.{response_told};
-ghost use Rattle.http_answers.specs.Gateways.{Meets};
-ghost use Rattle.http_answers.specs.Requests.{kind_of, none_told, report_told, outcome_leaving, asked_outcome};
+ghost use Rattle.gateway_http.specs.Gateways.{Meets};
+ghost use Rattle.gateway_http.specs.Requests.{kind_of, none_told, report_told, outcome_leaving, asked_outcome};
 
+use crate::asked::{Asked, Report};
+use crate::fault::AskFault;
+use crate::message_answers::{answer_fault, answer_import, answer_message, json};
 use crate::reported::ReportedOwner;
-use http_answers::{Unavailable, answer_fault, answer_import, answer_message, json};
-use http_routes::{AskFault, Asked, Report, RouteTable};
-use http_stream::{Body, Kind, Response, Status};
-use report_texts::not_found_text;
+use crate::routes::RouteTable;
+use http_stream::{Body, MediaType, Response, Status};
+use line_schema::Unavailable;
 use std::alloc::Global;
+use trace_reports::not_found_text;
 
 /// Answers a request, if there was memory for the routes.
 pub fn answer_request<L: ReportedOwner>(
@@ -52,14 +55,14 @@ fn answer_report<L: ReportedOwner>(
     match owner.report(alloc, report)? {
         Some(text) => Ok(Response {
             status: Status::Ok,
-            kind: Kind::Csv,
+            kind: MediaType::Csv,
             body: Body::Made(text),
         }),
         None => Ok(answer_none(alloc, kind_of(report))?),
     }
 }
 
-fn answer_none(alloc: Global, about: Option<report_texts::Kind>) -> Result<Response, Unavailable>
+fn answer_none(alloc: Global, about: Option<trace_reports::Kind>) -> Result<Response, Unavailable>
     ensures { IfOk result (λ response. response_told response ≡ none_told about) }
 {
     match about {
@@ -68,15 +71,15 @@ fn answer_none(alloc: Global, about: Option<report_texts::Kind>) -> Result<Respo
     }
 }
 
-fn kind_of(report: Report) -> Option<report_texts::Kind>
+fn kind_of(report: Report) -> Option<trace_reports::Kind>
     ensures { result ≡ kind_of report }
 {
     match report {
-        Report::BoardTrace { .. } => Some(report_texts::Kind::Board),
-        Report::LotTrace { .. } => Some(report_texts::Kind::Lot),
-        Report::ReelCard { .. } => Some(report_texts::Kind::Reel),
-        Report::SlotList { .. } => Some(report_texts::Kind::Machine),
-        Report::KitList { .. } => Some(report_texts::Kind::Sheet),
+        Report::BoardTrace { .. } => Some(trace_reports::Kind::Board),
+        Report::LotTrace { .. } => Some(trace_reports::Kind::Lot),
+        Report::ReelCard { .. } => Some(trace_reports::Kind::Reel),
+        Report::SlotList { .. } => Some(trace_reports::Kind::Machine),
+        Report::KitList { .. } => Some(trace_reports::Kind::Sheet),
         Report::OverdueList => None,
     }
 }

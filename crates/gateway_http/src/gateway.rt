@@ -3,20 +3,20 @@
 ghost use Rattle.std.specs.Prelude.{◌≡◌, true, is_some};
 ghost use Rattle.desk_types.specs.Wire.{inner_of};
 ghost use Rattle.desk_answers.specs.Ledger.{Ledger, ForLists};
-ghost use Rattle.served.specs.Owners.{StaysReady};
-ghost use Rattle.served.specs.Shown.{CanCountRun, CountsRun};
+ghost use Rattle.desk_answers.specs.Owners.{StaysReady};
+ghost use Rattle.desk_answers.specs.Shown.{CanCountRun, CountsRun};
 ghost use Rattle.http_stream.specs.Answers.{response_told};
 ghost use Rattle.http_stream.specs.Stream.{AnswersConnection};
-ghost use Rattle.http_answers.specs.Gateways.{AnswersGet};
-ghost use Rattle.http_answers.specs.Requests.{request_rule};
+ghost use Rattle.gateway_http.specs.Gateways.{AnswersGet};
+ghost use Rattle.gateway_http.specs.Requests.{request_rule};
 
 use crate::answers::answer_request;
 use crate::reported::ReportedOwner;
+use crate::routes::RouteTable;
+use desk_answers::{ServeFault, Served};
 use desk_types::Wire;
-use http_answers::Unavailable;
-use http_routes::RouteTable;
 use http_stream::{Handler, Response};
-use served::{ServeFault, Served};
+use line_schema::Unavailable;
 use std::alloc::Global;
 use std::io::{Read, Write};
 
@@ -30,7 +30,7 @@ struct Gateway<'a, L> {
 /// It answers by the gateway's rule, with its owner's reports.
 impl<'a, L: ReportedOwner> Handler for Gateway<'a, L> {
     ghost use Rattle.std.specs.Prelude.{◌≡◌};
-    ghost use Rattle.http_answers.specs.Requests.{request_rule};
+    ghost use Rattle.gateway_http.specs.Requests.{request_rule};
 
     ghost rule = { request_rule L.reports };
 

@@ -1,17 +1,34 @@
 //! The gateway over a line's store: messages, files and reports over HTTP.
 //!
-//! `http_stream` cuts the bytes of a connection into requests, `http_routes` reads them, and
-//! `http_answers` answers messages and files. This crate adds the reports, and the store that has
-//! them: `serve` serves a connection by a store that is lent, and `ask` answers one question.
+//! `http_stream` cuts the bytes of a connection into requests. `RouteTable` reads a request: its route,
+//! from path and method, and the route's parameters. `message_answers` answers messages and files, for
+//! any owner of a history, and `answers` adds the reports. `serve` serves a connection by a store that is
+//! lent, and `ask` answers one question.
 #![tactic(auto)]
 
+mod answer;
 mod answers;
+mod asked;
+mod fault;
 mod gateway;
+mod law;
+mod message_answers;
+mod parameter;
+mod query;
 mod reported;
+mod routes;
+mod statuses;
 mod store;
+mod values;
 
+pub use asked::{Asked, Report};
+pub use desk_answers::{ServeFault, Served};
+pub use fault::AskFault;
 pub use gateway::{ask, serve};
-pub use http_answers::Unavailable;
-pub use http_stream::{Body, Kind, Response, Status};
+pub use http_stream::{Body, MediaType, Response, Status};
+pub use law::{questions_leave_the_list, repeats_leave_the_list};
+pub use line_schema::Unavailable;
+pub use message_answers::{answer_fault, answer_import, answer_message, json};
+pub use parameter::Parameter;
 pub use reported::ReportedOwner;
-pub use served::{ServeFault, Served};
+pub use routes::{Method, RouteTable};

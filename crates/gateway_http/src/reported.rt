@@ -1,16 +1,16 @@
 //! An owner with reports.
 
+use crate::asked::Report;
 use desk_answers::Owner;
 use desk_types::Text;
-use http_answers::Unavailable;
-use http_routes::Report;
+use line_schema::Unavailable;
 use std::alloc::Global;
 
 /// Answers commands and returns reports of those accepted.
 pub trait ReportedOwner: Owner {
     ghost use Rattle.std.specs.Prelude.{◌≡◌, IfOk};
     ghost use Rattle.desk_answers.specs.Ledger.{Ledger};
-    ghost use Rattle.http_answers.specs.Requests.{Reports};
+    ghost use Rattle.gateway_http.specs.Requests.{Reports};
 
     /// The reports of a history.
     ghost reports: { Reports };

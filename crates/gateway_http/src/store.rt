@@ -1,14 +1,13 @@
 //! The reports of a line's store.
 
 ghost use Rattle.std.specs.Prelude.{◌≡◌, Option, List, ℕ, IfOk};
-ghost use Rattle.report_texts.specs.declared.kind.Kind.{Kind};
+ghost use Rattle.trace_reports.specs.declared.kind.Kind.{Kind};
 ghost use Rattle.trace_reports.specs.Reports.{Answers};
 
+use crate::asked::Report;
 use crate::reported::ReportedOwner;
 use desk_types::Text;
-use http_answers::Unavailable;
-use http_routes::Report;
-use line_schema::LineStore;
+use line_schema::{LineStore, Unavailable};
 use sqlite::Alter;
 use state_rows::KeepsRows;
 use std::alloc::Global;

@@ -1,7 +1,7 @@
 -- Several calls in sequence.
 use Rattle.std.proofs.Common.{List, [], ◌∷◌, refl, sym, subst}
 use Rattle.desk_answers.specs.Ledger.{Ledger, ForLists}
-use Rattle.http_answers.specs.Requests.{Reports}
+use Rattle.gateway_http.specs.Requests.{Reports}
 use Rattle.headline.specs.Calls.{AnswersByTheList, Call, Calls}
 
 module _ {S : Type 0} (reports : Reports) (Stands : S → Ledger → Type 0) (Trusts : S → Type 0) where

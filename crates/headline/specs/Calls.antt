@@ -4,21 +4,21 @@ use Rattle.desk_types.specs.declared.command.Stamped.{Stamped}
 use Rattle.desk_types.specs.History.{History}
 use Rattle.desk_answers.specs.declared.answer.Answer.{Answer}
 use Rattle.desk_answers.specs.Ledger.{Ledger, IsAnswer, ledger_after, ForLists}
-use Rattle.served.specs.declared.serving.Served.{Served}
-use Rattle.served.specs.declared.serving.ServeFault.{ServeFault}
-use Rattle.served.specs.declared.sending.WriteFailed.{WriteFailed}
-use Rattle.served.specs.declared.serving.ServeFault.TheVariants.{Read, Write, TooManyReads}
+use Rattle.desk_answers.specs.declared.serving.Served.{Served}
+use Rattle.desk_answers.specs.declared.serving.ServeFault.{ServeFault}
+use Rattle.desk_answers.specs.declared.sending.WriteFailed.{WriteFailed}
+use Rattle.desk_answers.specs.declared.serving.ServeFault.TheVariants.{Read, Write, TooManyReads}
 use Rattle.desk_feed.specs.Stream as lines
-use Rattle.desk_import.specs.Import as file
+use Rattle.desk_feed.specs.Import as file
 use Rattle.imports.specs.declared.import.Import.{Import}
 use Rattle.imports.specs.declared.fault.ImportFault.{ImportFault}
-use Rattle.http_routes.specs.declared.asked.Report.{Report}
+use Rattle.gateway_http.specs.declared.asked.Report.{Report}
 use Rattle.http_stream.specs.Answers.{Told}
 use Rattle.http_stream.specs.Stream as requests
 use Rattle.http_stream.specs.Stream.{Rule}
-use Rattle.http_answers.specs.Gateways.{AnswersGet}
-use Rattle.http_answers.specs.Requests.{Reports, request_rule}
-use Rattle.http_answers.specs.declared.unavailable.Unavailable.{Unavailable}
+use Rattle.gateway_http.specs.Gateways.{AnswersGet}
+use Rattle.gateway_http.specs.Requests.{Reports, request_rule}
+use Rattle.line_schema.specs.declared.unavailable.Unavailable.{Unavailable}
 
 -- The end of a feed or connection: the counts of answers, and the fault, if any.
 abbrev pub Ended : Type 0

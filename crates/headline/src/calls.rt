@@ -8,13 +8,11 @@ ghost use Rattle.http_stream.specs.Answers.{response_told};
 ghost use Rattle.headline.specs.Calls.{CallsOnce};
 ghost use Rattle.headline.specs.Calls.Call.{fed, connected, commanded, asked, reported, imported};
 
-use desk_answers::Answer;
+use desk_answers::{Answer, ServeFault, Served, WriteFailed};
 use desk_types::{Stamped, Text, Wire};
-use gateway_http::{ReportedOwner, Unavailable};
-use http_routes::Report;
+use gateway_http::{Report, ReportedOwner, Unavailable};
 use http_stream::Response;
 use imports::Import;
-use served::{ServeFault, Served, WriteFailed};
 use std::alloc::Global;
 use std::io::{Read, Write};
 
@@ -99,5 +97,5 @@ pub fn import<W: Write, L: ReportedOwner>(
         (imported import.now (Some bytes.now) (W.contents (inner_of output.old))
         (W.contents (inner_of output.new)) result) owner.new }
 {
-    desk_import::serve_import(alloc, output, owner, import, bytes)
+    desk_feed::serve_import(alloc, output, owner, import, bytes)
 }

@@ -1,13 +1,15 @@
 //! The headline: the answers of any number of calls on one desk, and its history and tables after
-//! them. This crate is for proofs; only its tests run.
+//! them; then of any number of runs on the same files. This crate is for proofs, and nothing of it runs.
 //!
 //! `specs/Calls.antt` defines the effect of one call and of several in sequence. `feed`, `serve`,
 //! `command`, `ask`, `report` and `import` show it for each call that the program makes.
+//! `specs/Runs.antt` defines a run, and how runs combine.
 #![tactic(auto)]
 
 mod calls;
-#[cfg(test)]
-mod tests;
+mod failing;
+mod runs;
+mod whole;
 
 ghost use Rattle.std.specs.Prelude.{List};
 ghost use Rattle.desk_types.specs.History.{History};
@@ -17,7 +19,13 @@ ghost use Rattle.desk_laws.specs.Consistent.{IsConsistent};
 ghost use Rattle.headline.specs.Calls.{AnswersByTheList, Call, Calls};
 
 pub use calls::{ask, command, feed, import, report, serve};
+pub use failing::{WatchedStore, failing_disks_leave_the_list};
 use gateway_http::ReportedOwner;
+pub use runs::{
+    closed_runs_are_runs, crashed_runs_are_runs, killed_runs_are_runs, let_go, many_runs_are_one,
+    refused_runs_keep_lists, store_calls_are_calls, whole_runs_are_runs,
+};
+pub use whole::whole_run_goes_on;
 
 /// A law: for every stream of requests, in whatever pieces and with repeats and refusals, the
 /// history of accepted commands alone determines every answer. That history is lawful and

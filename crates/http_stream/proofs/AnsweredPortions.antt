@@ -5,7 +5,7 @@ use Rattle.std.proofs.lemmas.Grind.{flat_map-append, common_steps}
 use Rattle.std.specs.Io.KnownBytes.{Appends}
 use Rattle.std.proofs.KnownBytes.{Appends-trans}
 use Rattle.desk_types.specs.History.{History}
-use Rattle.served.specs.declared.serving.Served.{Served}
+use Rattle.desk_answers.specs.declared.serving.Served.{Served}
 use Rattle.http_stream.specs.Cut.{Portion}
 use Rattle.http_stream.specs.Stream.{Rule, Answer, Answered, answer, answers, list_after}
 

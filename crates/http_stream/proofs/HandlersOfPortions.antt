@@ -2,8 +2,8 @@
 use Rattle.std.proofs.Common.{ℕ, List, [], ◌++◌, Option, IfSome, sym, subst}
 use Rattle.std.proofs.KnownBytes.{Appends-nil}
 use Rattle.desk_answers.specs.Ledger.{Ledger, ForLists}
-use Rattle.served.specs.Counts.{none_served}
-use Rattle.served.specs.declared.serving.Served.{Served}
+use Rattle.desk_answers.specs.Counts.{none_served}
+use Rattle.desk_answers.specs.declared.serving.Served.{Served}
 use Rattle.http_stream.specs.Cut.{Portion, IsPortion, Leads}
 use Rattle.http_stream.specs.Stream.{RuleBy, AnsweredInto, Breaks, Serves}
 use Rattle.http_stream.proofs.AnsweredPortions.{none_answered, answered_more}

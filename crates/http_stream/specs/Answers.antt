@@ -3,13 +3,13 @@ use Rattle.std.specs.Prelude.{ℕ, Bool, true, false, not, ◌&&◌, ◌==◌, L
 use Rattle.http.specs.StatusCode.{reason_phrase}
 use Rattle.http_stream.specs.declared.head.LengthFault.{LengthFault}
 use Rattle.http_stream.specs.declared.head.LengthFault.TheVariants as length_fault
-use Rattle.http_stream.specs.declared.reply.Reply.{Reply}
-use Rattle.http_stream.specs.declared.reply.Reply.TheVariants as reply
+use Rattle.http_stream.specs.declared.reply.HttpReply.{HttpReply}
+use Rattle.http_stream.specs.declared.reply.HttpReply.TheVariants as reply
 use Rattle.http_stream.specs.declared.response.Allow.TheVariants.{Get, Post}
 use Rattle.http_stream.specs.declared.response.Body.{Body}
 use Rattle.http_stream.specs.declared.response.Body.TheVariants.{Made, Fixed}
-use Rattle.http_stream.specs.declared.response.Kind.{Kind}
-use Rattle.http_stream.specs.declared.response.Kind.TheVariants.{Json, Csv}
+use Rattle.http_stream.specs.declared.response.MediaType.{MediaType}
+use Rattle.http_stream.specs.declared.response.MediaType.TheVariants.{Json, Csv}
 use Rattle.http_stream.specs.declared.response.Response.{Response}
 use Rattle.http_stream.specs.declared.response.Status.{Status}
 use Rattle.http_stream.specs.declared.response.Status.TheVariants as status
@@ -19,7 +19,7 @@ use Rattle.http_stream.specs.declared.response.Status.TheVariants as status
 -- The answer to a request.
 pub record Told : Type 0 where
   pub status : Status
-  pub kind : Kind
+  pub kind : MediaType
   pub body : List ℕ
 
 -- A fault by name.
@@ -62,7 +62,7 @@ response_told response =
     record { status = response.status; kind = response.kind; body = body_of response.body }
 
 -- The answer to a portion.
-abbrev pub reply_told : Reply → Told
+abbrev pub reply_told : HttpReply → Told
 reply_told (reply.Response response) = response_told response
 reply_told reply.BadHead = told_bad_head
 reply_told reply.HeadTooLarge = told_head_too_large
@@ -100,7 +100,7 @@ unfoldable pub status_line : Status → List ℕ
 status_line s = line (codes "HTTP/1.1 " ++ decimal (code_of s) ++ codes " "
     ++ unwrap_or (reason_phrase (code_of s)) [])
 
-unfoldable pub type_line : Kind → List ℕ
+unfoldable pub type_line : MediaType → List ℕ
 type_line Json = line (codes "Content-Type: application/json")
 type_line Csv = line (codes "Content-Type: text/csv")
 

@@ -4,11 +4,11 @@ use Rattle.std.specs.List.{slice_range}
 use Rattle.std.specs.Io.KnownBytes.{IsAtEnd}
 use Rattle.httparse.specs.Grammar.{RequestHead}
 use Rattle.desk_types.specs.declared.limits.TheConstants.{BLOCK, HEAD_LIMIT}
-use Rattle.served.specs.declared.block.Block.{Block}
-use Rattle.served.specs.Block.{pending_bytes}
+use Rattle.desk_answers.specs.declared.block.Block.{Block}
+use Rattle.desk_answers.specs.Block.{pending_bytes}
 use Rattle.http_stream.specs.declared.front.Seen.{Seen}
-use Rattle.http_stream.specs.declared.front.Front.{Front}
-use Rattle.http_stream.specs.declared.front.Front.TheVariants as front
+use Rattle.http_stream.specs.declared.front.HeadSearch.{HeadSearch}
+use Rattle.http_stream.specs.declared.front.HeadSearch.TheVariants as front
 use Rattle.http_stream.specs.Heads.{window, IsBadHead, IsUnfinished}
 use Rattle.http_stream.specs.Looks.{IsHeadOf}
 
@@ -17,7 +17,7 @@ abbrev pub seen_bytes : List ℕ → Seen → List ℕ
 seen_bytes bytes seen = slice_range bytes seen.from seen.to
 
 -- The result of searching the pending bytes, without taking any.
-abbrev pub IsFront : Block → Option (List ℕ) → Front → Type 0
+abbrev pub IsFront : Block → Option (List ℕ) → HeadSearch → Type 0
 IsFront block known (front.Head seen) = (h : RequestHead)
     × IsHeadOf (seen_bytes block.bytes seen) seen.head h
     × (seen_bytes block.bytes seen ≡ window (pending_bytes block))

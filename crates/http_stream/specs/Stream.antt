@@ -7,11 +7,11 @@ use Rattle.desk_types.specs.History.{History}
 use Rattle.desk_types.specs.declared.wire.Wire.{Wire}
 use Rattle.desk_answers.specs.Ledger.{Ledger}
 use Rattle.desk_types.specs.declared.rules.Rules.{Rules}
-use Rattle.served.specs.Counts.{none_served, CountsUpToOne}
-use Rattle.served.specs.Sent.{SendsFront, CountsWrite}
-use Rattle.served.specs.declared.serving.Served.{Served}
-use Rattle.served.specs.declared.serving.ServeFault.{ServeFault}
-use Rattle.served.specs.declared.serving.ServeFault.TheVariants.{Read, Write, TooManyReads}
+use Rattle.desk_answers.specs.Counts.{none_served, CountsUpToOne}
+use Rattle.desk_answers.specs.Sent.{SendsFront, CountsWrite}
+use Rattle.desk_answers.specs.declared.serving.Served.{Served}
+use Rattle.desk_answers.specs.declared.serving.ServeFault.{ServeFault}
+use Rattle.desk_answers.specs.declared.serving.ServeFault.TheVariants.{Read, Write, TooManyReads}
 use Rattle.http_stream.specs.Answers.{Told, unavailable, told_bad_head, told_head_too_large, told_length, is_refused, answer_bytes}
 use Rattle.http_stream.specs.Cut.{Request, Portion, whole, bad_head, head_too_large, unread, starved, is_last, is_head, IsPortion, Leads, ReadsInside, IsCut}
 

@@ -3,14 +3,14 @@
 ghost use Rattle.std.specs.Prelude.{◌≡◌, ◌<◌, ◌≤◌, ◌+◌, ◌^◌, ◌++◌, take, length, OnOk, OnErr};
 ghost use Rattle.std.specs.Io.KnownBytes.{Appends};
 ghost use Rattle.desk_types.specs.Wire.{inner_of, failures_of};
-ghost use Rattle.served.specs.Sent.{SendsFront};
+ghost use Rattle.desk_answers.specs.Sent.{SendsFront};
 ghost use Rattle.http_stream.specs.Answers.{type_line, allow_line, close_line, head_bytes, reply_told, answer_bytes};
 
-use crate::reply::Reply;
-use crate::response::{Allow, Kind, Status};
+use crate::reply::HttpReply;
+use crate::response::{Allow, MediaType, Status};
+use desk_answers::{WriteFailed, send};
 use desk_types::{ONE_WRITE, Wire};
 use itoa::Buffer;
-use served::{WriteFailed, send};
 use std::io::Write;
 
 /// The bytes of an answer so far.
@@ -24,7 +24,7 @@ struct Letter {
 #[tactic(auto, unfolding(crate::specs::Answers::answer_bytes))]
 pub fn send_answer<W: Write>(
     wire: &mut Wire<W>,
-    reply: &Reply,
+    reply: &HttpReply,
     closes: bool,
     has_body: bool,
 ) -> Result<(), WriteFailed>
@@ -63,7 +63,7 @@ impl Letter {
         self.end += text.len();
     }
 
-    fn put_head(&mut self, reply: &Reply, closes: bool)
+    fn put_head(&mut self, reply: &HttpReply, closes: bool)
         requires empty { self.old.end ≡ 0 }
         ensures bytes { take self.new.end self.new.block
             ≡ head_bytes closes (reply_told reply.now) }
@@ -103,13 +103,13 @@ impl Letter {
 }
 
 #[tactic(auto, unfolding(crate::specs::Answers::type_line))]
-fn type_line(kind: Kind) -> &'static str
+fn type_line(kind: MediaType) -> &'static str
     ensures line { result.now ≡ type_line kind }
     ensures short { length result.now ≤ 64 }
 {
     match kind {
-        Kind::Json => "Content-Type: application/json\r\n",
-        Kind::Csv => "Content-Type: text/csv\r\n",
+        MediaType::Json => "Content-Type: application/json\r\n",
+        MediaType::Csv => "Content-Type: text/csv\r\n",
     }
 }
 

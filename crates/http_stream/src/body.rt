@@ -2,12 +2,12 @@
 
 ghost use Rattle.std.specs.Prelude.{◌≡◌, ◌≤◌, length, IfOk, OnOk, OnErr};
 ghost use Rattle.desk_types.specs.Wire.{inner_of, reads_of};
-ghost use Rattle.served.specs.Block.{source, fuel};
-ghost use Rattle.served.specs.Reads.{MayRead, MayReadInto, ReadsInto, ReadsUpTo};
+ghost use Rattle.desk_answers.specs.Block.{source, fuel};
+ghost use Rattle.desk_answers.specs.Reads.{MayRead, MayReadInto, ReadsInto, ReadsUpTo};
 ghost use Rattle.http_stream.specs.Bodies.{Fills, ReadsFewer, TakesBody};
 
+use desk_answers::{Block, ReadFault};
 use desk_types::Wire;
-use served::{Block, ReadFault};
 use std::alloc::Global;
 use std::io::Read;
 

@@ -3,14 +3,14 @@
 ghost use Rattle.std.specs.Prelude.{◌≤◌, IfOk, OnOk, OnErr};
 ghost use Rattle.std.specs.Io.KnownBytes.{Keeps};
 ghost use Rattle.desk_types.specs.Wire.{inner_of};
-ghost use Rattle.served.specs.Block.{source, fuel};
-ghost use Rattle.served.specs.Reads.{MayReadInto, ReadsInto};
+ghost use Rattle.desk_answers.specs.Block.{source, fuel};
+ghost use Rattle.desk_answers.specs.Reads.{MayReadInto, ReadsInto};
 ghost use Rattle.http_stream.specs.Cut.{ReadsInside};
 ghost use Rattle.http_stream.specs.Fronts.{IsFront};
 
 use crate::head::{Glance, Head, look};
+use desk_answers::{Block, ReadFault};
 use desk_types::{HEAD_LIMIT, Wire};
-use served::{Block, ReadFault};
 use std::io::Read;
 
 /// A head, and the place in the block of the searched bytes, which start with it.
@@ -24,7 +24,7 @@ pub struct Seen {
 
 /// The result of a search for a head.
 #[derive(Clone, Copy, Drop)]
-pub enum Front {
+pub enum HeadSearch {
     Head(Seen),
     Bad,
     TooLarge,
@@ -36,7 +36,7 @@ pub fn find_front<R: Read>(
     block: &mut Block,
     wire: &mut Wire<R>,
     most_reads: u64,
-) -> Result<Front, ReadFault>
+) -> Result<HeadSearch, ReadFault>
     requires reads { MayReadInto most_reads wire.old block.old }
     ensures reads { ReadsInto most_reads result wire.old wire.new block.new }
     ensures source { OnOk result
@@ -57,15 +57,15 @@ pub fn find_front<R: Read>(
             Glance::Head(head) => {
                 let from = block.start();
                 let to = from + len;
-                return Ok(Front::Head(Seen { from, to, head }));
+                return Ok(HeadSearch::Head(Seen { from, to, head }));
             }
-            Glance::Bad => return Ok(Front::Bad),
+            Glance::Bad => return Ok(HeadSearch::Bad),
             Glance::Unfinished => {
                 if len >= HEAD_LIMIT {
-                    return Ok(Front::TooLarge);
+                    return Ok(HeadSearch::TooLarge);
                 }
                 if !block.more(wire, most_reads)? {
-                    return Ok(Front::End);
+                    return Ok(HeadSearch::End);
                 }
             }
         }

@@ -17,5 +17,5 @@ mod serving;
 
 pub use head::LengthFault;
 pub use law::{bytes_decide, repeats_act_once};
-pub use response::{Allow, Body, Kind, Response, Status};
+pub use response::{Allow, Body, MediaType, Response, Status};
 pub use serving::{Handler, serve};

@@ -2,23 +2,23 @@
 
 ghost use Rattle.std.specs.Prelude.{◌≡◌, ◌<◌, false, IfOk, IfSome, OnErr};
 ghost use Rattle.desk_types.specs.Wire.{inner_of};
-ghost use Rattle.served.specs.Block.{fuel, source};
-ghost use Rattle.served.specs.Reads.{MayReadInto, ReadsInto};
+ghost use Rattle.desk_answers.specs.Block.{fuel, source};
+ghost use Rattle.desk_answers.specs.Reads.{MayReadInto, ReadsInto};
 ghost use Rattle.http_stream.specs.Cut.{ReadsInside, is_last};
 ghost use Rattle.http_stream.specs.Fronts.{IsFront};
 ghost use Rattle.http_stream.specs.Portions.{IsSeen, TakesNext, method_of, portion_of, target_of};
 
 use crate::body::{BodyTaken, take_body};
-use crate::front::{Front, Seen, find_front};
+use crate::front::{HeadSearch, Seen, find_front};
 use crate::head::LengthFault;
+use desk_answers::{Block, ReadFault};
 use desk_types::Wire;
-use served::{Block, ReadFault};
 use std::alloc::Global;
 use std::io::Read;
 
 /// The portion that was taken.
 #[derive(Drop)]
-pub enum Taken {
+pub enum TakenPortion {
     /// A whole request: its head, and the bytes of its body.
     Whole(Seen, Vec<u8>),
     BadHead,
@@ -35,7 +35,7 @@ pub fn take_portion<R: Read>(
     block: &mut Block,
     input: &mut Wire<R>,
     most_reads: u64,
-) -> Result<Option<Taken>, ReadFault>
+) -> Result<Option<TakenPortion>, ReadFault>
     requires reads { MayReadInto most_reads input.old block.old }
     ensures reads { ReadsInto most_reads result input.old input.new block.new }
     ensures next { IfOk result
@@ -50,10 +50,10 @@ pub fn take_portion<R: Read>(
         → fuel most_reads input.new block.new < fuel most_reads input.old block.old)) }
 {
     match find_front(block, input, most_reads)? {
-        Front::End => Ok(None),
-        Front::Bad => Ok(Some(Taken::BadHead)),
-        Front::TooLarge => Ok(Some(Taken::HeadTooLarge)),
-        Front::Head(seen) => take_request(alloc, block, input, seen, most_reads),
+        HeadSearch::End => Ok(None),
+        HeadSearch::Bad => Ok(Some(TakenPortion::BadHead)),
+        HeadSearch::TooLarge => Ok(Some(TakenPortion::HeadTooLarge)),
+        HeadSearch::Head(seen) => take_request(alloc, block, input, seen, most_reads),
     }
 }
 
@@ -63,9 +63,9 @@ fn take_request<R: Read>(
     input: &mut Wire<R>,
     seen: Seen,
     most_reads: u64,
-) -> Result<Option<Taken>, ReadFault>
+) -> Result<Option<TakenPortion>, ReadFault>
     requires reads { MayReadInto most_reads input.old block.old }
-    requires seen { IsFront block.old (R.remaining (inner_of input.old)) (Front.Head seen) }
+    requires seen { IsFront block.old (R.remaining (inner_of input.old)) (HeadSearch.Head seen) }
     ensures reads { ReadsInto most_reads result input.old input.new block.new }
     ensures next { IfOk result
         (λ next. TakesNext next block.new.bytes
@@ -79,13 +79,13 @@ fn take_request<R: Read>(
         → fuel most_reads input.new block.new < fuel most_reads input.old block.old)) }
 {
     match seen.head.body {
-        Err(fault) => Ok(Some(Taken::Unread(seen, fault))),
+        Err(fault) => Ok(Some(TakenPortion::Unread(seen, fault))),
         Ok(length) => {
             block.give(seen.head.len);
             match take_body(alloc, block, input, length, most_reads)? {
-                BodyTaken::Whole(bytes) => Ok(Some(Taken::Whole(seen, bytes))),
+                BodyTaken::Whole(bytes) => Ok(Some(TakenPortion::Whole(seen, bytes))),
                 BodyTaken::End => Ok(None),
-                BodyTaken::NoMemory => Ok(Some(Taken::Starved)),
+                BodyTaken::NoMemory => Ok(Some(TakenPortion::Starved)),
             }
         }
     }

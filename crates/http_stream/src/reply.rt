@@ -4,38 +4,38 @@ ghost use Rattle.std.specs.Prelude.{◌≡◌, [], if◌then◌else◌};
 ghost use Rattle.http_stream.specs.Answers.{Told, reply_told};
 
 use crate::head::LengthFault;
-use crate::response::{Kind, Response, Status};
+use crate::response::{MediaType, Response, Status};
 
 /// The answer to a portion. The faults take no memory.
 #[derive(Drop)]
-pub enum Reply {
+pub enum HttpReply {
     Response(Response),
     BadHead,
     HeadTooLarge,
     Length(LengthFault),
 }
 
-impl Reply {
+impl HttpReply {
     /// Returns the status.
     pub fn status(&self) -> Status
         ensures { result ≡ (reply_told self.now).status }
     {
         match self {
-            Reply::Response(response) => response.status,
-            Reply::BadHead | Reply::Length(LengthFault::BadLength) => Status::BadRequest,
-            Reply::HeadTooLarge => Status::HeaderFieldsTooLarge,
-            Reply::Length(LengthFault::LengthRequired) => Status::LengthRequired,
-            Reply::Length(LengthFault::BodyTooLarge) => Status::PayloadTooLarge,
+            HttpReply::Response(response) => response.status,
+            HttpReply::BadHead | HttpReply::Length(LengthFault::BadLength) => Status::BadRequest,
+            HttpReply::HeadTooLarge => Status::HeaderFieldsTooLarge,
+            HttpReply::Length(LengthFault::LengthRequired) => Status::LengthRequired,
+            HttpReply::Length(LengthFault::BodyTooLarge) => Status::PayloadTooLarge,
         }
     }
 
     /// Returns the kind of the body.
-    pub fn kind(&self) -> Kind
+    pub fn kind(&self) -> MediaType
         ensures { result ≡ (reply_told self.now).kind }
     {
         match self {
-            Reply::Response(response) => response.kind,
-            _ => Kind::Json,
+            HttpReply::Response(response) => response.kind,
+            _ => MediaType::Json,
         }
     }
 
@@ -44,16 +44,16 @@ impl Reply {
         ensures { result.now ≡ (reply_told self.now).body }
     {
         match self {
-            Reply::Response(response) => response.body.as_slice(),
-            Reply::BadHead => b"{\"Answer\":\"Faulty\",\"Fault\":\"BadHead\"}",
-            Reply::HeadTooLarge => b"{\"Answer\":\"Faulty\",\"Fault\":\"HeadTooLarge\"}",
-            Reply::Length(LengthFault::LengthRequired) => {
+            HttpReply::Response(response) => response.body.as_slice(),
+            HttpReply::BadHead => b"{\"Answer\":\"Faulty\",\"Fault\":\"BadHead\"}",
+            HttpReply::HeadTooLarge => b"{\"Answer\":\"Faulty\",\"Fault\":\"HeadTooLarge\"}",
+            HttpReply::Length(LengthFault::LengthRequired) => {
                 b"{\"Answer\":\"Faulty\",\"Fault\":\"LengthRequired\"}"
             }
-            Reply::Length(LengthFault::BadLength) => {
+            HttpReply::Length(LengthFault::BadLength) => {
                 b"{\"Answer\":\"Faulty\",\"Fault\":\"BadLength\"}"
             }
-            Reply::Length(LengthFault::BodyTooLarge) => {
+            HttpReply::Length(LengthFault::BodyTooLarge) => {
                 b"{\"Answer\":\"Faulty\",\"Fault\":\"BodyTooLarge\"}"
             }
         }

@@ -31,7 +31,7 @@ pub enum Allow {
 
 /// The media type of a body.
 #[derive(Clone, Copy, PartialEq, Eq, Drop)]
-pub enum Kind {
+pub enum MediaType {
     Json,
     Csv,
 }
@@ -49,7 +49,7 @@ pub enum Body {
 #[derive(Drop)]
 pub struct Response {
     pub status: Status,
-    pub kind: Kind,
+    pub kind: MediaType,
     pub body: Body,
 }
 
@@ -60,7 +60,7 @@ impl Response {
     {
         Response {
             status: Status::ServiceUnavailable,
-            kind: Kind::Json,
+            kind: MediaType::Json,
             body: Body::Fixed,
         }
     }

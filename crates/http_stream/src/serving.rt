@@ -3,19 +3,19 @@
 ghost use Rattle.std.specs.Prelude.{◌≡◌, true};
 ghost use Rattle.desk_types.specs.Wire.{inner_of};
 ghost use Rattle.desk_answers.specs.Ledger.{ForLists};
-ghost use Rattle.served.specs.Counts.{CanCountAnswer};
-ghost use Rattle.served.specs.Shown.{CanCountRun, CountsRun};
+ghost use Rattle.desk_answers.specs.Counts.{CanCountAnswer};
+ghost use Rattle.desk_answers.specs.Shown.{CanCountRun, CountsRun};
 ghost use Rattle.http_stream.specs.Answers.{reply_told};
 ghost use Rattle.http_stream.specs.Cut.{is_head, is_last};
 ghost use Rattle.http_stream.specs.Portions.{IsTaken, portion_of};
 ghost use Rattle.http_stream.specs.Stream.{AnswersConnection, AnswersPortion, SendsPortion, ShowsSent, StaysLent, has_body};
 
 use crate::answer::send_answer;
-use crate::portion::{Taken, method_of, take_portion, target_of};
-use crate::reply::Reply;
+use crate::portion::{TakenPortion, method_of, take_portion, target_of};
+use crate::reply::HttpReply;
 use crate::response::Response;
+use desk_answers::{Block, ReadFault, ServeFault, Served, WriteFailed};
 use desk_types::{MOST_READS, Wire};
-use served::{Block, ReadFault, ServeFault, Served, WriteFailed};
 use std::alloc::Global;
 use std::io::{Read, Write};
 
@@ -57,7 +57,7 @@ pub trait Handler {
 /// The answer to a portion, and how it is written.
 #[derive(Drop)]
 struct Told {
-    reply: Reply,
+    reply: HttpReply,
     closes: bool,
     has_body: bool,
 }
@@ -111,7 +111,7 @@ fn serve_portion<W: Write, A: Handler>(
     output: &mut Wire<W>,
     handler: &mut A,
     block: &[u8],
-    taken: Taken,
+    taken: TakenPortion,
     served: &mut Served,
 ) -> Result<bool, WriteFailed>
     requires taken { IsTaken block.now taken }
@@ -130,7 +130,12 @@ fn serve_portion<W: Write, A: Handler>(
     Ok(told.closes)
 }
 
-fn answer_portion<A: Handler>(alloc: Global, handler: &mut A, block: &[u8], taken: Taken) -> Told
+fn answer_portion<A: Handler>(
+    alloc: Global,
+    handler: &mut A,
+    block: &[u8],
+    taken: TakenPortion,
+) -> Told
     requires taken { IsTaken block.now taken }
     requires ready { A.Ready handler.old }
     ensures stays { StaysLent A.Ready A.Trusts A.held handler.old handler.new }
@@ -141,10 +146,10 @@ fn answer_portion<A: Handler>(alloc: Global, handler: &mut A, block: &[u8], take
     ensures has_body { result.has_body ≡ has_body (portion_of block.now taken) }
 {
     match taken {
-        Taken::Whole(seen, body) => {
+        TakenPortion::Whole(seen, body) => {
             let method = method_of(block, seen);
             Told {
-                reply: Reply::Response(handler.handle(
+                reply: HttpReply::Response(handler.handle(
                     alloc,
                     method,
                     target_of(block, seen),
@@ -154,19 +159,19 @@ fn answer_portion<A: Handler>(alloc: Global, handler: &mut A, block: &[u8], take
                 has_body: !is_head(method),
             }
         }
-        Taken::BadHead => last(Reply::BadHead),
-        Taken::HeadTooLarge => last(Reply::HeadTooLarge),
-        Taken::Unread(seen, fault) => Told {
-            reply: Reply::Length(fault),
+        TakenPortion::BadHead => last(HttpReply::BadHead),
+        TakenPortion::HeadTooLarge => last(HttpReply::HeadTooLarge),
+        TakenPortion::Unread(seen, fault) => Told {
+            reply: HttpReply::Length(fault),
             closes: true,
             has_body: !is_head(method_of(block, seen)),
         },
-        Taken::Starved => last(Reply::Response(Response::unavailable())),
+        TakenPortion::Starved => last(HttpReply::Response(Response::unavailable())),
     }
 }
 
 /// Returns the last answer of a connection, with its body.
-fn last(reply: Reply) -> Told
+fn last(reply: HttpReply) -> Told
     ensures { result ≡ record { reply = reply; closes = true; has_body = true } }
 {
     Told {

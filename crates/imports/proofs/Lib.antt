@@ -1,6 +1,6 @@
-pub mod ConstantRows
+pub mod ConstantCases
 pub mod EachRow
-pub mod FileRows
+pub mod FileCases
 pub mod FirstRecords
 mod LaterRecords
 pub mod SaidByFile

@@ -16,9 +16,9 @@ use Rattle.desk_types.specs.declared.take.Purpose.{Purpose}
 use Rattle.desk_types.specs.declared.take.Purpose.TheVariants.{Placed, Rejected, Counted}
 use Rattle.desk_types.specs.Id.{Name}
 use Rattle.desk_types.specs.History.{History}
-use Rattle.desk_types.specs.Setup.{slot_on, receipt_of}
+use Rattle.desk_types.specs.Setup.{receipt_of}
 use Rattle.desk_types.specs.Tape.{tape_of}
-use Rattle.desk_types.specs.Pieces.{left_of, pieces_picked, pieces_off, pick_for, install_picks, scrap_picks, count_picks, picks_of}
+use Rattle.desk_types.specs.Pieces.{Bench, bench_of, left_of, pieces_picked, pieces_off, pick_for, install_picks, scrap_picks, count_picks, picks_of}
 use Rattle.desk_types.specs.Outcome.{pieces_of}
 use Rattle.desk_types.specs.Judged.{IsJudged}
 use Rattle.desk_laws.proofs.Balance.{unreceived-empty}
@@ -44,35 +44,35 @@ off-some pieces reel n purpose few = by (nat_lt 0 n) refl
     by true is = let some = ltb-true 0 n is in (lt-ltb 0 (pieces reel) (omega (arith, some, few)), tt)
     by false is = tt
 
-pick-some : (slot_of : Name → Option Name) (tape : Name → List Name) (pieces : Name → ℕ) (machine board : Name) (before : List Pick) (d : Name)
-    → HaveSome pieces (option_to_list (pick_for slot_of tape pieces machine board before d))
-pick-some slot_of tape pieces machine board before d = by (slot_of d)
+pick-some : (bench : Bench) (before : List Pick) (d : Name)
+    → HaveSome bench.pieces (option_to_list (pick_for bench before d))
+pick-some bench before d = by (bench.slot_of d)
   where
     test : Name → Bool
-    test reel = nat_lt (pieces_picked before reel) (pieces reel)
+    test reel = nat_lt (pieces_picked before reel) (bench.pieces reel)
 
     pick : Name → Name → Pick
-    pick slot reel = record { reel = reel; quantity = 1; purpose = Placed board d machine slot }
+    pick slot reel = record { reel = reel; quantity = 1; purpose = Placed bench.board d bench.machine slot }
 
-    found : (slot : Name) (o : Option Name) → find (λ reel. nat_lt (pieces_picked before reel) (pieces reel)) (tape slot) ≡ o
-        → HaveSome pieces (option_to_list (option_map (λ reel. record { reel = reel; quantity = 1; purpose = Placed board d machine slot }) o))
+    found : (slot : Name) (o : Option Name) → find (λ reel. nat_lt (pieces_picked before reel) (bench.pieces reel)) (bench.tape slot) ≡ o
+        → HaveSome bench.pieces (option_to_list (option_map (λ reel. record { reel = reel; quantity = 1; purpose = Placed bench.board d bench.machine slot }) o))
     found slot None is = tt
     found slot (Some reel) is =
-        let more = ltb-true (pieces_picked before reel) (pieces reel) (find-passes (λ r. nat_lt (pieces_picked before r) (pieces r)) (tape slot) reel is) in
-        (lt-ltb 0 (pieces reel) (omega (arith, more)), tt)
+        let more = ltb-true (pieces_picked before reel) (bench.pieces reel) (find-passes (λ r. nat_lt (pieces_picked before r) (bench.pieces r)) (bench.tape slot) reel is) in
+        (lt-ltb 0 (bench.pieces reel) (omega (arith, more)), tt)
 
-    by : (o : Option Name) → HaveSome pieces (option_to_list (option_and_then (λ slot. option_map (λ reel. record { reel = reel; quantity = 1; purpose = Placed board d machine slot })
-        (find (λ reel. nat_lt (pieces_picked before reel) (pieces reel)) (tape slot))) o))
+    by : (o : Option Name) → HaveSome bench.pieces (option_to_list (option_and_then (λ slot. option_map (λ reel. record { reel = reel; quantity = 1; purpose = Placed bench.board d bench.machine slot })
+        (find (λ reel. nat_lt (pieces_picked before reel) (bench.pieces reel)) (bench.tape slot))) o))
     by None = tt
-    by (Some slot) = found slot (find (λ reel. nat_lt (pieces_picked before reel) (pieces reel)) (tape slot)) refl
+    by (Some slot) = found slot (find (λ reel. nat_lt (pieces_picked before reel) (bench.pieces reel)) (bench.tape slot)) refl
 
-install-some : (slot_of : Name → Option Name) (tape : Name → List Name) (pieces : Name → ℕ) (machine board : Name) (before : List Pick) (ds : List Name)
-    → HaveSome pieces before → HaveSome pieces (install_picks slot_of tape pieces machine board before ds)
+install-some : (bench : Bench) (before : List Pick) (ds : List Name)
+    → HaveSome bench.pieces before → HaveSome bench.pieces (install_picks bench before ds)
 unfolding install_picks
-install-some slot_of tape pieces machine board before [] some = some
-install-some slot_of tape pieces machine board before (d ∷ ds) some =
-    install-some slot_of tape pieces machine board (before ++ option_to_list (pick_for slot_of tape pieces machine board before d)) ds
-    (some-append pieces before _ some (pick-some slot_of tape pieces machine board before d))
+install-some bench before [] some = some
+install-some bench before (d ∷ ds) some =
+    install-some bench (before ++ option_to_list (pick_for bench before d)) ds
+    (some-append bench.pieces before _ some (pick-some bench before d))
 
 min-le : (n m : ℕ) → min n m ≤ m
 min-le n m = omega arith
@@ -92,7 +92,7 @@ count-some pieces (row ∷ rows) =
     (off-some pieces row.reel (pieces row.reel - row.quantity) Counted (less-le (pieces row.reel) row.quantity)) (count-some pieces rows)
 
 picks-some : (H : History) (command : Command) → HaveSome (left_of H) (picks_of H command)
-picks-some H (MaterialsInstalled machine board ds) = install-some (slot_on H machine) (tape_of H machine) (left_of H) machine board [] ds tt
+picks-some H (MaterialsInstalled machine board ds) = install-some (bench_of H machine board) [] ds tt
 picks-some H (MaterialsScrapped machine slot n) = scrap-some (left_of H) (Rejected machine slot) (tape_of H machine slot) n
 picks-some H (CountsTaken rows) = count-some (left_of H) rows
 picks-some H _ = tt

@@ -10,9 +10,7 @@ use Rattle.desk_types.specs.declared.take.Pick.{Pick}
 use Rattle.desk_types.specs.declared.take.Purpose.TheVariants.{Placed}
 use Rattle.desk_types.specs.Id.{Name, same, by_name}
 use Rattle.desk_types.specs.History.{History}
-use Rattle.desk_types.specs.Setup.{slot_on}
-use Rattle.desk_types.specs.Tape.{tape_of}
-use Rattle.desk_types.specs.Pieces.{pieces_picked, pick_for, left_of, live_on}
+use Rattle.desk_types.specs.Pieces.{Bench, pieces_picked, pick_for, live_on}
 use Rattle.desk_types.specs.Refusals.{designator_refusal}
 use Rattle.desk_types.specs.Work.{is_placed_on}
 use Rattle.setup_sheets.specs.Names.{HasSeen}
@@ -73,46 +71,16 @@ IsFeeding live pieces reels picks feeds = (slot : Name)
 abbrev pub IsOnePiece : Option Name → Pick → Type 0
 IsOnePiece reel p = (reel ≡ Some p.reel) × (p.quantity ≡ 1)
 
--- The context of an install: machine, board, and lookups. `reels` has the slot's reels as reported
--- by the facts, possibly including spent ones.
-pub record Bench : Type 0 where
-  pub machine : Name
-  pub board : Name
-  pub slot_of : Name → Option Name
-  pub tape : Name → List Name
-  pub live : Name → List Name
-  pub reels : Name → List Name
-  pub pieces : Name → ℕ
-  pub placed : Name → Bool
-
--- The context after H, for these reels on the machine's slots.
-abbrev pub bench_of : (Name → Name → List Name) → History → Name → Name → Bench
-bench_of reels H machine board = record {
-  machine = machine;
-  board = board;
-  slot_of = slot_on H machine;
-  tape = tape_of H machine;
-  live = live_on H machine;
-  reels = reels machine;
-  pieces = left_of H;
-  placed = is_placed_on H board;
-}
-
 -- The picks and designators before the current designator.
 pub record Before : Type 0 where
   pub picks : List Pick
   pub designators : List Name
 
--- The pick for a designator.
-abbrev pub next_pick : Bench → Before → Name → Option Pick
-next_pick bench before d =
-    pick_for bench.slot_of bench.tape bench.pieces bench.machine bench.board before.picks d
-
 -- The fault of a designator.
-abbrev pub next_refusal : Bench → Before → Name → Option Refusal
-next_refusal bench before d =
-    designator_refusal d (bench.slot_of d) (list_any (same d) before.designators) (bench.placed d)
-    (next_pick bench before d)
+abbrev pub next_refusal : Bench → (Name → Bool) → Before → Name → Option Refusal
+next_refusal bench placed before d =
+    designator_refusal d (bench.slot_of d) (list_any (same d) before.designators) (placed d)
+    (pick_for bench before.picks d)
 
 -- The piece as a pick for a designator.
 abbrev pub pick_of : Bench → Name → Feeder → Pick
@@ -122,13 +90,15 @@ pick_of bench d piece = record {
   purpose = Placed bench.board d bench.machine piece.slot;
 }
 
--- The result of one designator.
-abbrev pub IsPlacing : Bench → Before → Name → Result Feeder Refusal → BTreeMap Name Feed
-    → BTreeSet Name → Type 0
-IsPlacing bench before d (Ok piece) feeds seen =
-    (next_refusal bench before d ≡ None)
-    × (next_pick bench before d ≡ Some (pick_of bench d piece))
-    × IsFeeding bench.live bench.pieces bench.reels
+-- The result of one designator, if the facts have these reels on the machine's slots, possibly
+-- including spent ones.
+abbrev pub IsPlacing : (Name → List Name) → History → Bench → Before → Name
+    → Result Feeder Refusal → BTreeMap Name Feed → BTreeSet Name → Type 0
+IsPlacing reels H bench before d (Ok piece) feeds seen =
+    (next_refusal bench (is_placed_on H bench.board) before d ≡ None)
+    × (pick_for bench before.picks d ≡ Some (pick_of bench d piece))
+    × IsFeeding (live_on H bench.machine) bench.pieces reels
     (before.picks ++ pick_of bench d piece ∷ []) feeds
     × HasSeen seen (before.designators ++ d ∷ [])
-IsPlacing bench before d (Err r) feeds seen = next_refusal bench before d ≡ Some r
+IsPlacing reels H bench before d (Err r) feeds seen =
+    next_refusal bench (is_placed_on H bench.board) before d ≡ Some r

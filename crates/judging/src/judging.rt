@@ -145,8 +145,9 @@ fn takes_by<F: Facts>(
     command: &Command,
     picks: &[Pick],
 ) -> Result<Takes, AllocError>
-    requires { IsBy F.Stands facts.now minute }
-    ensures { (H : History) → F.Stands facts.now H → picks.now ≡ picks_of H command.now
+    requires by { IsBy F.Stands facts.now minute }
+    requires are { (H : History) → F.Stands facts.now H → picks.now ≡ picks_of H command.now }
+    ensures { (H : History) → F.Stands facts.now H
         → IfOk result (λ taken. taken ≡ takes_by H minute command.now) }
 {
     facts.is_judged();

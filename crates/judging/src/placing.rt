@@ -8,13 +8,13 @@ ghost use Rattle.desk_types.specs.Id.{Name, same};
 ghost use Rattle.desk_types.specs.History.{History};
 ghost use Rattle.desk_types.specs.Setup.{sheet_on, slot_on};
 ghost use Rattle.desk_types.specs.Tape.{tape_of};
-ghost use Rattle.desk_types.specs.Pieces.{left_of, live_on, pieces_picked, install_picks};
+ghost use Rattle.desk_types.specs.Pieces.{left_of, live_on, pieces_picked, bench_of, install_picks};
 ghost use Rattle.desk_types.specs.Refusals.{designators_refusal};
 ghost use Rattle.desk_types.specs.Work.{is_placed_on};
 ghost use Rattle.setup_sheets.specs.Names.{HasSeen};
 ghost use Rattle.judging.specs.declared.placing.Feed.{Feed as Feeding};
 ghost use Rattle.judging.specs.Facts.{ArePlacedOn};
-ghost use Rattle.judging.specs.Placing.{IsPicked, Before, IsPlacing, IsFeeding, IsOnePiece, bench_of, feed_at, one_less, given_by, live_past};
+ghost use Rattle.judging.specs.Placing.{IsPicked, Before, IsPlacing, IsFeeding, IsOnePiece, feed_at, one_less, given_by, live_past};
 
 use crate::facts::Facts;
 use desk_types::{Designator, Id, Listing, Pick, Purpose, Refusal};
@@ -208,9 +208,8 @@ fn place<F: Facts>(
         (F.reels_on facts.now machine.now) before.picks feeds.old
         → HasSeen seen.old before.designators
         → IfOk result
-        (λ placing. IsPlacing
-        (bench_of (F.reels_on facts.now) H machine.now board.now) before designator.now
-        placing feeds.new seen.new) }
+        (λ placing. IsPlacing (F.reels_on facts.now machine.now) H
+        (bench_of H machine.now board.now) before designator.now placing feeds.new seen.new) }
 {
     let Some(slot) = slot_for(facts, sheet, machine, designator) else {
         return Ok(Err(Refusal::DesignatorNotOnSheet(Id::from(*designator))));
@@ -238,10 +237,9 @@ pub fn place_all<F: Facts>(
     ensures { (H : History) → F.Stands facts.now H
         → IfOk result
         (IsPicked
-        (designators_refusal (slot_on H machine.now) (tape_of H machine.now) (left_of H)
-        (is_placed_on H board.now) machine.now board.now [] [] designators.now)
-        (install_picks (slot_on H machine.now) (tape_of H machine.now)
-        (left_of H) machine.now board.now [] designators.now)) }
+        (designators_refusal (bench_of H machine.now board.now)
+        (is_placed_on H board.now) [] [] designators.now)
+        (install_picks (bench_of H machine.now board.now) [] designators.now)) }
 {
     facts.tells_live();
     let sheet = facts.look_ups_on(machine);

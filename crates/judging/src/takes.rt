@@ -42,17 +42,16 @@ pub fn takes_for<F: Facts>(
     minute: Minute,
     picks: &[Pick],
 ) -> Result<Takes, AllocError>
-    requires { IsBy F.Stands facts.now minute }
+    requires by { IsBy F.Stands facts.now minute }
+    requires known { (H : History) → F.Stands facts.now H
+        → AllByRecursion (λ (p : Picking). IsKnownReel H p.reel) picks.now }
     ensures { (H : History) → F.Stands facts.now H
-        → AllByRecursion (λ (p : Picking). IsKnownReel H p.reel) picks.now
         → IfOk result (λ takes. takes ≡ map (take_of H minute) picks.now) }
 {
     let mut takes = Vec::with_capacity(alloc, picks.len())?;
     for pick in picks {
-        let Some(reel) = facts.reel(&pick.reel) else {
-            continue;
-        };
-        put_take(&mut takes, &reel, minute, pick)?;
+        let found = facts.reel(&pick.reel).unwrap();
+        put_take(&mut takes, &found, minute, pick)?;
     }
     Ok(Listing::new(takes))
 }

@@ -12,9 +12,9 @@ use Rattle.line_tables.specs.Line.{IsOurs}
 use Rattle.line_tables.specs.Rows.{Holds, accepted_in}
 use Rattle.line_tables.specs.Calls.{Reads, has_number}
 use Rattle.line_tables.proofs.Keeps.{keeps_then}
-use Rattle.line_audit.specs.Audit.{ArePlaced}
-use Rattle.line_audit.specs.Placed.{HasBefore}
-use Rattle.line_rows.specs.Rows.{rows_of, ledger_tables}
+use Rattle.line_replay.specs.Audit.{ArePlaced}
+use Rattle.line_replay.specs.Placed.{HasBefore}
+use Rattle.line_replay.specs.Rows.{rows_of, ledger_tables}
 use Rattle.line_replay.specs.declared.fault.ReplayFault.{ReplayFault}
 use Rattle.line_replay.specs.declared.fault.ReplayFault.TheVariants.{NotLawful, Unavailable}
 use Rattle.line_replay.specs.Expected.{Expected}

@@ -19,14 +19,14 @@ use Rattle.desk_types.specs.Edits.{with_edit, with_edits, IsNew, AreNew}
 use Rattle.state_rows.specs.Kept.{KeptRows, tables_in, but_placements, without_number, unnumbered}
 use Rattle.desk_types.specs.Id.{Name}
 use Rattle.desk_types.specs.declared.row.MountRow.{MountRow}
-use Rattle.line_audit.specs.declared.auditing.Placed.{Placed}
+use Rattle.line_replay.specs.declared.auditing.Placed.{Placed}
 use Rattle.line_tables.specs.Line.{IsOurs}
 use Rattle.line_tables.specs.Line as line
 use Rattle.line_tables.specs.StateRows.{has_piece, rows_in, placement_columns}
-use Rattle.line_audit.specs.Alone.{Listed, IsNamed, AreAlone, IsNew as IsNewPiece}
-use Rattle.line_audit.specs.Audit.{Pieces, AreByPiece, ArePlaced, piece_of}
-use Rattle.line_audit.specs.Placed.{HasBefore, HasMoreBefore}
-use Rattle.line_rows.specs.Judging.{Lead}
+use Rattle.line_replay.specs.Alone.{Listed, IsNamed, AreAlone, IsNew as IsNewPiece}
+use Rattle.line_replay.specs.Audit.{Pieces, AreByPiece, ArePlaced, piece_of}
+use Rattle.line_replay.specs.Placed.{HasBefore, HasMoreBefore}
+use Rattle.line_replay.specs.Judging.{Lead}
 use Rattle.line_replay.specs.Expected.{Expected, placement_by, placements_by, AreKept, AreExpected, HoldsAsRead, ArePlacedToo, LooksUp, Adds}
 use Rattle.line_replay.proofs.ReadOfCommitted.{reads_back}
 

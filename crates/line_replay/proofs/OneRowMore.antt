@@ -9,14 +9,14 @@ use Rattle.desk_types.specs.History.{History}
 use Rattle.desk_types.specs.declared.command.Entry.{Entry}
 use Rattle.line_tables.specs.Rows.{accepted_in}
 use Rattle.line_tables.specs.Calls.{Reads, has_number, is_before, only}
-use Rattle.line_rows.specs.Judging.{GoesOn}
-use Rattle.line_rows.specs.Rows.{entry_row}
+use Rattle.line_replay.specs.Judging.{GoesOn}
+use Rattle.line_replay.specs.Rows.{entry_row}
 use Rattle.line_replay.specs.Listed.{IsAt}
 use Rattle.line_replay.specs.Expected.{Expected}
 use Rattle.line_replay.specs.declared.fault.ReplayFault.{ReplayFault}
 use Rattle.line_replay.specs.declared.fault.ReplayFault.TheVariants.{NotLawful, Unavailable}
 use Rattle.line_replay.specs.Replay.{StandsListed, Goes, IsStuck, IsStop, IsTaken}
-use Rattle.trace_lists.specs.declared.lists.TraceLists.{TraceLists}
+use Rattle.state_rows.specs.declared.lists.TraceLists.{TraceLists}
 use Rattle.line_replay.proofs.ExpectedRows.{expected_more}
 use Rattle.line_replay.proofs.ReadOfCommitted.{reads_back, reads_two}
 

@@ -20,8 +20,8 @@ use Rattle.desk_types.specs.Id.{same}
 use Rattle.desk_types.specs.Judged.{IsJudged, IsLawful}
 use Rattle.desk_types.proofs.Keys.{same-sym}
 use Rattle.line_tables.specs.Calls.{has_number, is_before, IsLeast}
-use Rattle.line_rows.specs.Rows.{entry_row, rows_of}
-use Rattle.line_rows.proofs.RowsTellLists.{rows-length}
+use Rattle.line_replay.specs.Rows.{entry_row, rows_of}
+use Rattle.line_replay.proofs.RowsTellLists.{rows-length}
 use Rattle.line_replay.specs.Listed.{AreAt, AreRowsOf}
 use Rattle.line_replay.proofs.Tests.{other_number, before_test, not_below_itself, neither_less}
 

@@ -18,7 +18,7 @@ use Rattle.desk_types.specs.declared.command.Entry.{Entry}
 use Rattle.desk_types.specs.History.{History}
 use Rattle.desk_types.specs.Id.{same}
 use Rattle.line_tables.specs.Calls.{has_uid, has_number, is_before}
-use Rattle.line_rows.specs.Rows.{entry_row}
+use Rattle.line_replay.specs.Rows.{entry_row}
 
 truth_told : (b : Bool) → is_true (from_truth (Some b)) ≡ b
 truth_told true = refl

@@ -12,10 +12,10 @@ use Rattle.desk_types.specs.Edits.{with_edits}
 use Rattle.state_rows.specs.Kept.{KeptRows, tables_in, but_placements}
 use Rattle.line_tables.specs.Line.{IsOurs}
 use Rattle.line_tables.specs.Calls.{Reads}
-use Rattle.line_audit.specs.declared.auditing.Placed.{Placed}
-use Rattle.line_audit.specs.Alone.{Listed}
-use Rattle.line_audit.specs.Audit.{Pieces, AreByPiece, ArePlaced, piece_of}
-use Rattle.line_audit.specs.Placed.{HasBefore, HasMoreBefore}
+use Rattle.line_replay.specs.declared.auditing.Placed.{Placed}
+use Rattle.line_replay.specs.Alone.{Listed}
+use Rattle.line_replay.specs.Audit.{Pieces, AreByPiece, ArePlaced, piece_of}
+use Rattle.line_replay.specs.Placed.{HasBefore, HasMoreBefore}
 
 -- The rows that the desk keeps, and the placements that were looked up.
 pub record Expected : Type 0 where

@@ -1,3 +1,9 @@
-pub mod Listed
+pub mod Alone
+pub mod Audit
 pub mod Expected
+pub mod Judging
+pub mod Listed
+pub mod Placed
 pub mod Replay
+pub mod Rows
+pub mod TableNames

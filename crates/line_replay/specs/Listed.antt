@@ -9,7 +9,7 @@ use Rattle.desk_types.specs.declared.rules.Rules.{Rules}
 use Rattle.desk_types.specs.History.{History}
 use Rattle.desk_types.specs.Judged.{IsLawful}
 use Rattle.line_tables.specs.Calls.{has_number, is_before, IsLeast}
-use Rattle.line_rows.specs.Rows.{entry_row, rows_of}
+use Rattle.line_replay.specs.Rows.{entry_row, rows_of}
 
 -- Exactly one row has the number that follows H, it is that of the entry, and no row of a lower number has its
 -- UniqueID.

@@ -15,13 +15,13 @@ use Rattle.line_replay.specs.declared.fault.ReplayFault.{ReplayFault}
 use Rattle.line_replay.specs.declared.fault.ReplayFault.TheVariants.{NotLawful, Unavailable}
 use Rattle.line_replay.specs.Listed.{IsAt, AreAt, StopsAt, AreRowsOf}
 use Rattle.line_replay.specs.Expected.{Expected, AreExpected, Adds}
-use Rattle.line_rows.specs.Judging.{GoesOn, Lead}
+use Rattle.line_replay.specs.Judging.{GoesOn, Lead}
 use Rattle.desk_types.specs.Edits.{with_edits}
 use Rattle.desk_types.specs.Tables.{tables_of}
 use Rattle.state_rows.specs.Kept.{KeptRows, tables_in, but_placements, unnumbered}
 use Rattle.desk_types.specs.declared.edit.RowEdit.{RowEdit}
-use Rattle.trace_lists.specs.declared.lists.TraceLists.{TraceLists}
-use Rattle.trace_lists.specs.Lists.{IsListed}
+use Rattle.state_rows.specs.declared.lists.TraceLists.{TraceLists}
+use Rattle.state_rows.specs.Lists.{IsListed}
 
 -- The desk represents a judged history of this length, within the greatest number, and the expected rows are the
 -- history's. On a clean disk the history is lawful, and the committed rows of `accepted` are its rows.

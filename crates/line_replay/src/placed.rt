@@ -7,9 +7,10 @@ ghost use Rattle.line_replay.specs.declared.fault.ReplayFault.TheVariants.{Unava
 ghost use Rattle.line_replay.specs.Expected.{LooksUp, HoldsAsRead, ArePlacedToo, placement_by, placements_by};
 ghost use Rattle.line_tables.specs.Frames.{ReadsOnly};
 
+use crate::auditing::Placed;
 use crate::fault::ReplayFault;
+use crate::placements::has_placements;
 use desk_types::{PlacementRow, RowEdit};
-use line_audit::{Placed, has_placements};
 use sqlite::{Alter, Connection};
 use std::alloc::{AllocError, Global};
 

@@ -8,20 +8,19 @@ ghost use Rattle.desk_types.specs.History.{History};
 ghost use Rattle.desk_types.specs.Judged.{IsJudged};
 ghost use Rattle.line_tables.specs.Rows.{Holds};
 ghost use Rattle.line_tables.specs.Frames.{ReadsOnly};
-ghost use Rattle.line_rows.specs.Rows.{ledger_tables};
+ghost use Rattle.line_replay.specs.Rows.{ledger_tables};
 ghost use Rattle.line_replay.specs.Expected.{kept_with, AreKept};
 ghost use Rattle.line_replay.specs.Replay.{IsReplayed, IsFaultOf};
-ghost use Rattle.trace_lists.specs.Lists.{IsListed};
+ghost use Rattle.state_rows.specs.Lists.{IsListed};
 
+use crate::auditing::Placed;
 use crate::fault::ReplayFault;
+use crate::kept::rows_tell_lists_apart;
 use crate::taking::{are_all, least_is_one, take_rows};
 use desk_types::Rules;
-use line_audit::Placed;
-use line_rows::rows_tell_lists_apart;
 use sqlite::{Alter, Connection};
-use state_rows::KeepsRows;
+use state_rows::{KeepsRows, TraceLists};
 use std::alloc::Global;
-use trace_lists::TraceLists;
 
 /// A desk, its trace indexes, the length of its history, and the placements that were looked up.
 pub struct Replayed<D: KeepsRows + Drop> {

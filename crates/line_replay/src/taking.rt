@@ -12,21 +12,21 @@ ghost use Rattle.desk_types.specs.History.{History};
 ghost use Rattle.line_tables.specs.Rows.{accepted_in};
 ghost use Rattle.line_tables.specs.Calls.{Reads, is_before};
 ghost use Rattle.line_tables.specs.Frames.{ReadsOnly};
-ghost use Rattle.line_rows.specs.Judging.{GoesOn};
+ghost use Rattle.line_replay.specs.Judging.{GoesOn};
 ghost use Rattle.line_replay.specs.declared.fault.ReplayFault.TheVariants.{NotLawful, Unavailable};
 ghost use Rattle.line_replay.specs.Expected.{kept_with};
 ghost use Rattle.line_replay.specs.Replay.{IsFaultOf, IsNumbered, IsStuck, StandsListed, IsFresh, Accepts, Goes, TakesAll, IsStop};
 
+use crate::auditing::Placed;
 use crate::fault::ReplayFault;
+use crate::judging::{Taken, accept_row};
 use crate::placed::look_up;
+use crate::row_fault::RowFault;
 use desk_types::RowEdits;
-use line_audit::Placed;
-use line_rows::{RowFault, Taken, accept_row};
 use line_tables::{count, is_repeat, least_number, row_at};
 use sqlite::{Alter, Connection, Row};
-use state_rows::KeepsRows;
+use state_rows::{KeepsRows, TraceLists};
 use std::alloc::Global;
-use trace_lists::TraceLists;
 
 /// Requires that the least number is 1, if there is a row.
 pub fn least_is_one<S: Alter>(conn: &mut Connection<S>) -> Result<(), ReplayFault>

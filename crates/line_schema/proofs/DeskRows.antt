@@ -1,5 +1,5 @@
 -- The rows of the desk after the edits that were committed.
-use Rattle.std.proofs.Common.{◌≡◌, ◌∙◌, ℕ, List, [], ◌∷◌, Option, Some, None, IfSome, is_some, true, refl, sym, ap}
+use Rattle.std.proofs.Common.{◌≡◌, ◌∙◌, ℕ, List, [], ◌∷◌, Option, Some, None, IfSome, refl, sym, ap, subst}
 use Rattle.desk_types.specs.declared.edit.RowEdit.{RowEdit}
 use Rattle.desk_types.specs.Edits.{with_edit, with_edits}
 use Rattle.desk_types.specs.History.{History}
@@ -9,7 +9,7 @@ use Rattle.line_traces.specs.declared.working.Working.{Working}
 use Rattle.line_tables.specs.declared.edit.Accepted.{Accepted}
 use Rattle.line_tables.specs.Edit.{row_edits, command_edits}
 use Rattle.line_tables.specs.Rows.{Tables, after_edits, columns_of}
-use Rattle.line_rows.specs.Rows.{rows_of, ledger_tables}
+use Rattle.line_replay.specs.Rows.{rows_of, ledger_tables}
 use Rattle.line_replay.specs.Expected.{AreKept}
 use Rattle.line_replay.proofs.ExpectedRows.{kept_more}
 
@@ -21,8 +21,7 @@ pub lead_of : (greatest : ℕ) (G H : History) (row : Accepted) (edits : List Ro
 lead_of greatest G H row edits is =
     sym (state_edited edits (record { greatest = greatest; accepted = columns_of row ∷ rows_of G; state = state_of G })) ∙ ap (λ (t : Tables). t.state) is
 
-pub rows_settled : {D : Type 0} (K : D → KeptRows) (edits : List RowEdit) (old new : Option (Working D)) (G H : History) → IfSome old (λ a. IfSome new (λ b. tables_in (K b.desk) ≡ but_placements (with_edits edits (tables_in (K a.desk))) (tables_in (K a.desk)))) → is_some old ≡ true
-    → with_edits edits (state_of G) ≡ state_of H → IfSome old (λ w. AreKept (K w.desk) G) → IfSome new (λ w. AreKept (K w.desk) H)
-rows_settled K edits None new G H made there lead was = absurd cc
-rows_settled K edits (Some a) None G H made there lead was = tt
-rows_settled K edits (Some a) (Some b) G H made there lead was = kept_more edits (K a.desk) (K b.desk) G H made lead was
+pub rows_settled : {D : Type 0} (K : D → KeptRows) (edits : List RowEdit) (old new : Option (Working D)) (w : Working D) (G H : History) → old ≡ Some w
+    → IfSome new (λ x. tables_in (K x.desk) ≡ but_placements (with_edits edits (tables_in (K w.desk))) (tables_in (K w.desk))) → with_edits edits (state_of G) ≡ state_of H → IfSome old (λ x. AreKept (K x.desk) G) → IfSome new (λ x. AreKept (K x.desk) H)
+rows_settled K edits old None w G H is made lead was = tt
+rows_settled K edits old (Some x) w G H is made lead was = kept_more edits (K w.desk) (K x.desk) G H made lead (subst (λ o. IfSome o (λ x. AreKept (K x.desk) G)) is was)

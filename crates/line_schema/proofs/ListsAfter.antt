@@ -15,7 +15,7 @@ use Rattle.desk_answers.specs.declared.answer.Answer.TheVariants.{Accepted, Refu
 use Rattle.desk_answers.specs.Commands.{answer_under, earlier_answer, judged_answer, is_full, command_answer, command_after}
 use Rattle.desk_answers.specs.Repeats.{is_same}
 use Rattle.line_tables.specs.Rows.{HoldsAt}
-use Rattle.line_rows.specs.Rows.{ledger_tables}
+use Rattle.line_replay.specs.Rows.{ledger_tables}
 use Rattle.line_schema.specs.declared.unavailable.Unavailable.{Unavailable as Fault}
 use Rattle.line_schema.specs.Stands.{Kept, kept_after, answer_in, NewlyLeaves, Leaves}
 

@@ -16,7 +16,7 @@ use Rattle.line_tables.specs.declared.edit.Accepted.{Accepted}
 use Rattle.line_tables.specs.Rows.{Holds, accepted_in}
 use Rattle.line_tables.specs.Calls.{Reads, has_uid, row_of}
 use Rattle.line_tables.proofs.Holding.{row_held}
-use Rattle.line_rows.specs.Rows.{entry_row, rows_of, ledger_tables}
+use Rattle.line_replay.specs.Rows.{entry_row, rows_of, ledger_tables}
 use Rattle.line_replay.proofs.Tests.{uid_test}
 
 -- The place of an entry with the UniqueID.

@@ -19,22 +19,22 @@ use Rattle.state_rows.specs.Kept.{tables_in}
 use Rattle.line_tables.specs.Line.{is_ours}
 use Rattle.line_tables.specs.Names.{has_state}
 use Rattle.line_tables.specs.Rowids.{AreAllApartBy}
-use Rattle.line_audit.specs.declared.table.StateTable.{StateTable}
-use Rattle.line_audit.specs.Audit.{Pieces, IsExpected, IsVerdict, state_tables, with_placements}
-use Rattle.line_audit.proofs.PlacementsAsExpected.{expected_after}
-use Rattle.line_audit.proofs.Verdicts.{all_right}
+use Rattle.line_replay.specs.declared.table.StateTable.{StateTable}
+use Rattle.line_replay.specs.Audit.{Pieces, IsExpected, IsVerdict, state_tables, with_placements}
+use Rattle.line_replay.proofs.PlacementsAsExpected.{expected_after}
+use Rattle.line_replay.proofs.Verdicts.{all_right}
 use Rattle.line_replay.specs.Expected.{Expected, AreExpected}
 use Rattle.line_tables.specs.Rows.{HoldsBy, version_in, version_of}
 use Rattle.line_tables.specs.Calls.{Reads, IsVersionOf}
 use Rattle.line_tables.specs.Frames.{ReadsOnly}
 use Rattle.line_tables.proofs.Frames.{reads_then}
 use Rattle.line_tables.proofs.Ours.{ours_is, ours_whole}
-use Rattle.line_rows.specs.Rows.{ledger_tables}
+use Rattle.line_replay.specs.Rows.{ledger_tables}
 use Rattle.line_replay.specs.declared.fault.ReplayFault.{ReplayFault}
 use Rattle.line_replay.specs.declared.fault.ReplayFault.TheVariants as replay
 use Rattle.line_replay.specs.Replay.{IsReplayed, IsFaultOf as IsReplayFault}
 use Rattle.line_replay.proofs.ReadOfCommitted.{reads_as, reads_back}
-use Rattle.trace_lists.specs.Lists.{IsListed}
+use Rattle.state_rows.specs.Lists.{IsListed}
 use Rattle.line_schema.specs.declared.fault.OpenFault.{OpenFault}
 use Rattle.line_schema.specs.declared.fault.OpenFault.TheVariants.{NotADesk, OtherVersion, TableDiffers}
 use Rattle.line_schema.specs.declared.opening.Opened.{Opened}

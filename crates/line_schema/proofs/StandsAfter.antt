@@ -30,16 +30,17 @@ use Rattle.line_tables.specs.Edit.{Edit}
 use Rattle.line_tables.specs.Rows.{Tables, Holds, HoldsAt, AreNew, after_edits}
 use Rattle.line_tables.specs.Calls.{Edits, LeavesEdited}
 use Rattle.line_tables.specs.Frames.{ReadsOnly}
-use Rattle.line_rows.specs.Rows.{ledger_tables}
-use Rattle.line_rows.proofs.Judgements.{next_is, stamped_is}
+use Rattle.line_replay.specs.Rows.{ledger_tables}
+use Rattle.line_replay.proofs.Judgements.{next_is, stamped_is}
 use Rattle.line_replay.specs.Expected.{AreKept}
 use Rattle.line_schema.specs.declared.store.LineStore.{LineStore}
 use Rattle.line_schema.specs.declared.unavailable.Unavailable.{Unavailable as Fault}
 use Rattle.line_schema.specs.Answered.{AnswersOrFails, Commits}
-use Rattle.line_schema.specs.Settling.{KeepsDesk}
-use Rattle.line_schema.specs.Stands.{Kept, Stands, StaysOpen, ShowsTables, WorksFor, with_command}
+use Rattle.line_schema.specs.Stands.{HasRows, Kept, Stands, StaysOpen, ShowsTables, WorksFor, with_command}
 use Rattle.state_rows.specs.Kept.{KeptRows}
 use Rattle.line_schema.specs.Frames.{ReadsStore}
+use Rattle.state_rows.specs.declared.lists.TraceLists.{TraceLists}
+use Rattle.state_rows.specs.Lists.{IsListed}
 use Rattle.line_traces.specs.declared.working.Working.{Working}
 use Rattle.line_traces.specs.Working.{IsWorking}
 
@@ -50,30 +51,6 @@ judged_for F K (Some w) H change h works = subst (λ (r : Rules). IsChange r H c
 
 pub works_for : {D : Type 0} (F : D → History → Type 0) (K : D → Rules) (o : Option (Working D)) (w : Working D) (H : History) → o ≡ Some w → WorksFor F K o H → IsWorking F w H × (K w.desk ≡ Two)
 works_for F K o w H is works = subst (λ o. WorksFor F K o H) is works
-
--- ---- memory was taken for the trace indexes
-
-pub desk_still : {D : Type 0} (P : D → Type 0) (old new : Option (Working D)) → KeepsDesk old new → IfSome old (λ w. P w.desk) → IfSome new (λ w. P w.desk)
-desk_still P None None same holds = tt
-desk_still P (Some w) (Some v) same holds = subst P (sym same.0) holds
-desk_still P None (Some v) same holds = absurd same
-desk_still P (Some w) None same holds = absurd same
-
-pub works_still : {D : Type 0} (F : D → History → Type 0) (K : D → Rules) (old new : Option (Working D)) (H : History) → KeepsDesk old new → WorksFor F K old H → WorksFor F K new H
-works_still F K None None H same works = tt
-works_still F K (Some w) (Some v) H same works =
-    (record { stands = subst (λ d. F d H) (sym same.0) works.0.stands; listed = same.1 H works.0.listed }, subst (λ d. K d ≡ Two) (sym same.0) works.1)
-works_still F K None (Some v) H same works = absurd same
-works_still F K (Some w) None H same works = absurd same
-
-pub still_there : {D : Type 0} (old new : Option (Working D)) (w : Working D) → old ≡ Some w → KeepsDesk old new → is_some new ≡ true
-still_there None new w is same = absurd cc
-still_there (Some v) (Some u) w is same = refl
-still_there (Some v) None w is same = absurd same
-
-pub keeps_all : {D : Type 0} (working : Option (Working D)) → KeepsDesk working working
-keeps_all None = tt
-keeps_all (Some w) = (refl, λ H listed. listed)
 
 pub none_yet : IsDistinct same []
 unfolding IsDistinct
@@ -175,15 +152,17 @@ module _ {S D : Type 0} (g : Ghosts S) (F : D → History → Type 0) (K : D →
   }
 
   -- A call failed: memory was taken for the trace indexes at most, and the committed contents stay.
-  pub fails : {P : Trees → Type 0} (R : D → KeptRows) (old new : LineStore S D) (L : Kept) (r : Result Answer Fault) (told : Answer) (next : History) (e : Fault) → r ≡ Err e
-      → KeepsDesk old.working new.working → new.greatest ≡ old.greatest → new.count ≡ old.count → new.conn.in_transaction ≡ false
+  pub fails : {P : Trees → Type 0} (R : D → KeptRows) (old new : LineStore S D) (w : Working D) (lists : TraceLists) (L : Kept) (r : Result Answer Fault) (told : Answer) (next : History) (e : Fault) → r ≡ Err e
+      → old.working ≡ Some w → new.working ≡ Some (record { desk = w.desk; lists = lists }) → ((H : History) → IsListed w.lists H → IsListed lists H) → new.greatest ≡ old.greatest → new.count ≡ old.count → new.conn.in_transaction ≡ false
       → Survives (state g old.conn) (state g new.conn) P → (HasCleanDisk (state g new.conn) → KeepsCommit (state g old.conn) (state g new.conn)) → Stands g F K old L → AnswersOrFails g F K R old new L r told next
-  fails R old new L r told next e err same greatest count mode survives kept s =
+  fails R old new w lists L r told next e err was is listed greatest count mode survives kept s =
+      let works = works_for F K old.working w L.history was s.working in
+      let same : WorksFor F K new.working L.history = subst (λ o. WorksFor F K o L.history) (sym is) (record { stands = works.0.stands; listed = listed L.history works.0.listed }, works.1) in
       subst (λ (r : Result Answer Fault). AnswersOrFails g F K R old new L r told next) (sym err) (record {
         answer = tt;
-        err = stays old new L greatest (count ∙ s.count) (works_still F K old.working new.working L.history same s.working) mode survives kept s;
+        err = stays old new L greatest (count ∙ s.count) same mode survives kept s;
         rows = λ rows. tt;
-        rows_stay = desk_still (λ d. AreKept (R d) L.history) old.working new.working same;
+        rows_stay = λ rows. subst (λ o. IfSome o (λ x. AreKept (R x.desk) L.history)) (sym is) (subst (λ o. IfSome o (λ x. AreKept (R x.desk) L.history)) was rows);
       })
 
   pub stands_on : {P : Trees → Type 0} (old new : LineStore S D) (L : Kept) (change : Change) (edits : List Edit) → Stands g F K old L → old.count < old.greatest

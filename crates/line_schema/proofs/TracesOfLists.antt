@@ -7,7 +7,7 @@ use Rattle.sqlite.specs.Held.{state}
 use Rattle.desk_types.specs.declared.rules.Rules.{Rules}
 use Rattle.desk_types.specs.declared.rules.Rules.TheVariants.{Two}
 use Rattle.desk_types.specs.History.{History}
-use Rattle.line_rows.specs.Rows.{rows_of}
+use Rattle.line_replay.specs.Rows.{rows_of}
 use Rattle.line_traces.specs.declared.working.Working.{Working}
 use Rattle.line_traces.specs.Working.{FindsOfBoth, IsWorking}
 use Rattle.line_traces.proofs.Minutes.{IsRowOf, list-held}

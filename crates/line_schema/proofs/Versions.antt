@@ -11,7 +11,7 @@ use Rattle.desk_types.proofs.BothRules.{judged-by-two}
 use Rattle.line_tables.specs.Line.{IsOurs}
 use Rattle.line_tables.specs.Rows.{HoldsBy, accepted_columns, accepted_in}
 use Rattle.line_tables.specs.Calls.{Reads, Migrated, LeavesMigrated}
-use Rattle.line_rows.specs.Rows.{ledger_tables}
+use Rattle.line_replay.specs.Rows.{ledger_tables}
 use Rattle.line_schema.specs.declared.opening.Opened.{Opened}
 use Rattle.line_schema.specs.Opening.{IsOpened, IsNamedBy}
 use Rattle.line_schema.specs.Versions.{IsMigrated}

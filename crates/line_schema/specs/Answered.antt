@@ -11,7 +11,7 @@ use Rattle.desk_answers.specs.Commands.{earlier_answer}
 use Rattle.desk_answers.specs.Ledger.{IsAnswer}
 use Rattle.state_rows.specs.Kept.{KeptRows}
 use Rattle.line_tables.specs.Rows.{HoldsAt}
-use Rattle.line_rows.specs.Rows.{ledger_tables}
+use Rattle.line_replay.specs.Rows.{ledger_tables}
 use Rattle.line_schema.specs.declared.store.LineStore.{LineStore}
 use Rattle.line_schema.specs.declared.unavailable.Unavailable.{Unavailable}
 use Rattle.line_schema.specs.Stands.{HasRows, Kept, Leaves, ShowsTables, Stands, kept_after, ledger, state_of, with_command}

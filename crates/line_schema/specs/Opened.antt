@@ -13,7 +13,7 @@ use Rattle.line_tables.specs.Frames.{ReadsOnly}
 use Rattle.line_tables.specs.Line.{is_blank, is_ours}
 use Rattle.line_tables.specs.Names.{has_name}
 use Rattle.line_tables.specs.Rows.{Holds, HoldsAt, blank}
-use Rattle.line_rows.specs.Rows.{ledger_tables}
+use Rattle.line_replay.specs.Rows.{ledger_tables}
 use Rattle.line_schema.specs.declared.store.LineStore.{LineStore}
 use Rattle.line_schema.specs.Opening.{IsNamed}
 use Rattle.line_schema.specs.Stands.{HasRows, Kept, Stands, conn_of, has_desk, state_of}

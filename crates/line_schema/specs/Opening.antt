@@ -16,15 +16,15 @@ use Rattle.line_tables.specs.Rows.{version_in, accepted_in, version_of}
 use Rattle.line_tables.specs.StateRows.{HoldsStateBy}
 use Rattle.line_tables.specs.Rowids.{AreAllApartBy}
 use Rattle.line_tables.specs.Calls.{Reads}
-use Rattle.line_audit.specs.Audit.{IsFirstWrong, state_tables}
-use Rattle.line_audit.specs.TableNames.{name_of}
+use Rattle.line_replay.specs.Audit.{IsFirstWrong, state_tables}
+use Rattle.line_replay.specs.TableNames.{name_of}
 use Rattle.line_replay.specs.declared.fault.ReplayFault.{ReplayFault}
 use Rattle.line_replay.specs.declared.fault.ReplayFault.TheVariants as replay
 use Rattle.line_replay.specs.Listed.{StopsAt, AreRowsOf}
 use Rattle.line_schema.specs.declared.fault.OpenFault.{OpenFault}
 use Rattle.line_schema.specs.declared.fault.OpenFault.TheVariants.{NotADesk, OtherVersion, NotLawful, TableDiffers, NotBlank, Unavailable}
 use Rattle.line_schema.specs.declared.opening.Opened.{Opened}
-use Rattle.line_audit.specs.declared.table.StateTable.{StateTable}
+use Rattle.line_replay.specs.declared.table.StateTable.{StateTable}
 use Rattle.line_traces.specs.Working.{IsWorking}
 
 -- A fault of a replay, as a fault of opening.

@@ -1,5 +1,5 @@
--- A working state before a change is settled.
-use Rattle.std.specs.Prelude.{◌≡◌, ⊤, List, Option, Some, None}
+-- A desk that can accept a change by the edits that were committed.
+use Rattle.std.specs.Prelude.{◌≡◌, List}
 use Rattle.desk_types.specs.declared.change.Change.{Change}
 use Rattle.desk_types.specs.declared.edit.RowEdit.{RowEdit}
 use Rattle.desk_types.specs.declared.rules.Rules.{Rules}
@@ -7,9 +7,7 @@ use Rattle.desk_types.specs.Desk.{HasRoom, IsChange}
 use Rattle.desk_types.specs.Edits.{with_edits}
 use Rattle.desk_types.specs.History.{History, accept}
 use Rattle.desk_types.specs.Tables.{tables_of}
-use Rattle.line_traces.specs.declared.working.Working.{Working}
 use Rattle.state_rows.specs.Kept.{unnumbered}
-use Rattle.trace_lists.specs.Lists.{IsListed}
 
 -- There is room for the change, which is judged for the desk's history. The edits lead to the
 -- tables of the history with the change, apart from the numbers of mounts.
@@ -20,12 +18,3 @@ pub record CanSettle {D : Type 0} (StandsFor : D → History → Type 0) (kept_r
       → IsChange (kept_rules desk) H change.stamped change
   pub lead : (H : History) → StandsFor desk H → unnumbered (with_edits edits (tables_of H))
       ≡ unnumbered (tables_of (accept H change.stamped))
-
--- The working state is loaded as before, with the same desk, and its trace indexes list what they
--- listed.
-abbrev pub KeepsDesk : {D : Type 0} → Option (Working D) → Option (Working D) → Type 0
-KeepsDesk None None = ⊤
-KeepsDesk (Some old) (Some new) = (new.desk ≡ old.desk)
-    × ((H : History) → IsListed old.lists H → IsListed new.lists H)
-KeepsDesk None (Some new) = ⊥
-KeepsDesk (Some old) None = ⊥

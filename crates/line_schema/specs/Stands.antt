@@ -19,7 +19,7 @@ use Rattle.desk_answers.specs.Commands.{earlier_answer}
 use Rattle.desk_answers.specs.Ledger.{Ledger, ledger_after}
 use Rattle.state_rows.specs.Kept.{KeptRows}
 use Rattle.line_tables.specs.Rows.{Holds, HoldsAt}
-use Rattle.line_rows.specs.Rows.{ledger_tables}
+use Rattle.line_replay.specs.Rows.{ledger_tables}
 use Rattle.line_replay.specs.Expected.{AreKept}
 use Rattle.line_schema.specs.declared.store.LineStore.{LineStore}
 use Rattle.line_schema.specs.declared.unavailable.Unavailable.{Unavailable as Fault}

@@ -11,7 +11,7 @@ use Rattle.desk_types.specs.History.{History, accept}
 use Rattle.desk_answers.specs.declared.answer.Answer.{Answer}
 use Rattle.desk_answers.specs.declared.answer.Answer.TheVariants.{Unavailable}
 use Rattle.line_tables.specs.Rows.{HoldsAt}
-use Rattle.line_rows.specs.Rows.{ledger_tables}
+use Rattle.line_replay.specs.Rows.{ledger_tables}
 use Rattle.line_schema.specs.declared.store.LineStore.{LineStore}
 use Rattle.line_schema.specs.Stands.{ForKept, IsAcceptable, Kept, Leaves, Stands, kept_after, state_of}
 

@@ -8,7 +8,7 @@ use Rattle.desk_types.specs.Judged.{IsLawful}
 use Rattle.line_tables.specs.Calls.{Reads}
 use Rattle.line_tables.specs.Line.{IsOurs, schema_of, Layout, alone}
 use Rattle.line_tables.specs.Rows.{Holds, HoldsBy, HoldsAt, accepted_in}
-use Rattle.line_rows.specs.Rows.{ledger_tables}
+use Rattle.line_replay.specs.Rows.{ledger_tables}
 use Rattle.line_schema.specs.Opening.{IsNamedBy}
 
 -- The history is lawful by rules One, and by rules Two with the same answers: the rows of

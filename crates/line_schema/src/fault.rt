@@ -1,7 +1,6 @@
 //! Why there is no store.
 
-use line_audit::StateTable;
-use line_replay::ReplayFault;
+use line_replay::{ReplayFault, StateTable};
 use std::fmt;
 
 /// Why no store is made or opened: the first of these that applies. Unavailable may replace any

@@ -12,7 +12,7 @@ mod unavailable;
 pub use beside::others_may_be_beside;
 pub use desk_answers::Answer;
 pub use fault::OpenFault;
-pub use line_audit::StateTable;
+pub use line_replay::StateTable;
 pub use line_traces::PlacedRows;
 pub use store::LineStore;
 pub use unavailable::Unavailable;

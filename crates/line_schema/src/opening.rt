@@ -14,8 +14,7 @@ ghost use Rattle.line_schema.specs.Opening.{IsVersion, IsFaultBy, IsNamedBy, IsO
 
 use crate::fault::OpenFault;
 use desk_types::{MOST_ENTRIES, Rules};
-use line_audit::audit;
-use line_replay::{Replayed, replay};
+use line_replay::{Replayed, audit, replay};
 use line_tables::{Version, are_apart, find_version, has_accepted, has_state, has_version};
 use line_traces::Working;
 use sqlite::{Alter, Connection};

@@ -4,26 +4,12 @@ ghost use Rattle.std.specs.Prelude.{◌≡◌, ◌+◌, IfSome, length};
 ghost use Rattle.desk_types.specs.History.{History, accept};
 ghost use Rattle.desk_types.specs.Edits.{with_edits};
 ghost use Rattle.state_rows.specs.Kept.{tables_in, but_placements};
-ghost use Rattle.line_schema.specs.Settling.{CanSettle, KeepsDesk};
+ghost use Rattle.line_schema.specs.Settling.{CanSettle};
 ghost use Rattle.line_schema.specs.Stands.{WorksFor};
 
 use desk_types::{Change, RowEdit};
 use line_traces::Working;
 use state_rows::KeepsRows;
-use std::alloc::AllocError;
-
-/// Takes memory in the trace indexes for the change, if the working state is loaded.
-pub fn reserve<D: KeepsRows + Drop>(
-    working: &mut Option<Working<D>>,
-    change: &Change,
-) -> Result<(), AllocError>
-    ensures { KeepsDesk working.old working.new }
-{
-    match working {
-        Some(working) => working.lists.reserve(change),
-        None => Ok(()),
-    }
-}
 
 /// Accepts the change in the working state, under this number and by the edits that were committed.
 /// Drops the working state if memory is refused: then the store rebuilds it.

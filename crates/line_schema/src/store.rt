@@ -27,18 +27,16 @@ mod view;
 
 use crate::fault::OpenFault;
 use crate::opening::{Opened, read_tables};
-use crate::settling::{reserve, settle};
+use crate::settling::settle;
 use crate::unavailable::Unavailable;
 use desk_answers::Answer;
 use desk_types::{Change, JudgeFault, Rules, Stamped};
-use line_replay::{Replayed, rebuild};
-use line_rows::{Acceptance, answer_under, prepare};
+use line_replay::{Acceptance, Replayed, answer_under, prepare, rebuild};
 use line_tables::{append, find, has_our_name, make};
 use line_traces::Working;
 use sqlite::{Alter, Connection};
-use state_rows::KeepsRows;
+use state_rows::{KeepsRows, TraceLists};
 use std::alloc::Global;
-use trace_lists::TraceLists;
 
 /// A desk whose accepted commands are kept in the tables of a database. A command is answered
 /// Accepted once it is committed. After a restart the history is read again.
@@ -356,7 +354,10 @@ impl<S: Alter, D: KeepsRows + Drop> LineStore<S, D> {
             unreachable!()
         };
         let Acceptance { text, row, edits } = prepare(self.alloc, number, &working.desk, &change)?;
-        reserve(&mut self.working, &change)?;
+        let Some(Working { desk: _, lists }) = &mut self.working else {
+            unreachable!()
+        };
+        lists.reserve(&change)?;
         append(self.alloc, &mut self.conn, &row, edits.as_slice())?;
         self.count = number;
         settle(&mut self.working, number, change, edits.as_slice());

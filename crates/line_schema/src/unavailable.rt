@@ -1,6 +1,6 @@
 //! Why a call failed.
 
-use line_rows::NoRow;
+use line_replay::NoRow;
 use std::alloc::AllocError;
 
 /// Memory was refused, or the database failed. The history is unchanged, and the call may be

@@ -1,52 +1,71 @@
--- What may remain after a crash that follows a commit.
-use Rattle.std.proofs.Common.{◌≡◌, ◌∙◌, ℕ, List, true, IsTrue, Result, OnOk, sym, ap, subst}
+-- What a transaction of its own commits, and what may remain after a crash that follows.
+use Rattle.std.proofs.Common.{◌≡◌, ◌∙◌, ℕ, List, true, false, [], IsTrue, Result, OnOk, refl, sym, ap, subst, arith}
 use Rattle.std.proofs.lemmas.Result.{on_ok_weaker}
 use Rattle.sqlite_trees.specs.Tree.{Trees}
 use Rattle.sqlite_trees.specs.declared.store.Store.{Ghosts}
+use Rattle.sqlite.specs.declared.error.Error.{Error}
 use Rattle.sqlite.specs.Effect.{Database}
 use Rattle.sqlite.specs.Held.{Held, state}
+use Rattle.sqlite.specs.State.{HasCleanDisk, Survives, Shows, KeepsCounts}
+use Rattle.sqlite.proofs.StateLemmas.{survives_then}
+use Rattle.sqlite.proofs.Callers.{survives_begin}
 use Rattle.line_tables.specs.Edit.{Edit}
 use Rattle.desk_types.specs.declared.rules.Rules.TheVariants.{One}
 use Rattle.line_tables.specs.Rows.{Holds, HoldsBy}
 use Rattle.line_tables.specs.Line.{no_schema}
-use Rattle.line_tables.specs.Calls.{HasOthers, KeepsOthers, Edited, Writes, HoldsBlank, Makes, Migrated, Migrates, LeavesEdited, LeavesBlank, LeavesMigrated}
+use Rattle.line_tables.specs.Calls.{KeepsOthers, Edited, Writes, HoldsBlank, Makes, Migrated, Migrates, LeavesEdited, LeavesBlank, LeavesMigrated}
 
-pub settled_migrates : {S : Type 0} (g : Ghosts S) (old last : Held S) → (IsTrue (state g old).is_open → (state g old).now ≡ (state g old).committed) → Migrates (state g (record old { in_transaction = true })) (state g last) → (after : Database) → after ≡ (state g last).now
-    → Migrated (state g old).committed after
-settled_migrates g old last settled w after is = subst (λ (db : Database). Migrated db after) (settled w.was_open) (subst (Migrated (state g old).now) (sym is) w.done)
+-- After Ok this is committed, and a crash may leave only that. Before, it may also leave the earlier contents.
+pub record Ends {S A : Type 0} (g : Ghosts S) (old new : Held S) (r : Result A Error) (Done : Database → Type 0) (Leaves : Trees → Type 0) : Type 0 where
+  pub done : HasCleanDisk (state g new) → OnOk r (Done (state g new).committed)
+  pub crash : Survives (state g old) (state g new) Leaves
+  pub alone : HasCleanDisk (state g new) → OnOk r ((trees : Trees) → (state g new).may_leave trees → Leaves trees)
 
-pub settled_edits : {S : Type 0} (g : Ghosts S) (old last : Held S) (edits : List Edit) → (IsTrue (state g old).is_open → (state g old).now ≡ (state g old).committed) → Writes edits (state g (record old { in_transaction = true })) (state g last) → (after : Database) → after ≡ (state g last).now
-    → Edited edits (state g old).committed after
-settled_edits g old last edits settled w after is = subst (λ (db : Database). Edited edits db after) (settled w.was_open) (subst (Edited edits (state g old).now) (sym is) (record { tables = w.done; others = w.others }))
+-- A transaction that began on the first connection, made its changes up to the third, and was committed.
+pub ends : {S A : Type 0} (g : Ghosts S) (old first last end new : Held S) (r : Result A Error) (Done : Database → Type 0) (Leaves : Trees → Type 0) → first ≡ record old { in_transaction = true } → end ≡ new
+    → (HasCleanDisk (state g last) → Done (state g last).now × Leaves (state g last).now.trees) → Survives (state g first) (state g last) (λ _. ⊥)
+    → (HasCleanDisk (state g end) → OnOk r (IsTrue (state g last).in_transaction × Shows (state g last) (state g end) (state g last).now (state g last).now false × KeepsCounts (state g last) (state g end) × ((state g end).marks ≡ [])))
+    → Survives (state g last) (state g end) (λ db. db ≡ (state g last).now.trees) → (IsTrue (state g new).is_open → (db : Trees) → (state g new).may_leave db → db ≡ (state g new).committed.trees) → Ends g old new r Done Leaves
+ends g old first last end new r Done Leaves begun same did within ok survives alone =
+    let is : HasCleanDisk (state g end) → Done (state g last).now × Leaves (state g last).now.trees = λ clean. did (omega (arith, survives.clean)) in
+    let left : HasCleanDisk (state g end) → (trees : Trees) → trees ≡ (state g last).now.trees → Leaves trees = λ clean trees it. subst Leaves (sym it) (is clean).1 in
+    let inside = survives_begin g old (state g last) _ (subst (λ h. Survives (state g h) (state g last) (λ _. ⊥)) begun within) in
+    subst (λ h. (IsTrue (state g h).is_open → (db : Trees) → (state g h).may_leave db → db ≡ (state g h).committed.trees) → Ends g old h r Done Leaves) same (λ only. record {
+      done = λ clean. on_ok_weaker r (λ all. subst Done (sym all.1.committed_is) (is clean).0) (ok clean);
+      crash = survives_then (state g old) (state g last) (state g end) _ _ Leaves (λ _ db none. absurd none) left inside survives;
+      alone = λ clean. on_ok_weaker r (λ all trees may. left clean trees (only all.1.is_open trees may ∙ ap (λ (db : Database). db.trees) all.1.committed_is)) (ok clean);
+    }) alone
+
+module _ {S : Type 0} (g : Ghosts S) (old last : Held S) (settled : IsTrue (state g old).is_open → (state g old).now ≡ (state g old).committed) where
+  pub edits_made : (edits : List Edit) → Writes edits (state g (record old { in_transaction = true })) (state g last) → Edited edits (state g old).committed (state g last).now × LeavesEdited edits (state g old) (state g last).now.trees
+  edits_made edits w =
+      let same = settled w.was_open in
+      let done : Edited edits (state g old).committed (state g last).now = subst (λ (db : Database). Edited edits db (state g last).now) same (record { tables = w.done; others = w.others }) in (
+        done,
+        record {
+          was_open = w.was_open;
+          holds = λ tables holds fresh.
+              let now = done.tables tables holds fresh in
+              (((state g last).now, now.1, w.sound tables (subst (λ (db : Database). Holds db tables) (sym same) holds) fresh, refl), now.0);
+          others = done.others.rows;
+        },
+      )
+
+  pub migration_made : Migrates (state g (record old { in_transaction = true })) (state g last) → Migrated (state g old).committed (state g last).now × LeavesMigrated (state g old) (state g last).now.trees
+  migration_made w =
+      let same = settled w.was_open in
+      let done : Migrated (state g old).committed (state g last).now = subst (λ (db : Database). Migrated db (state g last).now) same w.done in (
+        done,
+        record {
+          was_open = w.was_open;
+          holds = λ tables holds. (((state g last).now, done.holds tables holds, w.sound tables (subst (λ (db : Database). HoldsBy One db tables) (sym same) holds), refl), done.layout);
+        },
+      )
+
+pub blank_made : {S : Type 0} (g : Ghosts S) (old last : Held S) (greatest : ℕ) → Makes greatest (state g (record old { in_transaction = true })) (state g last)
+    → ((state g old).now.schema ≡ no_schema → HoldsBlank greatest (state g last).now) × LeavesBlank greatest (state g old) (state g last).now.trees
+blank_made g old last greatest w = (w.done, record { was_open = w.was_open; holds = λ blank. let done = w.done blank in (((state g last).now, done.tables, w.sound blank, refl), done.layout) })
 
 -- Other people's tables are unchanged by edits.
 pub others_kept : {A E : Type 0} (edits : List Edit) (before after : Database) (r : Result A E) → OnOk r (Edited edits before after) → OnOk r (KeepsOthers before after)
 others_kept edits before after r done = on_ok_weaker r (λ edited. edited.others) done
-
-pub settled_makes : {S : Type 0} (g : Ghosts S) (old last : Held S) (greatest : ℕ) → Makes greatest (state g (record old { in_transaction = true })) (state g last) → (after : Database) → after ≡ (state g last).now → (state g old).now.schema ≡ no_schema → HoldsBlank greatest after
-settled_makes g old last greatest w after is has = subst (HoldsBlank greatest) (sym is) (w.done has)
-
-module _ {S : Type 0} (g : Ghosts S) (old last : Held S) (trees : Trees) where
-  pub leaves_edited : (edits : List Edit) → (IsTrue (state g old).is_open → (state g old).now ≡ (state g old).committed) → Writes edits (state g (record old { in_transaction = true })) (state g last) → trees ≡ (state g last).now.trees
-      → LeavesEdited edits (state g old) trees
-  leaves_edited edits settled w is = record {
-    was_open = w.was_open;
-    holds = λ tables holds fresh.
-        let same = settled w.was_open in
-        let held = subst (λ (db : Database). Holds db tables) (sym same) holds in
-        let done = w.done tables held fresh in
-        (((state g last).now, done.1, w.sound tables held fresh, is), done.0 ∙ ap (λ (db : Database). db.schema) same);
-    others = subst (HasOthers (state g old).committed) (sym is) (subst (λ (db : Database). HasOthers db (state g last).now.trees) (settled w.was_open) w.others.rows);
-  }
-
-  pub leaves_blank : (greatest : ℕ) → Makes greatest (state g (record old { in_transaction = true })) (state g last) → trees ≡ (state g last).now.trees → LeavesBlank greatest (state g old) trees
-  leaves_blank greatest w is = record { was_open = w.was_open; holds = λ blank. let done = w.done blank in (((state g last).now, done.tables, w.sound blank, is), done.layout) }
-
-  pub leaves_migrated : (IsTrue (state g old).is_open → (state g old).now ≡ (state g old).committed) → Migrates (state g (record old { in_transaction = true })) (state g last) → trees ≡ (state g last).now.trees → LeavesMigrated (state g old) trees
-  leaves_migrated settled w is = record {
-    was_open = w.was_open;
-    holds = λ tables holds.
-        let same = settled w.was_open in
-        let held = subst (λ (db : Database). HoldsBy One db tables) (sym same) holds in
-        (((state g last).now, w.done.holds tables held, w.sound tables held, is), λ indexed has. w.done.layout indexed (ap (λ (db : Database). db.schema) same ∙ has));
-  }

@@ -3,7 +3,7 @@
 ghost use Rattle.std.specs.Prelude.{◌≡◌, ◌&&◌};
 ghost use Rattle.std.specs.List.{list_any, list_all};
 ghost use Rattle.sqlite.specs.Held.{state};
-ghost use Rattle.line_tables.specs.Names.{has_name, is_version, is_accepted, has_column, has_setup, has_floor, has_placements, has_found, has_state};
+ghost use Rattle.line_tables.specs.Names.{has_name, is_version, is_accepted, has_column, has_setup, has_floor, has_found, has_state};
 ghost use Rattle.sqlite_schema.specs.Names.{same_name};
 
 use desk_types::Rules;
@@ -15,21 +15,35 @@ use sqlite_schema::schema::Table;
 pub fn has_our_name<S: Alter>(conn: &Connection<S>) -> bool
     ensures { result ≡ list_any has_name (state S.Store conn.now).now.schema.tables }
 {
-    any_name(conn.schema().tables.as_slice())
+    let tables = conn.schema().tables.as_slice();
+    tables.iter().any(|table| has_name(table))
 }
 
 /// Returns whether a table `version` exists with its columns.
 pub fn has_version<S: Alter>(conn: &Connection<S>) -> bool
     ensures { result ≡ list_any is_version (state S.Store conn.now).now.schema.tables }
 {
-    any_version(conn.schema().tables.as_slice())
+    let tables = conn.schema().tables.as_slice();
+    has_table(tables, "version", &["one", "number", "greatest"])
 }
 
 /// Returns whether a table `accepted` exists with its columns.
 pub fn has_accepted<S: Alter>(conn: &Connection<S>) -> bool
     ensures { result ≡ list_any is_accepted (state S.Store conn.now).now.schema.tables }
 {
-    any_accepted(conn.schema().tables.as_slice())
+    has_table(
+        conn.schema().tables.as_slice(),
+        "accepted",
+        &[
+            "number",
+            "uid",
+            "source",
+            "own",
+            "effective",
+            "command",
+            "detail",
+        ],
+    )
 }
 
 /// Returns whether all our other tables exist with their columns. Rules One have no table of found pieces.
@@ -37,94 +51,40 @@ pub fn has_state<S: Alter>(conn: &Connection<S>, rules: Rules) -> bool
     ensures { result ≡ has_state rules (state S.Store conn.now).now.schema.tables }
 {
     let tables = conn.schema().tables.as_slice();
-    has_setup(tables) && has_floor(tables) && has_placements(tables) && has_found(tables, rules)
-}
-
-#[tactic(auto, using(std::proofs::lemmas::List::Folds::list_any_more, std::proofs::lemmas::List::Folds::list_any_at))]
-fn any_name(tables: &[Table]) -> bool
-    ensures { result ≡ list_any has_name tables.now }
-{
-    for table in tables {
-        if has_name(table) {
-            return true;
-        }
-    }
-    false
-}
-
-#[tactic(auto, using(std::proofs::lemmas::List::Folds::list_any_more, std::proofs::lemmas::List::Folds::list_any_at))]
-fn any_version(tables: &[Table]) -> bool
-    ensures { result ≡ list_any is_version tables.now }
-{
-    for table in tables {
-        if is_version(table) {
-            return true;
-        }
-    }
-    false
-}
-
-#[tactic(auto, using(std::proofs::lemmas::List::Folds::list_any_more, std::proofs::lemmas::List::Folds::list_any_at))]
-fn any_accepted(tables: &[Table]) -> bool
-    ensures { result ≡ list_any is_accepted tables.now }
-{
-    for table in tables {
-        if is_accepted(table) {
-            return true;
-        }
-    }
-    false
+    has_setup(tables) && has_floor(tables) && has_found(tables, rules)
 }
 
 fn has_name(table: &Table) -> bool
     ensures { result ≡ has_name table.now }
 {
-    let name = table.name.as_slice();
-    same_name(name, "version".as_bytes())
-        || same_name(name, "accepted".as_bytes())
-        || same_name(name, "part".as_bytes())
-        || same_name(name, "alternate".as_bytes())
-        || same_name(name, "sheet_row".as_bytes())
-        || same_name(name, "selected".as_bytes())
-        || same_name(name, "reel".as_bytes())
-        || same_name(name, "mount".as_bytes())
-        || same_name(name, "board".as_bytes())
-        || same_name(name, "placement".as_bytes())
-        || same_name(name, "found".as_bytes())
+    is_one_of(
+        table.name.as_slice(),
+        &[
+            "version",
+            "accepted",
+            "part",
+            "alternate",
+            "sheet_row",
+            "selected",
+            "reel",
+            "mount",
+            "board",
+            "placement",
+            "found",
+        ],
+    )
 }
 
-fn is_version(table: &Table) -> bool
-    ensures { result ≡ is_version table.now }
+fn is_one_of(name: &[u8], names: &[&str]) -> bool
+    ensures { result ≡ list_any (λ one. same_name name.now one.now) names.now }
 {
-    same_name(table.name.as_slice(), "version".as_bytes())
-        && has_column(table, "one")
-        && has_column(table, "number")
-        && has_column(table, "greatest")
+    names.iter().any(|one| same_name(name, one.as_bytes()))
 }
 
-fn is_accepted(table: &Table) -> bool
-    ensures { result ≡ is_accepted table.now }
-{
-    same_name(table.name.as_slice(), "accepted".as_bytes())
-        && has_column(table, "number")
-        && has_column(table, "uid")
-        && has_column(table, "source")
-        && has_column(table, "own")
-        && has_column(table, "effective")
-        && has_column(table, "command")
-        && has_column(table, "detail")
-}
-
-#[tactic(auto, using(std::proofs::lemmas::List::Folds::list_any_more, std::proofs::lemmas::List::Folds::list_any_at))]
 fn has_column(table: &Table, name: &str) -> bool
     ensures { result ≡ has_column table.now name.now }
 {
-    for column in table.columns.as_slice() {
-        if same_name(column.name.as_slice(), name.as_bytes()) {
-            return true;
-        }
-    }
-    false
+    table.columns.as_slice().iter().any(|column| same_name(column.name.as_slice(), name.as_bytes()))
 }
 
 fn has_setup(tables: &[Table]) -> bool
@@ -162,25 +122,20 @@ fn has_floor(tables: &[Table]) -> bool
         ],
     ) && has_table(tables, "mount", &["since", "machine", "slot", "reel"])
         && has_table(tables, "board", &["board", "product", "machine"])
-}
-
-fn has_placements(tables: &[Table]) -> bool
-    ensures { result ≡ has_placements tables.now }
-{
-    has_table(
-        tables,
-        "placement",
-        &[
-            "number",
-            "place",
-            "board",
-            "designator",
-            "machine",
-            "slot",
-            "reel",
-            "overdue",
-        ],
-    )
+        && has_table(
+            tables,
+            "placement",
+            &[
+                "number",
+                "place",
+                "board",
+                "designator",
+                "machine",
+                "slot",
+                "reel",
+                "overdue",
+            ],
+        )
 }
 
 fn has_found(tables: &[Table], rules: Rules) -> bool

@@ -12,7 +12,7 @@ use Rattle.desk_types.specs.Judged.{IsJudged}
 use Rattle.desk_types.specs.Placements.{placements_of}
 use Rattle.state_rows.specs.Kept.{by_piece}
 use Rattle.state_rows.proofs.PlacedRows.{entry_of, pieces-ascend}
-use Rattle.trace_lists.specs.Lists.{Key, keys_where}
+use Rattle.state_rows.specs.Lists.{Key, keys_where}
 use Rattle.line_traces.specs.Pieces.{pieces_where, piece_at}
 use Rattle.line_traces.proofs.PlacedColumns.{both, itself}
 use Rattle.line_traces.proofs.FoundPieces.{IsBefore, before-all}

@@ -8,8 +8,8 @@ use Rattle.desk_types.specs.Id.{Name}
 use Rattle.desk_types.specs.History.{History}
 use Rattle.desk_types.specs.Placements.{set_of, boards_of}
 use Rattle.desk_types.proofs.LoopSteps.{take-next}
-use Rattle.trace_lists.specs.declared.lists.PieceKey.{PieceKey}
-use Rattle.trace_lists.specs.Lists.{IsListed, Key, key_of, keys_where}
+use Rattle.state_rows.specs.declared.lists.PieceKey.{PieceKey}
+use Rattle.state_rows.specs.Lists.{IsListed, Key, key_of, keys_where}
 use Rattle.line_traces.specs.Pieces.{pieces_where, pieces_of_lot, piece_at}
 use Rattle.line_traces.specs.declared.working.Working.{Working}
 use Rattle.line_traces.specs.Working.{FindsOfBoth}

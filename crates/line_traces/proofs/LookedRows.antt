@@ -23,7 +23,7 @@ use Rattle.desk_types.specs.declared.row.PlacementRow.{PlacementRow}
 use Rattle.desk_types.specs.Tables.{placement_row, placement_columns as columns_of_piece}
 use Rattle.line_tables.specs.Line as line
 use Rattle.line_tables.specs.StateRows.{flag, has_piece, placement_columns, rows_in}
-use Rattle.trace_lists.specs.Lists.{minute_of}
+use Rattle.state_rows.specs.Lists.{minute_of}
 use Rattle.line_traces.specs.Pieces.{piece_at}
 use Rattle.line_traces.specs.Committed.{HoldsList}
 use Rattle.line_traces.proofs.ByKey.{has_key}

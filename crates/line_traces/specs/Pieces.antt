@@ -8,7 +8,7 @@ use Rattle.desk_types.specs.declared.placement.Placement.{Placement}
 use Rattle.desk_types.specs.Id.{Name, same}
 use Rattle.desk_types.specs.History.{History}
 use Rattle.desk_types.specs.Placements.{placements_of, boards_of}
-use Rattle.trace_lists.specs.Lists.{Key}
+use Rattle.state_rows.specs.Lists.{Key}
 
 -- ---- pieces
 

@@ -4,7 +4,7 @@ use Rattle.sqlite.specs.Effect.{Database}
 use Rattle.sqlite.specs.State.{State}
 use Rattle.desk_types.specs.declared.placement.Placement.{Placement}
 use Rattle.desk_types.specs.History.{History}
-use Rattle.trace_lists.specs.Lists.{IsListed, Key}
+use Rattle.state_rows.specs.Lists.{IsListed, Key}
 use Rattle.line_tables.specs.Calls.{Reads}
 use Rattle.line_traces.specs.declared.working.Working.{Working}
 use Rattle.line_traces.specs.Pieces.{piece_at}

@@ -5,7 +5,7 @@ ghost use Rattle.sqlite.specs.State.{HasCleanDisk};
 ghost use Rattle.sqlite.specs.Held.{state};
 ghost use Rattle.desk_types.specs.declared.placement.Placement.{Placement};
 ghost use Rattle.desk_types.specs.Placements.{overdue_of, boards_of, set_of};
-ghost use Rattle.trace_lists.specs.Lists.{key_of, keys_of_install, keys_of_installs};
+ghost use Rattle.state_rows.specs.Lists.{key_of, keys_of_install, keys_of_installs};
 ghost use Rattle.line_traces.specs.Pieces.{pieces_on, pieces_of_lot};
 ghost use Rattle.line_traces.specs.Working.{FindsOfBoth};
 ghost use Rattle.line_tables.specs.Frames.{ReadsOnly, IsRefusedInside};
@@ -16,9 +16,9 @@ use crate::row::PlacedRows;
 use crate::working::Working;
 use desk_types::{Desk, Id, IdList, Listing, Placement};
 use sqlite::{Alter, Connection, Error};
+use state_rows::{Install, PieceKey};
 use std::alloc::{AllocError, Global};
 use std::collections::BTreeSet;
-use trace_lists::{Install, PieceKey};
 
 /// Returns the pieces on the board by number, then place.
 pub fn pieces_of_board<S: Alter, D: Desk>(

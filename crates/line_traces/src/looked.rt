@@ -13,7 +13,7 @@ ghost use Rattle.line_tables.specs.Rowids.{placement_id};
 ghost use Rattle.line_tables.specs.Shown.{AreOf};
 ghost use Rattle.line_tables.specs.StateRows.{rows_in};
 ghost use Rattle.line_tables.specs.Frames.{ReadsOnly, IsRefusedInside};
-ghost use Rattle.trace_lists.specs.Lists.{key_of};
+ghost use Rattle.state_rows.specs.Lists.{key_of};
 ghost use Rattle.line_traces.specs.Pieces.{piece_at};
 ghost use Rattle.line_traces.specs.Working.{HoldsBoth, FindsOfBoth, AddsPieces};
 
@@ -24,8 +24,8 @@ use desk_types::{Desk, Listing, Placement};
 use line_tables::placements_between;
 use line_tables::select::select;
 use sqlite::{Alter, Connection, Error, Row};
+use state_rows::PieceKey;
 use std::alloc::Global;
-use trace_lists::PieceKey;
 
 /// The error for a connection that does not answer.
 fn ask<S: Alter>(conn: &mut Connection<S>) -> Result<(), Error>

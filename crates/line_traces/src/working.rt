@@ -1,6 +1,6 @@
 //! The working state of a line.
 
-use trace_lists::TraceLists;
+use state_rows::TraceLists;
 
 /// A desk, and the trace indexes of the same history.
 #[derive(Drop)]

@@ -6,6 +6,10 @@ pub mod EditLists
 pub mod EditsLead
 pub mod Exposed
 pub mod GatheredPieces
+pub mod Installs
+pub mod KeptUnderNames
+pub mod Keys
+pub mod Minutes
 pub mod MountKeeping
 pub mod MountRows
 pub mod MountedRows

@@ -12,12 +12,12 @@ use std::marker::Model;
 
 /// Rows of `mount`, at most one a reel. Contracts see them as the rows by reel.
 #[derive(Drop)]
-pub struct Mounts {
+pub struct MountTable {
     by_reel: BTreeMap<Id, MountRow>,
     by_since: BTreeMap<(u64, Id), MountRow>,
 }
 
-impl Model for Mounts {
+impl Model for MountTable {
     ghost use Rattle.std.specs.Prelude.{List};
     ghost use Rattle.desk_types.specs.Id.{Name};
     ghost use Rattle.desk_types.specs.declared.row.MountRow.{MountRow};
@@ -30,12 +30,12 @@ impl Model for Mounts {
     ghost invariant = { λ a. AreTheSame a.by_since.entries a.by_reel.entries };
 }
 
-impl Mounts {
+impl MountTable {
     /// No rows. Takes no memory.
-    pub fn new(alloc: Global) -> Mounts
+    pub fn new(alloc: Global) -> MountTable
         ensures { result ≡ [] }
     {
-        Mounts {
+        MountTable {
             by_reel: BTreeMap::new(alloc),
             by_since: BTreeMap::new(alloc),
         }
@@ -77,15 +77,15 @@ impl Mounts {
     }
 }
 
-impl Clone for Mounts {
+impl Clone for MountTable {
     ghost use Rattle.std.specs.Prelude.{◌≡◌};
 
     ghost is_clone = { λ x y. y ≡ x };
 
-    fn clone(&self) -> Result<Mounts, AllocError> {
+    fn clone(&self) -> Result<MountTable, AllocError> {
         let by_reel = self.by_reel.clone()?;
         let by_since = self.by_since.clone()?;
-        Ok(Mounts { by_reel, by_since })
+        Ok(MountTable { by_reel, by_since })
     }
 }
 

@@ -12,7 +12,7 @@ ghost use Rattle.desk_types.specs.Edits.{with_edit, with_edits};
 ghost use Rattle.state_rows.specs.Kept.{tables_in, is_placement, but_placements, Lists, ListsKeys, ListsMounts, by_sheet_place, by_piece};
 ghost use Rattle.desk_types.specs.declared.edit.RowEdit.TheVariants.{TakeSheetRow, TakeMount, PutPart, PutAlternate, PutSheetRow, PutSelected, PutReel, PutMount, PutBoard, PutPlacement, PutFound};
 
-use crate::mounts::Mounts;
+use crate::mounts::MountTable;
 use desk_types::{
     BoardRow, Id, Minute, MountRow, PlacementRow, ReelRow, RowEdit, RowEdits, SheetRow,
 };
@@ -29,7 +29,7 @@ pub struct RowSet {
     sheets: BTreeMap<(Id, Id, u64), SheetRow>,
     selected: BTreeMap<Id, Id>,
     reels: BTreeMap<Id, ReelRow>,
-    mounts: Mounts,
+    mounts: MountTable,
     boards: BTreeMap<Id, BoardRow>,
     placements: BTreeMap<(u64, u64), PlacementRow>,
     found: BTreeMap<Id, u64>,
@@ -64,7 +64,7 @@ impl RowSet {
             sheets: BTreeMap::new(alloc),
             selected: BTreeMap::new(alloc),
             reels: BTreeMap::new(alloc),
-            mounts: Mounts::new(alloc),
+            mounts: MountTable::new(alloc),
             boards: BTreeMap::new(alloc),
             placements: BTreeMap::new(alloc),
             found: BTreeMap::new(alloc),
@@ -298,7 +298,7 @@ impl RowSet {
         self.found.iter()
     }
 
-    /// Returns the parts as a set. Takes no memory, like the next four.
+    /// Returns the parts as a set. Takes no memory, like the next five.
     pub fn part_set(&self) -> &Parts
         ensures { (part : Name) → is_among result.now part ≡ (tables_in self.now).parts part }
     {
@@ -311,6 +311,14 @@ impl RowSet {
             ≡ (tables_in self.now).alternates p q }
     {
         &self.alternates
+    }
+
+    /// Returns the row in this place, from 1, of the product's sheet on the machine.
+    pub fn sheet_row(&self, product: &Id, machine: &Id, place: u64) -> Option<&SheetRow>
+        ensures { option_copied result
+            ≡ (tables_in self.now).sheets product.now machine.now place }
+    {
+        self.sheets.get(&(*product, *machine, place))
     }
 
     /// Returns the product that is selected on the machine.

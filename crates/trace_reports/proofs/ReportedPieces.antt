@@ -4,7 +4,7 @@ use Rattle.std.specs.Prelude.{if◌then◌else◌}
 use Rattle.std.specs.Option.{option_map}
 use Rattle.csv.specs.Reading.{records, default_config}
 use Rattle.desk_types.specs.declared.placement.Placement.{Placement}
-use Rattle.report_texts.specs.Sets.{Fields}
+use Rattle.trace_reports.specs.Sets.{Fields}
 use Rattle.trace_reports.specs.Reports.{rows_below}
 
 pub found-rows : (found : Bool) (text : List Placement → List ℕ) (header : Fields) (rows : List Placement → List Fields)

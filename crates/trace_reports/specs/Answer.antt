@@ -1,7 +1,7 @@
 -- The texts of the answers when there is no report.
 use Rattle.std.specs.Prelude.{ℕ, List}
 use Rattle.cfx_profile.specs.Answer.{unavailable_text}
-use Rattle.report_texts.specs.NotFound.{not_found_text}
+use Rattle.trace_reports.specs.NotFound.{not_found_text}
 use Rattle.trace_reports.specs.declared.fault.ReportFault.{ReportFault}
 use Rattle.trace_reports.specs.declared.fault.ReportFault.TheVariants.{NotFound, Unavailable}
 

@@ -1,2 +1,10 @@
 pub mod Answer
+pub mod Card
+pub mod Csv
+pub mod Kit
+pub mod NotFound
 pub mod Reports
+pub mod Sets
+pub mod Shown
+pub mod Slots
+pub mod Traces

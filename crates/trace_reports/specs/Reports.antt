@@ -7,9 +7,9 @@ use Rattle.desk_types.specs.History.{History}
 use Rattle.desk_types.specs.Placements.{overdue_of}
 use Rattle.line_traces.specs.Pieces as traced
 use Rattle.desk_types.specs.declared.trace_detail.TraceDetail.{TraceDetail}
-use Rattle.report_texts.specs.Traces.{board_text, lot_text, overdue_text}
-use Rattle.report_texts.specs.Sets.{Fields}
-use Rattle.report_texts.specs.declared.kind.Kind.{Kind}
+use Rattle.trace_reports.specs.Traces.{board_text, lot_text, overdue_text}
+use Rattle.trace_reports.specs.Sets.{Fields}
+use Rattle.trace_reports.specs.declared.kind.Kind.{Kind}
 use Rattle.trace_reports.specs.declared.fault.ReportFault.{ReportFault}
 use Rattle.trace_reports.specs.declared.fault.ReportFault.TheVariants.{NotFound, Unavailable}
 

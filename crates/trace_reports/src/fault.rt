@@ -3,10 +3,10 @@
 ghost use Rattle.std.specs.Prelude.{◌≡◌, IfOk};
 ghost use Rattle.trace_reports.specs.Answer.{fault_text};
 
+use crate::kind::{Kind, not_found_text};
 use cfx_profile::unavailable_text;
 use desk_types::{Listing, Text};
 use line_schema::Unavailable;
-use report_texts::{Kind, not_found_text};
 use std::alloc::{AllocError, Global};
 
 /// Why there is no report.

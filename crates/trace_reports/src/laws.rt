@@ -18,6 +18,6 @@ pub fn reports_are_converse()
         → Contains (rows_below on) (part ∷ lot ∷ reel ∷ [])
         ↔ Contains (rows_below of) (board ∷ part ∷ reel ∷ []) }
 {
-    report_texts::reports_read_back();
-    report_texts::traces_are_converse();
+    crate::text_laws::reports_read_back();
+    crate::text_laws::traces_are_converse();
 }

@@ -3,16 +3,16 @@
 ghost use Rattle.std.specs.Prelude.{Option, List, ℕ};
 ghost use Rattle.line_schema.specs.Stands.{ForKept, Kept, Stands};
 ghost use Rattle.line_schema.specs.Frames.{MakesDesk};
-ghost use Rattle.report_texts.specs.Card.{reel_card};
-ghost use Rattle.report_texts.specs.Slots.{slot_list};
-ghost use Rattle.report_texts.specs.Kit.{kit_list};
-ghost use Rattle.report_texts.specs.declared.kind.Kind.TheVariants as Kind;
+ghost use Rattle.trace_reports.specs.Card.{reel_card};
+ghost use Rattle.trace_reports.specs.Slots.{slot_list};
+ghost use Rattle.trace_reports.specs.Kit.{kit_list};
+ghost use Rattle.trace_reports.specs.declared.kind.Kind.TheVariants as Kind;
 ghost use Rattle.trace_reports.specs.Reports.{Answers};
 
 use crate::fault::ReportFault;
+use crate::kind::Kind;
 use desk_types::{Boards, Id, Text};
 use line_schema::LineStore;
-use report_texts::Kind;
 use sqlite::Alter;
 use state_rows::KeepsRows;
 use std::alloc::Global;
@@ -42,7 +42,7 @@ pub fn reel_card<S: Alter, D: KeepsRows + Drop>(
     let Some(desk) = store.desk() else {
         unreachable!()
     };
-    or_not_found(report_texts::reel_card(alloc, desk, reel)?, Kind::Reel)
+    or_not_found(crate::card::reel_card(alloc, desk, reel)?, Kind::Reel)
 }
 
 /// Returns the live reels of a machine's slots, by slot and then by position. It is not found if no
@@ -62,7 +62,7 @@ pub fn slot_list<S: Alter, D: KeepsRows + Drop>(
         unreachable!()
     };
     or_not_found(
-        report_texts::slot_list(alloc, desk, machine)?,
+        crate::slots::slot_list(alloc, desk, machine)?,
         Kind::Machine,
     )
 }
@@ -86,7 +86,7 @@ pub fn kit_list<S: Alter, D: KeepsRows + Drop>(
         unreachable!()
     };
     or_not_found(
-        report_texts::kit_list(alloc, desk, product, machine, boards)?,
+        crate::kit::kit_list(alloc, desk, product, machine, boards)?,
         Kind::Sheet,
     )
 }

@@ -2,13 +2,14 @@
 
 ghost use Rattle.line_schema.specs.Stands.{ForKept};
 ghost use Rattle.line_schema.specs.Frames.{ReadsStore};
-ghost use Rattle.report_texts.specs.declared.kind.Kind.TheVariants as Kind;
+ghost use Rattle.trace_reports.specs.declared.kind.Kind.TheVariants as Kind;
 ghost use Rattle.trace_reports.specs.Reports.{board_trace, lot_trace, overdue_list, Answers, AnswersAlways};
 
 use crate::fault::ReportFault;
+use crate::kind::Kind;
+use crate::trace_texts::{board_text, lot_text, overdue_text};
 use desk_types::{Id, Text, TraceDetail};
 use line_schema::LineStore;
-use report_texts::{Kind, board_text, lot_text, overdue_text};
 use sqlite::Alter;
 use state_rows::KeepsRows;
 use std::alloc::Global;

@@ -2,7 +2,7 @@
 #![tactic(auto)]
 
 use chain_files::program;
-use desk_runs::{tell_line, unavailable};
+use desk_commands::{tell_line, unavailable};
 use desk_types::Wire;
 use desk_words::words_behind_name;
 use sqlite::Unknown;

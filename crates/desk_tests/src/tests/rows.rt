@@ -1,10 +1,9 @@
 //! Messages of worked cases. A line has a minute, a tab and the stored text of a command.
 
 use super::id;
-use desk_types::{Command, Minute, Stamped};
+use desk_types::{Command, Kept, Minute, Stamped};
 use std::alloc::Global;
 use std::test::Fail;
-use stored_texts::Kept;
 
 /// Every message kind, and refusals of each kind of test.
 pub const EACH_WORD: &str = "1\tPartDefined\tP

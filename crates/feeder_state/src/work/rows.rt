@@ -10,7 +10,7 @@ ghost use Rattle.feeder_state.specs.Work.{IsWork, running_at, is_placed_at};
 
 use super::{Work, place};
 use crate::groups::{Group, gather};
-use crate::placed::Placed;
+use crate::placed::PlacedNames;
 use desk_types::{Designator, Id};
 use state_rows::RowSet;
 use std::alloc::{AllocError, Global};
@@ -46,7 +46,7 @@ fn designators_of(
 }
 
 /// Returns the designators placed on each board, from the rows.
-pub fn placed_of(alloc: Global, rows: &RowSet) -> Result<BTreeMap<Id, Placed>, AllocError>
+pub fn placed_of(alloc: Global, rows: &RowSet) -> Result<BTreeMap<Id, PlacedNames>, AllocError>
     ensures { (H : History) → AreRowsOf H rows.now → (b d : Name)
         → IfOk result (λ placed. is_placed_at placed b d ≡ is_placed_on H b d) }
 {

@@ -8,7 +8,7 @@ ghost use Rattle.desk_types.specs.declared.rules.Rules.TheVariants.{Two};
 ghost use Rattle.desk_types.specs.History.{History, accept};
 ghost use Rattle.desk_answers.specs.Commands.{command_after};
 ghost use Rattle.line_tables.specs.Rows.{HoldsAt};
-ghost use Rattle.line_rows.specs.Rows.{ledger_tables};
+ghost use Rattle.line_replay.specs.Rows.{ledger_tables};
 ghost use Rattle.line_schema.specs.Stands.{Kept, Stands, state_of};
 ghost use Rattle.line_schema.specs.Unanswered.{GoUnanswered, HoldsWithAtMostOne, Tries};
 

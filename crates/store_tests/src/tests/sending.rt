@@ -1,13 +1,12 @@
 //! Commands of worked cases, and a store's answers to them.
 
 use desk_answers::{Answer, Owner};
-use desk_types::{Command, Desk, Id, Minute, ReelView, Stamped};
+use desk_types::{Command, Desk, Id, Kept, Minute, ReelView, Stamped};
 use feeder_state::StateDesk;
 use line_schema::{LineStore, OpenFault};
 use sqlite::{Alter, Connection};
 use std::alloc::{AllocError, Global};
 use std::process::Abort;
-use stored_texts::Kept;
 
 /// The commands of the worked case `first_run`, one stored text a line, and one more part.
 pub const FIRST_RUN: &str = "PartDefined\tP

@@ -3,9 +3,9 @@ use Rattle.std.proofs.lemmas.Bool.Decides.{Decides-eqb}
 use Rattle.std.proofs.lemmas.Slice.Eq.{strip_prefix_is}
 use Rattle.desk_types.specs.Id.{same}
 use Rattle.desk_types.proofs.Keys.{same-true}
-use Rattle.stored_texts.specs.declared.word.Word.{Word}
-use Rattle.stored_texts.specs.StoredText.{word_text, words}
-use Rattle.stored_texts.proofs.Words.{found_passes, word_in, word_in-is}
+use Rattle.desk_types.specs.declared.stored_word.Word.{Word}
+use Rattle.desk_types.specs.StoredText.{word_text, words}
+use Rattle.desk_types.proofs.Words.{found_passes, word_in, word_in-is}
 use Rattle.cfx_profile.specs.Word.{message_name, word_of}
 use Rattle.cfx_profile.proofs.word.word_of.Goals as goal
 

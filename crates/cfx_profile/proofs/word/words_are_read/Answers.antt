@@ -1,6 +1,6 @@
 use Rattle.std.proofs.Common.{◌≡◌, Some}
-use Rattle.stored_texts.proofs.Words.{word_in-word_text}
-use Rattle.stored_texts.specs.declared.word.Word.{Word}
+use Rattle.desk_types.proofs.Words.{word_in-word_text}
+use Rattle.desk_types.specs.declared.stored_word.Word.{Word}
 use Rattle.cfx_profile.specs.Word.{message_name, word_of}
 use Rattle.cfx_profile.proofs.word.words_are_read.Goals as goal
 

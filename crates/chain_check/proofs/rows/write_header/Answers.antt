@@ -1,5 +1,5 @@
 use Rattle.std.proofs.Common.{◌++◌, OnOk, sym, subst}
-use Rattle.report_texts.specs.Csv.{record_text, HasWritten}
+use Rattle.trace_reports.specs.Csv.{record_text, HasWritten}
 use Rattle.chain_check.specs.declared.question.Question.{Question}
 use Rattle.chain_check.specs.Rows.{header_of}
 use Rattle.chain_check.proofs.rows.write_header.Goals as goal

@@ -1,8 +1,8 @@
 use Rattle.std.proofs.Common.{◌≡◌, ◌∙◌, ◌++◌, ◌∷◌, [], List, map, take, ap, subst}
 use Rattle.std.proofs.lemmas.List.{take_all}
 use Rattle.desk_types.specs.Id.{Name}
-use Rattle.report_texts.specs.Csv.{record_text, HasWritten}
-use Rattle.report_texts.specs.Sets.{Fields}
+use Rattle.trace_reports.specs.Csv.{record_text, HasWritten}
+use Rattle.trace_reports.specs.Sets.{Fields}
 use Rattle.chain_check.specs.Rows.{name_row, rows_text}
 use Rattle.chain_check.proofs.WrittenRows.{row-next}
 use Rattle.chain_check.proofs.rows.write_names.Goals as goal

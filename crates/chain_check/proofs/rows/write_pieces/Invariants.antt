@@ -1,5 +1,5 @@
 use Rattle.std.proofs.Common.{◌++◌, List, ℕ, map, take}
-use Rattle.report_texts.specs.Csv.{HasWritten}
+use Rattle.trace_reports.specs.Csv.{HasWritten}
 use Rattle.chain_check.specs.Rows.{piece_row, rows_text}
 use Rattle.chain_check.proofs.rows.write_pieces.Given as goal
 

@@ -1,6 +1,6 @@
 use Rattle.std.proofs.Common.{◌≡◌, Option, [], List, sym, subst}
 use Rattle.std.specs.Prelude.{IfOk, IfErr}
-use Rattle.alike.specs.Chain.{DeskFile}
+use Rattle.desk_laws.specs.Chain.{DeskFile}
 use Rattle.chain_check.specs.declared.chain.Chain.{Chain}
 use Rattle.chain_files.specs.Files.{Adds, Continues, Stops}
 use Rattle.chain_files.proofs.chain.add.Goals as goal

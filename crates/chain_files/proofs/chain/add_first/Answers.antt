@@ -1,6 +1,6 @@
 use Rattle.std.proofs.Common.{◌≡◌, ◌∙◌, ◌++◌, [], subst}
 use Rattle.desk_types.specs.declared.rules.Rules.TheVariants.{Two}
-use Rattle.report_texts.specs.Csv.{HasWritten}
+use Rattle.trace_reports.specs.Csv.{HasWritten}
 use Rattle.chain_check.specs.Rows.{asked_of, facts_of, rows_in, rows_text}
 use Rattle.chain_files.proofs.chain.add_first.Goals as goal
 

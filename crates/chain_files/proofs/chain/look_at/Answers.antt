@@ -7,8 +7,8 @@ use Rattle.sqlite.specs.Files.{file_state}
 use Rattle.desk_types.specs.History.{History}
 use Rattle.feeder_state.specs.contracts.desk.StateDeskDesk.TheImpl.{ghosts as state}
 use Rattle.line_tables.specs.Rows.{Holds}
-use Rattle.line_rows.specs.Rows.{ledger_tables}
-use Rattle.line_prefix.specs.Look.{Says}
+use Rattle.line_replay.specs.Rows.{ledger_tables}
+use Rattle.chain_files.specs.Look.{Says}
 use Rattle.desk_file.specs.Files.{Begins, HasTables}
 use Rattle.chain_files.proofs.chain.look_at.Goals as goal
 

@@ -1,5 +1,5 @@
 use Rattle.std.proofs.Common.{◌≡◌, ◌∙◌, List, ℕ, subst, inl}
-use Rattle.desk_runs.specs.Told.{TellsLine}
+use Rattle.desk_commands.specs.Told.{TellsLine}
 use Rattle.chain_files.specs.Compared.{refused_line}
 use Rattle.chain_files.proofs.telling.tell_refused.Goals as goal
 

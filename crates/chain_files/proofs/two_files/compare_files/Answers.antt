@@ -9,9 +9,9 @@ use Rattle.sqlite_wal.specs.Files.{image_at}
 use Rattle.desk_types.specs.History.{History}
 use Rattle.feeder_state.specs.declared.desk.StateDesk.{StateDesk}
 use Rattle.feeder_state.specs.State.{IsState}
-use Rattle.line_prefix.specs.declared.looking.Looked.{Looked}
-use Rattle.alike.specs.Chain.{Carries}
-use Rattle.alike_check.specs.Difference.{IsDifference, Refutes}
+use Rattle.chain_files.specs.declared.looking.Looked.{Looked}
+use Rattle.desk_laws.specs.Chain.{Carries}
+use Rattle.chain_check.specs.Difference.{IsDifference, Refutes}
 use Rattle.chain_check.specs.declared.question.Question.TheVariants.{Chain}
 use Rattle.chain_files.specs.Compared.{HoldBoth}
 use Rattle.chain_files.specs.Files.{Takes, files_in}

@@ -1,5 +1,5 @@
 use Rattle.std.proofs.Common.{◌≡◌, ◌∙◌, ◌++◌, List, ℕ, codes, map, string_bytes, ap, subst, inl}
-use Rattle.desk_runs.specs.Told.{TellsLine}
+use Rattle.desk_commands.specs.Told.{TellsLine}
 use Rattle.chain_files.specs.Stops.{stop_line, stop_text}
 use Rattle.chain_files.proofs.whole.tell_stop.Goals as goal
 

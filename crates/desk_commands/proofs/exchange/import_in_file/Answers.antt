@@ -1,5 +1,5 @@
 use Rattle.std.proofs.Common.{None, refl, inl, inr}
-use Rattle.desk_runs.proofs.EndsOfRuns.{import_follows, import_refused}
+use Rattle.desk_commands.proofs.EndsOfRuns.{import_follows, import_refused}
 use Rattle.desk_commands.proofs.RunsOnFiles.{runs_on, stays}
 use Rattle.desk_commands.proofs.exchange.import_in_file.Goals as goal
 

@@ -1,5 +1,5 @@
 use Rattle.std.proofs.Common.{Some, refl, inl}
-use Rattle.desk_runs.proofs.EndsOfRuns.{serving_follows, serving_refused}
+use Rattle.desk_commands.proofs.EndsOfRuns.{serving_follows, serving_refused}
 use Rattle.desk_commands.proofs.RunsOnFiles.{runs_on}
 use Rattle.desk_commands.proofs.gateway.serve_in_file.Goals as goal
 

@@ -1,5 +1,5 @@
 use Rattle.std.proofs.Common.{refl, inl, inr, arith}
-use Rattle.desk_runs.proofs.EndsOfRuns.{print_refused}
+use Rattle.desk_commands.proofs.EndsOfRuns.{print_refused}
 use Rattle.desk_commands.proofs.looks.migrate_file.Goals as goal
 
 pub returns-in-Ok-clause-ends : goal.returns-in-Ok-clause-ends

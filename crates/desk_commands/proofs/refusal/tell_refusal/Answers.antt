@@ -1,5 +1,5 @@
 use Rattle.std.proofs.Common.{◌≡◌, ◌∙◌, List, ℕ, subst, inl}
-use Rattle.desk_runs.specs.Told.{TellsLine}
+use Rattle.desk_commands.specs.Told.{TellsLine}
 use Rattle.desk_commands.specs.Runs.{refusal_line}
 use Rattle.desk_commands.proofs.refusal.tell_refusal.Goals as goal
 

@@ -4,9 +4,9 @@ use Rattle.desk_feed.proofs.OwnersOfLines.{goes_none, goes_on, stops_into}
 use Rattle.desk_feed.proofs.LinesOfInputs.{EndsGone, start_gone, lines_go, last_goes, next_first, end_behind, no_end, one_more_end, all_ended}
 use Rattle.desk_feed.specs.Lines.{lines_in}
 use Rattle.desk_feed.specs.Taking.{TakesLine, LinesGone}
-use Rattle.served.specs.Block.{pending_bytes, source}
-use Rattle.served.specs.Counts.{none_served}
-use Rattle.served.proofs.Blocks.{none_pending}
+use Rattle.desk_answers.specs.Block.{pending_bytes, source}
+use Rattle.desk_answers.specs.Counts.{none_served}
+use Rattle.desk_answers.proofs.Blocks.{none_pending}
 use Rattle.desk_feed.proofs.feeding.feed.Goals as goal
 
 pub lines-init : goal.lines-init

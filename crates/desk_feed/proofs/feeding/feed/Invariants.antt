@@ -1,8 +1,8 @@
 use Rattle.std.proofs.Common.{◌≡◌, ◌≤◌, ◌+◌, ◌*◌, ℕ, List}
 use Rattle.desk_types.specs.Wire.{inner_of, reads_of, failures_of}
 use Rattle.desk_types.specs.declared.limits.TheConstants.{BLOCK, MOST_READS}
-use Rattle.served.specs.Block.{IsBlock, source, fuel}
-use Rattle.served.specs.Counts.{none_served}
+use Rattle.desk_answers.specs.Block.{IsBlock, source, fuel}
+use Rattle.desk_answers.specs.Counts.{none_served}
 use Rattle.desk_feed.specs.Taking.{LinesGone}
 use Rattle.desk_feed.proofs.OwnersOfLines.{Goes}
 use Rattle.desk_feed.proofs.LinesOfInputs.{EndsGone}

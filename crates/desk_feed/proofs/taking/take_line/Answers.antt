@@ -4,7 +4,7 @@ use Rattle.std.proofs.KnownBytes.{Consumes-trans, Consumes-kept}
 use Rattle.std.proofs.lemmas.List.{length-drop}
 use Rattle.std.proofs.lemmas.List.Elements.{All-append}
 use Rattle.desk_types.specs.Wire.{inner_of}
-use Rattle.served.specs.Block.{pending_bytes, source}
+use Rattle.desk_answers.specs.Block.{pending_bytes, source}
 use Rattle.desk_feed.specs.Lines.{is_feed}
 use Rattle.desk_feed.specs.Taking.{ReadsInside}
 use Rattle.desk_feed.proofs.TakenLines.{line_goes, all_goes}

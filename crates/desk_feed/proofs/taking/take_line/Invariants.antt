@@ -1,7 +1,7 @@
 use Rattle.std.proofs.Common.{◌≡◌, ◌≤◌, ℕ, List}
 use Rattle.std.specs.Io.KnownBytes.{Consumes}
 use Rattle.desk_types.specs.Wire.{inner_of, reads_of, failures_of}
-use Rattle.served.specs.Block.{IsBlock, source, fuel}
+use Rattle.desk_answers.specs.Block.{IsBlock, source, fuel}
 use Rattle.desk_feed.specs.Taking.{HasNoFeed, HoldsLine}
 use Rattle.desk_feed.proofs.taking.take_line.Given as goal
 

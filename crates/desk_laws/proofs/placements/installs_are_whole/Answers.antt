@@ -10,7 +10,9 @@ use Rattle.desk_laws.proofs.WholeInstalls.{install-whole, install-told}
 use Rattle.desk_laws.proofs.placements.installs_are_whole.Goals as goal
 
 pub returns-clause-spots : goal.returns-clause-spots
-returns-clause-spots c = λ rules H s machine board designators none. install-whole H s machine board designators (accepted-by-two rules H s none)
+returns-clause-spots c = λ rules H s machine board designators none is.
+    let whole = install-whole H s machine board designators (accepted-by-two rules H s none) is in
+    (whole.0, whole.1, whole.2)
 
 pub returns-clause-told : goal.returns-clause-told
 returns-clause-told c = λ rules H s machine board designators more none is placed.

@@ -2,7 +2,7 @@ use Rattle.std.proofs.Common.{rules, ◌≡◌, ◌⊎◌, ◌∙◌, sym, subst
 use Rattle.clap.specs.Matches.{found_of, first_value}
 use Rattle.clap.specs.Walk.{first_of, rows_of}
 use Rattle.clap.proofs.WalkLemmas.{first_value-rows}
-use Rattle.desk_import.specs.declared.options.BadOption.{BadOption}
+use Rattle.desk_feed.specs.declared.options.BadOption.{BadOption}
 use Rattle.imports.specs.declared.import.Import.{Import}
 use Rattle.desk_words.specs.CommandLine.{NamesImport}
 use Rattle.desk_words.proofs.command_line.import_of.Goals as goal

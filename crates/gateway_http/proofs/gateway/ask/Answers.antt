@@ -1,6 +1,6 @@
 use Rattle.std.proofs.Common.{false, refl, subst}
 use Rattle.desk_types.specs.History.{History}
-use Rattle.http_answers.proofs.GetsLeaveLists.{get-told}
+use Rattle.gateway_http.proofs.GetsLeaveLists.{get-told}
 use Rattle.gateway_http.proofs.gateway.ask.Goals as goal
 
 pub returns-in-Ok-clause-told : goal.returns-in-Ok-clause-told

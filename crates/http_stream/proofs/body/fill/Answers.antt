@@ -2,8 +2,8 @@ use Rattle.std.proofs.Common.{◌≡◌, ◌∙◌, ◌<◌, ◌++◌, [], sym, 
 use Rattle.std.proofs.lemmas.List.{drop_all}
 use Rattle.std.proofs.lemmas.Result.{on_err_weaker}
 use Rattle.desk_types.specs.Wire.{inner_of}
-use Rattle.served.specs.Block.{pending_bytes}
-use Rattle.served.proofs.Blocks.{at_end}
+use Rattle.desk_answers.specs.Block.{pending_bytes}
+use Rattle.desk_answers.proofs.Blocks.{at_end}
 use Rattle.http_stream.proofs.Bodies.{split_front, body_goes, all_goes}
 use Rattle.http_stream.proofs.body.fill.Goals as goal
 

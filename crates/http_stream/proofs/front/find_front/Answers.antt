@@ -3,8 +3,8 @@ use Rattle.std.specs.List.{slice_range}
 use Rattle.std.proofs.lemmas.List.{take_all}
 use Rattle.desk_types.specs.declared.limits.TheConstants.{HEAD_LIMIT}
 use Rattle.desk_types.specs.Wire.{inner_of}
-use Rattle.served.specs.Block.{pending_bytes, source}
-use Rattle.served.proofs.Blocks.{first_pending}
+use Rattle.desk_answers.specs.Block.{pending_bytes, source}
+use Rattle.desk_answers.proofs.Blocks.{first_pending}
 use Rattle.http_stream.specs.Heads.{IsBadHead, IsUnfinished}
 use Rattle.http_stream.specs.Looks.{IsHeadOf}
 use Rattle.http_stream.specs.Cut.{ReadsInside}

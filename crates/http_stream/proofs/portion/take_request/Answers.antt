@@ -2,7 +2,7 @@ use Rattle.std.proofs.Common.{rules, ◌≡◌, ◌∙◌, List, ℕ, sym, ap, a
 use Rattle.std.proofs.lemmas.List.{length-take, length-drop}
 use Rattle.desk_types.specs.Wire.{inner_of}
 use Rattle.desk_types.specs.declared.limits.TheConstants.{HEAD_LIMIT}
-use Rattle.served.specs.Block.{pending_bytes, source}
+use Rattle.desk_answers.specs.Block.{pending_bytes, source}
 use Rattle.http_stream.specs.declared.body.BodyTaken.{BodyTaken}
 use Rattle.http_stream.specs.Bodies.{TakesBody}
 use Rattle.http_stream.specs.Cut.{whole, ReadsInside, TakesPortion}

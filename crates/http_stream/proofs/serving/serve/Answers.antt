@@ -1,10 +1,10 @@
 use Rattle.std.proofs.Common.{rules, Option, IfSome, ◌+◌, ◌<◌, ◌≡◌, ◌∙◌, ◌++◌, ◌∷◌, Some, true, false, subst, sym, ap, arith, length, [], refl}
 use Rattle.desk_types.specs.Wire.{inner_of}
-use Rattle.served.specs.Block.{pending_bytes, source, fuel}
-use Rattle.served.specs.Counts.{none_served}
+use Rattle.desk_answers.specs.Block.{pending_bytes, source, fuel}
+use Rattle.desk_answers.specs.Counts.{none_served}
 use Rattle.desk_types.specs.declared.limits.TheConstants.{MOST_READS}
-use Rattle.http_stream.specs.declared.portion.Taken.{Taken}
-use Rattle.served.proofs.Blocks.{none_pending}
+use Rattle.http_stream.specs.declared.portion.TakenPortion.{TakenPortion}
+use Rattle.desk_answers.proofs.Blocks.{none_pending}
 use Rattle.http_stream.specs.Cut.{PortionsGone, is_last}
 use Rattle.http_stream.specs.Portions.{TakesNext, portion_of}
 use Rattle.http_stream.proofs.HandlersOfPortions.{goes_none, goes_on, stops_into}
@@ -39,7 +39,7 @@ returns-in-Ok-true-clause-answers g c = λ G stands trusts.
     let behind = source c.take_portion.new.block (g.R.Read.remaining (inner_of c.take_portion.new.input)) in
     let p = portion_of c.take_portion.new.block.bytes c.in-Ok-Some.taken in
     let is : c.in-Ok-Some.field-0 ≡ Some c.in-Ok-Some.taken = c.in-Ok-Some.field-0-is in
-    let took = (subst (λ (o : Option Taken). TakesNext o c.take_portion.new.block.bytes before behind) is c.in-Ok-Some.ensures.next).portion in
+    let took = (subst (λ (o : Option TakenPortion). TakesNext o c.take_portion.new.block.bytes before behind) is c.in-Ok-Some.ensures.next).portion in
     let contents = g.W.Write.contents in
     let all = goes_on g.A.Handler.rule g.A.Handler.Stands g.A.Handler.Trusts inv.portions (p ∷ []) c.args.handler.now c.portions.handler c.serve_portion.new.handler
     (contents (inner_of c.args.output.now)) (contents (inner_of c.portions.output)) (contents (inner_of c.serve_portion.new.output)) none_served c.portions.served c.serve_portion.new.served
@@ -53,7 +53,7 @@ returns-in-Ok-None-clause-answers g c = λ G stands trusts.
     let asked = g.R.Read.remaining (inner_of c.args.input.now) in
     let before = source c.portions.block (g.R.Read.remaining (inner_of c.portions.input)) in
     let behind = source c.take_portion.new.block (g.R.Read.remaining (inner_of c.take_portion.new.input)) in
-    let ends = (subst (λ (o : Option Taken). TakesNext o c.take_portion.new.block.bytes before behind) c.in-Ok-None.field-0-is c.in-Ok-None.ensures.next).portion in
+    let ends = (subst (λ (o : Option TakenPortion). TakesNext o c.take_portion.new.block.bytes before behind) c.in-Ok-None.field-0-is c.in-Ok-None.ensures.next).portion in
     let all = inv.answered G stands trusts in
     (all.0, all.1, (inv.portions, all.2.0, end_comes asked before inv.portions inv.gone ends, all.2.1))
 
@@ -65,10 +65,10 @@ portions-preserved g c =
     let behind = source c.take_portion.new.block (g.R.Read.remaining (inner_of c.take_portion.new.input)) in
     let p = portion_of c.take_portion.new.block.bytes c.in-Ok-Some.taken in
     let is : c.in-Ok-Some.field-0 ≡ Some c.in-Ok-Some.taken = c.in-Ok-Some.field-0-is in
-    let took = (subst (λ (o : Option Taken). TakesNext o c.take_portion.new.block.bytes before behind) is c.in-Ok-Some.ensures.next).portion in
+    let took = (subst (λ (o : Option TakenPortion). TakesNext o c.take_portion.new.block.bytes before behind) is c.in-Ok-Some.ensures.next).portion in
     let last : is_last p ≡ false = sym c.in-Ok-false.ensures.sent.last ∙ c.in-Ok-false.field-0-test in
     let most = c.reads-most_reads.result + MOST_READS in
-    let falls = subst (λ (o : Option Taken). IfSome o (λ t. is_last (portion_of c.take_portion.new.block.bytes t) ≡ false
+    let falls = subst (λ (o : Option TakenPortion). IfSome o (λ t. is_last (portion_of c.take_portion.new.block.bytes t) ≡ false
     → fuel most c.take_portion.new.input c.take_portion.new.block < fuel most c.portions.input c.portions.block)) is c.in-Ok-Some.ensures.falls in
     let falls = falls last in
     let few = c.serve_portion.ensures.sent.counts.few_answers in
@@ -97,7 +97,7 @@ returns-in-Err-clause-answers g c =
     let behind = source c.take_portion.new.block (g.R.Read.remaining (inner_of c.take_portion.new.input)) in
     let p = portion_of c.take_portion.new.block.bytes c.in-Ok-Some.taken in
     let is : c.in-Ok-Some.field-0 ≡ Some c.in-Ok-Some.taken = c.in-Ok-Some.field-0-is in
-    let took = (subst (λ (o : Option Taken). TakesNext o c.take_portion.new.block.bytes before behind) is c.in-Ok-Some.ensures.next).portion in
+    let took = (subst (λ (o : Option TakenPortion). TakesNext o c.take_portion.new.block.bytes before behind) is c.in-Ok-Some.ensures.next).portion in
     let contents = g.W.Write.contents in
     stops_into g.A.Handler.rule g.A.Handler.Stands g.A.Handler.Trusts inv.portions p asked c.args.handler.now c.portions.handler c.serve_portion.new.handler
     (contents (inner_of c.args.output.now)) (contents (inner_of c.portions.output)) (contents (inner_of c.serve_portion.new.output)) c.portions.served c.serve_portion.new.served

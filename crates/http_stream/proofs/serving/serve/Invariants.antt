@@ -1,7 +1,7 @@
 use Rattle.std.proofs.Common.{◌≡◌, ◌≤◌, ◌+◌, ◌*◌, List}
 use Rattle.desk_types.specs.Wire.{inner_of, reads_of, failures_of}
-use Rattle.served.specs.Block.{IsBlock, source, fuel}
-use Rattle.served.specs.Counts.{none_served}
+use Rattle.desk_answers.specs.Block.{IsBlock, source, fuel}
+use Rattle.desk_answers.specs.Counts.{none_served}
 use Rattle.desk_types.specs.declared.limits.TheConstants.{BLOCK, MOST_READS}
 use Rattle.http_stream.specs.Cut.{Portion, PortionsGone}
 use Rattle.http_stream.proofs.HandlersOfPortions.{Goes}

@@ -6,7 +6,9 @@ use Rattle.judging.specs.Facts.{IsKnownReel}
 use Rattle.judging.proofs.PicksOfCommands.{picks-known}
 use Rattle.judging.proofs.judging.takes_by.Goals as goal
 
+pub takes_for-requires-clause-known : goal.takes_for-requires-clause-known
+takes_for-requires-clause-known g c = λ H stands.
+    subst (AllByRecursion (λ (p : Pick). IsKnownReel H p.reel)) (sym (c.requires.are H stands)) (picks-known H c.args.command.now (c.is_judged.ensures H stands))
+
 pub returns : goal.returns
-returns g c = λ H stands are.
-    let known = subst (AllByRecursion (λ (p : Pick). IsKnownReel H p.reel)) (sym are) (picks-known H c.args.command.now (c.is_judged.ensures H stands)) in
-    c.in_ok-takes_for.ensures H stands known ∙ ap (map (take_of H c.args.minute)) are
+returns g c = λ H stands. c.in_ok-takes_for.ensures H stands ∙ ap (map (take_of H c.args.minute)) (c.requires.are H stands)

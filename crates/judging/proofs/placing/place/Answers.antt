@@ -1,9 +1,10 @@
 use Rattle.std.proofs.Common.{◌≡◌, Some, refl, sym, ap, ◌∙◌}
 use Rattle.desk_types.specs.declared.answer.Refusal.TheVariants.{ReelShort}
 use Rattle.desk_types.specs.Setup.{slot_on}
+use Rattle.desk_types.specs.Pieces.{bench_of}
 use Rattle.setup_sheets.proofs.SeenNames.{HasSeen-push, was-new}
 use Rattle.judging.specs.declared.placing.Feeder.{Feeder}
-use Rattle.judging.specs.Placing.{bench_of, pick_of}
+use Rattle.judging.specs.Placing.{pick_of}
 use Rattle.judging.proofs.PlacedInTurn.{pick-found, pick-none, not-refused, refused-short}
 use Rattle.judging.proofs.placing.place.Goals as goal
 
@@ -11,7 +12,7 @@ pub returns : goal.returns
 returns g c = λ H before stands feeding seen.
     let d = c.args.designator.now in
     let machine = c.args.machine.now in
-    let bench = bench_of (g.F.Facts.reels_on c.args.facts.now) H machine c.args.board.now in
+    let bench = bench_of H machine c.args.board.now in
     let piece : Feeder = record { slot = c.in-Some.slot; reel = c.in-Some-2.reel } in
     let slot : slot_on H machine d ≡ Some piece.slot = sym (c.slot_for.ensures H stands) ∙ c.in-Some.is in
     let new = was-new c.args.seen.now before.designators d c.in_ok-insert.field-0 seen c.in_ok-insert.ensures.added c.if-not-branch.false in
@@ -27,7 +28,7 @@ pub returns-in_default-2 : goal.returns-in_default-2
 returns-in_default-2 g c = λ H before stands feeding seen.
     let d = c.args.designator.now in
     let machine = c.args.machine.now in
-    let bench = bench_of (g.F.Facts.reels_on c.args.facts.now) H machine c.args.board.now in
+    let bench = bench_of H machine c.args.board.now in
     let slot : slot_on H machine d ≡ Some c.in-Some.slot = sym (c.slot_for.ensures H stands) ∙ c.in-Some.is in
     let new = was-new c.args.seen.now before.designators d c.in_ok-insert.field-0 seen c.in_ok-insert.ensures.added c.if-not-branch.false in
     let front = sym (c.in_ok-reel.ensures.front H before.picks stands feeding) ∙ c.in_default-2.is in

@@ -5,43 +5,46 @@ use Rattle.std.specs.Map.{lookup}
 use Rattle.std.proofs.lemmas.List.{drop_all}
 use Rattle.desk_types.specs.declared.take.Pick.{Pick}
 use Rattle.desk_types.specs.Id.{by_name}
+use Rattle.desk_types.specs.Pieces.{bench_of, install_picks, left_of, live_on}
+use Rattle.desk_types.specs.Refusals.{designators_refusal}
+use Rattle.desk_types.specs.Work.{is_placed_on}
 use Rattle.desk_types.proofs.LoopSteps.{take-next}
 use Rattle.setup_sheets.specs.Names.{HasSeen}
-use Rattle.judging.specs.Placing.{IsFeeding, bench_of, pick_of}
+use Rattle.judging.specs.Placing.{IsFeeding, pick_of}
 use Rattle.judging.proofs.Feeds.{feeds-first}
-use Rattle.judging.proofs.PlacedInTurn.{before_at, refusal_on, picks_on, refusal-next, refusal-here, picks-next, picks-end}
+use Rattle.judging.proofs.PlacedInTurn.{before_at, refusal-next, refusal-here, picks-next, picks-end}
 use Rattle.judging.proofs.placing.place_all.Goals as goal
 
 pub loop-designator-init : goal.loop-designator-init
 loop-designator-init g c = λ H stands.
     let a = c.args in
-    let bench = bench_of (g.F.Facts.reels_on a.facts.now) H a.machine.now a.board.now in
+    let bench = bench_of H a.machine.now a.board.now in
     let none = c.in_ok-picks.ensures.items in
     record {
-      feeds = subst (λ ps. IsFeeding bench.live bench.pieces bench.reels ps c.new-feeds.result) (sym none)
-          (feeds-first bench.live bench.pieces bench.reels c.new-feeds.result (λ slot. c.tells_live.ensures H a.machine.now slot stands)
+      feeds = subst (λ ps. IsFeeding (live_on H a.machine.now) (left_of H) (g.F.Facts.reels_on a.facts.now a.machine.now) ps c.new-feeds.result) (sym none)
+          (feeds-first (live_on H a.machine.now) (left_of H) (g.F.Facts.reels_on a.facts.now a.machine.now) c.new-feeds.result (λ slot. c.tells_live.ensures H a.machine.now slot stands)
           (λ s. ap (lookup (is_at (by_name s))) c.new-feeds.ensures.empty));
       seen = λ x. ap (list_any (is_at (by_name x))) c.new-seen.ensures.empty;
-      refusal = ap (λ ps. refusal_on bench ps [] a.designators.now) none;
-      picks = ap (λ ps. picks_on bench ps a.designators.now) none;
+      refusal = ap (λ ps. designators_refusal bench (is_placed_on H a.board.now) ps [] a.designators.now) none;
+      picks = ap (λ ps. install_picks bench ps a.designators.now) none;
     }
 
 pub returns-in-Err : goal.returns-in-Err
 returns-in-Err g c = λ H stands.
     let a = c.args in
-    let bench = bench_of (g.F.Facts.reels_on a.facts.now) H a.machine.now a.board.now in
+    let bench = bench_of H a.machine.now a.board.now in
     let i = c.loop-designator.designator-index in
     let picks = c.loop-designator.picks.items in
     let inv = c.loop-designator.invariant H stands in
     let here = c.in_ok-piece.ensures H (before_at a.designators.now picks i) stands inv.feeds inv.seen in
     sym inv.refusal
-    ∙ refusal-here bench a.designators.now picks i c.designator-item.result c.in-Err.refusal
+    ∙ refusal-here bench (is_placed_on H a.board.now) a.designators.now picks i c.designator-item.result c.in-Err.refusal
     c.loop-designator-test.true c.designator-item.is (rw c.in-Err.is at here)
 
 pub loop-designator-preserved : goal.loop-designator-preserved
 loop-designator-preserved g c = λ H stands.
     let a = c.args in
-    let bench = bench_of (g.F.Facts.reels_on a.facts.now) H a.machine.now a.board.now in
+    let bench = bench_of H a.machine.now a.board.now in
     let i = c.loop-designator.designator-index in
     let d = c.designator-item.result in
     let picks = c.loop-designator.picks.items in
@@ -52,26 +55,26 @@ loop-designator-preserved g c = λ H stands.
     let none = here.0 in
     let found = here.1 in
     record {
-      feeds = subst (λ ps. IsFeeding bench.live bench.pieces bench.reels ps c.place.new.feeds) (sym pushed) here.2;
+      feeds = subst (λ ps. IsFeeding (live_on H a.machine.now) (left_of H) (g.F.Facts.reels_on a.facts.now a.machine.now) ps c.place.new.feeds) (sym pushed) here.2;
       seen = subst (HasSeen c.place.new.seen) (sym (take-next a.designators.now i d c.loop-designator-test.true c.designator-item.is)) here.3;
-      refusal = ap (λ ps. refusal_on bench ps (take (i + 1) a.designators.now) (drop (i + 1) a.designators.now)) pushed
-          ∙ refusal-next bench a.designators.now picks i d pick c.loop-designator-test.true c.designator-item.is none found
+      refusal = ap (λ ps. designators_refusal bench (is_placed_on H a.board.now) ps (take (i + 1) a.designators.now) (drop (i + 1) a.designators.now)) pushed
+          ∙ refusal-next bench (is_placed_on H a.board.now) a.designators.now picks i d pick c.loop-designator-test.true c.designator-item.is none found
           ∙ inv.refusal;
-      picks = ap (λ ps. picks_on bench ps (drop (i + 1) a.designators.now)) pushed
-          ∙ picks-next bench a.designators.now picks i d pick c.loop-designator-test.true c.designator-item.is found
+      picks = ap (λ ps. install_picks bench ps (drop (i + 1) a.designators.now)) pushed
+          ∙ picks-next bench (is_placed_on H a.board.now) a.designators.now picks i d pick c.loop-designator-test.true c.designator-item.is found
           ∙ inv.picks;
     }
 
 pub returns : goal.returns
 returns g c = λ H stands.
     let a = c.args in
-    let bench = bench_of (g.F.Facts.reels_on a.facts.now) H a.machine.now a.board.now in
+    let bench = bench_of H a.machine.now a.board.now in
     let picks = c.loop-designator.picks.items in
     let inv = c.loop-designator.invariant H stands in
     let none : drop c.loop-designator.designator-index a.designators.now ≡ [] = drop_all c.loop-designator.designator-index a.designators.now (omega arith) in (
-      sym inv.refusal ∙ ap (refusal_on bench picks (take c.loop-designator.designator-index a.designators.now)) none,
+      sym inv.refusal ∙ ap (designators_refusal bench (is_placed_on H a.board.now) picks (take c.loop-designator.designator-index a.designators.now)) none,
       c.new.ensures
           ∙ sym (picks-end bench picks)
-          ∙ ap (picks_on bench picks) (sym none)
+          ∙ ap (install_picks bench picks) (sym none)
           ∙ inv.picks,
     )

@@ -1,8 +1,6 @@
 use Rattle.std.proofs.Common.{◌≡◌, [], take, drop}
 use Rattle.desk_types.specs.History.{History}
-use Rattle.desk_types.specs.Setup.{slot_on}
-use Rattle.desk_types.specs.Tape.{tape_of}
-use Rattle.desk_types.specs.Pieces.{left_of, live_on, install_picks}
+use Rattle.desk_types.specs.Pieces.{bench_of, left_of, live_on, install_picks}
 use Rattle.desk_types.specs.Refusals.{designators_refusal}
 use Rattle.desk_types.specs.Work.{is_placed_on}
 use Rattle.setup_sheets.specs.Names.{HasSeen}
@@ -15,9 +13,9 @@ abbrev pub invariant-loop-designator : goal.invariant-loop-designator
 invariant-loop-designator g l = (H : History) → g.F.Facts.Stands l.facts H → record {
   feeds : IsFeeding (live_on H l.machine) (left_of H) (g.F.Facts.reels_on l.facts l.machine) l.picks.items l.feeds;
   seen : HasSeen l.seen (take l.designator-index l.designators);
-  refusal : designators_refusal (slot_on H l.machine) (tape_of H l.machine) (left_of H) (is_placed_on H l.board) l.machine l.board l.picks.items
+  refusal : designators_refusal (bench_of H l.machine l.board) (is_placed_on H l.board) l.picks.items
       (take l.designator-index l.designators) (drop l.designator-index l.designators)
-      ≡ designators_refusal (slot_on H l.machine) (tape_of H l.machine) (left_of H) (is_placed_on H l.board) l.machine l.board [] [] l.designators;
-  picks : install_picks (slot_on H l.machine) (tape_of H l.machine) (left_of H) l.machine l.board l.picks.items (drop l.designator-index l.designators)
-      ≡ install_picks (slot_on H l.machine) (tape_of H l.machine) (left_of H) l.machine l.board [] l.designators;
+      ≡ designators_refusal (bench_of H l.machine l.board) (is_placed_on H l.board) [] [] l.designators;
+  picks : install_picks (bench_of H l.machine l.board) l.picks.items (drop l.designator-index l.designators)
+      ≡ install_picks (bench_of H l.machine l.board) [] l.designators;
 }

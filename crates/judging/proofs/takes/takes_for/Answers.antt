@@ -6,11 +6,11 @@ use Rattle.judging.specs.Facts.{IsReelOf}
 use Rattle.judging.proofs.takes.takes_for.Goals as goal
 
 pub loop-pick-preserved : goal.loop-pick-preserved
-loop-pick-preserved g c = λ H stands known.
+loop-pick-preserved g c = λ H stands.
     let picks = c.args.picks.now in
     let i = c.loop-pick.pick-index in
     let p = c.pick-item.result in
-    let found = subst (IsReelOf H p.reel) c.in-Some.is (c.reel.ensures H stands) in
+    let found = subst (IsReelOf H p.reel) c.unwrap-found.ensures (c.reel.ensures H stands) in
     c.in_ok-put_take.ensures H found.0
-    ∙ ap (λ ts. ts ++ take_of H c.args.minute p ∷ []) (c.loop-pick.invariant H stands known)
+    ∙ ap (λ ts. ts ++ take_of H c.args.minute p ∷ []) (c.loop-pick.invariant H stands)
     ∙ sym (ap (map (take_of H c.args.minute)) (take-next picks i p c.loop-pick-test.true c.pick-item.is) ∙ map-append (take_of H c.args.minute) (take i picks) (p ∷ []))

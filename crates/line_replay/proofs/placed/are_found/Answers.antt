@@ -1,8 +1,8 @@
 use Rattle.std.proofs.Common.{◌≡◌, inl, inr, map, length, rules}
 use Rattle.sqlite.specs.Effect.{Database}
 use Rattle.sqlite.specs.Held.{state}
-use Rattle.line_audit.specs.Audit.{ArePlaced, piece_of}
-use Rattle.line_audit.specs.Placed.{HasMoreBefore}
+use Rattle.line_replay.specs.Audit.{ArePlaced, piece_of}
+use Rattle.line_replay.specs.Placed.{HasMoreBefore}
 use Rattle.line_replay.specs.Expected.{ArePlacedToo}
 use Rattle.line_replay.proofs.ExpectedRows.{too_false, too_none, too_found}
 use Rattle.line_replay.proofs.ReadOfCommitted.{reads_as}

@@ -2,7 +2,7 @@ use Rattle.std.proofs.Common.{◌∙◌, sym, ap, subst, length}
 use Rattle.desk_types.specs.History.{History}
 use Rattle.line_replay.proofs.Committed.{same_list}
 use Rattle.line_replay.specs.Expected.{AreKept}
-use Rattle.trace_lists.specs.Lists.{IsListed}
+use Rattle.state_rows.specs.Lists.{IsListed}
 use Rattle.line_replay.proofs.replaying.rebuild.Goals as goal
 
 pub returns-in-Ok-clause-same : goal.returns-in-Ok-clause-same

@@ -4,7 +4,7 @@ use Rattle.sqlite.specs.Held.{state}
 use Rattle.desk_types.specs.Id.{Name}
 use Rattle.line_tables.specs.Calls.{Reads, is_before}
 use Rattle.line_tables.specs.Rows.{accepted_in}
-use Rattle.line_rows.specs.Rows.{entry_row}
+use Rattle.line_replay.specs.Rows.{entry_row}
 use Rattle.line_replay.proofs.ReadOfCommitted.{reads_as}
 use Rattle.line_replay.proofs.taking.accept_first.Goals as goal
 

@@ -2,7 +2,7 @@ use Rattle.std.proofs.Common.{◌∙◌, ◌++◌, ℕ, ◌+◌, [], ◌∷◌, 
 use Rattle.std.specs.List.{range_with_len}
 use Rattle.std.proofs.lemmas.List.{map-append}
 use Rattle.std.proofs.lemmas.List.FromFn.{map-range_with_len_more}
-use Rattle.trace_lists.specs.Lists.{Key, key_of}
+use Rattle.state_rows.specs.Lists.{Key, key_of}
 use Rattle.line_traces.proofs.by_lists.add_keys.Goals as goal
 
 pub loop-before-preserved : goal.loop-before-preserved

@@ -1,6 +1,6 @@
 use Rattle.std.proofs.Common.{◌≡◌, ◌++◌, map}
 use Rattle.std.specs.List.{range_with_len}
-use Rattle.trace_lists.specs.Lists.{key_of}
+use Rattle.state_rows.specs.Lists.{key_of}
 use Rattle.line_traces.proofs.by_lists.add_keys.Given as goal
 
 abbrev pub invariant-loop-before : goal.invariant-loop-before

@@ -3,7 +3,7 @@ use Rattle.sqlite.specs.Held.{state}
 use Rattle.desk_types.specs.declared.placement.Placement.{Placement}
 use Rattle.desk_types.specs.Id.{same}
 use Rattle.desk_types.specs.Placements.{boards_of, set_of}
-use Rattle.trace_lists.specs.Lists.{key_of}
+use Rattle.state_rows.specs.Lists.{key_of}
 use Rattle.line_traces.specs.Working.{FindsOfBoth}
 use Rattle.line_traces.proofs.LookedPieces.{listed-told, boards-told}
 use Rattle.line_traces.proofs.by_lists.boards_of_lot.Goals as goal

@@ -1,5 +1,5 @@
 use Rattle.std.proofs.Common.{◌≡◌, map, take}
-use Rattle.trace_lists.specs.Lists.{key_of, keys_of_installs}
+use Rattle.state_rows.specs.Lists.{key_of, keys_of_installs}
 use Rattle.line_traces.proofs.by_lists.keys_of.Given as goal
 
 abbrev pub invariant-loop-install : goal.invariant-loop-install

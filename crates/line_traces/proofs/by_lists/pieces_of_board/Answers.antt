@@ -1,7 +1,7 @@
 use Rattle.std.proofs.Common.{◌∙◌, map, sym, ap, subst, option_copied}
 use Rattle.sqlite.specs.Held.{state}
 use Rattle.desk_types.specs.Id.{same}
-use Rattle.trace_lists.specs.Lists.{key_of}
+use Rattle.state_rows.specs.Lists.{key_of}
 use Rattle.line_traces.specs.Pieces.{pieces_on}
 use Rattle.line_traces.specs.Working.{FindsOfBoth}
 use Rattle.line_traces.proofs.LookedPieces.{listed-told}

@@ -1,7 +1,7 @@
 use Rattle.std.proofs.Common.{map, sym, ap, subst, option_copied}
 use Rattle.sqlite.specs.Held.{state}
 use Rattle.desk_types.specs.Placements.{overdue_of}
-use Rattle.trace_lists.specs.Lists.{key_of}
+use Rattle.state_rows.specs.Lists.{key_of}
 use Rattle.line_traces.specs.Working.{FindsOfBoth}
 use Rattle.line_traces.proofs.LookedPieces.{listed-told}
 use Rattle.line_traces.proofs.by_lists.pieces_overdue.Goals as goal

@@ -3,8 +3,8 @@ use Rattle.std.proofs.lemmas.List.{take_all, get_or_default}
 use Rattle.sqlite_rules.specs.Lists.{Has}
 use Rattle.line_tables.specs.Line as line
 use Rattle.line_tables.specs.StateRows.{rows_in}
-use Rattle.trace_lists.specs.declared.lists.PieceKey.{PieceKey}
-use Rattle.trace_lists.specs.Lists.{key_of}
+use Rattle.state_rows.specs.declared.lists.PieceKey.{PieceKey}
+use Rattle.state_rows.specs.Lists.{key_of}
 use Rattle.line_traces.specs.Pieces.{piece_at}
 use Rattle.line_traces.specs.Working.{AddsPieces}
 use Rattle.line_traces.proofs.LookedPieces.{all-got, one-added}

@@ -3,7 +3,7 @@ use Rattle.sqlite.specs.Effect.{Database}
 use Rattle.desk_types.specs.History.{History}
 use Rattle.line_tables.specs.Line as line
 use Rattle.line_tables.specs.Shown.{AreOf}
-use Rattle.trace_lists.specs.Lists.{key_of}
+use Rattle.state_rows.specs.Lists.{key_of}
 use Rattle.line_traces.specs.Working.{HoldsBoth, AddsPieces}
 use Rattle.line_traces.proofs.looked.add_rows.Given as goal
 

@@ -2,7 +2,7 @@ use Rattle.std.proofs.Common.{◌≡◌, ◌∙◌, Some, sym, ap, ap₂, subst,
 use Rattle.sqlite_rules.specs.Lists.{Has}
 use Rattle.line_tables.specs.Line as line
 use Rattle.line_tables.specs.StateRows.{rows_in}
-use Rattle.trace_lists.specs.Lists.{Key, key_of, minute_of}
+use Rattle.state_rows.specs.Lists.{Key, key_of, minute_of}
 use Rattle.line_traces.specs.Pieces.{piece_at}
 use Rattle.line_traces.proofs.LookedRows.{piece_with, row-tells}
 use Rattle.line_traces.proofs.looked.piece_of.Goals as goal

@@ -4,7 +4,7 @@ use Rattle.sqlite.specs.Held.{state}
 use Rattle.desk_types.specs.History.{History}
 use Rattle.line_tables.specs.Line.{IsOurs}
 use Rattle.line_tables.specs.Frames.{ReadsOnly}
-use Rattle.trace_lists.specs.Lists.{key_of}
+use Rattle.state_rows.specs.Lists.{key_of}
 use Rattle.line_traces.specs.Pieces.{piece_at}
 use Rattle.line_traces.specs.Working.{HoldsBoth}
 use Rattle.line_traces.proofs.looked.pieces_at.Given as goal

@@ -7,7 +7,7 @@ use Rattle.line_traces.specs.Pieces as traced
 use Rattle.desk_types.specs.declared.placement.Placement.{Placement}
 use Rattle.desk_types.specs.declared.trace_detail.TraceDetail.{TraceDetail}
 use Rattle.desk_types.specs.declared.trace_detail.TraceDetail.TheVariants.{One, Two, Three}
-use Rattle.report_texts.specs.Traces.{project, board_columns, lot_columns, board_header, lot_header, board_text, lot_text, board_rows, lot_rows, pieces_on, pieces_of_lot}
+use Rattle.trace_reports.specs.Traces.{project, board_columns, lot_columns, board_header, lot_header, board_text, lot_text, board_rows, lot_rows, pieces_on, pieces_of_lot}
 use Rattle.trace_reports.specs.Reports.{board_trace, lot_trace, rows_below}
 use Rattle.trace_reports.proofs.ReportedPieces.{found-rows}
 use Rattle.trace_reports.proofs.laws.reports_are_converse.Goals as goal

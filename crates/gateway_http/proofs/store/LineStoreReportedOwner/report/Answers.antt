@@ -1,7 +1,7 @@
 use Rattle.std.proofs.Common.{refl, ap, sym, subst, true, Some}
 use Rattle.desk_answers.specs.Ledger.{Ledger}
 use Rattle.line_schema.specs.Stands.{Kept}
-use Rattle.report_texts.specs.declared.kind.Kind.TheVariants.{Board, Lot, Reel, Machine, Sheet}
+use Rattle.trace_reports.specs.declared.kind.Kind.TheVariants.{Board, Lot, Reel, Machine, Sheet}
 use Rattle.trace_reports.specs.Reports.{AnswersAlways, overdue_list}
 use Rattle.gateway_http.proofs.store.LineStoreReportedOwner.report.Goals as goal
 

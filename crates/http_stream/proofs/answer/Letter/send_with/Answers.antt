@@ -1,6 +1,6 @@
 use Rattle.std.proofs.Common.{take}
 use Rattle.std.proofs.lemmas.Result.{on_err_weaker}
-use Rattle.served.proofs.SentFronts.{front_after}
+use Rattle.desk_answers.proofs.SentFronts.{front_after}
 use Rattle.http_stream.proofs.answer.Letter.send_with.Goals as goal
 
 pub returns-clause-front : goal.returns-clause-front

@@ -1,33 +1,31 @@
-use Rattle.std.proofs.Common.{◌≡◌, refl, sym, subst, true}
-use Rattle.desk_answers.specs.Ledger.{IsAnswer, Ledger, ledger_after}
+use Rattle.std.proofs.Common.{◌≡◌, true, refl, sym, ap, subst}
+use Rattle.desk_types.specs.declared.command.Stamped.{Stamped}
+use Rattle.desk_types.specs.declared.rules.Rules.{Rules}
+use Rattle.desk_types.specs.declared.rules.Rules.TheVariants.{Two}
 use Rattle.desk_answers.specs.declared.answer.Answer.{Answer}
 use Rattle.desk_answers.specs.declared.answer.Answer.TheVariants.{Accepted, Refused, IdReused, DeskFull, Unavailable}
-use Rattle.desk_types.specs.declared.command.Stamped.{Stamped}
-use Rattle.desk_types.specs.declared.rules.Rules.TheVariants.{Two}
-use Rattle.line_schema.specs.Stands.{Stands}
+use Rattle.desk_answers.specs.Ledger.{Ledger, IsAnswer, ledger_after}
+use Rattle.line_schema.specs.Stands.{Kept, Stands as StandsFor, kept_after, ledger}
 use Rattle.line_schema.proofs.owner.LineStoreOwner.command.Goals as goal
 
--- What holds of the ledger with rules Two holds of this one.
-by_two : (P : Ledger → Type 0) (G : Ledger) → G.rules ≡ Two → P (record { rules = Two; greatest = G.greatest; history = G.history }) → P G
-by_two P G is holds = subst (λ r. P (record { rules = r; greatest = G.greatest; history = G.history })) (sym is) holds
+-- The history is represented by rules Two, and only it changes.
+after : (P : Kept → Type 0) (K : Kept) (s : Stamped) (a : Answer) → P (kept_after K s a) → ((ledger_after (ledger K) s a).rules ≡ Two) × P (record { greatest = (ledger_after (ledger K) s a).greatest; history = (ledger_after (ledger K) s a).history; own = K.own })
+after P K s (Accepted n text) h = (refl, h)
+after P K s (Refused r) h = (refl, h)
+after P K s (IdReused n) h = (refl, h)
+after P K s DeskFull h = (refl, h)
+after P K s Unavailable h = (refl, h)
 
-only_history : (G : Ledger) (s : Stamped) (answer : Answer) → ((ledger_after G s answer).rules ≡ G.rules) × ((ledger_after G s answer).greatest ≡ G.greatest)
-only_history G s (Accepted n text) = (refl, refl)
-only_history G s (Refused refusal) = (refl, refl)
-only_history G s (IdReused n) = (refl, refl)
-only_history G s DeskFull = (refl, refl)
-only_history G s Unavailable = (refl, refl)
+by_two : (L : Ledger) → L.rules ≡ Two → ledger (record { greatest = L.greatest; history = L.history; own = true }) ≡ L
+by_two L two = ap (λ (rules : Rules). let G : Ledger = record { rules = rules; greatest = L.greatest; history = L.history } in G) (sym two)
 
 pub returns-clause-answer : goal.returns-clause-answer
-returns-clause-answer g c G stands trusts =
-    by_two (λ L. IsAnswer L c.args.stamped.now c.command.result) G stands.0 (c.command.ensures.answers (record { greatest = G.greatest; history = G.history; own = true }) stands.1 trusts refl).is
+returns-clause-answer g c L stands clean = subst (λ (G : Ledger). IsAnswer G c.args.stamped.now c.command.result) (by_two L stands.0) (c.command.ensures.answers _ stands.1 clean refl).is
 
 pub returns-clause-stands : goal.returns-clause-stands
-returns-clause-stands g c G stands trusts =
+returns-clause-stands g c L stands clean =
     let s = c.args.stamped.now in
-    let r = c.command.result in
-    let two : Ledger = record { rules = Two; greatest = G.greatest; history = G.history } in
-    let next = (c.command.ensures.answers (record { greatest = G.greatest; history = G.history; own = true }) stands.1 trusts refl).stands in
-    let Next : Ledger → Type 0 = λ L. (L.rules ≡ Two) × Stands g.S.Store g.D.Desk.Stands g.D.Desk.kept_rules c.command.new.self (record { greatest = L.greatest; history = L.history; own = true }) in
-    by_two (λ L. Next (ledger_after L s r)) G stands.0
-    ((only_history two s r).0, subst (λ n. Stands g.S.Store g.D.Desk.Stands g.D.Desk.kept_rules c.command.new.self (record { greatest = n; history = (ledger_after two s r).history; own = true })) (sym (only_history two s r).1) next)
+    let a = c.command.result in
+    let Stands = StandsFor g.S.Store g.D.Desk.Stands g.D.Desk.kept_rules c.command.new.self in
+    subst (λ (G : Ledger). ((ledger_after G s a).rules ≡ Two) × Stands (record { greatest = (ledger_after G s a).greatest; history = (ledger_after G s a).history; own = true })) (by_two L stands.0)
+    (after Stands (record { greatest = L.greatest; history = L.history; own = true }) s a (c.command.ensures.answers _ stands.1 clean refl).stands)

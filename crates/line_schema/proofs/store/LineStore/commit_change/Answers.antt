@@ -1,5 +1,6 @@
-use Rattle.std.proofs.Common.{◌+◌, IfSome, sym, subst, ap, refl, rules, arith}
+use Rattle.std.proofs.Common.{◌≡◌, ◌∙◌, ◌+◌, sym, ap, refl, rules, arith}
 use Rattle.std.specs.Prelude.{⊤}
+use Rattle.std.proofs.lemmas.Option.{same_Some}
 use Rattle.std.proofs.lemmas.Result.{err_from_is_err_and}
 use Rattle.sqlite.specs.State.{HasCleanDisk}
 use Rattle.sqlite.specs.Held.{state}
@@ -8,10 +9,8 @@ use Rattle.desk_types.specs.Number.{IsMinute}
 use Rattle.line_tables.specs.Edit.{command_edits}
 use Rattle.line_tables.proofs.Keeps.{keeps_same}
 use Rattle.line_tables.proofs.Leaves.{others_kept}
-use Rattle.line_replay.specs.Expected.{AreKept}
-use Rattle.line_schema.specs.Settling.{CanSettle}
 use Rattle.line_schema.specs.Stands.{WorksFor}
-use Rattle.line_schema.proofs.StandsAfter.{desk_still, fails, judged_for, keeps_all, left_on, not_committed, stands_on, still_there, survives_on, works_for, works_still}
+use Rattle.line_schema.proofs.StandsAfter.{fails, judged_for, left_on, not_committed, stands_on, survives_on, works_for}
 use Rattle.line_schema.proofs.DeskRows.{lead_of, rows_settled}
 use Rattle.line_schema.proofs.Others.{file_edited, survives_still}
 use Rattle.line_schema.proofs.store.LineStore.commit_change.Goals as goal
@@ -19,17 +18,17 @@ use Rattle.line_schema.proofs.store.LineStore.commit_change.Goals as goal
 pub returns-in_err-text-clause-answers : goal.returns-in_err-text-clause-answers
 returns-in_err-text-clause-answers g c L stands =
     let told = err_from_is_err_and c.from_residual.result c.from_residual.ensures.1 in
-    fails g.S.Store g.D.Desk.Stands g.D.Desk.kept_rules g.D.KeepsRows.kept_rows c.args.self.now _ L _ _ _ _ told.1 (keeps_all c.args.self.now.working) refl refl stands.mode (survives_still {P = λ _. ⊤} _) (λ _. keeps_same _) stands
+    fails g.S.Store g.D.Desk.Stands g.D.Desk.kept_rules g.D.KeepsRows.kept_rows c.args.self.now _ c.in-Some.working c.in-Some.working.lists L _ _ _ _ told.1 c.in-Some.is c.in-Some.is (λ H listed. listed) refl refl stands.mode (survives_still {P = λ _. ⊤} _) (λ _. keeps_same _) stands
 
 pub returns-in_err-reserve-clause-answers : goal.returns-in_err-reserve-clause-answers
 returns-in_err-reserve-clause-answers g c L stands =
     let told = err_from_is_err_and c.from_residual-in_err-reserve.result c.from_residual-in_err-reserve.ensures.1 in
-    fails g.S.Store g.D.Desk.Stands g.D.Desk.kept_rules g.D.KeepsRows.kept_rows c.args.self.now _ L _ _ _ _ told.1 c.reserve.ensures refl refl stands.mode (survives_still {P = λ _. ⊤} _) (λ _. keeps_same _) stands
+    fails g.S.Store g.D.Desk.Stands g.D.Desk.kept_rules g.D.KeepsRows.kept_rows c.args.self.now _ _ c.reserve.new.self L _ _ _ _ told.1 c.in-Some-working.is refl c.reserve.ensures.same refl refl stands.mode (survives_still {P = λ _. ⊤} _) (λ _. keeps_same _) stands
 
 pub returns-in_err-append-clause-answers : goal.returns-in_err-append-clause-answers
 returns-in_err-append-clause-answers g c L stands =
     let told = err_from_is_err_and c.from_residual-in_err-append.result c.from_residual-in_err-append.ensures.1 in
-    fails g.S.Store g.D.Desk.Stands g.D.Desk.kept_rules g.D.KeepsRows.kept_rows c.args.self.now _ L _ _ _ _ told.1 c.reserve.ensures refl refl (c.append.ensures.inside.mode stands.mode) c.append.ensures.crash c.in_err-append.ensures.neither stands
+    fails g.S.Store g.D.Desk.Stands g.D.Desk.kept_rules g.D.KeepsRows.kept_rows c.args.self.now _ _ c.reserve.new.self L _ _ _ _ told.1 c.in-Some-working.is refl c.reserve.ensures.same refl refl (c.append.ensures.inside.mode stands.mode) c.append.ensures.crash c.in_err-append.ensures.neither stands
 
 pub returns-in_err-append-clause-commits : goal.returns-in_err-append-clause-commits
 returns-in_err-append-clause-commits g c L stands =
@@ -50,14 +49,15 @@ pub settle-requires : goal.settle-requires
 settle-requires g c =
     let L = c.requires.stands.0 in
     let stands = c.requires.stands.1 in
-    let F = g.D.Desk.Stands in
-    let works = works_for F g.D.Desk.kept_rules c.args.self.now.working c.in-Some.working L.history c.in-Some.is stands.working in
-    let can = subst (λ o. IfSome o (λ w. CanSettle F g.D.Desk.kept_rules c.args.change c.as_slice-2.result.now w.desk)) (sym c.in-Some.is) (record {
-      room = (L.history, works.0.stands, omega (arith, stands.count, stands.greatest, stands.bound, c.requires.room));
-      judged = rw c.in-Some.is at c.requires.judged;
-      lead = rw (sym c.as_slice-2.ensures) at c.in_ok-text.ensures.lead;
-    }) in
-    record { ready = desk_still (CanSettle F g.D.Desk.kept_rules c.args.change c.as_slice-2.result.now) c.args.self.now.working c.reserve.new.working c.reserve.ensures can }
+    let works = works_for g.D.Desk.Stands g.D.Desk.kept_rules c.args.self.now.working _ L.history c.in-Some-working.is stands.working in
+    let same = same_Some _ _ (sym c.in-Some.is ∙ c.in-Some-working.is) in
+    record {
+      ready = record {
+        room = (L.history, works.0.stands, omega (arith, stands.count, stands.greatest, stands.bound, c.requires.room));
+        judged = rw c.in-Some-working.is at c.requires.judged;
+        lead = rw (sym c.as_slice-2.ensures) at (rw same at c.in_ok-text.ensures.lead);
+      };
+    }
 
 pub returns-clause-answers : goal.returns-clause-answers
 returns-clause-answers g c L stands =
@@ -71,8 +71,7 @@ returns-clause-answers g c L stands =
     record {
       answer = search rules;
       err = tt;
-      rows = λ was. rows_settled g.D.KeepsRows.kept_rows edits c.reserve.new.working _ L.history (accept L.history change.stamped) (rw c.as_slice-2.ensures at c.settle.ensures.rows) (still_there old.working c.reserve.new.working c.in-Some.working c.in-Some.is c.reserve.ensures)
-          (lead_of L.greatest L.history (accept L.history change.stamped) c.in_ok-text.field-0.row edits after) (desk_still (λ d. AreKept (g.D.KeepsRows.kept_rows d) L.history) old.working c.reserve.new.working c.reserve.ensures was);
+      rows = rows_settled g.D.KeepsRows.kept_rows edits old.working _ _ L.history (accept L.history change.stamped) c.in-Some-working.is (rw c.as_slice-2.ensures at c.settle.ensures.rows) (lead_of L.greatest L.history (accept L.history change.stamped) c.in_ok-text.field-0.row edits after);
       rows_stay = λ was. tt;
     }
 
@@ -86,8 +85,9 @@ returns-clause-commits g c L stands =
     let after = c.in_ok-text.ensures.edits L.greatest L.history by.0.stands is next in
     let fresh = c.in_ok-text.ensures.new L.greatest L.history by.0.stands next in
     let minute : IsMinute change.minute = search rules in
+    let held = works_for g.D.Desk.Stands g.D.Desk.kept_rules old.working _ L.history c.in-Some-working.is stands.working in
     let works : WorksFor g.D.Desk.Stands g.D.Desk.kept_rules c.settle.new.working (accept L.history change.stamped) =
-    c.settle.ensures.works L.history (works_still g.D.Desk.Stands g.D.Desk.kept_rules old.working c.reserve.new.working L.history c.reserve.ensures stands.working) next in
+    c.settle.ensures.works L.history (record { stands = held.0.stands; listed = c.reserve.ensures.same L.history held.0.listed }, held.1) next in
     record {
       ok = stands_on g.S.Store g.D.Desk.Stands g.D.Desk.kept_rules old _ L change (command_edits c.in_ok-text.field-0.row c.in_ok-text.field-0.edits) stands c.requires.room is c.ranges_hold.ensures minute refl refl (search rules) works after fresh
           c.append.ensures.crash (λ clean. (rw c.as_slice.ensures at (c.in_ok-append.ensures.done clean)).tables) (λ clean. (c.in_ok-append.ensures.stays_open clean).0);

@@ -6,7 +6,7 @@ use Rattle.desk_laws.proofs.JudgedLists.{consistent}
 use Rattle.line_tables.specs.Line.{is_ours}
 use Rattle.line_tables.specs.Rows.{Holds}
 use Rattle.line_tables.proofs.Ours.{ours_is}
-use Rattle.line_rows.specs.Rows.{ledger_tables}
+use Rattle.line_replay.specs.Rows.{ledger_tables}
 use Rattle.line_schema.specs.Stands.{Kept}
 use Rattle.line_schema.proofs.ReadOfCommitted.{opened_lawful, opened_holds}
 use Rattle.line_schema.proofs.StandsAfter.{still_open}

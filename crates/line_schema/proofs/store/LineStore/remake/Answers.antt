@@ -2,7 +2,7 @@ use Rattle.std.proofs.Common.{IsTrue, refl, sym, subst, arith}
 use Rattle.sqlite.specs.State.{HasCleanDisk}
 use Rattle.sqlite.specs.Held.{state}
 use Rattle.line_tables.specs.Rows.{Holds}
-use Rattle.line_rows.specs.Rows.{ledger_tables}
+use Rattle.line_replay.specs.Rows.{ledger_tables}
 use Rattle.line_schema.proofs.StandsAfter.{remade, stays, read_on}
 use Rattle.line_schema.proofs.Others.{file_read}
 use Rattle.line_schema.proofs.store.LineStore.remake.Goals as goal

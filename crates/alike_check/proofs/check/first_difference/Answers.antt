@@ -1,6 +1,0 @@
-use Rattle.std.proofs.lemmas.Option.{IfSome_then}
-use Rattle.alike_check.proofs.Refuted.{refuted}
-use Rattle.alike_check.proofs.check.first_difference.Goals as goal
-
-pub returns-clause-refutes : goal.returns-clause-refutes
-returns-clause-refutes c = λ H H' of_old of_new. IfSome_then c.find.result (c.find.ensures.differs H H' of_old of_new) (λ d is. refuted H H' d is)

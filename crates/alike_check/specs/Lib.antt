@@ -1,3 +1,0 @@
-pub mod Difference
-pub mod Tables
-pub mod Views

@@ -1,0 +1,23 @@
+use Rattle.std.proofs.Common.{sym, ◌∙◌}
+use Rattle.desk_types.specs.Pieces.{live_on}
+use Rattle.feeder_state.proofs.AcceptedChanges.{state-two}
+use Rattle.chain_check.proofs.SameSlots.{either-list}
+use Rattle.chain_check.proofs.check.slot_difference.Goals as goal
+
+pub returns-in-Some-clause-differs : goal.returns-in-Some-clause-differs
+returns-in-Some-clause-differs c = λ H H' of_old of_new same.
+    let m = c.in-Some.key.0 in
+    let s = c.in-Some.key.1 in
+    c.in-Some.ensures.differs (of_old.floor.tapes m s ∙ same ∙ sym (of_new.floor.tapes m s))
+
+pub returns-in-Some-slot_in-clause-differs : goal.returns-in-Some-slot_in-clause-differs
+returns-in-Some-slot_in-clause-differs c = λ H H' of_old of_new same.
+    let m = c.in-Some-slot_in.key.0 in
+    let s = c.in-Some-slot_in.key.1 in
+    c.in-Some-slot_in.ensures.differs (of_old.floor.tapes m s ∙ same ∙ sym (of_new.floor.tapes m s))
+
+pub returns-clause-same : goal.returns-clause-same
+returns-clause-same c = λ H H' of_old of_new m s.
+    either-list (live_on H m s) (live_on H' m s)
+    (λ some. sym (of_old.floor.tapes m s) ∙ c.in_default.ensures.same H (state-two H c.args.old.now of_old) (c.rows.ensures.same H of_old) of_old.floor.tapes m s some ∙ of_new.floor.tapes m s)
+    (λ some. sym (of_old.floor.tapes m s) ∙ c.in_default-slot_in.ensures.same H' (state-two H' c.args.new.now of_new) (c.rows-2.ensures.same H' of_new) of_new.floor.tapes m s some ∙ of_new.floor.tapes m s)

@@ -1,0 +1,13 @@
+use Rattle.desk_types.specs.Setup.{sheet_of}
+use Rattle.chain_check.proofs.SameRows.{either-some, none-then}
+use Rattle.chain_check.proofs.sheets.first_sheet.Goals as goal
+
+pub returns : goal.returns
+returns g c = record {
+  same = λ H H' is is' of_old of_new product machine.
+      none-then c.sheet_in-2.result
+      (λ new. either-some (sheet_of H product machine) (sheet_of H' product machine)
+      (c.in_default.ensures.same H H H' (c.is_judged.ensures H of_old) is of_old of_new product machine) new)
+      (c.sheet_in-2.ensures.same H' H H' (c.is_judged-2.ensures H' of_new) is' of_old of_new product machine);
+  differs = c.sheet_in-2.ensures.differs;
+}

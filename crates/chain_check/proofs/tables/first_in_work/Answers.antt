@@ -1,0 +1,31 @@
+use Rattle.std.proofs.Common.{rules, sym, ap, subst, ◌≡◌, ◌∙◌, is_some, true, false, Option, Some, None, refl}
+use Rattle.std.specs.List.{AllByRecursion}
+use Rattle.std.specs.Option.{option_and_then}
+use Rattle.std.proofs.lemmas.Map.Lookups.{exact_bytes}
+use Rattle.desk_types.specs.declared.row.BoardRow.{BoardRow}
+use Rattle.desk_types.specs.Id.{Name, by_name}
+use Rattle.state_rows.specs.Kept.{tables_in, Lists}
+use Rattle.chain_check.proofs.Covered.{covered-rows}
+use Rattle.chain_check.proofs.SameRows.{IsOffWork}
+use Rattle.chain_check.proofs.tables.first_in_work.Goals as goal
+
+pub loop-board-preserved : goal.loop-board-preserved
+loop-board-preserved c = λ rest.
+    let rows = c.args.rows.now in
+    let off : IsOffWork rows c.in-Some.board.now = sym c.is_in_work.ensures ∙ c.if-is_in_work.false in
+    c.loop-board.invariant (subst (AllByRecursion (λ (e : Name × BoardRow). IsOffWork rows e.0)) (sym c.in-Some.ensures.steps) (off, rest))
+
+-- A board without a row is not in work.
+unlisted : (row : Option BoardRow) → (is_some row ≡ true → is_some (option_and_then (λ (r : BoardRow). r.machine) row) ≡ false)
+    → is_some (option_and_then (λ (r : BoardRow). r.machine) row) ≡ false
+unlisted None off = refl
+unlisted (Some row) off = off refl
+
+pub returns : goal.returns
+returns c =
+    let rows = c.args.rows.now in
+    let es = c.into_iter-board-iterator.result in
+    let table = (tables_in rows).boards in
+    let lists : Lists by_name es table = subst (λ xs. Lists by_name xs table) (search rules) c.boards-board-items.ensures in
+    let all = c.loop-board.invariant (subst (AllByRecursion (λ (e : Name × BoardRow). IsOffWork rows e.0)) (sym c.in-None.ensures.steps.0) tt) in
+    record { none = λ board. unlisted (table board) (λ has. covered-rows by_name exact_bytes (λ (k : Name). IsOffWork rows k) es board all (ap is_some (lists.rows board) ∙ has)); some = tt }

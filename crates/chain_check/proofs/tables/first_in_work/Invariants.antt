@@ -1,0 +1,11 @@
+use Rattle.std.specs.List.{AllByRecursion}
+use Rattle.desk_types.specs.Id.{Name}
+use Rattle.desk_types.specs.declared.row.BoardRow.{BoardRow}
+use Rattle.chain_check.proofs.SameRows.{IsOffWork}
+use Rattle.chain_check.proofs.tables.first_in_work.Given as goal
+
+-- What holds of the keys that are left holds of all.
+abbrev pub invariant-loop-board : goal.invariant-loop-board
+invariant-loop-board l =
+    AllByRecursion (λ (e : Name × BoardRow). IsOffWork l.rows e.0) l.board-iterator
+    → AllByRecursion (λ (e : Name × BoardRow). IsOffWork l.rows e.0) l.initial.board-iterator

@@ -1,0 +1,14 @@
+use Rattle.std.proofs.Common.{◌∙◌, sym, ap}
+use Rattle.std.proofs.lemmas.Result.{IfOk-weaker}
+use Rattle.chain_check.specs.declared.question.Subject.{Subject}
+use Rattle.chain_check.specs.Rows.{pieces_of}
+use Rattle.chain_files.proofs.AskedPieces.{board-pieces, lot-pieces}
+use Rattle.chain_files.proofs.looking.of_subject.Goals as goal
+
+pub returns-in-Lot-clause-pieces : goal.returns-in-Lot-clause-pieces
+returns-in-Lot-clause-pieces g c L stands clean own =
+    IfOk-weaker c.of_lot.result _ _ (λ pieces is. is ∙ lot-pieces L.history _ stands.judged ∙ ap (λ (s : Subject). pieces_of s L.history) (sym c.in-Lot.is)) (c.of_lot.ensures.pieces L stands clean own)
+
+pub returns-in-Board-clause-pieces : goal.returns-in-Board-clause-pieces
+returns-in-Board-clause-pieces g c L stands clean own =
+    IfOk-weaker c.on_board.result _ _ (λ pieces is. is ∙ board-pieces L.history _ stands.judged ∙ ap (λ (s : Subject). pieces_of s L.history) (sym c.in-Board.is)) (c.on_board.ensures.pieces L stands clean own)

@@ -1,0 +1,23 @@
+use Rattle.std.proofs.Common.{◌≡◌, List, length}
+use Rattle.std.specs.Prelude.{flat_map}
+use Rattle.std.specs.List.{list_any}
+use Rattle.std.specs.Io.KnownBytes.{Appends}
+use Rattle.desk_types.specs.Wire.{inner_of, failures_of}
+use Rattle.gateway_http.specs.Requests.{request_rule}
+use Rattle.desk_commands.specs.Clients.{Exchange, Sees, ends_of, events_in}
+use Rattle.desk_commands.specs.Connections.{is_faulty, lines_from}
+use Rattle.desk_commands.proofs.ListsAfter.{Serves}
+use Rattle.desk_commands.proofs.serving.serve_listener.Given as goal
+
+abbrev pub invariant-loop-k : goal.invariant-loop-k
+invariant-loop-k g l = record {
+  exchanges : List Exchange;
+  count : length (ends_of exchanges) ≡ l.k;
+  lines : Appends (g.W.Write.contents (inner_of l.fn.output)) (g.W.Write.contents (inner_of l.output)) (lines_from 1 (ends_of exchanges));
+  failures : failures_of l.output ≡ failures_of l.fn.output;
+  faulty : l.faulty ≡ list_any is_faulty (ends_of exchanges);
+  ready : g.L.Owner.Ready l.owner;
+  trusts : g.L.Owner.Trusts l.owner → g.L.Owner.Trusts l.fn.owner;
+  seen : Sees g.C.Clients.Saw l.fn.clients l.clients (flat_map events_in exchanges);
+  served : Serves (request_rule g.L.ReportedOwner.reports) g.L.Owner.Stands g.L.Owner.Trusts l.fn.owner exchanges l.owner;
+}

@@ -1,0 +1,16 @@
+use Rattle.desk_types.proofs.BothRules.{judged-by-two}
+use Rattle.desk_laws.specs.Past.{is_started, is_spent}
+use Rattle.desk_laws.proofs.AfterCommands.{judged-run, many-commands}
+use Rattle.desk_laws.proofs.FromAlike.{agree-from, alike-from}
+use Rattle.desk_laws.proofs.law.alike_desks_answer_alike.Goals as goal
+
+pub returns-clause-replies : goal.returns-clause-replies
+returns-clause-replies c = λ rules H H' commands of_old of_new alike ranges new.
+    (many-commands (is_started H) (is_spent H) rules commands H H' ranges (λ k d lt. let it = new k d lt in record { boards = it.boards; reels = it.reels }) of_old of_new
+    (agree-from H H' (judged-by-two rules H of_old) (judged-by-two rules H' of_new) alike)).0
+
+pub returns-clause-alike : goal.returns-clause-alike
+returns-clause-alike c = λ rules H H' commands of_old of_new alike ranges new idle.
+    alike-from (is_started H) (is_spent H) _ _ (judged-by-two rules _ (judged-run rules commands H' ranges of_new))
+    (many-commands (is_started H) (is_spent H) rules commands H H' ranges (λ k d lt. let it = new k d lt in record { boards = it.boards; reels = it.reels }) of_old of_new
+    (agree-from H H' (judged-by-two rules H of_old) (judged-by-two rules H' of_new) alike)).1 idle

@@ -1,0 +1,32 @@
+-- Splitting a text at its first tab.
+use Rattle.std.proofs.Common.{◌≡◌, ◌==◌, ℕ, ◌+◌, ◌≤◌, Bool, true, false, Some, None, List, [], ◌∷◌, cond, length, take, drop, nat_lt, position, refl, ap, ◌∙◌, arith}
+use Rattle.std.specs.List.{position_or_len}
+use Rattle.std.proofs.lemmas.Bool.Decides.{nat_tests}
+use Rattle.std.proofs.lemmas.List.Splits.{slice_split_first, slice_split_none, length-slice_split}
+use Rattle.std.proofs.lemmas.List.Sums.{fails_before_first}
+use Rattle.desk_types.specs.Fields.{fields_in}
+
+abbrev is_tab : ℕ → Bool
+is_tab byte = byte == 0x09
+
+pub cut_at : (text : List ℕ) (end : ℕ) → position is_tab text ≡ Some end → fields_in text ≡ take end text ∷ fields_in (drop (end + 1) text)
+cut_at text end is = by (nat_lt (position_or_len is_tab text) (length text)) refl is
+  where
+    by : (b : Bool) → nat_lt (position_or_len is_tab text) (length text) ≡ b → cond b (Some (position_or_len is_tab text)) None ≡ Some end
+        → fields_in text ≡ take end text ∷ fields_in (drop (end + 1) text)
+    by true inside is =
+        let at : position_or_len is_tab text ≡ end = cc in
+        slice_split_first is_tab text 0 (grind (arith, nat_tests)) ∙ ap (λ n. take n text ∷ fields_in (drop (n + 1) text)) at
+    by false past is = absurd cc
+
+pub cut_nowhere : (text : List ℕ) → position is_tab text ≡ None → fields_in text ≡ text ∷ []
+cut_nowhere text is = by (nat_lt (position_or_len is_tab text) (length text)) refl is
+  where
+    by : (b : Bool) → nat_lt (position_or_len is_tab text) (length text) ≡ b → cond b (Some (position_or_len is_tab text)) None ≡ None → fields_in text ≡ text ∷ []
+    by true inside is = absurd cc
+    by false past is =
+        let far : length text ≤ position_or_len is_tab text = grind (arith, nat_tests) in
+        slice_split_none is_tab text (λ k d inside. fails_before_first is_tab text k d (omega arith))
+
+pub some_field : (text : List ℕ) → ¬ (fields_in text ≡ [])
+some_field text none = let n = length-slice_split is_tab text in let z = ap length none in absurd (omega arith)

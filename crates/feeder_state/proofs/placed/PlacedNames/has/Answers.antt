@@ -1,0 +1,17 @@
+use Rattle.std.proofs.Common.{subst, ap, ◌∙◌}
+use Rattle.std.specs.Prelude.{length}
+use Rattle.std.specs.List.{list_any}
+use Rattle.std.specs.List.Sorted.{IsBinarySearchResult, IsSearchInRange}
+use Rattle.desk_types.specs.Id.{same, by_name}
+use Rattle.judging.proofs.SortedSearch.{found-or-not}
+use Rattle.feeder_state.proofs.placed.PlacedNames.has.Goals as goal
+
+pub returns : goal.returns
+returns c =
+    let designator = c.args.designator.now in
+    let found = c.binary_search.result in
+    c.is_ok.ensures.value
+    ∙ found-or-not c.self.inside.names.items designator found c.self.invariant
+    (subst (λ names. IsSearchInRange found (length names)) c.deref.ensures.value c.binary_search.ensures.bound)
+    (subst (λ names. IsBinarySearchResult (λ y. by_name y designator) names found) c.deref.ensures.value c.binary_search.ensures.position)
+    ∙ ap (list_any (same designator)) c.self.view_is

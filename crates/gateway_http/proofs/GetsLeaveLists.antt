@@ -1,0 +1,66 @@
+-- A GET leaves the history unchanged.
+use Rattle.std.proofs.Common.{◌≡◌, ◌∙◌, ℕ, List, [], Option, Some, None, Result, Ok, Err, ok_or, refl, codes, Bool, true, false, inl, inr}
+use Rattle.std.specs.Prelude.{⊤}
+use Rattle.cfx_profile.specs.Fault.{◌>>=◌}
+use Rattle.desk_answers.specs.Ledger.{Ledger}
+use Rattle.gateway_http.specs.Asked.{asked_of, asked_at, by_method, path_of, query_of, id_in, detail_in, boards_in}
+use Rattle.gateway_http.specs.Routes.{route_of}
+use Rattle.gateway_http.specs.declared.asked.Asked.{Asked}
+use Rattle.gateway_http.specs.declared.asked.Asked.TheVariants as asks
+use Rattle.gateway_http.specs.declared.fault.AskFault.{AskFault}
+use Rattle.gateway_http.specs.declared.fault.AskFault.TheVariants.{NoPath}
+use Rattle.gateway_http.specs.declared.parameter.Parameter.TheVariants as parameter
+use Rattle.gateway_http.specs.declared.routes.Route.{Route}
+use Rattle.gateway_http.specs.declared.routes.Route.TheVariants.{Messages, ImportSetup, ImportCounts, TraceBoard, TraceLot, Reel, Slots, Kit, Overdue}
+use Rattle.http_stream.specs.Answers.{Told}
+use Rattle.http_stream.specs.Stream.{AnswersRequest, request_outcome}
+use Rattle.desk_types.specs.History.{History}
+use Rattle.gateway_http.specs.Gateways.{AnswersGet}
+use Rattle.gateway_http.specs.Repeats.{get_of}
+use Rattle.gateway_http.specs.Requests.{Reports, asked_outcome, outcome_of, request_rule}
+
+-- The request is for a report, or has a fault.
+abbrev Asks : Result Asked AskFault → Type 0
+Asks (Ok (asks.Report report)) = ⊤
+Asks (Ok asks.Message) = ⊥
+Asks (Ok (asks.Import import)) = ⊥
+Asks (Err fault) = ⊤
+
+stays : (reports : Reports) (L : Ledger) (body : List ℕ) (a : Result Asked AskFault) → Asks a → (asked_outcome reports L body a).after ≡ L.history
+stays reports L body (Ok (asks.Report report)) asked_of = refl
+stays reports L body (Ok asks.Message) asked_of = absurd asked_of
+stays reports L body (Ok (asks.Import import)) asked_of = absurd asked_of
+stays reports L body (Err fault) asked_of = refl
+
+after : {X : Type 0} (m : Result X AskFault) (rest : X → Result Asked AskFault) → ((x : X) → Asks (rest x)) → Asks (m >>= rest)
+after (Ok x) rest asks-all = asks-all x
+after (Err fault) rest asks-all = tt
+
+by-route : (route : Route) (query : List ℕ) → Asks (by_method (codes "GET") route >>= (λ allowed. asked_at allowed query))
+unfolding asked_at
+by-route Messages query = tt
+by-route ImportSetup query = tt
+by-route ImportCounts query = tt
+by-route TraceBoard query = after (id_in parameter.Board query) _ (λ board. after (detail_in query) _ (λ detail. tt))
+by-route TraceLot query = after (id_in parameter.Lot query) _ (λ lot. after (detail_in query) _ (λ detail. tt))
+by-route Reel query = after (id_in parameter.Reel query) _ (λ reel. tt)
+by-route Slots query = after (id_in parameter.Machine query) _ (λ machine. tt)
+by-route Kit query = after (id_in parameter.Product query) _ (λ product. after (id_in parameter.Machine query) _ (λ machine. after (boards_in query) _ (λ boards. tt)))
+by-route Overdue query = tt
+
+by-path : (o : Option Route) (query : List ℕ) → Asks (ok_or o NoPath >>= (λ found. by_method (codes "GET") found >>= (λ allowed. asked_at allowed query)))
+by-path None query = tt
+by-path (Some route) query = by-route route query
+
+pub get-stays : (reports : Reports) (L : Ledger) (target : List ℕ) → (outcome_of reports L (get_of target)).after ≡ L.history
+unfolding asked_of
+get-stays reports L target = stays reports L [] (asked_of (codes "GET") target) (by-path (route_of (path_of target)) (query_of target))
+
+pub get-told : (reports : Reports) (G : Ledger) (target : List ℕ) (told : Told) (H : History)
+    → AnswersRequest (request_rule reports G.rules G.greatest) (get_of target) G.history told H → AnswersGet reports G target told × (H ≡ G.history)
+get-told reports G target told H (mark, is, after) = by mark is after
+  where
+    by : (mark : Bool) → told ≡ (request_outcome (request_rule reports G.rules G.greatest) mark G.history (get_of target)).told
+        → H ≡ (request_outcome (request_rule reports G.rules G.greatest) mark G.history (get_of target)).after → AnswersGet reports G target told × (H ≡ G.history)
+    by true is after = (inr is, after)
+    by false is after = (inl is, after ∙ get-stays reports G target)

@@ -1,0 +1,5 @@
+pub mod Cuts
+pub mod GetsLeaveLists
+pub mod Literals
+pub mod NoText
+pub mod RepeatsLeaveLists

@@ -1,2 +1,0 @@
-pub mod GetsLeaveLists
-pub mod RepeatsLeaveLists

@@ -1,5 +1,0 @@
-use Rattle.http_answers.proofs.GetsLeaveLists.{get-stays}
-use Rattle.http_answers.proofs.law.questions_leave_the_list.Goals as goal
-
-pub returns : goal.returns
-returns c = λ reports rules greatest H target. get-stays reports (record { rules = rules; greatest = greatest; history = H }) target

@@ -1,6 +1,0 @@
-use Rattle.http_routes.specs.Asked.{asked_of}
-use Rattle.http_answers.proofs.RepeatsLeaveLists.{repeat-stays}
-use Rattle.http_answers.proofs.law.repeats_leave_the_list.Goals as goal
-
-pub returns : goal.returns
-returns c = λ reports rules greatest H r e. repeat-stays reports (record { rules = rules; greatest = greatest; history = H }) r.body (asked_of r.method r.target) e

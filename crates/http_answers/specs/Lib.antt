@@ -1,4 +1,0 @@
-pub mod Gateways
-pub mod Repeats
-pub mod Requests
-pub mod Statuses

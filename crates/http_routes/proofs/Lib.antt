@@ -1,3 +1,0 @@
-pub mod Cuts
-pub mod Literals
-pub mod NoText

@@ -1,7 +1,0 @@
-use Rattle.std.proofs.Common.{ap, ◌∙◌}
-use Rattle.cfx_profile.specs.Forms.{id_of}
-use Rattle.cfx_profile.proofs.Names.{id_of-read}
-use Rattle.http_routes.proofs.asked.id_of.Goals as goal
-
-pub returns : goal.returns
-returns c = id_of-read _ _ c.read.ensures ∙ ap id_of c.as_bytes.ensures.value

@@ -1,6 +1,0 @@
-use Rattle.std.proofs.Common.{sym}
-use Rattle.http_routes.proofs.NoText.{route_of-none}
-use Rattle.http_routes.proofs.routes.RouteTable.route_of.Goals as goal
-
-pub returns-in-Err : goal.returns-in-Err
-returns-in-Err c = sym (route_of-none c.args.path.now c.in-Err.ensures.cases.0)

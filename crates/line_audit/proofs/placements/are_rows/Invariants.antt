@@ -1,6 +1,0 @@
-use Rattle.std.proofs.Common.{◌≡◌, map, take}
-use Rattle.line_tables.specs.StateRows.{placement_columns}
-use Rattle.line_audit.proofs.placements.are_rows.Given as goal
-
-abbrev pub invariant-loop-at : goal.invariant-loop-at
-invariant-loop-at l = take l.at l.shown ≡ take l.at (map placement_columns l.rows)

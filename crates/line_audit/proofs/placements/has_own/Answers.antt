@@ -1,6 +1,0 @@
-use Rattle.line_audit.proofs.placements.has_own.Goals as goal
-
-pub returns-clause-found : goal.returns-clause-found
-returns-clause-found g c clean =
-    let told = c.in_ok-all.ensures.found clean in
-    record { was_open = told.was_open; are = λ schema. (told.are schema).0 }

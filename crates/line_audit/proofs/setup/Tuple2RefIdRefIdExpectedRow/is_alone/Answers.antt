@@ -1,8 +1,0 @@
-use Rattle.std.proofs.lemmas.Result.{IfOk-weaker}
-use Rattle.line_audit.proofs.Texts.{selected_alone}
-use Rattle.line_audit.proofs.setup.Tuple2RefIdRefIdExpectedRow.is_alone.Goals as goal
-
-pub returns-clause-found : goal.returns-clause-found
-returns-clause-found g c clean =
-    let shown = rw (c.text.ensures, c.text-2.ensures, c.text-3.ensures) at (c.shows_only.ensures.shown clean) in
-    IfOk-weaker c.shows_only.result _ _ (λ b h. selected_alone g.S.Store c.args.conn.now _ b c.args.self.0.now h) shown

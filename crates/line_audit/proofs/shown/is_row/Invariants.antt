@@ -1,6 +1,0 @@
-use Rattle.std.proofs.Common.{◌≡◌, take}
-use Rattle.line_tables.specs.StateRows.{values_of}
-use Rattle.line_audit.proofs.shown.is_row.Given as goal
-
-abbrev pub invariant-loop-at : goal.invariant-loop-at
-invariant-loop-at l = take l.at l.row ≡ take l.at (values_of l.wanted)

@@ -1,4 +1,0 @@
-pub mod Alone
-pub mod Audit
-pub mod Placed
-pub mod TableNames

@@ -1,2 +1,0 @@
-mod AskedPieces
-pub mod NextOfFirst

@@ -1,0 +1,8 @@
+use Rattle.std.proofs.lemmas.Result.{IfOk-weaker}
+use Rattle.line_replay.proofs.Texts.{board_alone}
+use Rattle.line_replay.proofs.floor.Tuple2RefIdRefBoardRowExpectedRow.is_alone.Goals as goal
+
+pub returns-clause-found : goal.returns-clause-found
+returns-clause-found g c clean =
+    let shown = rw (c.text.ensures, c.board_values.ensures) at (c.shows_only.ensures.shown clean) in
+    IfOk-weaker c.shows_only.result _ _ (λ b h. board_alone g.S.Store c.args.conn.now _ b c.args.self.0.now h) shown

@@ -1,4 +1,0 @@
-pub mod EditsOfChanges
-pub mod Judgements
-pub mod Repeats
-pub mod RowsTellLists

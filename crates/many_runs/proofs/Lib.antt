@@ -1,5 +1,0 @@
-pub mod CrashedFiles
-pub mod FailingDisks
-pub mod ProgramRuns
-pub mod RunsInTurn
-pub mod WholeRuns

@@ -1,8 +1,0 @@
-use Rattle.many_runs.specs.Closed.{GivesClosedRun}
-use Rattle.many_runs.proofs.ProgramRuns.{gives_calls, is_run}
-use Rattle.many_runs.proofs.closed_runs_are_runs.Goals as goal
-
-pub returns : goal.returns
-returns g c =
-    gives_calls (GivesClosedRun g.T.Start c.args.desk.now c.args.files.now)
-    (λ Fact calls answers make image. is_run g.T.Start make c.args.desk.now c.args.files.now image Fact calls answers)

@@ -1,4 +1,0 @@
-use Rattle.many_runs.proofs.store_calls_are_calls.Goals as goal
-
-pub returns : goal.returns
-returns g c = λ calls made. made

@@ -1,6 +1,0 @@
-use Rattle.many_runs.proofs.WholeRuns.{goes_on_closed}
-use Rattle.many_runs.proofs.whole.whole_run_goes_on.Goals as goal
-
-pub returns : goal.returns
-returns g c = λ closed.
-    goes_on_closed c.next_run_goes_on.ensures.ours_first c.next_run_goes_on.ensures.same g.T.Start _ c.whole_run.result.0 c.whole_run.result.1 c.whole_run.ensures.runs closed

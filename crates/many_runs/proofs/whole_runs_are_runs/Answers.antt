@@ -1,8 +1,0 @@
-use Rattle.many_runs.specs.Closed.{GivesWholeRun}
-use Rattle.many_runs.proofs.ProgramRuns.{gives_calls, is_whole_run}
-use Rattle.many_runs.proofs.whole_runs_are_runs.Goals as goal
-
-pub returns : goal.returns
-returns g c =
-    gives_calls (GivesWholeRun g.T.Start _ c.args.files.now)
-    (λ Fact calls answers make image. is_whole_run _ g.T.Start make c.args.files.now image Fact calls answers)

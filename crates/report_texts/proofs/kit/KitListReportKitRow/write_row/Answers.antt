@@ -1,5 +1,0 @@
-use Rattle.std.proofs.Common.{rules}
-use Rattle.report_texts.proofs.kit.KitListReportKitRow.write_row.Goals as goal
-
-pub returns-in-Short : goal.returns-in-Short
-returns-in-Short c = λ text has. let written = c.write_fields-in-Short.ensures text has in search rules

@@ -1,6 +1,0 @@
-use Rattle.desk_types.proofs.BothRules.{judged-by-two}
-use Rattle.report_texts.proofs.NoReelTwice.{kit-once}
-use Rattle.report_texts.proofs.laws.no_reel_is_given_twice.Goals as goal
-
-pub returns : goal.returns
-returns c = λ rules H boards sheet judged. kit-once H boards sheet (judged-by-two rules H judged)

@@ -1,8 +1,0 @@
-use Rattle.std.proofs.Common.{◌≡◌, drop, map}
-use Rattle.report_texts.specs.Traces.{project, lot_columns, of_lot}
-use Rattle.report_texts.specs.Sets.{set_of, bytes_of}
-use Rattle.report_texts.proofs.records.lot_rows.Given as goal
-
--- The set has the rows of the pieces from here on.
-abbrev pub invariant-loop-i : goal.invariant-loop-i
-invariant-loop-i l = map (λ r. bytes_of r.items) l.rows.keys ≡ set_of (map (λ p. project (lot_columns l.detail) (of_lot p)) (drop l.i l.pieces))

@@ -1,6 +1,0 @@
-use Rattle.std.proofs.Common.{map, take}
-use Rattle.report_texts.specs.Csv.{csv_text, HasWritten}
-use Rattle.report_texts.proofs.report.csv_text.Given as goal
-
-abbrev pub invariant-loop-row : goal.invariant-loop-row
-invariant-loop-row g l = HasWritten l.writer (csv_text (g.R.Report.header l.report) (map (g.R.Report.fields l.report) (take l.row-index l.rows)))

@@ -1,7 +1,0 @@
-use Rattle.std.proofs.Common.{◌∷◌, []}
-use Rattle.std.proofs.lemmas.Result.{on_err_weaker}
-use Rattle.served.proofs.SentFronts.{front_after}
-use Rattle.served.proofs.sending.send_line.Goals as goal
-
-pub returns-clause-front : goal.returns-clause-front
-returns-clause-front g c = on_err_weaker c.send-3.result (λ h. front_after _ _ _ c.args.text.now (10 ∷ []) c.in_ok-send.ensures.ok h) c.send-3.ensures.front

@@ -1,6 +1,0 @@
-use Rattle.std.proofs.Common.{◌≡◌, ◌∷◌, ◌++◌, length, flat_map, take, decimal}
-use Rattle.stored_texts.specs.Fields.{after_tabs}
-use Rattle.stored_texts.proofs.composed.BoundedStored.write.Given as goal
-
-abbrev pub invariant-loop-item : goal.invariant-loop-item
-invariant-loop-item g l = l.text.items ≡ l.fn.text.items ++ after_tabs (decimal (length l.items) ∷ flat_map g.T.Stored.spelling (take l.item-index l.items))

@@ -1,9 +1,0 @@
-use Rattle.std.proofs.Common.{◌∙◌}
-use Rattle.stored_texts.proofs.Words.{word_in-read, word_in-refused}
-use Rattle.stored_texts.proofs.word.Word.read.Goals as goal
-
-pub returns-clause-read : goal.returns-clause-read
-returns-clause-read c = word_in-read c.args.text.now c.copied.result (c.copied.ensures ∙ c.first_named.ensures)
-
-pub returns-clause-refused : goal.returns-clause-refused
-returns-clause-refused c = word_in-refused c.args.text.now c.copied.result (c.copied.ensures ∙ c.first_named.ensures)

@@ -1,4 +1,0 @@
-pub mod Installs
-pub mod KeptUnderNames
-pub mod Keys
-pub mod Minutes

@@ -1,6 +1,0 @@
-use Rattle.std.proofs.Common.{map, ap, ◌∙◌}
-use Rattle.trace_lists.specs.Lists.{key_of}
-use Rattle.trace_lists.proofs.lists.TraceLists.of_lot.Goals as goal
-
-pub returns : goal.returns
-returns c = record { listed = λ H is. ap (map key_of) c.kept_under.ensures ∙ is.lots c.args.lot.now }

@@ -1,7 +1,0 @@
-use Rattle.std.proofs.Common.{◌≡◌}
-use Rattle.desk_types.specs.Id.{Name}
-use Rattle.trace_lists.specs.Lists.{kept_at}
-use Rattle.trace_lists.proofs.noting.room_for_pieces.Given as goal
-
-abbrev pub invariant-loop-i : goal.invariant-loop-i
-invariant-loop-i l = (n : Name) → kept_at l.lots n ≡ kept_at l.fn.lots n
