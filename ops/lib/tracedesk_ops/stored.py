@@ -1,7 +1,7 @@
 """Messages to a desk, and the accepted commands of one as messages again: for ops/check, which gives them to a new desk.
 
 The table `accepted` keeps each command as one text: its word and its members, with a tab between each two
-(crates/stored_texts/specs/StoredText.antt). A list is its length and then its elements.
+(crates/desk_types/specs/StoredText.antt). A list is its length and then its elements.
 
     stored.message("u1", "S", 0, "PartDefined\tP")
     '{"MessageName":"TraceDesk.PartDefined","UniqueID":"u1","Source":"S","TimeStamp":"1970-01-01T00:00:00","MessageBody":{"PartNumber":"P"}}'
