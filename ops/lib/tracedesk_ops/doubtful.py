@@ -24,7 +24,7 @@ import sqlite3
 import tempfile
 from typing import NamedTuple
 
-from tracedesk_ops import catalogue, identity, plant, untraced
+from tracedesk_ops import catalogue, copies, identity, plant, untraced
 
 WORDS = (*untraced.HANDLING, "MaterialsInstalled", "MaterialsScrapped")
 LOADED, SPLICED, UNLOADED = untraced.HANDLING
@@ -379,7 +379,7 @@ def copied(file):
         else:
             raise catalogue.CatalogueError(f"{file}: it was changed while it was copied, {TRIES} times: ask again")
         try:
-            with contextlib.closing(sqlite3.connect(to)) as database:
+            with copies.database(to) as database:
                 yield database
         except sqlite3.Error as fault:
             raise catalogue.CatalogueError(f"{file}: {fault}") from fault
@@ -439,7 +439,7 @@ def running_files(around, archives, running, held):
     for has in running or [None]:
         whys = {file: why_not(file, database, archives, [has] if has else []) for file, database in there.items()}
         if its := next((file for file, why in whys.items() if not why), None):
-            yield its, there.pop(its), ""
+            yield its, there[its], ""
         else:
             yield around, None, whys.get(around / "desk", f"{around / 'desk'} is not here")
 
