@@ -208,6 +208,20 @@ def each_refused_load_says_what_to_bring(site):
     return f"{len(saw)} refused loads with part, sheet, source and reels; one alternate at two slots; a splice right after a refusal"
 
 
+def an_alternate_that_was_refused_is_not_offered_again(site):
+    """The kit lists an alternate of CAP at slot 1. At a slot of RES it is shown as not sure; once the desk refused it there, it is shown there no more."""
+    site.say("ReelOpened", {"Reel": "K-4"})  # the first to end: the kit gives it to the first slot of CAP
+    with Operator(site) as it:
+        it.ready()
+        for reel, is_offered in (("K-1", True), ("K-4", False), ("K-1", False)):
+            it.does("S/M1/2", reel, kind="refused", holds=("WRONG PART",))
+            text = wait_for("free reels", lambda: "K-2: " in (told := it.text("verdict")) and "wants RES" in told and told)
+            if ("Not sure" in text and "K-4 (ALT, at slot 1)" in text, "(ALT" in text) != (is_offered, is_offered):
+                raise Difference(f"after {reel}, offered {is_offered}: {text}")
+        it.does("S/M1/1", "K-4", holds=("LOADED",))
+    return "not sure before its refusal, not shown after it, and taken at the slot that allows it"
+
+
 def an_id_that_was_used_before(site):
     """The host uses the UniqueID of a scan that waits: 409 is its answer, and the next scan goes out."""
     with Operator(site) as it:
@@ -542,5 +556,5 @@ def a_station_works(numbered):
         page.does(("S/M1/1", "S/M1/3", "S/M2/1", "S/M2/3")[number], f"T-{number}", holds=("LOADED",))
 
 
-FLOWS = [what_is_dropped_is_said, the_end_of_a_code, a_refusal_of_a_closed_tab_is_shown, from_right_to_left, a_scan_whatever_has_the_focus, receive_keeps_what_it_has, each_refused_load_says_what_to_bring, an_id_that_was_used_before, a_scan_over_a_roll_over, a_tone_for_each_verdict,
+FLOWS = [what_is_dropped_is_said, the_end_of_a_code, a_refusal_of_a_closed_tab_is_shown, from_right_to_left, a_scan_whatever_has_the_focus, receive_keeps_what_it_has, each_refused_load_says_what_to_bring, an_alternate_that_was_refused_is_not_offered_again, an_id_that_was_used_before, a_scan_over_a_roll_over, a_tone_for_each_verdict,
          each_form_by_the_keyboard, a_plants_own_texts, a_slow_desk_is_not_said_to_be_away, a_million_connections_last_thirty_days, ten_pages_that_scan_at_once]
