@@ -161,16 +161,6 @@ def untraced_work_is_red(site):
     return "a refusal that is decided, a refused load that is recorded, and a load that is answered"
 
 
-def ambiguous_codes_are_reported(site):
-    """Set-ups by which one code may be read as another."""
-    wrong = ({"badge": "A/{badge}"}, {"slot": "A/{machine}/{slot}"}, {"badge": "S/{badge}"}, {"action": "[)>{action}"}, {"action": "K{action}"})
-    for codes in wrong:
-        site.set_up({**SETUP, "codes": codes})
-        with Operator(site, name="Z", setup="wrong") as it:
-            wait_for(f"{codes} is reported", lambda: "no usable set-up" in it.text("main"))  # noqa: B023
-    return f"{len(wrong)} set-ups"
-
-
 def a_disk_that_fails_once(site):
     """An answer that can't be kept, a scan that can't be kept, a store that the browser closed: the next scans are taken."""
     with opened(site, DISK) as it:
@@ -415,18 +405,20 @@ def control_keys(it, ActionChains, Keys):
         raise Difference(f"Ctrl with M and J: {it.text('verdict')} {it.script('return window.kept')}")
 
 
-def two_slots_of_one_code(site):
-    """A form of codes under which a slot of one machine is read as one of another is no set-up; names with braces are scanned."""
+def codes_that_may_be_read_as_others(site):
+    """A form of codes under which a code is read as another one is no set-up; names with braces are scanned."""
     site.say("SheetDefined", {"Product": "CTRL-A", "Machine": "M{1}", "Rows": [{"Slot": "1", "PartNumber": "CAP", "Designators": ["C1"]}]})
     site.say("ProductSelected", {"Machine": "M{1}", "Product": "CTRL-A"})
-    for machines, slot in ((("M1", "M11"), "S{machine}{slot}"), (("M1", "M1/2"), "S/{machine}/{slot}"), (("M1", "M1"), "S/{machine}/{slot}")):
-        site.set_up({**SETUP, "machines": [{"machine": name} for name in machines], "codes": {"slot": slot}})
+    wrong = [(SETUP["machines"], codes, "no usable set-up") for codes in ({"badge": "A/{badge}"}, {"slot": "A/{machine}/{slot}"}, {"badge": "S/{badge}"}, {"action": "[)>{action}"}, {"action": "K{action}"})]
+    wrong += [([{"machine": it} for it in names], {"slot": slot}, "may be read as") for names, slot in ((("M1", "M11"), "S{machine}{slot}"), (("M1", "M1/2"), "S/{machine}/{slot}"), (("M1", "M1"), "S/{machine}/{slot}"))]
+    for machines, codes, told in wrong:
+        site.set_up({**SETUP, "machines": machines, "codes": codes})
         with Operator(site, name="W2", setup="wrong") as it:
-            wait_for("it is told", lambda: "may be read as" in it.script("return document.getElementById('main').textContent"))
+            wait_for(f"{codes} of {machines} is reported", lambda: told in it.text("main"))  # noqa: B023
     site.set_up({**SETUP, "machines": [{"machine": "M1", "product": "CTRL-A"}, {"machine": "M11"}, {"machine": "M{1}", "product": "CTRL-A"}]})
     with Operator(site) as it:
         it.ready().does("S/M{1}/1", "K-1", holds=("LOADED", "M{1} slot 1"))
-    return "3 forms refused; a slot of M{1} loaded"
+    return f"{len(wrong)} set-ups refused; a slot of M{{1}} loaded"
 
 
 # --- What is seen, heard and touched
@@ -564,5 +556,5 @@ def each_size_of_a_screen(site):
     return f"{len(SIZES)} sizes, 20 verdicts and {touched} things to touch; {len(SMALLEST)} smaller ones"
 
 
-FLOWS = [a_servers_clock_that_jumps, a_tablet_that_slept, what_is_held_is_forgotten, untraced_work_is_red, ambiguous_codes_are_reported, a_disk_that_fails_once, whether_it_may_send_is_asked_again, a_sheet_is_asked_for_again, a_refusal_stays, a_late_refusal_stays, a_mounted_reel_is_said_to_be_where_it_is,
-         a_name_is_no_number, typing_with_pauses_and_touches, two_slots_of_one_code, quiet_for_who_listens, each_size_of_a_screen]
+FLOWS = [a_servers_clock_that_jumps, a_tablet_that_slept, what_is_held_is_forgotten, untraced_work_is_red, a_disk_that_fails_once, whether_it_may_send_is_asked_again, a_sheet_is_asked_for_again, a_refusal_stays, a_late_refusal_stays, a_mounted_reel_is_said_to_be_where_it_is,
+         a_name_is_no_number, typing_with_pauses_and_touches, codes_that_may_be_read_as_others, quiet_for_who_listens, each_size_of_a_screen]

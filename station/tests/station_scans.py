@@ -249,31 +249,6 @@ def a_scan_over_a_roll_over(site):
     return "the archive's scan is done and acts once; the one behind it accepted by the new desk"
 
 
-def a_kill_of_nginx_in_mid_scan(site):
-    """SIGKILL of nginx while six scans are at the desk, three of them taken by it before the kill: each acts once."""
-    with Operator(site) as it:
-        it.ready()
-        for turn in range(6):
-            site.pause_desk()
-            before = site.connections()
-            it.scan("A/OPEN" if turn < 3 else "A/SEAL", f"K-{turn % 3 + 1}")
-            wait_for("it is on its way", lambda: it.script("return document.getElementById('verdict').className") == "asked")
-            time.sleep(0.3)
-            if turn % 2 == 0:
-                site.resume_desk()
-                wait_for("the desk has served it", lambda: site.connections() > before)  # noqa: B023
-                site.kill_nginx()
-            else:
-                site.kill_nginx()
-                if it.script("return document.getElementById('verdict').className") != "asked":
-                    raise Difference("an answer without nginx")
-                site.resume_desk()
-            site.start_nginx()
-            it.verdict(("accepted",))
-        whole(site, it, 6)
-    return "6 scans, 6 kills of nginx: each acted once"
-
-
 def a_tone_for_each_verdict(site):
     """The tones that the page asks its AudioContext for: two rising for a yes, two low ones for a no, a short one for a wait."""
     with Operator(site, begin=False) as it:
@@ -305,6 +280,7 @@ def what_is_dropped_is_said(site):
         it.scan("S/M1/2")
         wait_for("what was scanned meanwhile", lambda: "A question is open" in it.text("held") and "S/M1/2 was NOT taken" in it.text("held"))
         it.does("A/ENTER", kind="asked")
+        wait_for("they wait", lambda: "8 scans have no answer" in it.text("waiting") and "OLD" in it.text("state"))
         site.start_desk()
         whole(site, it, 8)
         if report(site, "/reel?reel=K-3")[0]["remaining"] != "290":
@@ -401,10 +377,15 @@ def tab_to(it, what, holds, most=150):
 
 
 def each_form_by_the_keyboard(site):
-    """Receive, Changeover, Trace and the buttons of Scan with Tab, arrows, letters and Enter alone."""
+    """Each screen, Receive, Changeover, Trace and the buttons of Scan with Tab, arrows, letters and Enter alone."""
     from selenium.webdriver.common.keys import Keys
     with Operator(site) as it:
-        it.ready().go("receive")
+        def go(screen):
+            tab_to(it, f"the button of {screen}", f"it.parentElement.id === 'screens' && [...it.parentElement.children].indexOf(it) === {SCREENS.index(screen)}")
+            it.keys(Keys.ENTER)
+            wait_for(screen, lambda: it.script("return document.getElementById('main').className") == screen)
+        it.ready()
+        go("receive")
         tab_to(it, "the reel", "it.id === 'reel'")
         it.keys("R-1", Keys.TAB, "CAP", Keys.TAB, "LOT-1", Keys.TAB, "500", Keys.TAB, Keys.SPACE, Keys.ARROW_RIGHT, Keys.ARROW_RIGHT, Keys.ARROW_RIGHT)
         tab_to(it, "the button that receives", "it.type === 'submit' && it.form.className === 'receive'")
@@ -413,7 +394,7 @@ def each_form_by_the_keyboard(site):
         if kind != "accepted" or "RECEIVED" not in text or report(site, "/reel?reel=R-1")[0]["level"] != "3":
             raise Difference(f"receive: {text}")
         it.keys(Keys.ESCAPE)
-        it.go("changeover")
+        go("changeover")
         tab_to(it, "the product", "it.id === 'product'")
         it.keys("CTRL-A", Keys.TAB, "7", Keys.ENTER)
         wait_for("the kits", lambda: it.script("return document.querySelectorAll('#main table').length") >= 1)
@@ -422,7 +403,7 @@ def each_form_by_the_keyboard(site):
         if "PRODUCT SELECTED" not in it.verdict()[1]:
             raise Difference("select")
         it.keys(Keys.ESCAPE)
-        it.go("trace")
+        go("trace")
         tab_to(it, "the questions", "it.name === 'question'")
         it.keys(Keys.ARROW_DOWN, Keys.ARROW_DOWN)
         tab_to(it, "the name", "it.id === 'name'")
@@ -432,14 +413,17 @@ def each_form_by_the_keyboard(site):
         it.keys(Keys.ENTER)
         if it.script("return document.querySelector('.result th[aria-sort=ascending]') === null"):
             raise Difference("sort")
-        it.go("scan")
+        go("scan")
         it.scan("K-1")
         tab_to(it, "the button OPEN", "it.textContent === 'OPEN'")
         it.keys(Keys.ENTER)
         if "OPENED" not in it.verdict()[1]:
             raise Difference("open")
-        whole(site, it, 3)
-    return "a reel, a selection, a kit, a question, a sort and an action without a mouse and without a scanner"
+        it.keys(Keys.ESCAPE)
+        go("line")
+        it.does("S/M1/1", "K-1", holds=("LOADED",))
+        whole(site, it, 4)
+    return "5 screens, a reel, a selection, a kit, a question, a sort and an action without a mouse and without a scanner"
 
 
 def a_plants_own_texts(site):
@@ -558,5 +542,5 @@ def a_station_works(numbered):
         page.does(("S/M1/1", "S/M1/3", "S/M2/1", "S/M2/3")[number], f"T-{number}", holds=("LOADED",))
 
 
-FLOWS = [what_is_dropped_is_said, the_end_of_a_code, a_refusal_of_a_closed_tab_is_shown, from_right_to_left, a_scan_whatever_has_the_focus, receive_keeps_what_it_has, each_refused_load_says_what_to_bring, an_id_that_was_used_before, a_scan_over_a_roll_over, a_kill_of_nginx_in_mid_scan, a_tone_for_each_verdict,
+FLOWS = [what_is_dropped_is_said, the_end_of_a_code, a_refusal_of_a_closed_tab_is_shown, from_right_to_left, a_scan_whatever_has_the_focus, receive_keeps_what_it_has, each_refused_load_says_what_to_bring, an_id_that_was_used_before, a_scan_over_a_roll_over, a_tone_for_each_verdict,
          each_form_by_the_keyboard, a_plants_own_texts, a_slow_desk_is_not_said_to_be_away, a_million_connections_last_thirty_days, ten_pages_that_scan_at_once]

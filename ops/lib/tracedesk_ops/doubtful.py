@@ -406,8 +406,9 @@ class Line(NamedTuple):
     story: Story
 
 
-def look(path, archives, is_running=False):
-    """Looks at what is around a catalogue. The archives are in the order of their chain; the running desk's file lies beside their folder."""
+def look(path, archives, is_running=False, is_first=False):
+    """Looks at what is around a catalogue. The archives are in the order of their chain; the running desk's file lies beside their folder.
+    `is_first` says that a line whose desk runs has no archive."""
     notes: list = []
     book, faults, pieces = untraced.read(path.parent), [], []
     refused, desk, decided = untraced.refused(book.records), path.parent.parent / "desk", untraced.decisions(book.records)
@@ -416,7 +417,7 @@ def look(path, archives, is_running=False):
     try:
         with contextlib.ExitStack() as held:
             files = {it.file: held.enter_context(catalogue.unchanged(path, it, False)) for it in archives}
-            if is_running and (database := held.enter_context(copied(desk)) if desk.exists() else None) and goes_on(database, archives):
+            if is_running and (database := held.enter_context(copied(desk)) if desk.exists() else None) and goes_on(database, archives, is_first):
                 files[catalogue.RUNNING] = database
             elif is_running:
                 faults.append(f"{desk} is not here, or is not the running desk's: whether pieces since the last archive may be of other reels isn't known")
@@ -430,10 +431,10 @@ def look(path, archives, is_running=False):
     return Line([(it, decided.get(it.id), story.reels_of(work_of(it))) for it in works], pieces, [*book.faults, *faults, *waiting(path.parent.parent / STATUS)], notes, story)
 
 
-def goes_on(database, archives):
-    """Whether a desk was begun from the newest archive of a line, or no line has any."""
+def goes_on(database, archives, is_first):
+    """Whether a desk was begun from the newest archive of a line, or from none where a line has none."""
     ends, mark = [it for it in archives if not it.went_on_to], identity.read(database).mark
-    return not ends or any(identity.follows(mark, it) for it in ends)
+    return not ends or is_first and not mark or any(identity.follows(mark, it) for it in ends)
 
 
 def work_of(record):

@@ -118,7 +118,6 @@ class Rolling:
         if not (filed.exists() and filed.samefile(self.copy)):
             os.link(self.copy, filed)  # never over another file
         plant.keep(self.archives)
-        plant.reached("file")
         catalogue.add(self.catalogue, archive)
         plant.reached("catalogue")
         plant.without_log(self.db)
@@ -128,7 +127,6 @@ class Rolling:
         plant.keep(self.db.parent)
         if self.held:
             self.held.spoil()
-        plant.reached("switch")
         plant.tell(f"{archive.file} is archived, with {archive.commands:,} commands and {archive.pieces:,} pieces; the new desk is in place")
 
 
