@@ -7,6 +7,7 @@ import time
 from station_flows import SETUP, type_label, whole
 from station_line import shown_rows, view
 from station_site import Difference, Operator, wait_for
+from tracedesk_ops import doubtful, untraced
 
 DAY = 86_400_000  # milliseconds
 SIZES = [(800, 480), (1024, 600), (1280, 800), (1920, 1080), (800, 1280)]
@@ -136,6 +137,29 @@ def what_is_held_is_forgotten(site):
 # --- The tablet's disk, the proxy
 
 
+def records(site):
+    return [json.loads(file.read_bytes()) for file in (site.room / "line/untraced").glob("*.json")]
+
+
+def taken_off(site, it):
+    """Says of the refused reel that is shown that it was taken off, first without a badge, and then while the line's folder is away."""
+    press, said, folder = "document.querySelector('#verdict .off button').click()", "return document.querySelector('#verdict .off')?.innerText ?? ''", site.room / "line/untraced"
+    it.script(press)
+    wait_for("a badge is wanted", lambda: "scan your badge" in it.script(said))
+    it.scan("B/anna")
+    wait_for("the refused load is there", lambda: records(site))
+    folder.rename(folder.with_name("away"))
+    it.script(press)
+    wait_for("it is not noted", lambda: "gave no answer" in it.script(said))
+    folder.with_name("away").rename(folder)
+    it.script(press)
+    wait_for("it is noted", lambda: it.script(said).startswith("Noted"))
+    (decided,) = [untraced.record_of(file.read_bytes()) for file in folder.glob("*.json") if b'"decided"' in file.read_bytes()]
+    told = decided.told
+    if not (folder / f"{decided.id}.json").exists() or not (folder / f"{told['Of']}.json").exists() or told["Became"] != doubtful.TAKEN_OFF or "anna" not in told["By"]:
+        raise Difference(f"a decision: {told}")
+
+
 def untraced_work_is_red(site):
     """A refused report of work stands on Line until it is decided, and so does a load without an answer."""
     refused = {"Answer": {"Answer": "Refused", "Refusal": "Expired", "At": "K-1"}, "At": "2026-03-02T06:00:00Z", "Id": "a" * 32,
@@ -148,9 +172,10 @@ def untraced_work_is_red(site):
         wait_for("the refusal", lambda: all(word in it.script(first) for word in ("M1", "WorkStarted", "SN-7", "Expired", "Put the board aside")))
         (status / "untraced.json").write_text(json.dumps({"Decided": ["a" * 32], "Undecided": [], "Version": 1}))
         wait_for("it is decided", lambda: "SN-7" not in it.script(first))
-        it.does("S/M1/1", "K-2", kind="refused")
+        it.does("S/M1/1", "K-2", kind="refused", holds=("TAKEN OFF",))
+        taken_off(site, it)
         it.seen()
-        inbox = lambda: [json.loads(file.read_bytes())["Message"]["MessageBody"] for file in (site.room / "line/untraced").glob("*.json")]
+        inbox = lambda: [it["Message"]["MessageBody"] for it in records(site) if it["Kind"] == "refused"]
         wait_for("the refused load is recorded", lambda: inbox() == [{"Machine": "M1", "Slot": "1", "Reel": "K-2"}])
         site.kill_desk()
         it.does("S/M1/1", "K-3", kind="asked", holds=("NOT VERIFIED", "don't run this slot"))

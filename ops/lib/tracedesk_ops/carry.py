@@ -7,6 +7,7 @@ baked before that. An exposure above the floor life is told as the floor life: t
 import argparse
 import copy
 import csv
+import collections
 import datetime
 import io
 import re
@@ -61,14 +62,8 @@ class Reel(NamedTuple):
         return not (self.level == "1" or self.waits_for_its_bake())
 
 
-class Setup(NamedTuple):
-    """A sheet that is too long for a message: a setup file, and what its import is told."""
-    uid: str
-    source: str
-    stamp: str
-    product: str
-    machine: str
-    text: str
+# a sheet that is too long for a message: a setup file, and what its import is told
+Setup = collections.namedtuple("Setup", "uid source stamp product machine text")
 
 
 class Archive:

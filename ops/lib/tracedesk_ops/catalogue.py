@@ -12,6 +12,7 @@ the desk's (identity.py), empty where it had none yet; up to 0.3.0 there was no 
 The catalogue is an index of the files: each file says itself from which one it was begun, and tracedesk-settle makes
 the catalogue anew from them.
 """
+import collections
 import contextlib
 import csv
 import datetime
@@ -26,12 +27,14 @@ import sqlite3
 import urllib.parse
 from typing import NamedTuple
 
+from tracedesk_ops import copies
+
 FILE_NAME = "catalogue.csv"
 RUNNING = "running desk"  # in the place of an archive's name
 HEADER = ("file", "sha256", "desk", "first_minute", "last_minute", "commands", "pieces", "from", "to", "name")
 EPOCH = datetime.datetime(1970, 1, 1)
 CHUNK = 1 << 20
-LOGS = ("-wal", "-journal")
+LOGS = copies.LOGS
 MAGIC = b"SQLite format 3\0"
 PLANS, ASIDE, LACKS = "rollover-*/plan.json", "aside", "restore.json"  # beside the archive's folder: what roll-overs and restores leave
 ENTRIES = "lacks-*.json"  # in the archive's folder: what a copy lacks that became the desk
@@ -86,11 +89,8 @@ def sha256_within(file):
 # --- Reading
 
 
-class Survey(NamedTuple):
-    """A catalogue as it is read by those who ask the archives that it does name: its bytes, and what is wrong with it."""
-    text: bytes
-    archives: list
-    faults: list
+# a catalogue as it is read by those who ask the archives that it does name: its bytes, and what is wrong with it
+Survey = collections.namedtuple("Survey", "text archives faults")
 
 
 def read(path):
@@ -269,11 +269,9 @@ def check(path, archive):
         raise CatalogueError(f"{file}: its checksum is {told}, and in {path} {archive.sha256}: take it from a backup")
 
 
-@contextlib.contextmanager
 def opened(file):
     """A file that stands whole, as a database. It is not written any more, so nothing is locked or made beside it."""
-    with contextlib.closing(sqlite3.connect(f"file:{urllib.parse.quote(os.fsencode(file))}?mode=ro&immutable=1", uri=True)) as database:
-        yield database
+    return copies.database(f"file:{urllib.parse.quote(os.fsencode(file))}?mode=ro&immutable=1", uri=True)
 
 
 @contextlib.contextmanager

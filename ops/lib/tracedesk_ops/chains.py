@@ -8,6 +8,7 @@ It refuses a file that has several hard links. So what has those, is locked, or 
 Each desk names the file from which it was begun, by its checksum. After a roll-over with an option it doesn't carry that on
 as it was. Then the program is asked about the files before and behind this link, which is known by the checksum alone.
 """
+import collections
 import contextlib
 import csv
 import io
@@ -18,7 +19,6 @@ import shutil
 import subprocess
 import tempfile
 import time
-from typing import NamedTuple
 
 from tracedesk_ops import copies, identity, plant
 
@@ -37,20 +37,10 @@ class NoAnswer(Exception):
         self.status, self.ends = status, ends
 
 
-class End(NamedTuple):
-    """What the program read of a file: how many commands it has, its last minute, and the checksum of the one it was begun from, or nothing."""
-    commands: int
-    minute: int
-    mark: str
-
-
-class Answer(NamedTuple):
-    """The rows of an answer, each by its columns and with the file's place, and what the program read of each file; `text` is what it printed.
-    `options` are the links that are known by the checksum alone."""
-    rows: list
-    ends: list
-    text: str
-    options: list
+# what the program read of a file: how many commands it has, its last minute, and the checksum of the one it was begun from, or nothing
+End = collections.namedtuple("End", "commands minute mark")
+# the rows of an answer, each by its columns and with the file's place, and what the program read of each file; what it printed; and links that are known by the checksum alone
+Answer = collections.namedtuple("Answer", "rows ends text options")
 
 
 class Asker:

@@ -59,7 +59,17 @@ def copied(file, within=None):
 
 
 @contextlib.contextmanager
+def database(name, **how):
+    """A database. Damaged bytes in it are a fault of SQLite's, though what that says of them is no text."""
+    with contextlib.closing(sqlite3.connect(name, **how)) as it:
+        try:
+            yield it
+        except UnicodeDecodeError as fault:
+            raise sqlite3.DatabaseError(f"it has damaged bytes: {fault}") from fault
+
+
+@contextlib.contextmanager
 def opened(file, within=None):
     """A copy, as a database."""
-    with copied(file, within) as copy_of_it, contextlib.closing(sqlite3.connect(copy_of_it)) as database:
-        yield database
+    with copied(file, within) as copy_of_it, database(copy_of_it) as it:
+        yield it

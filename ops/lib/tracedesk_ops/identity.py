@@ -8,6 +8,9 @@ numbered so, the last one too, with the UniqueIDs that are carried over between 
 
     identity.of("/var/lib/tracedesk/archive/L1-20260302T0600Z-20260601T1412Z-41873").mark
 """
+import contextlib
+import csv
+import io
 import json
 import pathlib
 import re
@@ -119,3 +122,14 @@ def has_it(status, body):
     if not isinstance(answer, dict) or answer.get("Answer") != "Refused":
         raise ValueError(f"its answer has status {status}: {body[:200].strip()}")
     return answer.get("Refusal") == "IdReused"
+
+
+def rows_of(columns, status, body):
+    """The rows of a report, each by its columns, or none where the desk doesn't know what is asked; a ValueError where it is another answer."""
+    with contextlib.suppress(ValueError, AttributeError):
+        if status == 404 and (answer := json.loads(body)).get("Answer") == "NotFound" and answer.get("Kind") != "Path":
+            return None
+    header, *rows = [*csv.reader(io.StringIO(body, newline=""))] or [[]]
+    if status != 200 or ",".join(header) != columns or any(len(row) != len(header) for row in rows) or not body.endswith("\n"):
+        raise ValueError(f"is answered with status {status}: {body[:100].strip()}")
+    return [dict(zip(header, row)) for row in rows]
