@@ -25,7 +25,7 @@ plant-recall:  ## three lines in one PostgreSQL, and a recall over them, compare
 	@ops/tests/company-test >&2
 
 #: test
-test:          ## the tests: proves everything from nothing, tries wrong bodies, runs the tests and the worked rows, fails calls | 1 h | rt curl, and gcc libc6-dev, or failing calls are skipped
+test:          ## the tests: proves everything from nothing, tries wrong bodies, runs the tests and the worked cases, fails calls | 1 h | rt curl, and gcc libc6-dev, or failing calls are skipped
 	$(say)
 	@dev/test
 wrong-bodies:  ## tries all wrong bodies, those outside the tests too, and the wrong programs: each has to be refused; and asks another validator about all messages | 1 h, and up to 40 min for each of the programs | rt

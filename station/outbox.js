@@ -144,7 +144,7 @@ export class Outbox {
     this.mayHold ||= record !== null;
     this.problem = null;
     this.channel.postMessage({ answered: scan.uid });
-    this.tell({ answered: { ...scan, state: "answered", answer, status } });
+    this.tell({ answered: { ...scan, state: "answered", answer, status, recordId: record?.id } });
     this.count();
     this.answered += 1;
     if (this.answered % ANSWERED_BETWEEN_TIDYINGS === 0) {

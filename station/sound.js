@@ -1,7 +1,7 @@
 // A sound for each verdict: two rising notes, a long low one, a short one; and three equal ones for a splice that is due.
 
 const NOTES = { accepted: [[880, 0.12], [1320, 0.18]], refused: [[196, 0.5], [165, 0.5]], waiting: [[520, 0.08]], splice: [[660, 0.15], [0, 0.1], [660, 0.15], [0, 0.1], [660, 0.15]] };
-let context = null;
+let context = null, ends = 0;
 
 /** Plays the notes of a kind, where the browser lets it. */
 export function play(kind) {
@@ -17,8 +17,10 @@ export function play(kind) {
       tone.connect(volume).connect(context.destination);
       tone.start(time);
       tone.stop(time + seconds);
+      tone.addEventListener("ended", () => context?.currentTime >= ends && context.suspend()); // a context that runs uses the processor all the time
       time += seconds;
     }
+    ends = time;
   } catch {
     context = null; // a screen without a speaker
   }

@@ -13,6 +13,7 @@ import { bodyOf, Scan, WORDS } from "./scan.js";
 import { play } from "./sound.js";
 import { dayAnd } from "./known.js";
 import { Verdict, whatOf } from "./verdict.js";
+import { takenOff } from "./untraced.js";
 import { LineScreen } from "./line.js";
 import { ScanScreen } from "./history.js";
 import { ReceiveScreen } from "./receive.js";
@@ -49,7 +50,7 @@ class Station {
     this.called = new Set(); // slots whose end somebody was called for
     this.model = new Model(read, () => this.changed());
     this.outbox = new Outbox((told) => this.told(told));
-    this.verdict = new Verdict(this.model, at("verdict"), (scan) => store.see(scan.uid).catch(() => {}), (scan) => this.outbox.keepNotSent(scan).catch(() => {}), () => this.scanned());
+    this.verdict = new Verdict(this.model, at("verdict"), (scan) => store.see(scan.uid).catch(() => {}), (scan) => this.outbox.keepNotSent(scan).catch(() => {}), () => this.scanned(), (scan) => this.takenOff(scan));
     this.scan = new Scan(this);
     this.screens = Object.fromEntries(Object.entries(SCREENS).map(([screen, Kind]) => [screen, new Kind(this)]));
   }
@@ -227,6 +228,14 @@ class Station {
   /** Who sends: the station and the badge, in the range of names. */
   source() {
     return (this.badgeName === null ? this.name : `${this.name} ${this.badgeName}`).slice(0, 64).trim();
+  }
+
+  /** Somebody says of a refused reel that it was taken off: "noted" once the line's inbox has that, or why it hasn't. */
+  async takenOff(scan) {
+    if (this.badgeName === null) {
+      return "badge";
+    }
+    return (await desk.putRecord(await takenOff(scan.recordId, this.source(), clock.stamp(clock.now() ?? Date.now())))) ? "noted" : "failed";
   }
 
   /** An action, with its values. */

@@ -70,7 +70,7 @@ async function put(scan) {
 
 /** Keeps the answer to a scan. One that isn't a yes is unseen until somebody has seen it. */
 export function settle(scan, answer, status, record = null) {
-  return put({ ...scan, state: "answered", answer, status, unseen: answer.Answer !== "Accepted", ...(record ? { record } : {}) });
+  return put({ ...scan, state: "answered", answer, status, unseen: answer.Answer !== "Accepted", ...(record ? { record, recordId: record.id } : {}) });
 }
 
 async function inState(state) {

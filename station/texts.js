@@ -105,6 +105,12 @@ export const TEXTS = {
     freeUnknown: "The list of free reels could not be had.",
     close: "Scan on, or touch here",
     seen: "SEEN: touch here, or scan the same slot again",
+    off: {
+      button: "TAKEN OFF, nothing placed",
+      noted: "Noted: the reel was taken off, and nothing was placed from it",
+      badge: "NOT noted: scan your badge, then touch TAKEN OFF again",
+      failed: "NOT noted: the line's folder gave no answer. Touch TAKEN OFF again",
+    },
   },
   ask: {
     again: "{what}: the same scan before it has no answer yet. Is it meant a second time?",

@@ -59,12 +59,13 @@ export function wordsOf(scan) {
 
 export class Verdict {
   /** `isSeen` is called with each refusal that somebody has seen. */
-  constructor(model, place, isSeen, keep, changed) {
+  constructor(model, place, isSeen, keep, changed, takenOff) {
     this.model = model;
     this.place = place;
     this.isSeen = isSeen;
     this.keep = keep; // what wasn't sent
     this.changed = changed; // another thing is shown
+    this.takenOff = takenOff; // keeps that a refused reel was taken off
     this.current = null; // what the operator did last: {scan}, {fault} or {question, yes}
     this.late = []; // accepted answers to earlier scans that no one has seen yet
     this.shown = []; // those of them that are shown
@@ -244,8 +245,20 @@ export class Verdict {
     const more = el("div", { class: "more" }, this.more.get(scan.uid));
     const late = line("late", scan.isLate ? filled(texts.again, { time: clock.shown(scan.at) }) : "");
     const parts = isGreen ? [line("where", whereOf(scan)), line("life", life), more, line("facts", `${whatOf(scan)} · ${filled(answer.Archived ? texts.archived : texts.number, { number: answer.Number })}`)]
-      : [el("h2", null, title), line("todo", todo), line("where", whereOf(scan)), more, line("facts", whatOf(scan))];
+      : [el("h2", null, title), line("todo", todo), line("where", whereOf(scan)), more, line("facts", whatOf(scan)), this.off(scan)];
     return el("div", { class: `one ${kind}`, data: { scan: scan.uid } }, late, el("p", { class: "word" }, el("span", { class: "sign" }, isGreen ? "\u2713 " : "\u2717 "), word), parts);
+  }
+
+  /** By what somebody says that a refused reel was taken off, and whether that is noted: then no recall doubts pieces because of it. */
+  off(scan) {
+    if (!scan.recordId || !LOADS.includes(actionOf(scan))) {
+      return null;
+    }
+    const texts = TEXTS.verdict.off, note = async () => {
+      scan.off = await this.takenOff(scan);
+      this.show();
+    };
+    return el("div", { class: "answers off" }, scan.off === "noted" ? null : button(texts.button, note), scan.off ? el("p", { class: "todo" }, texts[scan.off]) : null);
   }
 
   /** What to do: of a reel that is on a slot the page says where. */

@@ -10,8 +10,8 @@ examples:
   dev/bench/run plant --recall                              52 archives of 810,000 pieces: 10 GB of disk, and an hour
 
 One shift of dev/lib/tracedesk_dev/shift.py is fed to the program: that is the first archive. The others, each of a line of its own, are its
-bytes with other names of boards, machines, reels and lots of the same length; the audit of the second has to be lawful.
-Each archive is loaded by ops/plant-load, by a catalogue of its own, and then removed. SQL then copies what the tables have of
+bytes with other names of boards, machines, reels and lots of the same length; the audit of the second must be lawful.
+Each archive is loaded by ops/plant-load, by a catalogue of its own, and then removed. SQL then copies the rows of
 the first one, by the same statements and with other names, until there are --files. Two reels in five of the files become the lot.
 PostgreSQL has its default settings, and fsync is on; while SQL copies, it is off, and no log is written. Cold is after a
 new start of it, with its files out of the system's cache.
@@ -21,10 +21,10 @@ pieces in two of them is asked for, and a board, by tracedesk-chain and by ops/r
 reading, so that is compared. tracedesk-chain is the one next to the program, or that of CHAIN. PostgreSQL isn't needed then.
 
 --folder   where all of it lies; it is new, and is removed at the end
---archives made by the program: 52 with --recall, else 4; the last is loaded when all others are there
+--archives made by the program: 52 with --recall, else 4; the last is loaded after all others
 --boards   of the shift: 1,040 place 200,000 pieces
 --files    in the tables, with those that SQL copies
---minutes  nothing more is made after so many; what is there is asked
+--minutes  nothing more is made after so many; the questions are about the files made by then
 --pieces   of each archive of --recall
 """
 import contextlib

@@ -35,7 +35,7 @@ def sizes(crate):
         return [it for it in (crate / folder).rglob("*.antt") if "tests" not in it.parts]
 
     sources = list((crate / "src").rglob("*.rt"))
-    code = [it for it in sources if it.name != "tests.rt" and "tests" not in it.parts]
+    code = [it for it in sources if it.name != "tests.rt" and "tests" not in it.parts and not crate.name.endswith("_tests")]
     texts = [it.read_text(encoding="utf-8") for it in code]
     return [
         lines(code, "//"),

@@ -1,38 +1,38 @@
-"""Fails each call of the program in turn, and looks whether what it answered is there, and acts once when sent again.
+"""Fails each call of the program in turn, and looks whether each answered command is in its file, and acts once when sent again.
 
 usage: dev/faults/run calls [--program FILE] [--jobs N] [--most N] [--seconds N] [--patience N] [--seed N] [--only WORD]
                             [--folder FOLDER] [PART..]
-       dev/faults/run calls --planted    calls that are told as done and are not, which have to be found out
-       dev/faults/run calls --gate       what `make test` tries of it, in two minutes on four cores
+       dev/faults/run calls --planted    calls that report success without it, which must be found
+       dev/faults/run calls --gate       the part of `make test`, in two minutes on four cores
 
 The parts, all of them where none is named:
-  wire    each read of what is given and each write of what is answered: it fails, or one byte goes, or none; and the
+  wire    each read of input and each write of an answer: it fails, or one byte goes, or none; and the
           same with all of them in pieces of one byte, so that it fails at each place of the bytes.
   memory  each allocation is refused, alone, and together with all that come after it.
   disk    each read, write, sync and other call on the desk's file, its log and their folder: it fails, once or from
-          there on; it fails in the midst of what it does, or behind it; or it does a part of it, and no error is told.
+          there on; it fails in the middle, or at its end; or it does a part of it and reports no error.
   kill    the program is killed at each change of the disk, in the midst of each, and at each answer.
-  power   the power fails at each change of the disk and behind each answer: of what was not synced any part is lost,
+  power   the power fails at each change of the disk and behind each answer: any part of the unsynced bytes is lost,
           by writes, by sectors and by bytes, and past the synced end there may be anything. Also while the file is
           opened again after that, and after a sync that failed, whose writes may be lost for good.
 
-What is run are `feed` (with a file, and in memory), the two imports, `migrate` and `audit` on worked rows, and `serve`
+It runs `feed` (with a file, and in memory), the two imports, `migrate` and `audit` on worked cases, and `serve`
 and `report` where the program has them. Where there are more than --most points in one of these, a seeded choice of so
 many is taken. A run goes on undisturbed, and before each call that is a point a copy of its process is made, with copies
-of its files, in which the call fails: so what came before is done once for all of them. The connection of `serve` is a
+of its files, in which the call fails: so the calls before it are made once for all of them. The connection of `serve` is a
 pair of files, and only each 25th copy gives memory back, since that would cost most of the time. After each failure:
   - the answers are those of an undisturbed run of the lines that were not answered Unavailable, and the last of them
-    may be cut; the status and what was told are the ones for such a failure;
-  - `audit` says lawful, and the tables are those of the lines that were answered, or of one more that was at hand;
+    may be cut; the status and the messages are the ones for such a failure;
+  - `audit` says lawful, and the tables are those of the lines that were answered, or of one more that was being answered;
   - everything sent again to the file that was left is answered as an undisturbed desk answers it a second time, and
     the tables are that desk's.
   - where one allocation alone was refused, at most one answer is Unavailable.
 Wanted are a C compiler, cc, and Python 3.11. `dev/faults/run calls --only import wire` tries a little of it.
 
-With --gate every point is tried of: `wire` of `feed` and `serve` on the first row; `memory` of `feed` and `serve` on it, and of the
+With --gate every point is tried of: `wire` of `feed` and `serve` on the first case; `memory` of `feed` and `serve` on it, and of the
 imports; `disk`, `kill` and `power` of `feed` with a file, and of `migrate`. Of all others one point in eight is tried, by a
-seed that is the commit's hash. Then what --planted has of `feed`, which has to be found out. The last line is 'N passed,
-M failed', over the parts of each story and the planted faults. Without a C compiler it is told as skipped, with status 0.
+seed that is the commit's hash. Then the part of --planted for `feed`, which must be found. The last line is 'N passed,
+M failed', over the parts of each story and the planted faults. Without a C compiler it is reported as skipped, with status 0.
 """
 import collections
 import concurrent.futures
@@ -125,7 +125,7 @@ def ended(process, patience):
 class Story:
     """What the program is asked, in parts that get an answer each: the lines of `feed`, requests, or one command.
 
-    `start` has the desk's files before it, `beside` other files, and `wanted` the answers that a worked row has.
+    `start` has the desk's files before it, `beside` other files, and `wanted` the answers that a worked case has.
     """
 
     def __init__(self, asked, name, words, parts, start=None, beside=None, wanted=None):
@@ -648,41 +648,41 @@ def power(story, counts, always="", one_in=1):
 
 
 # ---- what is run ---------------------------------------------------------------------------------------------------
-def steps_of(asked, row):
-    return json.loads((asked.rows / row / "row.json").read_text())["steps"]
+def steps_of(asked, case):
+    return json.loads((asked.cases / case / "case.json").read_text())["steps"]
 
 
-def lines_of(asked, row, name):
-    return (asked.rows / row / name).read_bytes().splitlines()
+def lines_of(asked, case, name):
+    return (asked.cases / case / name).read_bytes().splitlines()
 
 
-def fed(asked, row):
-    """`feed` of a row's messages into a file."""
-    said = [line + b"\n" for line in lines_of(asked, row, "messages.jsonl")]
-    return Story(asked, f"feed {row}", ["feed", "--db", "desk"], said, wanted=lines_of(asked, row, "answers.jsonl"))
+def fed(asked, case):
+    """`feed` of a case's messages into a file."""
+    said = [line + b"\n" for line in lines_of(asked, case, "messages.jsonl")]
+    return Story(asked, f"feed {case}", ["feed", "--db", "desk"], said, wanted=lines_of(asked, case, "answers.jsonl"))
 
 
-def in_memory(asked, row):
-    it = fed(asked, row)
+def in_memory(asked, case):
+    it = fed(asked, case)
     it.words, it.has_desk = ["feed"], False
     return it
 
 
-def fed_files(asked, row):
-    """The desk's files after a row's messages."""
-    story = fed(asked, row)
+def fed_files(asked, case):
+    """The desk's files after a case's messages."""
+    story = fed(asked, case)
     return story.plainly(story.all, {})[2]
 
 
-def imported(asked, row):
-    """The first import of a row that is accepted, on the desk of its messages."""
+def imported(asked, case):
+    """The first import of a case that is accepted, on the desk of its messages."""
     text = {}
-    for step in steps_of(asked, row):
+    for step in steps_of(asked, case):
         if "write" in step:
             text = {step["write"]: step["text"].encode()}
         if step.get("answer", {}).get("Answer") == "Accepted":
             wanted = json.dumps(step["answer"], separators=(",", ":")).encode() + b"\n"
-            return Command(asked, f"{step['run'][0]} {row}", step["run"], [b""], fed_files(asked, row), text, [wanted])
+            return Command(asked, f"{step['run'][0]} {case}", step["run"], [b""], fed_files(asked, case), text, [wanted])
 
 
 def spelled(status, kind, body):
@@ -702,9 +702,9 @@ def report_of(story, count, target):
     return spelled(b"200 OK", b"text/csv", text)
 
 
-def served(asked, row, targets):
-    """A row's messages as requests, a report after each of them, and the first message once more."""
-    feeding = fed(asked, row)
+def served(asked, case, targets):
+    """A case's messages as requests, a report after each of them, and the first message once more."""
+    feeding = fed(asked, case)
     posts = [b"POST /messages HTTP/1.1\r\nContent-Length: %d\r\n\r\n%s" % (len(line) - 1, line[:-1]) for line in feeding.parts]
     told = [spelled(b"200 OK", b"application/json", answer) for answer in feeding.wanted]
     parts, wanted = [posts[0]], [told[0]]
@@ -712,15 +712,15 @@ def served(asked, row, targets):
         target = targets[number % len(targets)]
         parts += [post, b"GET %s HTTP/1.1\r\n\r\n" % target.encode()]
         wanted += [told[number], report_of(feeding, number + 1, target)]
-    return Served(asked, f"serve {row}", ["serve", "--db", "desk"], parts, wanted=wanted)
+    return Served(asked, f"serve {case}", ["serve", "--db", "desk"], parts, wanted=wanted)
 
 
-def of_version_1(asked, row):
-    """The file of version 1 that a row makes by SQL."""
+def of_version_1(asked, case):
+    """The file of version 1 that a case makes by SQL."""
     with tempfile.TemporaryDirectory(dir=asked.rooms.folder) as folder:
         file = pathlib.Path(folder, "desk")
         with contextlib.closing(sqlite3.connect(file)) as database:
-            for step in steps_of(asked, row):
+            for step in steps_of(asked, case):
                 if "change" in step:
                     database.executescript(step["sql"])
         return {"desk": file.read_bytes()}
@@ -732,22 +732,22 @@ REPORTS = {
 }
 
 
-def migrating(asked, row):
-    return Command(asked, f"migrate {row}", ["migrate", "--db", "desk"], [b""], of_version_1(asked, row), wanted=[b"version 2\n"])
+def migrating(asked, case):
+    return Command(asked, f"migrate {case}", ["migrate", "--db", "desk"], [b""], of_version_1(asked, case), wanted=[b"version 2\n"])
 
 
-def auditing(asked, row):
-    count = sum(line.startswith(b'{"Answer":"Accepted"') for line in lines_of(asked, row, "answers.jsonl"))
-    return Command(asked, f"audit {row}", ["audit", "--db", "desk"], [b""], fed_files(asked, row), wanted=[b"lawful %d\n" % count])
+def auditing(asked, case):
+    count = sum(line.startswith(b'{"Answer":"Accepted"') for line in lines_of(asked, case, "answers.jsonl"))
+    return Command(asked, f"audit {case}", ["audit", "--db", "desk"], [b""], fed_files(asked, case), wanted=[b"lawful %d\n" % count])
 
 
 def reporting(name):
     target, text = REPORTS[name]
-    return lambda asked, row: Command(asked, f"report {name} {row}", ["report", "--db", "desk", "--get", target], [b""], fed_files(asked, row), wanted=[text])
+    return lambda asked, case: Command(asked, f"report {name} {case}", ["report", "--db", "desk", "--get", target], [b""], fed_files(asked, case), wanted=[text])
 
 
 def serving(*targets):
-    return lambda asked, row: served(asked, row, targets)
+    return lambda asked, case: served(asked, case, targets)
 
 
 MOVED = "a_reel_moved_to_another_slot"
@@ -763,10 +763,10 @@ STORIES = (
 
 def stories(asked):
     """What is run."""
-    for name, row, make in STORIES:
-        if re.match("[a-z-]+", name)[0] in asked.commands and (asked.only or "") in f"{name} {row}":
-            it = make(asked, row)
-            it.name = f"{name} {row}"
+    for name, case, make in STORIES:
+        if re.match("[a-z-]+", name)[0] in asked.commands and (asked.only or "") in f"{name} {case}":
+            it = make(asked, case)
+            it.name = f"{name} {case}"
             yield it
 
 
@@ -860,7 +860,7 @@ def part_of(asked, name, story):
     """Tries a part of a story, tells it in a line, and gives how many points there were and what was found."""
     begun = time.monotonic()
     if story.wanted is not None and story.known(story.all).answers != story.wanted:
-        count, seen, found = 0, {}, [f"an undisturbed run has not the row's answers, but {story.known(story.all).answers!r}"]
+        count, seen, found = 0, {}, [f"an undisturbed run has not the case's answers, but {story.known(story.all).answers!r}"]
     else:
         count, seen, found = tried(asked, points_for(asked, name, story), story, begun + asked.seconds)
     time_up = ", and its time was up" if time.monotonic() - begun > asked.seconds else ""
@@ -907,7 +907,7 @@ def gate(asked, points, ends):
 
 def words(reader):
     program.offer(reader)
-    reader.add_argument("--rows", type=pathlib.Path, default=ROOT / "rows")
+    reader.add_argument("--cases", type=pathlib.Path, default=ROOT / "cases")
     reader.add_argument("--jobs", type=int, default=max(1, (os.cpu_count() or 2) // 2))
     reader.add_argument("--most", type=int, default=1_000_000)
     reader.add_argument("--seconds", type=float, default=1_800, help="how long one story of a part goes on at most")

@@ -2,6 +2,7 @@
 import random
 import time
 
+from tracedesk_dev.program import Ticks
 from station_flows import REELS, accepted, folder, plant
 from station_random import LossySite
 from station_site import Difference, Operator, wait_for
@@ -88,6 +89,8 @@ class Page:
         words = LOADS if word in LOADS and not (is_away and ("LOAD" in told["held"] or "SPLICE" in told["held"])) else (word,)
         is_lost = not made and ((told["asked"] and not command.yes) or (shown["kind"] == "fault" and "DROPPED" in shown["text"]))
         is_kept = len(made) == 1 and made[0]["word"] in words and made[0]["body"] == body
+        if is_away and shown["kind"] == "accepted":
+            raise Difference(f"{command}: green without an answer of the desk: {told}")
         if not (is_kept or is_lost) or (is_away and (told["asked"], is_lost) != (is_same and word in TAKES, is_same and not (word in TAKES and command.yes))):
             raise Difference(f"{command}, wanted {word} {body} once, or to be told of its loss; unanswered are {[(str(one), kind) for one, kind, _ in self.waiting[-5:]]}: {told}")
         if is_kept:
@@ -165,10 +168,10 @@ def one_round(site, it, dice, outage, count):
 
 def commands_under_outages(site, count=COMMANDS, seed=1):
     """Random commands, a third of them as one before, while answers are lost, the desk or the proxy is killed or slow."""
-    dice, sums, begun = random.Random(seed), [0, 0, 0], time.monotonic()
+    dice, sums, begun, ticks = random.Random(seed), [0, 0, 0], time.monotonic(), Ticks()
     with LossySite(site.program, folder(), dice) as lossy:
         plant(lossy)
-        with Operator(lossy) as it:
+        with Operator(lossy, size=(1024, 600)) as it:
             it.ready()
             it.page.set_script_timeout(600)
             for turn in range(count // ROUND):
@@ -177,6 +180,7 @@ def commands_under_outages(site, count=COMMANDS, seed=1):
                     sums = [a + b for a, b in zip(sums, one_round(lossy, it, dice, outage, ROUND))]
                 except Difference as fault:
                     raise Difference(f"seed {seed}, round {turn} ({outage}): {fault}") from None
+                ticks.tell(f"{ROUND * (turn + 1)} of {count} commands: {sums} messages, accepted, lost")
     made, acted, lost = sums
     return f"{count} commands under {count // ROUND} outages in {time.monotonic() - begun:.0f} s: {made} messages, {acted} accepted once, {lost} losses shown and scanned again"
 

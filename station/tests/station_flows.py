@@ -1,12 +1,12 @@
 """What an operator does at the station, and what fails in the midst of it: each flow on a desk of its own."""
 import collections
 import concurrent.futures
+import contextlib
 import csv
 import http.server
 import io
 import json
 import os
-import random
 import re
 import shutil
 import sqlite3
@@ -41,7 +41,7 @@ def plant(site, selected=("M1", "M2")):
 def accepted(site):
     """How often each UniqueID is in the desk's file, and the messages' sources."""
     site.report("/overdue")
-    with sqlite3.connect(site.room / "copy") as database:
+    with contextlib.closing(sqlite3.connect(site.room / "copy")) as database:
         return collections.Counter(uid for (uid,) in database.execute("SELECT uid FROM accepted"))
 
 
@@ -227,48 +227,6 @@ def refused_by_the_state(site, it, refused):
     subprocess.run([site.program, "feed", "--db", site.room / "desk", "--greatest", "1"], input=json.dumps(old).encode(), capture_output=True, check=True)
     site.start_desk()
     refused("DeskFull", "A/OPEN", "K-2")
-
-
-def a_kill_of_the_desk_in_mid_scan(site):
-    """The desk is killed at a random moment of each of twelve scans; of four it is killed before it reads them."""
-    dice, count = random.Random(1), 12
-    with Operator(site) as it:
-        it.ready()
-        for turn in range(count):
-            if turn % 3 == 0:
-                site.pause_desk()
-            it.scan("A/OPEN", f"K-{turn % 8 + 1}") if turn < 8 else it.scan("A/SEAL", f"K-{turn % 8 + 1}")
-            time.sleep(dice.random() * 0.1)
-            site.kill_desk()
-            if turn % 3 == 0 and it.script("return document.getElementById('verdict').className") == "accepted":
-                raise Difference("green without an answer of the desk")
-            time.sleep(0.2)
-            site.start_desk()
-            it.verdict(("accepted",))
-        whole(site, it, count)
-    return f"{count} scans, {count} kills: each acted once"
-
-
-def a_stop_of_nginx_in_mid_scan(site):
-    """Without a network for a while: five scans are kept, go out in their order, and the screen says what it doesn't know."""
-    with Operator(site) as it:
-        it.ready()
-        site.stop_nginx()
-        for reel in ("K-1", "K-2", "K-3"):
-            it.scan("A/OPEN", reel)
-        it.scan("S/M1/1", "K-1", "S/M1/1", "K-3")
-        wait_for("five scans wait", lambda: "5 scans have no answer" in it.text("waiting"))
-        kind = it.script("return document.getElementById('verdict').className")
-        it.scan("A/OPEN", "K-2")
-        again = it.verdict()[1]
-        if kind != "asked" or "DROPPED: open K-2" not in again:
-            raise Difference(f"without a network: {kind}, {again}")
-        wait_for("it says that the desk does not answer", lambda: "OLD" in it.text("state"), 40)
-        site.start_nginx()
-        scans = whole(site, it, 5)
-    if [scan["word"] for scan in scans] != ["ReelOpened"] * 3 + ["MaterialsLoaded", "MaterialsSpliced"]:
-        raise Difference(f"{[scan['word'] for scan in scans]}")
-    return "5 scans were kept, sent in their order, and acted once; one that was scanned again was not made a second"
 
 
 def a_kill_of_the_browser_in_mid_scan(site):
@@ -620,7 +578,7 @@ def one_accepted_one_refused_one_repeated(site):
 
 
 SHORT = [one_accepted_one_refused_one_repeated]
-FLOWS = [a_shift_from_the_printed_page, each_refusal_in_words, a_kill_of_the_desk_in_mid_scan, a_stop_of_nginx_in_mid_scan, a_kill_of_the_browser_in_mid_scan, a_desk_that_is_stopped_for_a_copy,
+FLOWS = [a_shift_from_the_printed_page, each_refusal_in_words, a_kill_of_the_browser_in_mid_scan, a_desk_that_is_stopped_for_a_copy,
          hostile_names, a_trace_is_the_report, a_changeover_counts_what_is_mounted, readers_may_only_read, another_site_commands_nothing, certificates_read_or_send, ten_stations_ask_once, two_tabs_of_one_browser, a_plant_changes_texts_and_set_up]
 
 

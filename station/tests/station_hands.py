@@ -7,6 +7,7 @@ import time
 from station_flows import SETUP, type_label, whole
 from station_line import shown_rows, view
 from station_site import Difference, Operator, wait_for
+from tracedesk_ops import doubtful, untraced
 
 DAY = 86_400_000  # milliseconds
 SIZES = [(800, 480), (1024, 600), (1280, 800), (1920, 1080), (800, 1280)]
@@ -136,6 +137,29 @@ def what_is_held_is_forgotten(site):
 # --- The tablet's disk, the proxy
 
 
+def records(site):
+    return [json.loads(file.read_bytes()) for file in (site.room / "line/untraced").glob("*.json")]
+
+
+def taken_off(site, it):
+    """Says of the refused reel that is shown that it was taken off, first without a badge, and then while the line's folder is away."""
+    press, said, folder = "document.querySelector('#verdict .off button').click()", "return document.querySelector('#verdict .off')?.innerText ?? ''", site.room / "line/untraced"
+    it.script(press)
+    wait_for("a badge is wanted", lambda: "scan your badge" in it.script(said))
+    it.scan("B/anna")
+    wait_for("the refused load is there", lambda: records(site))
+    folder.rename(folder.with_name("away"))
+    it.script(press)
+    wait_for("it is not noted", lambda: "gave no answer" in it.script(said))
+    folder.with_name("away").rename(folder)
+    it.script(press)
+    wait_for("it is noted", lambda: it.script(said).startswith("Noted"))
+    (decided,) = [untraced.record_of(file.read_bytes()) for file in folder.glob("*.json") if b'"decided"' in file.read_bytes()]
+    told = decided.told
+    if not (folder / f"{decided.id}.json").exists() or not (folder / f"{told['Of']}.json").exists() or told["Became"] != doubtful.TAKEN_OFF or "anna" not in told["By"]:
+        raise Difference(f"a decision: {told}")
+
+
 def untraced_work_is_red(site):
     """A refused report of work stands on Line until it is decided, and so does a load without an answer."""
     refused = {"Answer": {"Answer": "Refused", "Refusal": "Expired", "At": "K-1"}, "At": "2026-03-02T06:00:00Z", "Id": "a" * 32,
@@ -148,9 +172,10 @@ def untraced_work_is_red(site):
         wait_for("the refusal", lambda: all(word in it.script(first) for word in ("M1", "WorkStarted", "SN-7", "Expired", "Put the board aside")))
         (status / "untraced.json").write_text(json.dumps({"Decided": ["a" * 32], "Undecided": [], "Version": 1}))
         wait_for("it is decided", lambda: "SN-7" not in it.script(first))
-        it.does("S/M1/1", "K-2", kind="refused")
+        it.does("S/M1/1", "K-2", kind="refused", holds=("TAKEN OFF",))
+        taken_off(site, it)
         it.seen()
-        inbox = lambda: [json.loads(file.read_bytes())["Message"]["MessageBody"] for file in (site.room / "line/untraced").glob("*.json")]
+        inbox = lambda: [it["Message"]["MessageBody"] for it in records(site) if it["Kind"] == "refused"]
         wait_for("the refused load is recorded", lambda: inbox() == [{"Machine": "M1", "Slot": "1", "Reel": "K-2"}])
         site.kill_desk()
         it.does("S/M1/1", "K-3", kind="asked", holds=("NOT VERIFIED", "don't run this slot"))
@@ -159,16 +184,6 @@ def untraced_work_is_red(site):
         site.start_desk()
         wait_for("it is verified", lambda: it.script(first) == "")
     return "a refusal that is decided, a refused load that is recorded, and a load that is answered"
-
-
-def ambiguous_codes_are_reported(site):
-    """Set-ups by which one code may be read as another."""
-    wrong = ({"badge": "A/{badge}"}, {"slot": "A/{machine}/{slot}"}, {"badge": "S/{badge}"}, {"action": "[)>{action}"}, {"action": "K{action}"})
-    for codes in wrong:
-        site.set_up({**SETUP, "codes": codes})
-        with Operator(site, name="Z", setup="wrong") as it:
-            wait_for(f"{codes} is reported", lambda: "no usable set-up" in it.text("main"))  # noqa: B023
-    return f"{len(wrong)} set-ups"
 
 
 def a_disk_that_fails_once(site):
@@ -415,18 +430,20 @@ def control_keys(it, ActionChains, Keys):
         raise Difference(f"Ctrl with M and J: {it.text('verdict')} {it.script('return window.kept')}")
 
 
-def two_slots_of_one_code(site):
-    """A form of codes under which a slot of one machine is read as one of another is no set-up; names with braces are scanned."""
+def codes_that_may_be_read_as_others(site):
+    """A form of codes under which a code is read as another one is no set-up; names with braces are scanned."""
     site.say("SheetDefined", {"Product": "CTRL-A", "Machine": "M{1}", "Rows": [{"Slot": "1", "PartNumber": "CAP", "Designators": ["C1"]}]})
     site.say("ProductSelected", {"Machine": "M{1}", "Product": "CTRL-A"})
-    for machines, slot in ((("M1", "M11"), "S{machine}{slot}"), (("M1", "M1/2"), "S/{machine}/{slot}"), (("M1", "M1"), "S/{machine}/{slot}")):
-        site.set_up({**SETUP, "machines": [{"machine": name} for name in machines], "codes": {"slot": slot}})
+    wrong = [(SETUP["machines"], codes, "no usable set-up") for codes in ({"badge": "A/{badge}"}, {"slot": "A/{machine}/{slot}"}, {"badge": "S/{badge}"}, {"action": "[)>{action}"}, {"action": "K{action}"})]
+    wrong += [([{"machine": it} for it in names], {"slot": slot}, "may be read as") for names, slot in ((("M1", "M11"), "S{machine}{slot}"), (("M1", "M1/2"), "S/{machine}/{slot}"), (("M1", "M1"), "S/{machine}/{slot}"))]
+    for machines, codes, told in wrong:
+        site.set_up({**SETUP, "machines": machines, "codes": codes})
         with Operator(site, name="W2", setup="wrong") as it:
-            wait_for("it is told", lambda: "may be read as" in it.script("return document.getElementById('main').textContent"))
+            wait_for(f"{codes} of {machines} is reported", lambda: told in it.text("main"))  # noqa: B023
     site.set_up({**SETUP, "machines": [{"machine": "M1", "product": "CTRL-A"}, {"machine": "M11"}, {"machine": "M{1}", "product": "CTRL-A"}]})
     with Operator(site) as it:
         it.ready().does("S/M{1}/1", "K-1", holds=("LOADED", "M{1} slot 1"))
-    return "3 forms refused; a slot of M{1} loaded"
+    return f"{len(wrong)} set-ups refused; a slot of M{{1}} loaded"
 
 
 # --- What is seen, heard and touched
@@ -564,5 +581,5 @@ def each_size_of_a_screen(site):
     return f"{len(SIZES)} sizes, 20 verdicts and {touched} things to touch; {len(SMALLEST)} smaller ones"
 
 
-FLOWS = [a_servers_clock_that_jumps, a_tablet_that_slept, what_is_held_is_forgotten, untraced_work_is_red, ambiguous_codes_are_reported, a_disk_that_fails_once, whether_it_may_send_is_asked_again, a_sheet_is_asked_for_again, a_refusal_stays, a_late_refusal_stays, a_mounted_reel_is_said_to_be_where_it_is,
-         a_name_is_no_number, typing_with_pauses_and_touches, two_slots_of_one_code, quiet_for_who_listens, each_size_of_a_screen]
+FLOWS = [a_servers_clock_that_jumps, a_tablet_that_slept, what_is_held_is_forgotten, untraced_work_is_red, a_disk_that_fails_once, whether_it_may_send_is_asked_again, a_sheet_is_asked_for_again, a_refusal_stays, a_late_refusal_stays, a_mounted_reel_is_said_to_be_where_it_is,
+         a_name_is_no_number, typing_with_pauses_and_touches, codes_that_may_be_read_as_others, quiet_for_who_listens, each_size_of_a_screen]

@@ -75,50 +75,6 @@ def letters_stand_out(site):
     return f"{len(seen)} texts, the weakest {min(text['ratio'] for text in seen):.1f} to 1"
 
 
-def all_is_on_the_screen(site):
-    """At 1080p two machines stand on Line without scrolling, in letters that are read from two metres; nothing is cut off at the sides of a tablet."""
-    smallest = 99
-    with Operator(site) as it:
-        set_up(it)
-        it.go("line")
-        if (over := it.script(SIZES)) and max(over) > 0:
-            raise Difference(f"Line at 1080p: beyond the screen by {over}")
-        smallest = it.script("return Math.min(...[...document.querySelectorAll('#main td')].map((cell) => parseFloat(getComputedStyle(cell).fontSize)))")
-        if smallest < 22:
-            raise Difference(f"a cell of Line has letters of {smallest} pixels")
-    with Operator(site, name="W2", size=TABLET) as it:
-        it.ready()
-        for screen in SCREENS:
-            it.go(screen)
-            _, inside, outside = it.script(SIZES)
-            if outside > 0 or (inside > 0 and screen != "trace"):
-                raise Difference(f"{screen} on a tablet: wider than the screen by {inside}, {outside}")
-    return f"Line of two machines without scrolling, letters of {smallest:.0f} pixels and more; {len(SCREENS)} screens on a tablet"
-
-
-def the_keyboard_alone(site):
-    """Each screen is reached by Tab and Enter, what has the focus is seen, and a scan is taken wherever it is."""
-    from selenium.webdriver.common.keys import Keys
-    with Operator(site) as it:
-        it.ready()
-        for number, screen in enumerate(SCREENS):
-            def at_its_button():
-                it.keys(Keys.TAB)
-                return it.script("return [...document.querySelectorAll('#screens button')].indexOf(document.activeElement)") == number  # noqa: B023
-            for _ in range(80):
-                if at_its_button():
-                    break
-            else:
-                raise Difference(f"80 times Tab and not at the button of {screen}")
-            if it.script("return getComputedStyle(document.activeElement).outlineStyle") == "none":
-                raise Difference(f"the focus is not seen at {screen}")
-            it.keys(Keys.ENTER)
-            wait_for(screen, lambda: it.script("return document.getElementById('main').className") == screen)  # noqa: B023
-        it.go("line")
-        it.does("S/M1/1", "K-1", holds=("LOADED",))
-    return f"{len(SCREENS)} screens by Tab and Enter, and a scan behind them"
-
-
 def printed_codes_are_read_back(site):
     """The sheet of action codes and of slots with long names, as it is printed, read by zbar."""
     slots = {f"{name}-LONG-NAME-OF-A-MACHINE-OF-A-PLANT": "SLOT-OF-A-FEEDER-WITH-A-NAME" + more for name, more in (("A", ""), ("B", "-THAT-IS-TOO-LONG-TO-PRINT"))}
@@ -142,7 +98,7 @@ def printed_codes_are_read_back(site):
     return f"{len(wanted)} codes of {max(map(len, wanted))} letters at most; {len(longer)} is said to be too long"
 
 
-FLOWS = [letters_stand_out, all_is_on_the_screen, the_keyboard_alone, printed_codes_are_read_back]
+FLOWS = [letters_stand_out, printed_codes_are_read_back]
 
 
 # --- Pictures for docs/station.md

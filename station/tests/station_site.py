@@ -57,6 +57,13 @@ def free_ports(count):
         return [it.getsockname()[1] for it in links]
 
 
+def certificate(folder, name, subject, by=None):
+    """A key and a certificate for localhost; one that signs itself, or by another's key."""
+    words = "openssl req -x509 -newkey ec -pkeyopt ec_paramgen_curve:P-256 -nodes -days 9 -addext subjectAltName=DNS:localhost"
+    signed = ["-CA", folder / f"{by}.crt", "-CAkey", folder / f"{by}.key"] if by else []
+    subprocess.run([*words.split(), *signed, "-subj", f"/CN={subject}", "-keyout", folder / f"{name}.key", "-out", folder / f"{name}.crt"], check=True, capture_output=True)
+
+
 class Site:
     """A desk, its nginx, and what both write, in a folder that goes away."""
 
@@ -95,9 +102,8 @@ class Site:
 
     def make_secrets(self):
         at = self.room / "etc"
-        subprocess.run(["openssl", "req", "-x509", "-newkey", "ec", "-pkeyopt", "ec_paramgen_curve:P-256", "-nodes", "-days", "9", "-subj", "/CN=localhost",
-                        "-addext", "subjectAltName=DNS:localhost", "-keyout", at / "server.key", "-out", at / "server.crt"], check=True, capture_output=True)
-        self.sign("clients", "trace desk clients")
+        certificate(at, "server", "localhost")
+        certificate(at, "clients", "trace desk clients")
         for name in CERTIFICATES:
             self.sign(name, name, "clients")
         (at / "certificates.conf").write_text("".join(f'"~^CN={name}$" sender;\n' for name, may in CERTIFICATES.items() if may == "sender"))
@@ -105,12 +111,8 @@ class Site:
         (at / "readers").write_text("".join(lines.values()))
         (at / "senders").write_text("".join(line for name, line in lines.items() if PEOPLE[name] == "senders"))
 
-    def sign(self, name, subject, by=None):
-        """Makes a key and a certificate; one that signs itself, or by another's key."""
-        at = self.room / "etc"
-        signed = ["-CA", at / f"{by}.crt", "-CAkey", at / f"{by}.key"] if by else []
-        subprocess.run(["openssl", "req", "-x509", "-newkey", "ec", "-pkeyopt", "ec_paramgen_curve:P-256", "-nodes", "-days", "9", "-subj", f"/CN={subject}", *signed,
-                        "-keyout", at / f"{name}.key", "-out", at / f"{name}.crt"], check=True, capture_output=True)
+    def sign(self, *how):
+        certificate(self.room / "etc", *how)
 
     def write_proxy(self):
         """The packaged configuration, with the paths and the ports of this folder."""
@@ -128,8 +130,11 @@ class Site:
         (self.room / "nginx.conf").write_text(f"{user} daemon off; pid {self.room}/nginx.pid; error_log {self.room}/log/error.log; events {{}}\n"
                                               f"http {{ include /etc/nginx/mime.types; default_type application/octet-stream; {temporary} include {self.room}/tracedesk.conf; }}\n")
 
+    def proxy_words(self):
+        return [shutil.which("nginx", path=os.environ["PATH"] + ":/usr/sbin"), "-c", self.room / "nginx.conf", "-e", self.room / "log/start.log"]
+
     def start_nginx(self):
-        self.nginx = subprocess.Popen(["nginx", "-c", self.room / "nginx.conf", "-e", self.room / "log/start.log"], start_new_session=True, env={**os.environ, "PATH": os.environ["PATH"] + ":/usr/sbin"})
+        self.nginx = subprocess.Popen(self.proxy_words(), process_group=0)
         wait_for("nginx listens", lambda: self.nginx.poll() is None and socket.create_connection(("127.0.0.1", self.port), 1).close() is None)
 
     def stop_nginx(self):
@@ -164,7 +169,9 @@ class Site:
             self.desk = None
 
     def pause_desk(self):
+        """Stops the desk where it is; it may be in the midst of a checkpoint until the kernel says that it is stopped."""
         self.desk.send_signal(signal.SIGSTOP)
+        wait_for("the desk is stopped", lambda: "\nState:\tT" in pathlib.Path(f"/proc/{self.desk.pid}/status").read_text())
 
     def resume_desk(self):
         self.desk.send_signal(signal.SIGCONT)

@@ -6,6 +6,7 @@ desk may be put off, killed, or given a fault, as the seed of the run says. Time
 import contextlib
 import errno
 import fcntl
+import gzip
 import hashlib
 import importlib.machinery
 import importlib.util
@@ -13,6 +14,7 @@ import json
 import os
 import pathlib
 import random
+import shutil
 import ssl
 import sys
 import threading
@@ -24,6 +26,9 @@ from tracedesk import answers, console, desk, forms, send, sender, spool
 
 BRIDGE = pathlib.Path(__file__).resolve().parents[3] / "examples/bridge/tracedesk-bridge"
 TABLE = {"Name": "/kind", "Messages": {"part": [{"Word": "PartDefined", "UniqueID": "{/uid}", "Source": "{/from}", "TimeStamp": "2026-03-02T06:00:00Z", "Members": {"PartNumber": "{/uid}"}}]}}
+ROTATIONS = ("numbers", "counted on", "a date behind", "a date inside", "a date before", "own", "copied")
+BEFORE = 150  # bytes by which a log is known again: two lines and more
+BEGUN = 1_772_431_200.0  # seconds: what a rotated file's time is at the beginning of a run
 REAL = types.SimpleNamespace(flock=fcntl.flock, time=time.time, **{name: getattr(os, name) for name in ("write", "pwrite", "pread", "rename", "open", "replace")}, unlink=pathlib.Path.unlink)
 
 
@@ -386,6 +391,8 @@ def modelled(bridge):
         patch(sender, "threading", types.SimpleNamespace(Event=Event, Thread=Thread))
         patch(desk.http.client, "HTTPConnection", Way)
         patch(forms, "LONGEST_MESSAGE", 2000)
+        if bridge:
+            patch(bridge.sources, "BEFORE", BEFORE)
         patch(fcntl, "flock", lambda handle, how: World.now.flock(handle, how))
         patch(os, "fsync", lambda handle: World.now.fsync(handle))
         for name in ("write", "pwrite", "pread", "rename", "open"):
@@ -406,7 +413,8 @@ class Run:
         self.world, self.chance, self.bridge = world, world.chance, bridge
         self.wanted = {}  # of each source the messages, in order, each with what becomes of it
         self.files, self.lines, self.puts = self.made("folder", 9), self.made("log", 9, said=True), self.made("put", 5)
-        self.log, self.old, self.number, self.logged = None, None, 0, 0
+        self.log, self.number, self.rotation, self.is_clock_wrong = None, 0, self.chance.choice(ROTATIONS), self.chance.random() < 0.25
+        self.haste = self.chance.choice((1, 0.5, 0.1))  # of whoever starts the bridge again
         self.sender = self.bridging = self.copied = None
 
     def made(self, source, most, said=False):
@@ -443,17 +451,37 @@ class Run:
             self.world.sleep(self.chance.choice((0, 0.1, 1)))
 
     def rotate(self):
-        """The file is moved away; its writer stays on it for a line or two, and the file of that name comes after the last of them."""
+        """The file is moved away; its writer stays on it for a line or two, and the file of that name comes after the last of them. It may be packed then."""
         if self.log is None or not (self.world.room / "spool/.position").exists():
             return  # what was moved away before the bridge ever ran is given by hand
-        self.number += 1
-        self.world.log.rename(self.world.room / f"said.log.{self.number}")
-        self.world.sleep(self.chance.choice((0, 0.3, 3)))
-        while self.lines and self.chance.random() < 0.4:
-            self.write_line()
-        self.log.close()
-        self.log = None
-        self.append(b"")
+        log, self.number = self.world.log, self.number + 1
+        new = log.parent / {"a date behind": f"said.log-202611{self.number:02}", "a date inside": f"said-202611{self.number:02}.log", "a date before": f"202611{self.number:02}-said.log",
+                            "own": f"old-{self.number}", "numbers": "said.log.1"}.get(self.rotation, f"said.log.{self.number}")
+        if self.rotation == "numbers":
+            for old in sorted(log.parent.glob("said.log.*"), key=lambda it: -int(it.name.split(".")[2])):
+                old.rename(log.parent / ".".join(("said.log", str(int(old.name.split(".")[2]) + 1), *old.name.split(".")[3:])))
+        if self.rotation == "copied":
+            shutil.copyfile(log, new)
+            self.log.truncate(0)
+        else:
+            log.rename(new)
+            self.world.sleep(self.chance.choice((0, 0.3, 3)))
+            while self.lines and self.chance.random() < 0.4:
+                self.write_line()
+            self.log.close()
+        if self.rotation != "own" and self.chance.random() < 0.3 and new.stat().st_size:
+            new = self.packed(new)
+        at = BEGUN + self.world.clock + (self.chance.choice((0, -3600, 3600)) if self.is_clock_wrong else 0)
+        os.utime(new, (at, at))
+        if self.rotation != "copied":
+            self.log = None
+            self.append(b"")
+
+    def packed(self, file):
+        packed = file.with_name(f"{file.name}.gz")
+        packed.write_bytes(gzip.compress(file.read_bytes()))
+        file.unlink()
+        return packed
 
     def write_anew(self):
         """The file gets other lines in place of those that were read: as many bytes, fewer or more."""
@@ -476,8 +504,8 @@ class Run:
             return True
         with contextlib.suppress(OSError, ValueError, LookupError):
             told = json.loads((self.world.room / "spool/.position").read_text())[str(self.world.log.absolute())]["Files"]
-            there = {it.stat().st_ino: it.read_bytes() for it in self.world.room.glob("said.log*")}
-            return told[-1]["Inode"] == self.world.log.stat().st_ino and all((it["At"], it["Before"]) == (len(data := there[it["Inode"]]), hashlib.sha256(data[-4096:]).hexdigest()[:16]) for it in told)
+            there = {it.stat().st_ino: gzip.decompress(it.read_bytes()) if it.suffix == ".gz" else it.read_bytes() for it in self.world.room.iterdir() if it.is_file()}
+            return told[-1]["Inode"] == self.world.log.stat().st_ino and all((it["At"], it["Before"]) == (len(data := there[it["Inode"]]), hashlib.sha256(data[-BEFORE:]).hexdigest()[:16]) for it in told)
         return False
 
     # What supervisors and operators do
@@ -487,8 +515,9 @@ class Run:
         if self.sender is None or self.sender.is_over():
             more = self.chance.choice(([], ["--patience", "20"], ["--stop-at-refusal"], ["--rate", "0"])) if self.world.has_faults else []
             self.sender = self.world.send(*self.chance.choice((["--follow", self.world.out], ["--follow", self.world.out], ["--stay"], [])), *more)
-        if self.bridge and (self.bridging is None or self.bridging.is_over()):
-            self.bridging = self.world.start(self.bridge.main, "--table", self.world.room / "table", "--spool", self.world.room / "spool", self.world.log, "--follow")
+        if self.bridge and (self.bridging is None or self.bridging.is_over()) and (not self.world.has_faults or self.chance.random() < self.haste):
+            more = ["--rotated", "old-*"] if self.rotation == "own" else []
+            self.bridging = self.world.start(self.bridge.main, "--table", self.world.room / "table", "--spool", self.world.room / "spool", self.world.log, "--follow", *more)
 
     def signal(self):
         process = self.chance.choice([it for it in (self.sender, self.bridging) if it])
@@ -528,7 +557,7 @@ class Run:
         for _ in range(steps):
             self.keep_up()
             does = [it for it, is_there in ((self.write_file, self.files), (self.write_line, self.lines and self.bridge), (lambda: world.spool.put(self.puts.pop(0)), self.puts), (self.rotate, self.bridge),
-                                            (self.write_anew, self.bridge), (self.signal, True), (self.roll_over, self.chance.random() < 0.5), (self.copy, True)) if is_there]
+                                            (self.write_anew, self.bridge), (self.signal, True), (lambda: self.end(self.bridging), self.bridging), (self.roll_over, self.chance.random() < 0.5), (self.copy, True)) if is_there]
             self.chance.choice(does)()
             world.sleep(self.chance.choice((0, 0.1, 1, 5, 20)))
             world.ahead += self.chance.choice((0,) * 9 + (864000, -864000))
@@ -588,7 +617,7 @@ class Run:
             raise Wrong(f"lost or made up: {set(history) ^ {uid for uid in good if uid.endswith('good')}}; log: {self.bridging and self.bridging.told()}")
         for source, wanted in self.wanted.items():
             got = [uid for uid in history if uid.startswith(source)]
-            if got != [uid for uid in wanted if uid in got]:
+            if got != [uid for uid in wanted if uid in got] and not (source == "log" and self.is_clock_wrong):
                 raise Wrong(f"reordered: {got}")
         told = sorted(uid for uid in good for text in aside if f'"{uid}"'.encode() in text)
         if told != sorted(uid for uid in good if not uid.endswith(("good", "other"))):

@@ -2,7 +2,6 @@
 import contextlib
 import os
 import pathlib
-import random
 import tempfile
 import threading
 import unittest
@@ -66,13 +65,15 @@ class Spools(unittest.TestCase):
         self.assertEqual(spool.Spool(self.folder).put(b"6"), "000000000007")
         self.assertEqual(self.texts(), [b"5", b"6"])
 
-    def test_two_programs_put_in(self):
-        one, two = spool.Spool(self.folder), spool.Spool(self.folder)
-        chance, wanted = random.Random(1), []
-        for n in range(40):
-            chance.choice((one, two)).put(b"%d" % n)
-            wanted.append(b"%d" % n)
-        self.assertEqual(self.texts(), wanted)
+    def test_damaged_files_of_its_own_hold_no_message_up(self):
+        for number, (name, text) in enumerate(((".lock", "999999999999 free\n"), (".sender", "[]"), (".sender", '{"Tried":null,"Again":[1]}'), (".intake", '{"File":3,"First":"x","Before":null}')), 1):
+            spool.Spool(self.folder).put(b"a")
+            (self.folder / name).write_text(text)
+            it = spool.Spool(self.folder)
+            self.assertEqual(it.put(b"b"), f"{2 * number:012}", text)
+            with it.sending():
+                for one in it.names():
+                    it.done(one, accepted(1))
 
     def test_one_sends(self):
         with spool.Spool(self.folder).sending():
@@ -154,19 +155,6 @@ class Spools(unittest.TestCase):
                 self.assertEqual(list(self.out.iterdir()), [])
         self.assertGreater(ended, 15)
 
-    def test_a_line_that_was_cut_goes(self):
-        it = spool.Spool(self.folder)
-        names = [it.put(b"a"), it.put(b"b")]
-        with it.sending():
-            it.done(names[0], accepted(1))
-        (log,) = it.answered.iterdir()
-        whole = log.read_bytes()
-        log.write_bytes(whole + whole[:-9])
-        after = spool.Spool(self.folder)
-        with after.sending():
-            self.assertEqual(log.read_bytes(), whole)
-            self.assertEqual(after.names(), names[1:])
-
     def test_set_aside_and_again(self):
         it = spool.Spool(self.folder)
         name = it.put(words.ClockSet().message("S", unique_id="u-1"))
@@ -177,23 +165,6 @@ class Spools(unittest.TestCase):
         self.assertEqual((list(it.aside.iterdir()), len(it.names())), ([], 1))
         with self.assertRaises(spool.SpoolError):
             it.again(["../x"])
-
-    def test_a_name_that_is_used_again_is_another_file(self):
-        it, place = sender.Folder(spool.Spool(self.folder), self.out), self.out / "1.jsonl"
-        it.news = threading.Event()
-        place.write_bytes(b"a\nb\n")
-        put, texts = it.spool.put_next, [b"c", b"d"]
-
-        def put_and_written_again(*given):
-            if texts:
-                new = self.out / "1.tmp"
-                new.write_bytes(texts.pop(0))
-                new.rename(place)
-            return put(*given)
-        with mock.patch.object(it.spool, "put_next", put_and_written_again):
-            it.look()
-            it.look()
-        self.assertEqual((self.texts(), list(self.out.iterdir())), ([b"a", b"b", b"d"], []))
 
     def test_two_senders_of_one_folder(self):
         one, two = (sender.Folder(spool.Spool(pathlib.Path(self.room.name, it)), self.out) for it in "ab")
@@ -233,16 +204,6 @@ class Spools(unittest.TestCase):
         with it.sending():
             self.assertEqual((it.names(), (it.answered / "zzz.jsonl").read_bytes()), ([], b"no answer\n"))
         self.assertEqual([(it.answered / f"{day}.jsonl").read_bytes().count(b"\n") for day in ("2026-03-02", "2099-03-02", "2026-03-03")], [1, 1, 1])
-
-    def test_an_answer_that_was_not_written_is_written_once(self):
-        it = spool.Spool(self.folder)
-        name = it.put(b"a")
-        with it.sending():
-            for fault in ("write", "fsync"):
-                with mock.patch.object(os, fault, side_effect=OSError(28, "full")), self.assertRaises(OSError):
-                    it.keep_answer(name, accepted(1))
-            it.done(name, accepted(1))
-        self.assertEqual([file.read_bytes().count(b"\n") for file in it.answered.iterdir()], [1])
 
     def sent(self, texts, answer=None):
         it = spool.Spool(self.folder)

@@ -1,14 +1,9 @@
 -- Things that are gathered by keys.
-use Rattle.std.proofs.Common.{◌≡◌, Bool, true, false, cond, Some, None, List, [], ◌∷◌, ◌++◌, append_assoc, refl, ap, ◌∙◌}
-use Rattle.std.specs.Prelude.{◌&&◌, ◌||◌, if◌then◌else◌}
-use Rattle.std.specs.List.{cons_option, list_any}
+use Rattle.std.proofs.Common.{◌≡◌, Bool, true, false, cond, List, [], ◌∷◌, ◌++◌, refl, ap, ◌∙◌}
+use Rattle.std.specs.Prelude.{◌&&◌, ◌||◌}
+use Rattle.std.specs.List.{list_any}
 use Rattle.std.proofs.lemmas.List.Folds.{list_any-append}
 use Rattle.desk_types.specs.Id.{Name, same}
-
-pub grouped : {X : Type 0} (here : Bool) (at old new : List X) (x : X) (rest : List X) → new ≡ cond here (at ++ x ∷ []) old → (here ≡ true → at ≡ old)
-    → new ++ rest ≡ old ++ cons_option (if here then Some x else None) rest
-grouped true at old new x rest put one = ap (λ l. l ++ rest) (put ∙ ap (λ l. l ++ x ∷ []) (one refl)) ∙ append_assoc old (x ∷ []) rest
-grouped false at old new x rest put one = ap (λ l. l ++ rest) put
 
 pub grouped-name : (here : Bool) (at old new : List Name) (x d : Name) (rest : Bool) → new ≡ cond here (at ++ x ∷ []) old → (here ≡ true → at ≡ old)
     → (list_any (same d) new || rest) ≡ (list_any (same d) old || ((here && same d x) || rest))

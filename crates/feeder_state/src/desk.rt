@@ -323,7 +323,7 @@ impl Desk for StateDesk {
     }
 
     fn is_judged(&self) {
-        let _ = &self.rules;
+        Views::is_judged(self);
     }
 
     fn judge(&self, stamped: &Stamped) -> Result<Change, JudgeFault> {
@@ -335,18 +335,15 @@ impl Desk for StateDesk {
     }
 
     fn minute(&self) -> Option<Minute> {
-        self.minute
+        Facts::minute(self)
     }
 
     fn selected(&self, machine: &Id) -> Option<Id> {
-        self.rows.selected_on(machine)
+        Views::selected(self, machine)
     }
 
     fn sheet_of(&self, product: &Id, machine: &Id) -> Result<Option<SheetRows>, AllocError> {
-        match self.setup.sheet_of(product, machine) {
-            Some(rows) => Ok(Some(rows.clone()?)),
-            None => Ok(None),
-        }
+        Views::sheet_of(self, product, machine)
     }
 
     fn fronts(&self, machine: &Id) -> Result<Fronts, AllocError> {
@@ -354,18 +351,11 @@ impl Desk for StateDesk {
     }
 
     fn reel(&self, reel: &Id) -> Option<ReelView> {
-        reel_view(&self.rows, self.minute, reel)
+        Views::reel(self, reel)
     }
 
     fn slots_of(&self, machine: &Id) -> Result<Option<Mounts>, AllocError> {
-        slots_of(
-            self.alloc,
-            &self.rows,
-            &self.floor,
-            self.minute,
-            self.setup.has_sheet(machine),
-            machine,
-        )
+        Views::slots_of(self, machine)
     }
 
     fn free_reels(&self, part: &Id) -> Result<ReelViews, AllocError> {

@@ -1,5 +1,5 @@
 -- The effect of CREATE TABLE and CREATE INDEX, for any schema that gives the text a meaning.
-use Rattle.std.proofs.Common.{◌≡◌, ◌≢◌, Bool, ◌∷◌, ◌++◌, ◌==◌, not, true, pos, map, ℕ, List, [], false, None, Ok, Result, refl, sym, ap, subst, ◌∙◌}
+use Rattle.std.proofs.Common.{◌≡◌, ◌≢◌, ◌∷◌, ◌++◌, ◌==◌, not, true, pos, map, ℕ, List, [], false, None, Ok, Result, refl, sym, ap, subst, ◌∙◌}
 use Rattle.std.specs.List.{AllByRecursion, list_all}
 use Rattle.sqlite.specs.Table.{Table}
 use Rattle.sqlite.specs.Schema.{Schema}
@@ -19,12 +19,13 @@ use Rattle.sqlite_rules.specs.Edit.{with_rowid}
 use Rattle.sqlite.specs.Rowids.TheVariants.{Chosen}
 use Rattle.line_tables.proofs.Puts.{cast_int, cast_null}
 use Rattle.line_tables.proofs.Beside.{quiet}
-use Rattle.line_tables.proofs.CreateTexts.{IsCreate, version_text, version_is, accepted_text, accepted_is, part_text, part_is, alternate_text, alternate_is, sheet_row_text, sheet_row_is, selected_text, selected_is, reel_text, reel_is, mount_text, mount_is, board_text, board_is, placement_text, placement_is, found_text, found_is, insert_version, version_terms, insert_version_is}
+use Rattle.line_tables.proofs.CreateTexts.{IsCreate, version_is, accepted_is, part_is, alternate_is, sheet_row_is, selected_is, reel_is, mount_is, board_is, placement_is, found_is, version_terms, insert_version_is}
 use Rattle.desk_types.specs.declared.rules.Rules.TheVariants.{One, Two}
 use Rattle.line_tables.specs.Line.{no_schema, line_schema, schema_of, first_of_line, found_tree, found_by, version, accepted, part, alternate, sheet_row, selected, reel, mount, board, placement, Layout, alone, nothing as no_others}
 use Rattle.line_tables.specs.Rows.{Holds, blank, version_columns}
 use Rattle.line_tables.specs.Calls.{Runs, Makes, IsBare, Extends, Grows, AddsFound}
 use Rattle.line_tables.specs.Line.Layout.{Indexed, Plain}
+use Rattle.line_tables.specs.declared.making.TheConstants.{CREATE_ACCEPTED, CREATE_ALTERNATE, CREATE_BOARD, CREATE_FOUND, CREATE_MOUNT, CREATE_PART, CREATE_PLACEMENT, CREATE_REEL, CREATE_SELECTED, CREATE_SHEET_ROW, CREATE_VERSION, INSERT_VERSION}
 
 pub extends_then : (a b c : Schema) (old mid new : State) → Extends a b old mid → Extends b c mid new → Extends a c old new
 extends_then a b c old mid new p q = record { was_open = p.was_open; bare = λ h. q.bare (p.bare h) }
@@ -65,57 +66,39 @@ creates_bare sql old new schema table is counts ran = record {
       record { schema = grows.schema; empty = bare_more schema _ (record table { tree = next_tree schema }) old.now new.now grows bare };
 }
 
-makes_version : (old new : State) → Runs version_text [] old new → Extends (first_of_line 0 0) (first_of_line 1 0) old new
-makes_version old new = creates_bare version_text old new (first_of_line 0 0) version version_is refl
-
-makes_accepted : (old new : State) → Runs accepted_text [] old new → Extends (first_of_line 1 0) (first_of_line 2 1) old new
-makes_accepted old new = creates_bare accepted_text old new (first_of_line 1 0) accepted accepted_is refl
-
-makes_part : (old new : State) → Runs part_text [] old new → Extends (first_of_line 2 1) (first_of_line 3 2) old new
-makes_part old new = creates_bare part_text old new (first_of_line 2 1) part part_is refl
-
-makes_alternate : (old new : State) → Runs alternate_text [] old new → Extends (first_of_line 3 2) (first_of_line 4 3) old new
-makes_alternate old new = creates_bare alternate_text old new (first_of_line 3 2) alternate alternate_is refl
-
-makes_sheet_row : (old new : State) → Runs sheet_row_text [] old new → Extends (first_of_line 4 3) (first_of_line 5 4) old new
-makes_sheet_row old new = creates_bare sheet_row_text old new (first_of_line 4 3) sheet_row sheet_row_is refl
-
-makes_selected : (old new : State) → Runs selected_text [] old new → Extends (first_of_line 5 4) (first_of_line 6 5) old new
-makes_selected old new = creates_bare selected_text old new (first_of_line 5 4) selected selected_is refl
-
-makes_reel : (old new : State) → Runs reel_text [] old new → Extends (first_of_line 6 5) (first_of_line 7 6) old new
-makes_reel old new = creates_bare reel_text old new (first_of_line 6 5) reel reel_is refl
-
-makes_mount : (old new : State) → Runs mount_text [] old new → Extends (first_of_line 7 6) (first_of_line 8 7) old new
-makes_mount old new = creates_bare mount_text old new (first_of_line 7 6) mount mount_is refl
-
-makes_board : (old new : State) → Runs board_text [] old new → Extends (first_of_line 8 7) (first_of_line 9 8) old new
-makes_board old new = creates_bare board_text old new (first_of_line 8 7) board board_is refl
-
-makes_placement : (old new : State) → Runs placement_text [] old new → Extends (first_of_line 9 8) (first_of_line 10 9) old new
-makes_placement old new = creates_bare placement_text old new (first_of_line 9 8) placement placement_is refl
-
-pub adds_found : (old new : State) → Runs found_text [] old new → AddsFound old new
+pub adds_found : (old new : State) → Runs CREATE_FOUND.now [] old new → AddsFound old new
 adds_found old new ran = record { was_open = ran.shown.was_open; added = by }
   where
     by : (i : Layout) → old.now.schema ≡ schema_of One i → Grows (schema_of One i) (schema_of Two (alone i)) (found_tree (alone i)) old.now new.now
-    by (Indexed others) = creates found_text old new (schema_of One (Indexed others)) (found_by (Indexed no_others)) (found_is (Indexed others)) refl ran
-    by (Plain others) = creates found_text old new (schema_of One (Plain others)) (found_by (Plain no_others)) (found_is (Plain others)) refl ran
+    by (Indexed others) = creates CREATE_FOUND.now old new (schema_of One (Indexed others)) (found_by (Indexed no_others)) (found_is (Indexed others)) refl ran
+    by (Plain others) = creates CREATE_FOUND.now old new (schema_of One (Plain others)) (found_by (Plain no_others)) (found_is (Plain others)) refl ran
 
 makes_found : (old new : State) → AddsFound old new → Extends (schema_of One (Plain no_others)) line_schema old new
 makes_found old new h = record { was_open = h.was_open; bare = λ bare. let grows = h.added (Plain no_others) bare.schema in record { schema = grows.schema; empty = bare_more (schema_of One (Plain no_others)) line_schema (found_by (Plain no_others)) old.now new.now grows bare } }
 
-pub makes_list : (a b c : State) → Runs version_text [] a b → Runs accepted_text [] b c → Extends (first_of_line 0 0) (first_of_line 2 1) a c
-makes_list a b c r1 r2 = extends_then _ _ _ a b c (makes_version a b r1) (makes_accepted b c r2)
+pub makes_list : (a b c : State) → Runs CREATE_VERSION.now [] a b → Runs CREATE_ACCEPTED.now [] b c → Extends (first_of_line 0 0) (first_of_line 2 1) a c
+makes_list a b c r1 r2 =
+    let one = creates_bare CREATE_VERSION.now a b (first_of_line 0 0) version version_is refl r1 in
+    let two = creates_bare CREATE_ACCEPTED.now b c (first_of_line 1 0) accepted accepted_is refl r2 in
+    extends_then _ _ _ a b c one two
 
-pub makes_setup : (a b c d e : State) → Runs part_text [] a b → Runs alternate_text [] b c → Runs sheet_row_text [] c d → Runs selected_text [] d e → Extends (first_of_line 2 1) (first_of_line 6 5) a e
-makes_setup a b c d e r1 r2 r3 r4 = extends_then _ _ _ a d e (extends_then _ _ _ a c d (extends_then _ _ _ a b c (makes_part a b r1) (makes_alternate b c r2)) (makes_sheet_row c d r3)) (makes_selected d e r4)
+pub makes_setup : (a b c d e : State) → Runs CREATE_PART.now [] a b → Runs CREATE_ALTERNATE.now [] b c → Runs CREATE_SHEET_ROW.now [] c d → Runs CREATE_SELECTED.now [] d e → Extends (first_of_line 2 1) (first_of_line 6 5) a e
+makes_setup a b c d e r1 r2 r3 r4 =
+    let one = creates_bare CREATE_PART.now a b (first_of_line 2 1) part part_is refl r1 in
+    let two = creates_bare CREATE_ALTERNATE.now b c (first_of_line 3 2) alternate alternate_is refl r2 in
+    let three = creates_bare CREATE_SHEET_ROW.now c d (first_of_line 4 3) sheet_row sheet_row_is refl r3 in
+    let four = creates_bare CREATE_SELECTED.now d e (first_of_line 5 4) selected selected_is refl r4 in
+    extends_then _ _ _ a d e (extends_then _ _ _ a c d (extends_then _ _ _ a b c one two) three) four
 
-pub makes_floor : (a b c d : State) → Runs reel_text [] a b → Runs mount_text [] b c → Runs board_text [] c d → Extends (first_of_line 6 5) (first_of_line 9 8) a d
-makes_floor a b c d r1 r2 r3 = extends_then _ _ _ a c d (extends_then _ _ _ a b c (makes_reel a b r1) (makes_mount b c r2)) (makes_board c d r3)
+pub makes_floor : (a b c d : State) → Runs CREATE_REEL.now [] a b → Runs CREATE_MOUNT.now [] b c → Runs CREATE_BOARD.now [] c d → Extends (first_of_line 6 5) (first_of_line 9 8) a d
+makes_floor a b c d r1 r2 r3 =
+    let one = creates_bare CREATE_REEL.now a b (first_of_line 6 5) reel reel_is refl r1 in
+    let two = creates_bare CREATE_MOUNT.now b c (first_of_line 7 6) mount mount_is refl r2 in
+    let three = creates_bare CREATE_BOARD.now c d (first_of_line 8 7) board board_is refl r3 in
+    extends_then _ _ _ a c d (extends_then _ _ _ a b c one two) three
 
-pub makes_pieces : (a b c : State) → Runs placement_text [] a b → AddsFound b c → Extends (first_of_line 9 8) line_schema a c
-makes_pieces a b c r1 r2 = extends_then _ _ _ a b c (makes_placement a b r1) (makes_found b c r2)
+pub makes_pieces : (a b c : State) → Runs CREATE_PLACEMENT.now [] a b → AddsFound b c → Extends (first_of_line 9 8) line_schema a c
+makes_pieces a b c r1 r2 = extends_then _ _ _ a b c (creates_bare CREATE_PLACEMENT.now a b (first_of_line 9 8) placement placement_is refl r1) (makes_found b c r2)
 
 still_bare : (tree : ℕ) (tables : List Table) (old new : Trees) → list_all (λ t. not (t.tree == tree)) tables ≡ true → AllByRecursion (λ t. t.tree ≢ tree → new t.tree ≡ old t.tree) tables → AllByRecursion (λ t. old t.tree ≡ []) tables
     → AllByRecursion (λ t. new t.tree ≡ []) tables
@@ -125,15 +108,15 @@ still_bare tree (t ∷ ts) old new apart others empty = let is = and_parts _ _ a
 pub version_cast : (greatest : ℕ) → cast_row version (Int (pos 1) ∷ Null ∷ Int (pos 2) ∷ Int (pos greatest) ∷ []) ≡ Int (pos 1) ∷ Null ∷ Int (pos 2) ∷ Int (pos greatest) ∷ []
 version_cast greatest = rw (cast_int (pos 1), cast_int (pos 2), cast_int (pos greatest), cast_null) refl
 
-puts_version : (greatest : ℕ) (old new : State) → Runs insert_version (Int (pos greatest) ∷ []) old new → IsBare line_schema old.now → (new.now.schema ≡ line_schema) × Holds new.now (blank greatest) × IsDatabase new.now
+puts_version : (greatest : ℕ) (old new : State) → Runs INSERT_VERSION.now (Int (pos greatest) ∷ []) old new → IsBare line_schema old.now → (new.now.schema ≡ line_schema) × Holds new.now (blank greatest) × IsDatabase new.now
 puts_version greatest old new ran bare =
-    let put = insert_does insert_version (Int (pos greatest) ∷ []) old new line_schema bare.schema 0 version version_terms 4 refl refl refl insert_version_is.0 insert_version_is.1 ran.count ran.executed (quiet (Plain no_others) 0 refl []) in
+    let put = insert_does INSERT_VERSION.now (Int (pos greatest) ∷ []) old new line_schema bare.schema 0 version version_terms 4 refl refl refl insert_version_is.0 insert_version_is.1 ran.count ran.executed (quiet (Plain no_others) 0 refl []) in
     let row = Int (pos 1) ∷ Null ∷ Int (pos 2) ∷ Int (pos greatest) ∷ [] in
     let is : new.now.trees 0 ≡ row ∷ [] = put.step.rows ∙ ap (λ r. put_row (with_rowid Chosen (old.now.trees 0) r) (old.now.trees 0)) (version_cast greatest) ∙ ap (λ l. put_row row l) bare.empty.0 in
     let others : AllByRecursion (λ t. new.now.trees t.tree ≡ []) (accepted ∷ state_tables (Plain no_others)) = still_bare 0 (accepted ∷ state_tables (Plain no_others)) old.now.trees new.now.trees refl put.step.tables.1 bare.empty.1 in
     (put.same, holds_blank (Plain no_others) greatest new.now put.same (ap (map version_columns) is) others, put.sound)
 
-pub makes_all : (greatest : ℕ) (a b c : State) → Extends no_schema line_schema a b → Runs insert_version (Int (pos greatest) ∷ []) b c → Makes greatest a c
+pub makes_all : (greatest : ℕ) (a b c : State) → Extends no_schema line_schema a b → Runs INSERT_VERSION.now (Int (pos greatest) ∷ []) b c → Makes greatest a c
 makes_all greatest a b c made put =
     let all : a.now.schema ≡ no_schema → (c.now.schema ≡ line_schema) × Holds c.now (blank greatest) × IsDatabase c.now = λ has. puts_version greatest b c put (made.bare (record { schema = has; empty = tt })) in
     record { was_open = made.was_open; done = λ has. let h = all has in record { layout = h.0; tables = h.1 }; sound = λ has. (all has).2 }

@@ -16,6 +16,8 @@ use Rattle.sqlite.proofs.Callers.{IsPlain, command_of}
 use Rattle.sqlite.specs.Schema.{Schema}
 use Rattle.desk_types.specs.declared.rules.Rules.{Rules}
 use Rattle.line_tables.specs.Line.{schema_of, Layout}
+use Rattle.line_tables.specs.declared.reading.TheConstants.{SELECT_BEFORE, SELECT_COUNT, SELECT_LEAST, SELECT_NUMBER, SELECT_UID}
+use Rattle.line_tables.specs.declared.version.TheConstants.{SELECT_VERSION}
 
 -- The rows of one table that pass the tests, unsorted: no group, no DISTINCT, no ORDER BY, no LIMIT.
 abbrev pub rows_from : ℕ → List Term → List Term → Query
@@ -39,48 +41,33 @@ accepted_places = col 1 0 ∷ col 1 2 ∷ col 1 3 ∷ col 1 4 ∷ col 1 5 ∷ co
 abbrev pub accepted_names : List (List ℕ)
 accepted_names = codes "number" ∷ codes "uid" ∷ codes "source" ∷ codes "own" ∷ codes "effective" ∷ codes "command" ∷ codes "detail" ∷ []
 
-abbrev pub select_uid : List ℕ
-select_uid = codes "SELECT number, uid, source, own, effective, command, detail FROM accepted WHERE uid = ?1"
-
 abbrev pub uid_query : Query
 uid_query = rows_from 1 (op2 (Compare Eq Binary) (col 1 2) (col 0 0) ∷ []) accepted_places
 
-pub select_uid_is : IsSelect select_uid uid_query accepted_names
+pub select_uid_is : IsSelect SELECT_UID.now uid_query accepted_names
 unfolding understood everything
 select_uid_is rules indexed = inl (refl, refl, (refl, refl))
-
-abbrev pub select_number : List ℕ
-select_number = codes "SELECT number, uid, source, own, effective, command, detail FROM accepted WHERE number = ?1"
 
 abbrev pub number_query : Query
 number_query = rows_from 1 (op2 (Compare Eq Binary) (col 1 0) (col 0 0) ∷ []) accepted_places
 
-pub select_number_is : IsSelect select_number number_query accepted_names
+pub select_number_is : IsSelect SELECT_NUMBER.now number_query accepted_names
 unfolding understood everything
 select_number_is rules indexed = inl (refl, refl, (refl, refl))
-
-abbrev pub select_before : List ℕ
-select_before = codes "SELECT number FROM accepted WHERE uid = ?1 AND number < ?2"
 
 abbrev pub before_query : Query
 before_query = rows_from 1 (op2 (Compare Eq Binary) (col 1 2) (col 0 0) ∷ op2 (Compare Lt Binary) (col 1 0) (col 0 1) ∷ []) (col 1 0 ∷ [])
 
-pub select_before_is : IsSelect select_before before_query (codes "number" ∷ [])
+pub select_before_is : IsSelect SELECT_BEFORE.now before_query (codes "number" ∷ [])
 unfolding understood everything
 select_before_is rules indexed = inl (refl, refl, (refl, refl))
-
-abbrev pub select_version : List ℕ
-select_version = codes "SELECT one, number, greatest FROM version"
 
 abbrev pub version_query : Query
 version_query = rows_from 0 [] (col 1 0 ∷ col 1 2 ∷ col 1 3 ∷ [])
 
-pub select_version_is : IsSelect select_version version_query (codes "one" ∷ codes "number" ∷ codes "greatest" ∷ [])
+pub select_version_is : IsSelect SELECT_VERSION.now version_query (codes "one" ∷ codes "number" ∷ codes "greatest" ∷ [])
 unfolding understood everything
 select_version_is rules indexed = inl (refl, refl, (refl, refl))
-
-abbrev pub select_least : List ℕ
-select_least = codes "SELECT number FROM accepted ORDER BY number LIMIT 1"
 
 -- The least value of a table's first column.
 abbrev pub least_from : ℕ → Query
@@ -89,12 +76,9 @@ least_from tree = record { from = inner tree end; filter = []; group = None; pro
 abbrev pub least_query : Query
 least_query = least_from 1
 
-pub select_least_is : IsSelect select_least least_query (codes "number" ∷ [])
+pub select_least_is : IsSelect SELECT_LEAST.now least_query (codes "number" ∷ [])
 unfolding understood everything
 select_least_is rules indexed = inl (refl, refl, (refl, refl))
-
-abbrev pub select_count : List ℕ
-select_count = codes "SELECT count(*) FROM accepted"
 
 abbrev pub count_all : Grouping
 count_all = record { keys = []; collations = []; aggregates = record { op = by.CountRows; distinct = false; collation = Binary; argument = lit Null } ∷ []; having = [] }
@@ -105,6 +89,6 @@ count_from tree = record { from = inner tree end; filter = []; group = Some coun
 abbrev pub count_query : Query
 count_query = count_from 1
 
-pub select_count_is : IsSelect select_count count_query (codes "count(*)" ∷ [])
+pub select_count_is : IsSelect SELECT_COUNT.now count_query (codes "count(*)" ∷ [])
 unfolding understood everything
 select_count_is rules indexed = inl (refl, refl, (refl, refl))

@@ -28,7 +28,9 @@ use Rattle.sqlite.specs.Schema.{Schema}
 use Rattle.line_tables.specs.Line.{IsOurs, schema_of}
 use Rattle.line_tables.specs.Rows.{accepted_columns, version_columns, accepted_in, version_in}
 use Rattle.line_tables.specs.Calls.{Selects, Reads, has_uid, has_number, is_before, only, IsVersionOf}
-use Rattle.line_tables.proofs.FindTexts.{IsSelect, IsSelectBy, IsSelectIn, rows_from, select_uid, uid_query, select_uid_is, select_number, number_query, select_number_is, select_before, before_query, select_before_is, select_version, version_query, select_version_is, accepted_names}
+use Rattle.line_tables.proofs.FindTexts.{IsSelect, IsSelectBy, IsSelectIn, rows_from, uid_query, select_uid_is, number_query, select_number_is, before_query, select_before_is, version_query, select_version_is, accepted_names}
+use Rattle.line_tables.specs.declared.reading.TheConstants.{SELECT_BEFORE, SELECT_NUMBER, SELECT_UID}
+use Rattle.line_tables.specs.declared.version.TheConstants.{SELECT_VERSION}
 
 answer_in : {S : Type 0} (g : Ghosts S) (schema : Schema) (sql : List ℕ) (q : Query) (names : List (List ℕ)) → IsSelectIn schema sql q names → (params : Row) (old : Held S) (rows : List Row) → Selects g sql params old rows → (state g old).committed.schema ≡ schema
     → IsAnswer q (overlay (state g old).committed.trees []) params rows
@@ -95,18 +97,18 @@ finds_rows g sql tree test project names is params columns has passes out old ro
       (rows_answer at test project (overlay (state g old).committed.trees []) params rows (answer_by g sql (λ schema. rows_from (tree schema) test project) names is params old rows h schema));
 }
 
-pub finds_uid : {S : Type 0} (g : Ghosts S) (uid : List ℕ) (old : Held S) (rows : List Row) → Selects g select_uid (Text uid ∷ []) old rows → Reads (state g old) (λ db. IsPermutation (filter (has_uid uid) (accepted_in db)) rows)
+pub finds_uid : {S : Type 0} (g : Ghosts S) (uid : List ℕ) (old : Held S) (rows : List Row) → Selects g SELECT_UID.now (Text uid ∷ []) old rows → Reads (state g old) (λ db. IsPermutation (filter (has_uid uid) (accepted_in db)) rows)
 finds_uid g uid old rows h = record {
   was_open = h.was_open;
   are = λ schema. subst (λ l. IsPermutation l rows) (shown_is uid_query (Text uid ∷ []) accepted_columns (λ r. r) (has_uid uid) (λ r. and_true _) (λ r. refl) ((state g old).committed.trees 1) ∙ whole _)
-      (rows_answer 1 _ _ _ (Text uid ∷ []) rows (answer_of g select_uid uid_query accepted_names select_uid_is (Text uid ∷ []) old rows h schema));
+      (rows_answer 1 _ _ _ (Text uid ∷ []) rows (answer_of g SELECT_UID.now uid_query accepted_names select_uid_is (Text uid ∷ []) old rows h schema));
 }
 
-pub finds_number : {S : Type 0} (g : Ghosts S) (number : ℕ) (old : Held S) (rows : List Row) → Selects g select_number (Int (pos number) ∷ []) old rows → Reads (state g old) (λ db. IsPermutation (filter (has_number number) (accepted_in db)) rows)
+pub finds_number : {S : Type 0} (g : Ghosts S) (number : ℕ) (old : Held S) (rows : List Row) → Selects g SELECT_NUMBER.now (Int (pos number) ∷ []) old rows → Reads (state g old) (λ db. IsPermutation (filter (has_number number) (accepted_in db)) rows)
 finds_number g number old rows h = record {
   was_open = h.was_open;
   are = λ schema. subst (λ l. IsPermutation l rows) (shown_is number_query (Int (pos number) ∷ []) accepted_columns (λ r. r) (has_number number) (λ r. and_true _) (λ r. refl) ((state g old).committed.trees 1) ∙ whole _)
-      (rows_answer 1 _ _ _ (Int (pos number) ∷ []) rows (answer_of g select_number number_query accepted_names select_number_is (Int (pos number) ∷ []) old rows h schema));
+      (rows_answer 1 _ _ _ (Int (pos number) ∷ []) rows (answer_of g SELECT_NUMBER.now number_query accepted_names select_number_is (Int (pos number) ∷ []) old rows h schema));
 }
 
 any_shown : (has : Row → Bool) (show : Row → Row) (all rows : List Row) → IsPermutation (map show (filter has all)) rows → (b : Bool) → (b ≡ (length rows == 0)) → not b ≡ list_any has all
@@ -120,13 +122,13 @@ any_shown has show all rows same b is = rw is (ap (λ n. not (n == 0)) (length_p
         go true more = ap not (eqb-suc-zero (length (filter has xs)))
         go false more = more
 
-pub finds_before : {S : Type 0} (g : Ghosts S) (uid : List ℕ) (number : ℕ) (old : Held S) (rows : List Row) (b : Bool) → Selects g select_before (Text uid ∷ Int (pos number) ∷ []) old rows → b ≡ (length rows == 0)
+pub finds_before : {S : Type 0} (g : Ghosts S) (uid : List ℕ) (number : ℕ) (old : Held S) (rows : List Row) (b : Bool) → Selects g SELECT_BEFORE.now (Text uid ∷ Int (pos number) ∷ []) old rows → b ≡ (length rows == 0)
     → Reads (state g old) (λ db. not b ≡ list_any (is_before uid number) (accepted_in db))
 finds_before g uid number old rows b h is = record {
   was_open = h.was_open;
   are = λ schema. any_shown (is_before uid number) (λ r. column r 0 ∷ []) (accepted_in (state g old).committed) rows
       (subst (λ l. IsPermutation l rows) (shown_is before_query (Text uid ∷ Int (pos number) ∷ []) accepted_columns (λ r. column r 0 ∷ []) (is_before uid number) (λ r. ap (λ c. has_uid uid (accepted_columns r) && c) (and_true _)) (λ r. refl) ((state g old).committed.trees 1))
-      (rows_answer 1 _ _ _ (Text uid ∷ Int (pos number) ∷ []) rows (answer_of g select_before before_query _ select_before_is (Text uid ∷ Int (pos number) ∷ []) old rows h schema))) b is;
+      (rows_answer 1 _ _ _ (Text uid ∷ Int (pos number) ∷ []) rows (answer_of g SELECT_BEFORE.now before_query _ select_before_is (Text uid ∷ Int (pos number) ∷ []) old rows h schema))) b is;
 }
 
 all_pass : (rows : List Row) → shown_of version_query [] rows ≡ map version_columns rows
@@ -145,10 +147,10 @@ version_by : (xs rows : List Row) (o : Option Version) → IsPermutation xs rows
 version_by xs rows (Some v) same is = one_order xs (Some _) (subst (IsPermutation xs) is same)
 version_by xs rows None same none = λ number greatest is. none number greatest (one_order rows (Some _) (IsPermutation-sym _ _ (subst (λ l. IsPermutation l rows) is same)))
 
-pub finds_version : {S : Type 0} (g : Ghosts S) (old : Held S) (rows : List Row) (o : Option Version) → Selects g select_version [] old rows → IsVersionOf rows o → Reads (state g old) (λ db. IsVersionOf (version_in db) o)
+pub finds_version : {S : Type 0} (g : Ghosts S) (old : Held S) (rows : List Row) (o : Option Version) → Selects g SELECT_VERSION.now [] old rows → IsVersionOf rows o → Reads (state g old) (λ db. IsVersionOf (version_in db) o)
 finds_version g old rows o h is = record {
   was_open = h.was_open;
-  are = λ schema. version_by (version_in (state g old).committed) rows o (subst (λ l. IsPermutation l rows) (all_pass ((state g old).committed.trees 0)) (rows_answer 0 _ _ _ [] rows (answer_of g select_version version_query _ select_version_is [] old rows h schema))) is;
+  are = λ schema. version_by (version_in (state g old).committed) rows o (subst (λ l. IsPermutation l rows) (all_pass ((state g old).committed.trees 0)) (rows_answer 0 _ _ _ [] rows (answer_of g SELECT_VERSION.now version_query _ select_version_is [] old rows h schema))) is;
 }
 
 module _ {S : Type 0} (g : Ghosts S) (old : Held S) where
@@ -159,15 +161,15 @@ module _ {S : Type 0} (g : Ghosts S) (old : Held S) where
       let was_open = shown_open sql params (state g (record old { in_transaction = true })) (state g after) rows.items h in
       record { was_open = was_open; settled = settled was_open; after = after; shown = h }
 
-  pub finds_row : (number : ℕ) (rows : List Row) (r : Result (Option Row) Error) → IfOk r (λ found. rows ≡ only found) → Selects g select_number (Int (pos number) ∷ []) old rows
+  pub finds_row : (number : ℕ) (rows : List Row) (r : Result (Option Row) Error) → IfOk r (λ found. rows ≡ only found) → Selects g SELECT_NUMBER.now (Int (pos number) ∷ []) old rows
       → IfOk r (λ found. Reads (state g old) (λ db. filter (has_number number) (accepted_in db) ≡ only found))
   finds_row number rows (Err e) is h = tt
   finds_row number rows (Ok o) is h = finds_only (has_number number) (state g old) rows o is (finds_number g number old rows h)
 
-  pub finds_one_uid : (uid : List ℕ) (rows : List Row) (row : Row) → rows ≡ row ∷ [] → Selects g select_uid (Text uid ∷ []) old rows → Reads (state g old) (λ db. filter (has_uid uid) (accepted_in db) ≡ row ∷ [])
+  pub finds_one_uid : (uid : List ℕ) (rows : List Row) (row : Row) → rows ≡ row ∷ [] → Selects g SELECT_UID.now (Text uid ∷ []) old rows → Reads (state g old) (λ db. filter (has_uid uid) (accepted_in db) ≡ row ∷ [])
   finds_one_uid uid rows row is h = finds_only (has_uid uid) (state g old) rows (Some row) is (finds_uid g uid old rows h)
 
-  pub finds_no_uid : (uid : List ℕ) (rows : List Row) → rows ≡ [] → Selects g select_uid (Text uid ∷ []) old rows → Reads (state g old) (λ db. filter (has_uid uid) (accepted_in db) ≡ [])
+  pub finds_no_uid : (uid : List ℕ) (rows : List Row) → rows ≡ [] → Selects g SELECT_UID.now (Text uid ∷ []) old rows → Reads (state g old) (λ db. filter (has_uid uid) (accepted_in db) ≡ [])
   finds_no_uid uid rows is h = finds_only (has_uid uid) (state g old) rows None is (finds_uid g uid old rows h)
 
 pub is_text : (s : String Global) → IsUtf8 (string_bytes s)

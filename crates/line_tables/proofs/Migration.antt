@@ -26,8 +26,9 @@ use Rattle.line_tables.proofs.Alterations.{one_of_map}
 use Rattle.line_tables.proofs.Changes.{Changed, passing, shows_of, renewed, update_does}
 use Rattle.line_tables.proofs.Creates.{version_cast}
 use Rattle.line_tables.proofs.Beside.{quiet}
-use Rattle.line_tables.proofs.CreateTexts.{update_version, version_renewed, update_version_is}
+use Rattle.line_tables.proofs.CreateTexts.{version_renewed, update_version_is}
 use Rattle.line_tables.specs.Line.Layout.{Indexed, Plain}
+use Rattle.line_tables.specs.declared.migrating.TheConstants.{UPDATE_VERSION}
 
 -- The tables of version 1 except `version`.
 abbrev rest : Layout → List Table
@@ -55,12 +56,12 @@ renews_version i greatest r old new columns is h =
     let row : cast_row version (drop 1 (show r)) ≡ Int (pos 1) ∷ Null ∷ Int (pos 2) ∷ Int (pos greatest) ∷ [] = ap₂ (λ a b. cast_row version (a ∷ Null ∷ Int (pos 2) ∷ b ∷ [])) first last ∙ version_cast greatest in
     ap (map version_columns) (h.rows ∙ ap₂ (λ l f. put_all l (renewed version f)) gone found ∙ ap (λ x. put_all [] (x ∷ [])) row)
 
-module _ (i : Layout) (a b c : State) (added : AddsFound a b) (ran : Runs update_version [] b c) (has : a.now.schema ≡ schema_of One i) where
+module _ (i : Layout) (a b c : State) (added : AddsFound a b) (ran : Runs UPDATE_VERSION.now [] b c) (has : a.now.schema ≡ schema_of One i) where
   grown : Grows (schema_of One i) (schema_of Two (alone i)) (found_tree (alone i)) a.now b.now
   grown = added.added i has
 
   changed : Changed (schema_of Two (alone i)) version [] version_renewed [] (renewed version) b c
-  changed = (update_does update_version [] b c (schema_of Two (alone i)) grown.schema 0 version [] version_renewed refl (quiet (alone i) 0 refl) (update_version_is (alone i)).1 ran.count ran.executed (update_version_is (alone i)).0).0
+  changed = (update_does UPDATE_VERSION.now [] b c (schema_of Two (alone i)) grown.schema 0 version [] version_renewed refl (quiet (alone i) 0 refl) (update_version_is (alone i)).1 ran.count ran.executed (update_version_is (alone i)).0).0
 
   same : KeepsRows (rest i) a.now.trees c.now.trees
   same = kept_on 0 (rest i) (found_by (alone i) ∷ (others_in (alone i)).tables) a.now.trees b.now.trees c.now.trees refl grown.kept.1 changed.others.1
@@ -97,7 +98,7 @@ module _ (i : Layout) (a b c : State) (added : AddsFound a b) (ran : Runs update
     apart = (subst AreApart (sym same.1.0) was.apart.0, (subst AreApart (sym same.1.1.0) was.apart.1.0, (subst AreApart (sym same.1.1.1.0) was.apart.1.1.0, (subst AreApart (sym same.1.1.1.1.0) was.apart.1.1.1.0, (subst AreApart (sym same.1.1.1.1.1.0) was.apart.1.1.1.1.0, (subst AreApart (sym same.1.1.1.1.1.1.0) was.apart.1.1.1.1.1.0, (subst AreApart (sym same.1.1.1.1.1.1.1.0) was.apart.1.1.1.1.1.1.0, (subst AreApart (sym empty) apart_none, tt))))))));
   }
 
-pub migrates : (a b c : State) → AddsFound a b → Runs update_version [] b c → Migrates a c
+pub migrates : (a b c : State) → AddsFound a b → Runs UPDATE_VERSION.now [] b c → Migrates a c
 migrates a b c added ran = record {
   was_open = added.was_open;
   done = record {

@@ -28,8 +28,9 @@ use Rattle.sqlite.specs.Held.{Held, state}
 use Rattle.sqlite.proofs.Callers.{one_permutation}
 use Rattle.line_tables.specs.Rows.{accepted_columns, accepted_in}
 use Rattle.line_tables.specs.Calls.{Selects, Reads, number_row, IsLeast}
-use Rattle.line_tables.proofs.FindTexts.{least_from, least_query, IsSelect, IsSelectBy, select_count, count_from, count_all, select_count_is}
+use Rattle.line_tables.proofs.FindTexts.{least_from, least_query, IsSelect, IsSelectBy, count_from, count_all, select_count_is}
 use Rattle.line_tables.proofs.Finds.{answer_of, answer_by, overlay_none}
+use Rattle.line_tables.specs.declared.reading.TheConstants.{SELECT_COUNT}
 
 module _ {X : Type 0} (cmp : X → X → Ordering) (total : IsTotalOrder cmp) where
   abbrev AtMost : X → X → Type 0
@@ -163,7 +164,7 @@ pub finds_least_in : {S : Type 0} (g : Ghosts S) (sql : List ℕ) (tree : ℕ) (
 finds_least_in g sql tree names means columns first old rows (Err e) is h = tt
 finds_least_in g sql tree names means columns first old rows (Ok o) is h = finds_least g sql tree names means columns first old rows o h is
 
-pub finds_count_in : {S : Type 0} (g : Ghosts S) (old : Held S) (rows : List Row) (r : Result ℕ Error) → IfOk r (λ n. rows ≡ (Int (pos n) ∷ []) ∷ []) → IfOk r (λ n. n < 9223372036854775807) → Selects g select_count [] old rows
+pub finds_count_in : {S : Type 0} (g : Ghosts S) (old : Held S) (rows : List Row) (r : Result ℕ Error) → IfOk r (λ n. rows ≡ (Int (pos n) ∷ []) ∷ []) → IfOk r (λ n. n < 9223372036854775807) → Selects g SELECT_COUNT.now [] old rows
     → IfOk r (λ n. Reads (state g old) (λ db. n ≡ length (accepted_in db)))
 finds_count_in g old rows (Err e) is below h = tt
-finds_count_in g old rows (Ok n) is below h = finds_count g select_count (λ _. 1) _ select_count_is accepted_columns old rows n h is below
+finds_count_in g old rows (Ok n) is below h = finds_count g SELECT_COUNT.now (λ _. 1) _ select_count_is accepted_columns old rows n h is below

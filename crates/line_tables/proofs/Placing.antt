@@ -26,8 +26,9 @@ use Rattle.line_tables.proofs.Inserts.{Inserted, insert_does}
 use Rattle.line_tables.proofs.Puts.{cast_int, put_permutes}
 use Rattle.line_tables.proofs.Altering.{IsElsewhere, others_hold, all_apart_but, other_tree}
 use Rattle.line_tables.proofs.Keyed.{added, one_piece, own_int, same_piece, tells_piece}
-use Rattle.line_tables.proofs.RowTexts.{insert_placement, placement_terms, insert_placement_is, insert_placements, placements_terms, insert_placements_is}
+use Rattle.line_tables.proofs.RowTexts.{placement_terms, insert_placement_is, placements_terms, insert_placements_is}
 use Rattle.line_tables.proofs.Beside.{quiet, others_behind}
+use Rattle.line_tables.specs.declared.pieces.TheConstants.{INSERT_PLACEMENT, INSERT_PLACEMENTS}
 
 placement_cast : (row : PlacementRow) → cast_row placement (placement_kept row) ≡ placement_kept row
 placement_cast row = rw (cast_int (pos (placement_id row.number row.place)), cast_int (pos row.number), cast_int (pos row.place), cast_int (flag row.overdue)) refl
@@ -99,14 +100,14 @@ puts_pieces rows a c was_open did = record {
   others = others_behind 17 a.now c.now (λ layout has. (refl, (did layout has).same, (did layout has).step.tables));
 }
 
-pub placement_put : (row : PlacementRow) (a c : State) → Runs insert_placement (placement_kept row) a c → Writes (placement_edit row ∷ []) a c
+pub placement_put : (row : PlacementRow) (a c : State) → Runs INSERT_PLACEMENT.now (placement_kept row) a c → Writes (placement_edit row ∷ []) a c
 placement_put row a c ran =
     puts_pieces (row ∷ []) a c ran.shown.was_open
-    (λ i has. insert_does insert_placement (placement_kept row) a c (schema_of Two i) has 9 placement placement_terms 9 refl refl refl (insert_placement_is i).0 (insert_placement_is i).1 ran.count ran.executed (quiet i 17 refl []))
+    (λ i has. insert_does INSERT_PLACEMENT.now (placement_kept row) a c (schema_of Two i) has 9 placement placement_terms 9 refl refl refl (insert_placement_is i).0 (insert_placement_is i).1 ran.count ran.executed (quiet i 17 refl []))
 
-eight_in : (rows : List PlacementRow) (a c : State) → length rows ≡ 8 → Runs insert_placements (flat_map placement_kept rows) a c → (i : Layout) → a.now.schema ≡ schema_of Two i → Inserted (schema_of Two i) placement (map placement_kept rows) a c
+eight_in : (rows : List PlacementRow) (a c : State) → length rows ≡ 8 → Runs INSERT_PLACEMENTS.now (flat_map placement_kept rows) a c → (i : Layout) → a.now.schema ≡ schema_of Two i → Inserted (schema_of Two i) placement (map placement_kept rows) a c
 eight_in (p ∷ q ∷ r ∷ s ∷ t ∷ u ∷ v ∷ w ∷ []) a c eight ran i has =
-    insert_does insert_placements (flat_map placement_kept (p ∷ q ∷ r ∷ s ∷ t ∷ u ∷ v ∷ w ∷ [])) a c (schema_of Two i) has 9 placement placements_terms 9 refl refl refl (insert_placements_is i).0 (insert_placements_is i).1 ran.count ran.executed (quiet i 17 refl [])
+    insert_does INSERT_PLACEMENTS.now (flat_map placement_kept (p ∷ q ∷ r ∷ s ∷ t ∷ u ∷ v ∷ w ∷ [])) a c (schema_of Two i) has 9 placement placements_terms 9 refl refl refl (insert_placements_is i).0 (insert_placements_is i).1 ran.count ran.executed (quiet i 17 refl [])
 eight_in [] a c eight ran i has = absurd (omega (arith, eight))
 eight_in (p ∷ []) a c eight ran i has = absurd (omega (arith, eight))
 eight_in (p ∷ q ∷ []) a c eight ran i has = absurd (omega (arith, eight))
@@ -117,7 +118,7 @@ eight_in (p ∷ q ∷ r ∷ s ∷ t ∷ u ∷ []) a c eight ran i has = absurd (
 eight_in (p ∷ q ∷ r ∷ s ∷ t ∷ u ∷ v ∷ []) a c eight ran i has = absurd (omega (arith, eight))
 eight_in (p ∷ q ∷ r ∷ s ∷ t ∷ u ∷ v ∷ w ∷ x ∷ more) a c eight ran i has = absurd (omega (arith, eight))
 
-pub eight_put : (rows : List PlacementRow) (a c : State) → length rows ≡ 8 → Runs insert_placements (flat_map placement_kept rows) a c → Writes (map placement_edit rows) a c
+pub eight_put : (rows : List PlacementRow) (a c : State) → length rows ≡ 8 → Runs INSERT_PLACEMENTS.now (flat_map placement_kept rows) a c → Writes (map placement_edit rows) a c
 eight_put rows a c eight ran = puts_pieces rows a c ran.shown.was_open (eight_in rows a c eight ran)
 
 -- ---- the values of edits

@@ -29,7 +29,8 @@ use Rattle.line_tables.specs.Calls.{Runs, Edits, Writes}
 use Rattle.line_tables.proofs.Inserts.{Inserted, insert_does}
 use Rattle.line_tables.proofs.Altering.{list_grows}
 use Rattle.line_tables.proofs.Beside.{quiet, others_behind}
-use Rattle.line_tables.proofs.PutTexts.{insert_accepted, accepted_terms, insert_accepted_is}
+use Rattle.line_tables.proofs.PutTexts.{accepted_terms, insert_accepted_is}
+use Rattle.line_tables.specs.declared.writing.TheConstants.{INSERT_ACCEPTED}
 
 either : (b : Bool) (x : Value) → cond b x x ≡ x
 either true x = refl
@@ -79,12 +80,12 @@ module _ (a : Accepted) (old new : State) where
             (IsPermutation-trans _ _ _ (IsPermutation-map accepted_columns _ _ (put_permutes rows row free)) (IsPermutation-cons (columns_of a) _ _ holds.accepted))),
       )
 
-  pub puts_accepted : Runs insert_accepted (columns_of a) old new → Writes (PutAccepted a ∷ []) old new
+  pub puts_accepted : Runs INSERT_ACCEPTED.now (columns_of a) old new → Writes (PutAccepted a ∷ []) old new
   puts_accepted h =
       let inserted : (indexed : Layout) → old.now.schema ≡ schema_of Two indexed → Inserted (schema_of Two indexed) accepted (kept_row (columns_of a) ∷ []) old new =
       λ indexed has.
       let means = insert_accepted_is indexed in
-      insert_does insert_accepted (columns_of a) old new (schema_of Two indexed) has 1 accepted accepted_terms 8 refl refl refl means.0 means.1 h.count h.executed (quiet indexed 1 refl []) in
+      insert_does INSERT_ACCEPTED.now (columns_of a) old new (schema_of Two indexed) has 1 accepted accepted_terms 8 refl refl refl means.0 means.1 h.count h.executed (quiet indexed 1 refl []) in
       record {
         was_open = h.shown.was_open;
         done = λ tables holds _. inserted_edits tables holds (inserted holds.indexed holds.schema);

@@ -1,5 +1,5 @@
 -- The effect of the statements on the state tables.
-use Rattle.std.proofs.Common.{◌≡◌, ◌∙◌, inl, inr, ◌||◌, ◌&&◌, ◌==◌, not, if◌then◌else◌, ◌/◌, ℕ, ℤ, pos, Bool, List, [], ◌∷◌, map, drop, length, slice_get, true, false, IsTrue, Option, Some, None, refl, ap, ap₂, subst, sym}
+use Rattle.std.proofs.Common.{◌≡◌, ◌∙◌, ◌+◌, inl, inr, ◌||◌, ◌&&◌, ◌==◌, not, if◌then◌else◌, ◌/◌, ℕ, ℤ, pos, Bool, List, [], ◌∷◌, map, drop, length, slice_get, true, false, IsTrue, Option, Some, None, refl, ap, ap₂, subst, sym}
 use Rattle.std.proofs.lemmas.Bool.{and_parts, and_from}
 use Rattle.sqlite.specs.declared.types.Value.TheVariants.{Null, Int, Real, Text, Blob}
 use Rattle.std.proofs.lemmas.Simd.{map-map}
@@ -48,61 +48,64 @@ use Rattle.line_tables.proofs.Finds.{and_true}
 use Rattle.line_tables.proofs.Altering.{without, put_in, rows_at, found_kept, far_from_found, Alters, alters_then, alters_writes}
 use Rattle.line_tables.proofs.Keyed.{changed, added, one_text, one_pair, one_sheet_place, own_text, own_int, same_pair, same_sheet_place, tells_text, tells_pair, tells_sheet_place}
 use Rattle.line_tables.proofs.Alterations.{deletes, inserts, updates_none, updates_one}
-use Rattle.line_tables.proofs.RowTexts.{IsInsert, delete_part, part_tests, delete_part_is, delete_alternate, alternate_tests, delete_alternate_is, delete_sheet_row, sheet_row_tests, delete_sheet_row_is, delete_mount, mount_tests, delete_mount_is, insert_part, part_terms, insert_part_is, insert_alternate, alternate_terms, insert_alternate_is, insert_sheet_row, sheet_row_terms, insert_sheet_row_is, insert_selected, selected_terms, insert_selected_is, insert_reel, reel_terms, insert_reel_is, insert_board, board_terms, insert_board_is, insert_found, found_terms, insert_found_is, insert_mount, mount_terms, insert_mount_is, key_tests, update_selected, selected_renewed, update_selected_is, update_reel, reel_renewed, update_reel_is, update_board, board_renewed, update_board_is, update_found, found_renewed, update_found_is}
+use Rattle.line_tables.proofs.RowTexts.{IsInsert, row_terms, changed_terms, delete_part_is, alternate_tests, delete_alternate_is, sheet_row_tests, delete_sheet_row_is, mount_tests, delete_mount_is, insert_part_is, insert_alternate_is, insert_sheet_row_is, insert_selected_is, insert_reel_is, insert_board_is, insert_found_is, mount_terms, insert_mount_is, key_tests, update_selected_is, update_reel_is, update_board_is, update_found_is}
 use Rattle.line_tables.specs.Line.Layout.{Indexed, Plain}
+use Rattle.line_tables.specs.declared.floor.TheConstants.{DELETE_MOUNT, INSERT_BOARD, INSERT_MOUNT, INSERT_REEL, UPDATE_BOARD, UPDATE_REEL}
+use Rattle.line_tables.specs.declared.pieces.TheConstants.{INSERT_FOUND, UPDATE_FOUND}
+use Rattle.line_tables.specs.declared.setup.TheConstants.{DELETE_ALTERNATE, DELETE_PART, DELETE_SHEET_ROW, INSERT_ALTERNATE, INSERT_PART, INSERT_SELECTED, INSERT_SHEET_ROW, UPDATE_SELECTED}
 
 -- Values are bound unchanged, except a NaN.
 pub bound_as : (lent : List ValueRef) (row : Row) → values_of lent ≡ row → bound lent ≡ map bound_value row
 bound_as lent row is = sym (map-map bound_value owned lent) ∙ ap (map bound_value) is
 
 module _ (i : Layout) (old new : State) where
-  pub takes_part : (p : Name) → Runs delete_part (Text p ∷ []) old new → Alters i part (without (has_text 0 p)) old new
+  pub takes_part : (p : Name) → Runs DELETE_PART.now (Text p ∷ []) old new → Alters i part (without (has_text 0 p)) old new
   takes_part p ran =
-      deletes i part (has_text 0 p) part_tests (col 1 0 ∷ []) (Text p ∷ []) old new (λ r. and_true _) (λ r. refl) ran.shown.was_open
-      (λ has. delete_does delete_part (Text p ∷ []) old new (schema_of Two i) has 2 part part_tests (col 1 0 ∷ []) refl (quiet i 3 refl) (delete_part_is i).1 ran.count ran.executed (delete_part_is i).0)
+      deletes i part (has_text 0 p) key_tests (col 1 0 ∷ []) (Text p ∷ []) old new (λ r. and_true _) (λ r. refl) ran.shown.was_open
+      (λ has. delete_does DELETE_PART.now (Text p ∷ []) old new (schema_of Two i) has 2 part key_tests (col 1 0 ∷ []) refl (quiet i 3 refl) (delete_part_is i).1 ran.count ran.executed (delete_part_is i).0)
 
-  pub takes_alternate : (p : Name) (q : Name) → Runs delete_alternate (Text p ∷ Text q ∷ []) old new → Alters i alternate (without (has_pair (p, q))) old new
+  pub takes_alternate : (p : Name) (q : Name) → Runs DELETE_ALTERNATE.now (Text p ∷ Text q ∷ []) old new → Alters i alternate (without (has_pair (p, q))) old new
   takes_alternate p q ran =
       deletes i alternate (has_pair (p, q)) alternate_tests (col 1 0 ∷ []) (Text p ∷ Text q ∷ []) old new (λ r. ap (λ c. has_text 0 p (columns alternate r) && c) (and_true _)) (λ r. refl) ran.shown.was_open
-      (λ has. delete_does delete_alternate (Text p ∷ Text q ∷ []) old new (schema_of Two i) has 3 alternate alternate_tests (col 1 0 ∷ []) refl (quiet i 5 refl) (delete_alternate_is i).1 ran.count ran.executed (delete_alternate_is i).0)
+      (λ has. delete_does DELETE_ALTERNATE.now (Text p ∷ Text q ∷ []) old new (schema_of Two i) has 3 alternate alternate_tests (col 1 0 ∷ []) refl (quiet i 5 refl) (delete_alternate_is i).1 ran.count ran.executed (delete_alternate_is i).0)
 
-  pub takes_sheet_row : (p : Name) (m : Name) (n : ℕ) → Runs delete_sheet_row (Text p ∷ Text m ∷ Int (pos n) ∷ []) old new → Alters i sheet_row (without (has_sheet_place (p, m, n))) old new
+  pub takes_sheet_row : (p : Name) (m : Name) (n : ℕ) → Runs DELETE_SHEET_ROW.now (Text p ∷ Text m ∷ Int (pos n) ∷ []) old new → Alters i sheet_row (without (has_sheet_place (p, m, n))) old new
   takes_sheet_row p m n ran =
       deletes i sheet_row (has_sheet_place (p, m, n)) sheet_row_tests (col 1 0 ∷ []) (Text p ∷ Text m ∷ Int (pos n) ∷ []) old new (λ r. ap (λ c. has_text 0 p (columns sheet_row r) && (has_text 1 m (columns sheet_row r) && c)) (and_true _)) (λ r. refl) ran.shown.was_open
-      (λ has. delete_does delete_sheet_row (Text p ∷ Text m ∷ Int (pos n) ∷ []) old new (schema_of Two i) has 4 sheet_row sheet_row_tests (col 1 0 ∷ []) refl (quiet i 7 refl) (delete_sheet_row_is i).1 ran.count ran.executed (delete_sheet_row_is i).0)
+      (λ has. delete_does DELETE_SHEET_ROW.now (Text p ∷ Text m ∷ Int (pos n) ∷ []) old new (schema_of Two i) has 4 sheet_row sheet_row_tests (col 1 0 ∷ []) refl (quiet i 7 refl) (delete_sheet_row_is i).1 ran.count ran.executed (delete_sheet_row_is i).0)
 
-  pub takes_mount : (r : Name) → Runs delete_mount (Text r ∷ []) old new → Alters i mount (without (has_text 3 r)) old new
+  pub takes_mount : (r : Name) → Runs DELETE_MOUNT.now (Text r ∷ []) old new → Alters i mount (without (has_text 3 r)) old new
   takes_mount r ran =
       deletes i mount (has_text 3 r) mount_tests (col 1 0 ∷ []) (Text r ∷ []) old new (λ r. and_true _) (λ r. refl) ran.shown.was_open
-      (λ has. delete_does delete_mount (Text r ∷ []) old new (schema_of Two i) has 7 mount mount_tests (col 1 0 ∷ []) refl (quiet i 13 refl) (delete_mount_is i).1 ran.count ran.executed (delete_mount_is i).0)
+      (λ has. delete_does DELETE_MOUNT.now (Text r ∷ []) old new (schema_of Two i) has 7 mount mount_tests (col 1 0 ∷ []) refl (quiet i 13 refl) (delete_mount_is i).1 ran.count ran.executed (delete_mount_is i).0)
 
   -- An insert of values that their columns keep as they are, under the next rowid.
-  puts : (table : Table) (at : ℕ) (terms : List Term) (width : ℕ) (sql : List ℕ) (row : Row) → slice_get (schema_tables Two i) at ≡ Some table → table.is_counted ≡ false → table.stamps.terms ≡ [] → IsInsert sql at terms width → value_rows row width (length terms / width) terms ≡ (Null ∷ row) ∷ []
+  puts : (table : Table) (at count : ℕ) (sql : List ℕ) (row : Row) → slice_get (schema_tables Two i) at ≡ Some table → table.is_counted ≡ false → table.stamps.terms ≡ [] → IsInsert sql at (row_terms count) (count + 1) → value_rows row (count + 1) (length (row_terms count) / (count + 1)) (row_terms count) ≡ (Null ∷ row) ∷ []
       → is_low i table.tree ≡ true → cast_row table (Null ∷ row) ≡ Null ∷ row → ((id : ℤ) → columns table (Int id ∷ row) ≡ row) → Runs sql row old new → Alters i table (λ rows. row ∷ rows) old new
-  puts table at terms width sql row listed uncounted unstamped is single low cast shown ran =
+  puts table at count sql row listed uncounted unstamped is single low cast shown ran =
       inserts i table (Null ∷ row) row (λ rows. Int (next_rowid rows) ∷ row) old new (λ rows. ap (with_rowid Chosen rows) cast) (λ rows. refl) (λ rows. shown (next_rowid rows)) ran.shown.was_open
-      (λ has. subst (λ rows. Inserted (schema_of Two i) table rows old new) single (insert_does sql row old new (schema_of Two i) has at table terms width listed uncounted unstamped (is i).0 (is i).1 ran.count ran.executed (quiet i table.tree low [])))
+      (λ has. subst (λ rows. Inserted (schema_of Two i) table rows old new) single (insert_does sql row old new (schema_of Two i) has at table (row_terms count) (count + 1) listed uncounted unstamped (is i).0 (is i).1 ran.count ran.executed (quiet i table.tree low [])))
 
-  pub puts_part : (p : Name) → Runs insert_part (part_columns p) old new → Alters i part (λ rows. part_columns p ∷ rows) old new
-  puts_part p = puts part 2 part_terms 2 insert_part (part_columns p) refl refl refl insert_part_is refl refl (rw (cast_null) refl) (λ id. refl)
+  pub puts_part : (p : Name) → Runs INSERT_PART.now (part_columns p) old new → Alters i part (λ rows. part_columns p ∷ rows) old new
+  puts_part p = puts part 2 1 INSERT_PART.now (part_columns p) refl refl refl insert_part_is refl refl (rw (cast_null) refl) (λ id. refl)
 
-  pub puts_alternate : (p : Name) (q : Name) → Runs insert_alternate (alternate_columns (p, q)) old new → Alters i alternate (λ rows. alternate_columns (p, q) ∷ rows) old new
-  puts_alternate p q = puts alternate 3 alternate_terms 3 insert_alternate (alternate_columns (p, q)) refl refl refl insert_alternate_is refl refl (rw (cast_null) refl) (λ id. refl)
+  pub puts_alternate : (p : Name) (q : Name) → Runs INSERT_ALTERNATE.now (alternate_columns (p, q)) old new → Alters i alternate (λ rows. alternate_columns (p, q) ∷ rows) old new
+  puts_alternate p q = puts alternate 3 2 INSERT_ALTERNATE.now (alternate_columns (p, q)) refl refl refl insert_alternate_is refl refl (rw (cast_null) refl) (λ id. refl)
 
-  pub puts_sheet_row : (p : Name) (m : Name) (n : ℕ) (row : SheetRow) → Runs insert_sheet_row (sheet_columns (p, m, n) row) old new → Alters i sheet_row (λ rows. sheet_columns (p, m, n) row ∷ rows) old new
-  puts_sheet_row p m n row = puts sheet_row 4 sheet_row_terms 7 insert_sheet_row (sheet_columns (p, m, n) row) refl refl refl insert_sheet_row_is refl refl (rw (cast_null, cast_int (pos n)) refl) (λ id. refl)
+  pub puts_sheet_row : (p : Name) (m : Name) (n : ℕ) (row : SheetRow) → Runs INSERT_SHEET_ROW.now (sheet_columns (p, m, n) row) old new → Alters i sheet_row (λ rows. sheet_columns (p, m, n) row ∷ rows) old new
+  puts_sheet_row p m n row = puts sheet_row 4 6 INSERT_SHEET_ROW.now (sheet_columns (p, m, n) row) refl refl refl insert_sheet_row_is refl refl (rw (cast_null, cast_int (pos n)) refl) (λ id. refl)
 
-  pub puts_selected : (m : Name) (p : Name) → Runs insert_selected (selected_columns m p) old new → Alters i selected (λ rows. selected_columns m p ∷ rows) old new
-  puts_selected m p = puts selected 5 selected_terms 3 insert_selected (selected_columns m p) refl refl refl insert_selected_is refl refl (rw (cast_null) refl) (λ id. refl)
+  pub puts_selected : (m : Name) (p : Name) → Runs INSERT_SELECTED.now (selected_columns m p) old new → Alters i selected (λ rows. selected_columns m p ∷ rows) old new
+  puts_selected m p = puts selected 5 2 INSERT_SELECTED.now (selected_columns m p) refl refl refl insert_selected_is refl refl (rw (cast_null) refl) (λ id. refl)
 
-  pub puts_reel : (row : ReelRow) → Runs insert_reel (reel_columns row) old new → Alters i reel (λ rows. reel_columns row ∷ rows) old new
-  puts_reel row = puts reel 6 reel_terms 13 insert_reel (reel_columns row) refl refl refl insert_reel_is refl refl (rw (cast_null, cast_int (pos row.label), cast_int (pos row.received), cast_int (pos row.placed), cast_int (pos row.scrapped), cast_int (pos row.remaining), cast_int (pos row.used), cast_int (since_or_none row.open_since), cast_int (flag row.baked)) refl) (λ id. refl)
+  pub puts_reel : (row : ReelRow) → Runs INSERT_REEL.now (reel_columns row) old new → Alters i reel (λ rows. reel_columns row ∷ rows) old new
+  puts_reel row = puts reel 6 12 INSERT_REEL.now (reel_columns row) refl refl refl insert_reel_is refl refl (rw (cast_null, cast_int (pos row.label), cast_int (pos row.received), cast_int (pos row.placed), cast_int (pos row.scrapped), cast_int (pos row.remaining), cast_int (pos row.used), cast_int (since_or_none row.open_since), cast_int (flag row.baked)) refl) (λ id. refl)
 
-  pub puts_board : (row : BoardRow) → Runs insert_board (board_columns row) old new → Alters i board (λ rows. board_columns row ∷ rows) old new
-  puts_board row = puts board 8 board_terms 4 insert_board (board_columns row) refl refl refl insert_board_is refl refl (rw (cast_null) refl) (λ id. refl)
+  pub puts_board : (row : BoardRow) → Runs INSERT_BOARD.now (board_columns row) old new → Alters i board (λ rows. board_columns row ∷ rows) old new
+  puts_board row = puts board 8 3 INSERT_BOARD.now (board_columns row) refl refl refl insert_board_is refl refl (rw (cast_null) refl) (λ id. refl)
 
-  pub puts_found : (r : Name) (n : ℕ) → Runs insert_found (found_columns r n) old new → Alters i (found_by i) (λ rows. found_columns r n ∷ rows) old new
-  puts_found r n = puts (found_by i) 10 found_terms 3 insert_found (found_columns r n) refl refl refl insert_found_is refl (found_low i) (rw (cast_null, cast_int (pos n)) refl) (λ id. refl)
+  pub puts_found : (r : Name) (n : ℕ) → Runs INSERT_FOUND.now (found_columns r n) old new → Alters i (found_by i) (λ rows. found_columns r n ∷ rows) old new
+  puts_found r n = puts (found_by i) 10 2 INSERT_FOUND.now (found_columns r n) refl refl refl insert_found_is refl (found_low i) (rw (cast_null, cast_int (pos n)) refl) (λ id. refl)
 
   -- The number of a mount is its rowid.
   abbrev mount_kept : MountRow → Row
@@ -111,10 +114,10 @@ module _ (i : Layout) (old new : State) where
   mount_cast : (row : MountRow) → cast_row mount (mount_kept row) ≡ mount_kept row
   mount_cast row = rw (cast_null, cast_int (pos row.since)) refl
 
-  mount_in : (row : MountRow) → Runs insert_mount (mount_columns row) old new → old.now.schema ≡ schema_of Two i → Inserted (schema_of Two i) mount (mount_kept row ∷ []) old new
-  mount_in row ran has = insert_does insert_mount (mount_columns row) old new (schema_of Two i) has 7 mount mount_terms 5 refl refl refl (insert_mount_is i).0 (insert_mount_is i).1 ran.count ran.executed (quiet i 13 refl [])
+  mount_in : (row : MountRow) → Runs INSERT_MOUNT.now (mount_columns row) old new → old.now.schema ≡ schema_of Two i → Inserted (schema_of Two i) mount (mount_kept row ∷ []) old new
+  mount_in row ran has = insert_does INSERT_MOUNT.now (mount_columns row) old new (schema_of Two i) has 7 mount mount_terms 5 refl refl refl (insert_mount_is i).0 (insert_mount_is i).1 ran.count ran.executed (quiet i 13 refl [])
 
-  pub puts_mount : (row : MountRow) → Runs insert_mount (mount_columns row) old new → Alters i mount (λ rows. mount_columns row ∷ rows) old new
+  pub puts_mount : (row : MountRow) → Runs INSERT_MOUNT.now (mount_columns row) old new → Alters i mount (λ rows. mount_columns row ∷ rows) old new
   puts_mount row ran = inserts i mount (mount_kept row) (mount_columns row) (λ rows. mount_kept row) old new (λ rows. ap (with_rowid Chosen rows) (mount_cast row)) (λ rows. refl) (λ rows. refl) ran.shown.was_open (mount_in row ran)
 
 -- ---- a row that replaces the one with its key, which is its first column
@@ -164,45 +167,45 @@ unit_or : (a b : Bool) → unit_if (a || b) ≡ (if a then Some tt else unit_if 
 unit_or true b = refl
 unit_or false b = refl
 
-pub part_put : (p : Name) (a b c : State) → Runs delete_part (Text p ∷ []) a b → Runs insert_part (part_columns p) b c → WritesRow (PutPart p) a c
+pub part_put : (p : Name) (a b c : State) → Runs DELETE_PART.now (Text p ∷ []) a b → Runs INSERT_PART.now (part_columns p) b c → WritesRow (PutPart p) a c
 part_put p a b c gone ran =
     alters_writes (PutPart p) (λ _. part) (put_in (has_text 0 p) (part_columns p)) a c (λ _. refl) (λ _ _ all. all.0) (λ _ t _ was k new perm. record { parts = changed (has_text 0) (λ part _. part_columns part) (one_text 0) same tells_text p (Some tt) _ _ (λ part. unit_if (t.parts part)) _ (own_text p, tt) (λ l. unit_or _ _) perm was.parts; alternates = k.alternates refl; sheets = k.sheets refl; selected = k.selected refl; reels = k.reels refl; mounts = k.mounts refl; boards = k.boards refl; placements = k.placements refl; found = k.found refl })
     (λ i. alters_then i part (without (has_text 0 p)) (λ rows. part_columns p ∷ rows) a b c (takes_part i a b p gone) (puts_part i b c p ran))
 
-pub alternate_put : (p q : Name) (a b c : State) → Runs delete_alternate (Text p ∷ Text q ∷ []) a b → Runs insert_alternate (alternate_columns (p, q)) b c → WritesRow (PutAlternate p q) a c
+pub alternate_put : (p q : Name) (a b c : State) → Runs DELETE_ALTERNATE.now (Text p ∷ Text q ∷ []) a b → Runs INSERT_ALTERNATE.now (alternate_columns (p, q)) b c → WritesRow (PutAlternate p q) a c
 alternate_put p q a b c gone ran =
     alters_writes (PutAlternate p q) (λ _. alternate) (put_in (has_pair (p, q)) (alternate_columns (p, q))) a c (λ _. refl) (λ _ _ all. all.1.0) (λ _ t _ was k new perm. record { parts = k.parts refl; alternates = changed has_pair (λ pair _. alternate_columns pair) one_pair same_pair tells_pair (p, q) (Some tt) _ _ (λ pair. unit_if (t.alternates pair.0 pair.1)) _ (and_from _ _ (own_text p) (own_text q), tt) (λ l. unit_or _ _) perm was.alternates; sheets = k.sheets refl; selected = k.selected refl; reels = k.reels refl; mounts = k.mounts refl; boards = k.boards refl; placements = k.placements refl; found = k.found refl })
     (λ i. alters_then i alternate (without (has_pair (p, q))) (λ rows. alternate_columns (p, q) ∷ rows) a b c (takes_alternate i a b p q gone) (puts_alternate i b c p q ran))
 
-pub sheet_row_taken : (p m : Name) (n : ℕ) (a c : State) → Runs delete_sheet_row (Text p ∷ Text m ∷ Int (pos n) ∷ []) a c → WritesRow (TakeSheetRow p m n) a c
+pub sheet_row_taken : (p m : Name) (n : ℕ) (a c : State) → Runs DELETE_SHEET_ROW.now (Text p ∷ Text m ∷ Int (pos n) ∷ []) a c → WritesRow (TakeSheetRow p m n) a c
 sheet_row_taken p m n a c ran =
     alters_writes (TakeSheetRow p m n) (λ _. sheet_row) (without (has_sheet_place (p, m, n))) a c (λ _. refl) (λ _ _ all. all.1.1.0) (λ _ t _ was k new perm. record { parts = k.parts refl; alternates = k.alternates refl; sheets = changed has_sheet_place sheet_columns one_sheet_place same_sheet_place tells_sheet_place (p, m, n) None _ _ (λ at. t.sheets at.0 at.1 at.2) _ tt (λ l. refl) perm was.sheets; selected = k.selected refl; reels = k.reels refl; mounts = k.mounts refl; boards = k.boards refl; placements = k.placements refl; found = k.found refl })
     (λ i. takes_sheet_row i a c p m n ran)
 
-pub sheet_row_put : (p m : Name) (n : ℕ) (row : SheetRow) (a c : State) → Runs insert_sheet_row (sheet_columns (p, m, n) row) a c → WritesRow (PutSheetRow p m n row) a c
+pub sheet_row_put : (p m : Name) (n : ℕ) (row : SheetRow) (a c : State) → Runs INSERT_SHEET_ROW.now (sheet_columns (p, m, n) row) a c → WritesRow (PutSheetRow p m n row) a c
 sheet_row_put p m n row a c ran =
     alters_writes (PutSheetRow p m n row) (λ _. sheet_row) (λ rows. sheet_columns (p, m, n) row ∷ rows) a c (λ _. refl) (λ _ _ all. all.1.1.0) (λ _ t _ was k new perm. record { parts = k.parts refl; alternates = k.alternates refl; sheets = added has_sheet_place sheet_columns one_sheet_place same_sheet_place tells_sheet_place (p, m, n) row _ _ (λ at. t.sheets at.0 at.1 at.2) _ new (and_from _ _ (own_text p) (and_from _ _ (own_text m) (own_int n))) (λ l. refl) perm was.sheets; selected = k.selected refl; reels = k.reels refl; mounts = k.mounts refl; boards = k.boards refl; placements = k.placements refl; found = k.found refl })
     (λ i. puts_sheet_row i a c p m n row ran)
 
-pub mount_taken : (r : Name) (a c : State) → Runs delete_mount (Text r ∷ []) a c → WritesRow (TakeMount r) a c
+pub mount_taken : (r : Name) (a c : State) → Runs DELETE_MOUNT.now (Text r ∷ []) a c → WritesRow (TakeMount r) a c
 mount_taken r a c ran =
     alters_writes (TakeMount r) (λ _. mount) (without (has_text 3 r)) a c (λ _. refl) (λ _ _ all. all.1.1.1.1.1.0) (λ _ t _ was k new perm. record { parts = k.parts refl; alternates = k.alternates refl; sheets = k.sheets refl; selected = k.selected refl; reels = k.reels refl; mounts = changed (has_text 3) (λ _ row. mount_columns row) (one_text 3) same tells_text r None _ _ t.mounts _ tt (λ l. refl) perm was.mounts; boards = k.boards refl; placements = k.placements refl; found = k.found refl })
     (λ i. takes_mount i a c r ran)
 
-pub mount_put : (row : MountRow) (a c : State) → Runs insert_mount (mount_columns row) a c → WritesRow (PutMount row) a c
+pub mount_put : (row : MountRow) (a c : State) → Runs INSERT_MOUNT.now (mount_columns row) a c → WritesRow (PutMount row) a c
 mount_put row a c ran =
     alters_writes (PutMount row) (λ _. mount) (λ rows. mount_columns row ∷ rows) a c (λ _. refl) (λ _ _ all. all.1.1.1.1.1.0) (λ _ t _ was k new perm. record { parts = k.parts refl; alternates = k.alternates refl; sheets = k.sheets refl; selected = k.selected refl; reels = k.reels refl; mounts = added (has_text 3) (λ _ row. mount_columns row) (one_text 3) same tells_text row.reel row _ _ t.mounts _ new (own_text row.reel) (λ l. refl) perm was.mounts; boards = k.boards refl; placements = k.placements refl; found = k.found refl })
     (λ i. puts_mount i a c row ran)
 
-pub selected_put : {S : Type 0} (g : Ghosts S) (m p : Name) (a c : State) → ChangesOrPuts g update_selected insert_selected (selected_columns m p) a c → WritesRow (PutSelected m p) a c
+pub selected_put : {S : Type 0} (g : Ghosts S) (m p : Name) (a c : State) → ChangesOrPuts g UPDATE_SELECTED.now INSERT_SELECTED.now (selected_columns m p) a c → WritesRow (PutSelected m p) a c
 selected_put g m p a c did =
     alters_writes (PutSelected m p) (λ _. selected) (put_in (has_text 0 m) (selected_columns m p)) a c (λ _. refl) (λ _ _ all. all.1.1.1.0) (λ _ t _ was k new perm. record { parts = k.parts refl; alternates = k.alternates refl; sheets = k.sheets refl; selected = changed (has_text 0) selected_columns (one_text 0) same tells_text m (Some p) _ _ t.selected _ (own_text m, tt) (λ l. refl) perm was.selected; reels = k.reels refl; mounts = k.mounts refl; boards = k.boards refl; placements = k.placements refl; found = k.found refl })
-    (λ i. in_place i selected 5 m (Text p ∷ []) selected_renewed update_selected insert_selected refl (quiet i 9 refl) (update_selected_is i) (λ r. and_true _) (λ r. refl) (λ id. rw (cast_int id) refl) (λ id. refl) (λ b c. puts_selected i b c m p) g a c did)
+    (λ i. in_place i selected 5 m (Text p ∷ []) (changed_terms 1) UPDATE_SELECTED.now INSERT_SELECTED.now refl (quiet i 9 refl) (update_selected_is i) (λ r. and_true _) (λ r. refl) (λ id. rw (cast_int id) refl) (λ id. refl) (λ b c. puts_selected i b c m p) g a c did)
 
-pub board_put : {S : Type 0} (g : Ghosts S) (row : BoardRow) (a c : State) → ChangesOrPuts g update_board insert_board (board_columns row) a c → WritesRow (PutBoard row) a c
+pub board_put : {S : Type 0} (g : Ghosts S) (row : BoardRow) (a c : State) → ChangesOrPuts g UPDATE_BOARD.now INSERT_BOARD.now (board_columns row) a c → WritesRow (PutBoard row) a c
 board_put g row a c did =
     alters_writes (PutBoard row) (λ _. board) (put_in (has_text 0 row.board) (board_columns row)) a c (λ _. refl) (λ _ _ all. all.1.1.1.1.1.1.0) (λ _ t _ was k new perm. record { parts = k.parts refl; alternates = k.alternates refl; sheets = k.sheets refl; selected = k.selected refl; reels = k.reels refl; mounts = k.mounts refl; boards = changed (has_text 0) (λ _ row. board_columns row) (one_text 0) same tells_text row.board (Some row) _ _ t.boards _ (own_text row.board, tt) (λ l. refl) perm was.boards; placements = k.placements refl; found = k.found refl })
-    (λ i. in_place i board 8 row.board (drop 1 (board_columns row)) board_renewed update_board insert_board refl (quiet i 15 refl) (update_board_is i) (λ r. and_true _) (λ r. refl) (λ id. rw (cast_int id) refl) (λ id. refl) (λ b c. puts_board i b c row) g a c did)
+    (λ i. in_place i board 8 row.board (drop 1 (board_columns row)) (changed_terms 2) UPDATE_BOARD.now INSERT_BOARD.now refl (quiet i 15 refl) (update_board_is i) (λ r. and_true _) (λ r. refl) (λ id. rw (cast_int id) refl) (λ id. refl) (λ b c. puts_board i b c row) g a c did)
 
 -- The rows of `found` in its tree.
 abbrev AreFound : Layout → Database → (Name → Option ℕ) → Type 0
@@ -218,17 +221,17 @@ found_sole : (i : Layout) → (not (0 == found_tree i) && (not (1 == found_tree 
 found_sole (Indexed others) = refl
 found_sole (Plain others) = refl
 
-pub found_put : {S : Type 0} (g : Ghosts S) (r : Name) (n : ℕ) (a c : State) → ChangesOrPuts g update_found insert_found (found_columns r n) a c → WritesRow (PutFound r n) a c
+pub found_put : {S : Type 0} (g : Ghosts S) (r : Name) (n : ℕ) (a c : State) → ChangesOrPuts g UPDATE_FOUND.now INSERT_FOUND.now (found_columns r n) a c → WritesRow (PutFound r n) a c
 found_put g r n a c did =
     alters_writes (PutFound r n) found_by (put_in (has_text 0 r) (found_columns r n)) a c found_sole (λ i has all. subst AreApart (found_kept i a.now has) all.1.1.1.1.1.1.1.0)
     (λ i t beside was k new perm. record { parts = k.parts (far_from_found i 3 refl); alternates = k.alternates (far_from_found i 5 refl); sheets = k.sheets (far_from_found i 7 refl); selected = k.selected (far_from_found i 9 refl); reels = k.reels (far_from_found i 11 refl); mounts = k.mounts (far_from_found i 13 refl); boards = k.boards (far_from_found i 15 refl); placements = k.placements (far_from_found i 17 refl); found = from_tree i c.now _ beside.is (changed (has_text 0) found_columns (one_text 0) same tells_text r (Some n) _ _ t.found _ (own_text r, tt) (λ l. refl) perm (to_tree i a.now t.found beside.was was.found)) })
-    (λ i. in_place i (found_by i) 10 r (Int (pos n) ∷ []) found_renewed update_found insert_found refl (quiet i (found_tree i) (found_low i)) (update_found_is i) (λ r. and_true _) (λ r. refl) (λ id. rw (cast_int id, cast_int (pos n)) refl) (λ id. refl) (λ b c. puts_found i b c r n) g a c did)
+    (λ i. in_place i (found_by i) 10 r (Int (pos n) ∷ []) (changed_terms 1) UPDATE_FOUND.now INSERT_FOUND.now refl (quiet i (found_tree i) (found_low i)) (update_found_is i) (λ r. and_true _) (λ r. refl) (λ id. rw (cast_int id, cast_int (pos n)) refl) (λ id. refl) (λ b c. puts_found i b c r n) g a c did)
 
 reel_kept : (row : ReelRow) (id : ℤ) → cast_row reel (Int id ∷ reel_columns row) ≡ Int id ∷ reel_columns row
 reel_kept row id =
     rw (cast_int id, cast_int (pos row.label), cast_int (pos row.received), cast_int (pos row.placed), cast_int (pos row.scrapped), cast_int (pos row.remaining), cast_int (pos row.used), cast_int (since_or_none row.open_since), cast_int (flag row.baked)) refl
 
-pub reel_put : {S : Type 0} (g : Ghosts S) (row : ReelRow) (a c : State) → ChangesOrPuts g update_reel insert_reel (reel_columns row) a c → WritesRow (PutReel row) a c
+pub reel_put : {S : Type 0} (g : Ghosts S) (row : ReelRow) (a c : State) → ChangesOrPuts g UPDATE_REEL.now INSERT_REEL.now (reel_columns row) a c → WritesRow (PutReel row) a c
 reel_put g row a c did =
     alters_writes (PutReel row) (λ _. reel) (put_in (has_text 0 row.reel) (reel_columns row)) a c (λ _. refl) (λ _ _ all. all.1.1.1.1.0) (λ _ t _ was k new perm. record { parts = k.parts refl; alternates = k.alternates refl; sheets = k.sheets refl; selected = k.selected refl; reels = changed (has_text 0) (λ _ row. reel_columns row) (one_text 0) same tells_text row.reel (Some row) _ _ t.reels _ (own_text row.reel, tt) (λ l. refl) perm was.reels; mounts = k.mounts refl; boards = k.boards refl; placements = k.placements refl; found = k.found refl })
-    (λ i. in_place i reel 6 row.reel (drop 1 (reel_columns row)) reel_renewed update_reel insert_reel refl (quiet i 11 refl) (update_reel_is i) (λ r. and_true _) (λ r. refl) (reel_kept row) (λ id. refl) (λ b c. puts_reel i b c row) g a c did)
+    (λ i. in_place i reel 6 row.reel (drop 1 (reel_columns row)) (changed_terms 11) UPDATE_REEL.now INSERT_REEL.now refl (quiet i 11 refl) (update_reel_is i) (λ r. and_true _) (λ r. refl) (reel_kept row) (λ id. refl) (λ b c. puts_reel i b c row) g a c did)

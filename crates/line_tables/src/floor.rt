@@ -13,6 +13,20 @@ use crate::values::text;
 use desk_types::{BoardRow, Id, MountRow, ReelRow};
 use sqlite::{Alter, Error, Transaction};
 
+const UPDATE_REEL: &str =
+    "UPDATE reel SET part = ?2, lot = ?3, level = ?4, label = ?5, received = ?6, placed = ?7, scrapped = ?8, remaining = ?9, used = ?10, open_since = ?11, baked = ?12 WHERE reel = ?1";
+
+const INSERT_REEL: &str =
+    "INSERT INTO reel VALUES (?1, ?2, ?3, ?4, ?5, ?6, ?7, ?8, ?9, ?10, ?11, ?12)";
+
+const DELETE_MOUNT: &str = "DELETE FROM mount WHERE reel = ?1";
+
+const INSERT_MOUNT: &str = "INSERT INTO mount VALUES (?1, ?2, ?3, ?4)";
+
+const UPDATE_BOARD: &str = "UPDATE board SET product = ?2, machine = ?3 WHERE board = ?1";
+
+const INSERT_BOARD: &str = "INSERT INTO board VALUES (?1, ?2, ?3)";
+
 /// Updates a reel's row in place, since placements refer to it. Two rows for one reel are an error.
 pub fn put_reel<S: Alter>(tx: &mut Transaction<'_, S>, row: &ReelRow) -> Result<(), Error>
     ensures done { HasCleanDisk (state S.Store tx.new.conn.now)
@@ -21,12 +35,7 @@ pub fn put_reel<S: Alter>(tx: &mut Transaction<'_, S>, row: &ReelRow) -> Result<
         (state S.Store tx.new.conn.now)) }
     ensures within { InTransaction S.Store tx.old tx.new }
 {
-    change_or_put(
-        tx,
-        "UPDATE reel SET part = ?2, lot = ?3, level = ?4, label = ?5, received = ?6, placed = ?7, scrapped = ?8, remaining = ?9, used = ?10, open_since = ?11, baked = ?12 WHERE reel = ?1",
-        "INSERT INTO reel VALUES (?1, ?2, ?3, ?4, ?5, ?6, ?7, ?8, ?9, ?10, ?11, ?12)",
-        &reel_values(row)?.values,
-    )
+    change_or_put(tx, UPDATE_REEL, INSERT_REEL, &reel_values(row)?.values)
 }
 
 /// Deletes the reel's mount, if there is one.
@@ -37,7 +46,7 @@ pub fn take_mount<S: Alter>(tx: &mut Transaction<'_, S>, reel: &Id) -> Result<()
         (state S.Store tx.new.conn.now)) }
     ensures within { InTransaction S.Store tx.old tx.new }
 {
-    run(tx, "DELETE FROM mount WHERE reel = ?1", &[text(reel)])
+    run(tx, DELETE_MOUNT, &[text(reel)])
 }
 
 /// Inserts a mounted reel. It must not be mounted elsewhere, and its number must be free.
@@ -48,11 +57,7 @@ pub fn put_mount<S: Alter>(tx: &mut Transaction<'_, S>, row: &MountRow) -> Resul
         (state S.Store tx.new.conn.now)) }
     ensures within { InTransaction S.Store tx.old tx.new }
 {
-    run(
-        tx,
-        "INSERT INTO mount VALUES (?1, ?2, ?3, ?4)",
-        &mount_values(row)?.values,
-    )
+    run(tx, INSERT_MOUNT, &mount_values(row)?.values)
 }
 
 /// Writes a board. An existing row is updated in place.
@@ -63,10 +68,5 @@ pub fn put_board<S: Alter>(tx: &mut Transaction<'_, S>, row: &BoardRow) -> Resul
         (state S.Store tx.new.conn.now)) }
     ensures within { InTransaction S.Store tx.old tx.new }
 {
-    change_or_put(
-        tx,
-        "UPDATE board SET product = ?2, machine = ?3 WHERE board = ?1",
-        "INSERT INTO board VALUES (?1, ?2, ?3)",
-        &board_values(row),
-    )
+    change_or_put(tx, UPDATE_BOARD, INSERT_BOARD, &board_values(row))
 }

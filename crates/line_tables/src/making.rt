@@ -11,6 +11,40 @@ ghost use Rattle.line_tables.specs.Frames.{InTransaction, InOwnTransaction};
 use crate::statement::run;
 use sqlite::{Alter, Connection, Error, ErrorCode, Transaction, params};
 
+const CREATE_VERSION: &str =
+    "CREATE TABLE version (one INTEGER NOT NULL PRIMARY KEY, number INTEGER NOT NULL, greatest INTEGER NOT NULL) STRICT";
+
+const CREATE_ACCEPTED: &str =
+    "CREATE TABLE accepted (number INTEGER NOT NULL PRIMARY KEY, uid TEXT NOT NULL UNIQUE, source TEXT NOT NULL, own INTEGER NOT NULL, effective INTEGER NOT NULL, command TEXT NOT NULL, detail TEXT NOT NULL) STRICT";
+
+const CREATE_PART: &str = "CREATE TABLE part (part TEXT NOT NULL, PRIMARY KEY (part)) STRICT";
+
+const CREATE_ALTERNATE: &str =
+    "CREATE TABLE alternate (part TEXT NOT NULL, alternate TEXT NOT NULL, PRIMARY KEY (part, alternate)) STRICT";
+
+const CREATE_SHEET_ROW: &str =
+    "CREATE TABLE sheet_row (product TEXT NOT NULL, machine TEXT NOT NULL, place INTEGER NOT NULL, slot TEXT NOT NULL, part TEXT NOT NULL, designators TEXT NOT NULL, PRIMARY KEY (product, machine, place)) STRICT";
+
+const CREATE_SELECTED: &str =
+    "CREATE TABLE selected (machine TEXT NOT NULL, product TEXT NOT NULL, PRIMARY KEY (machine)) STRICT";
+
+const CREATE_REEL: &str =
+    "CREATE TABLE reel (reel TEXT NOT NULL, part TEXT NOT NULL, lot TEXT NOT NULL, level TEXT NOT NULL, label INTEGER NOT NULL, received INTEGER NOT NULL, placed INTEGER NOT NULL, scrapped INTEGER NOT NULL, remaining INTEGER NOT NULL, used INTEGER NOT NULL, open_since INTEGER NOT NULL, baked INTEGER NOT NULL, PRIMARY KEY (reel), CHECK (received = placed + scrapped + remaining)) STRICT";
+
+const CREATE_MOUNT: &str =
+    "CREATE TABLE mount (since INTEGER NOT NULL PRIMARY KEY, machine TEXT NOT NULL, slot TEXT NOT NULL, reel TEXT NOT NULL UNIQUE) STRICT";
+
+const CREATE_BOARD: &str =
+    "CREATE TABLE board (board TEXT NOT NULL, product TEXT NOT NULL, machine TEXT NOT NULL, PRIMARY KEY (board)) STRICT";
+
+const CREATE_PLACEMENT: &str =
+    "CREATE TABLE placement (number INTEGER NOT NULL, place INTEGER NOT NULL, board TEXT NOT NULL, designator TEXT NOT NULL, machine TEXT NOT NULL, slot TEXT NOT NULL, reel TEXT NOT NULL REFERENCES reel, overdue INTEGER NOT NULL, UNIQUE (board, designator)) STRICT";
+
+const CREATE_FOUND: &str =
+    "CREATE TABLE found (reel TEXT NOT NULL, pieces INTEGER NOT NULL, PRIMARY KEY (reel), CHECK (pieces >= 1)) STRICT";
+
+const INSERT_VERSION: &str = "INSERT INTO version VALUES (1, 2, ?1)";
+
 /// Creates the tables of an empty history, whose numbers go up to the greatest, and commits them, or does nothing.
 /// Tables with other names stay; the contract on values assumes that there were none. Inside an open transaction of the
 /// caller nothing is done. A name that is taken gives `NameTaken`.
@@ -45,11 +79,7 @@ fn make_all<S: Alter>(tx: &mut Transaction<'_, S>, greatest: u32) -> Result<(), 
     ensures within { InTransaction S.Store tx.old tx.new }
 {
     make_tables(tx)?;
-    run(
-        tx,
-        "INSERT INTO version VALUES (1, 2, ?1)",
-        params![greatest],
-    )
+    run(tx, INSERT_VERSION, params![greatest])
 }
 
 fn make_tables<S: Alter>(tx: &mut Transaction<'_, S>) -> Result<(), Error>
@@ -72,16 +102,8 @@ fn make_list<S: Alter>(tx: &mut Transaction<'_, S>) -> Result<(), Error>
         (state S.Store tx.new.conn.now)) }
     ensures within { InTransaction S.Store tx.old tx.new }
 {
-    run(
-        tx,
-        "CREATE TABLE version (one INTEGER NOT NULL PRIMARY KEY, number INTEGER NOT NULL, greatest INTEGER NOT NULL) STRICT",
-        &[],
-    )?;
-    run(
-        tx,
-        "CREATE TABLE accepted (number INTEGER NOT NULL PRIMARY KEY, uid TEXT NOT NULL UNIQUE, source TEXT NOT NULL, own INTEGER NOT NULL, effective INTEGER NOT NULL, command TEXT NOT NULL, detail TEXT NOT NULL) STRICT",
-        &[],
-    )
+    run(tx, CREATE_VERSION, &[])?;
+    run(tx, CREATE_ACCEPTED, &[])
 }
 
 fn make_setup<S: Alter>(tx: &mut Transaction<'_, S>) -> Result<(), Error>
@@ -91,26 +113,10 @@ fn make_setup<S: Alter>(tx: &mut Transaction<'_, S>) -> Result<(), Error>
         (state S.Store tx.new.conn.now)) }
     ensures within { InTransaction S.Store tx.old tx.new }
 {
-    run(
-        tx,
-        "CREATE TABLE part (part TEXT NOT NULL, PRIMARY KEY (part)) STRICT",
-        &[],
-    )?;
-    run(
-        tx,
-        "CREATE TABLE alternate (part TEXT NOT NULL, alternate TEXT NOT NULL, PRIMARY KEY (part, alternate)) STRICT",
-        &[],
-    )?;
-    run(
-        tx,
-        "CREATE TABLE sheet_row (product TEXT NOT NULL, machine TEXT NOT NULL, place INTEGER NOT NULL, slot TEXT NOT NULL, part TEXT NOT NULL, designators TEXT NOT NULL, PRIMARY KEY (product, machine, place)) STRICT",
-        &[],
-    )?;
-    run(
-        tx,
-        "CREATE TABLE selected (machine TEXT NOT NULL, product TEXT NOT NULL, PRIMARY KEY (machine)) STRICT",
-        &[],
-    )
+    run(tx, CREATE_PART, &[])?;
+    run(tx, CREATE_ALTERNATE, &[])?;
+    run(tx, CREATE_SHEET_ROW, &[])?;
+    run(tx, CREATE_SELECTED, &[])
 }
 
 /// Reels, mounts and boards.
@@ -121,21 +127,9 @@ fn make_floor<S: Alter>(tx: &mut Transaction<'_, S>) -> Result<(), Error>
         (state S.Store tx.new.conn.now)) }
     ensures within { InTransaction S.Store tx.old tx.new }
 {
-    run(
-        tx,
-        "CREATE TABLE reel (reel TEXT NOT NULL, part TEXT NOT NULL, lot TEXT NOT NULL, level TEXT NOT NULL, label INTEGER NOT NULL, received INTEGER NOT NULL, placed INTEGER NOT NULL, scrapped INTEGER NOT NULL, remaining INTEGER NOT NULL, used INTEGER NOT NULL, open_since INTEGER NOT NULL, baked INTEGER NOT NULL, PRIMARY KEY (reel), CHECK (received = placed + scrapped + remaining)) STRICT",
-        &[],
-    )?;
-    run(
-        tx,
-        "CREATE TABLE mount (since INTEGER NOT NULL PRIMARY KEY, machine TEXT NOT NULL, slot TEXT NOT NULL, reel TEXT NOT NULL UNIQUE) STRICT",
-        &[],
-    )?;
-    run(
-        tx,
-        "CREATE TABLE board (board TEXT NOT NULL, product TEXT NOT NULL, machine TEXT NOT NULL, PRIMARY KEY (board)) STRICT",
-        &[],
-    )
+    run(tx, CREATE_REEL, &[])?;
+    run(tx, CREATE_MOUNT, &[])?;
+    run(tx, CREATE_BOARD, &[])
 }
 
 /// Placements, and pieces found by counts.
@@ -146,11 +140,7 @@ fn make_pieces<S: Alter>(tx: &mut Transaction<'_, S>) -> Result<(), Error>
         (state S.Store tx.new.conn.now)) }
     ensures within { InTransaction S.Store tx.old tx.new }
 {
-    run(
-        tx,
-        "CREATE TABLE placement (number INTEGER NOT NULL, place INTEGER NOT NULL, board TEXT NOT NULL, designator TEXT NOT NULL, machine TEXT NOT NULL, slot TEXT NOT NULL, reel TEXT NOT NULL REFERENCES reel, overdue INTEGER NOT NULL, UNIQUE (board, designator)) STRICT",
-        &[],
-    )?;
+    run(tx, CREATE_PLACEMENT, &[])?;
     make_found(tx)
 }
 
@@ -160,9 +150,5 @@ pub fn make_found<S: Alter>(tx: &mut Transaction<'_, S>) -> Result<(), Error>
         → OnOk result (AddsFound (state S.Store tx.old.conn.now) (state S.Store tx.new.conn.now)) }
     ensures within { InTransaction S.Store tx.old tx.new }
 {
-    run(
-        tx,
-        "CREATE TABLE found (reel TEXT NOT NULL, pieces INTEGER NOT NULL, PRIMARY KEY (reel), CHECK (pieces >= 1)) STRICT",
-        &[],
-    )
+    run(tx, CREATE_FOUND, &[])
 }

@@ -11,6 +11,8 @@ use crate::making::make_found;
 use crate::statement::run;
 use sqlite::{Alter, Connection, Error, ErrorCode, Transaction};
 
+const UPDATE_VERSION: &str = "UPDATE version SET number = 2";
+
 /// Migrates the tables from version 1 to version 2 and commits, or does nothing. One table is added, empty, and the
 /// version number changes; all other rows stay. Inside an open transaction of the caller nothing is done.
 pub fn migrate_tables<S: Alter>(conn: &mut Connection<S>) -> Result<(), Error>
@@ -43,5 +45,5 @@ fn change_version<S: Alter>(tx: &mut Transaction<'_, S>) -> Result<(), Error>
     ensures within { InTransaction S.Store tx.old tx.new }
 {
     make_found(tx)?;
-    run(tx, "UPDATE version SET number = 2", &[])
+    run(tx, UPDATE_VERSION, &[])
 }

@@ -22,6 +22,16 @@ use sqlite::types::ValueRef;
 use sqlite::{Alter, Error, Transaction};
 use std::alloc::Global;
 
+const INSERT_PLACEMENT: &str =
+    "INSERT INTO placement (rowid, number, place, board, designator, machine, slot, reel, overdue) VALUES (?1, ?2, ?3, ?4, ?5, ?6, ?7, ?8, ?9)";
+
+const INSERT_PLACEMENTS: &str =
+    "INSERT INTO placement (rowid, number, place, board, designator, machine, slot, reel, overdue) VALUES (?, ?, ?, ?, ?, ?, ?, ?, ?), (?, ?, ?, ?, ?, ?, ?, ?, ?), (?, ?, ?, ?, ?, ?, ?, ?, ?), (?, ?, ?, ?, ?, ?, ?, ?, ?), (?, ?, ?, ?, ?, ?, ?, ?, ?), (?, ?, ?, ?, ?, ?, ?, ?, ?), (?, ?, ?, ?, ?, ?, ?, ?, ?), (?, ?, ?, ?, ?, ?, ?, ?, ?)";
+
+const UPDATE_FOUND: &str = "UPDATE found SET pieces = ?2 WHERE reel = ?1";
+
+const INSERT_FOUND: &str = "INSERT INTO found VALUES (?1, ?2)";
+
 /// Inserts a placed piece. Its number and place, and its board and designator, must be free, and its reel must have a
 /// row.
 pub fn put_placement<S: Alter>(
@@ -37,11 +47,7 @@ pub fn put_placement<S: Alter>(
 {
     let mut values = Vec::new(alloc);
     add_values(&mut values, row)?;
-    run(
-        tx,
-        "INSERT INTO placement (rowid, number, place, board, designator, machine, slot, reel, overdue) VALUES (?1, ?2, ?3, ?4, ?5, ?6, ?7, ?8, ?9)",
-        values.as_slice(),
-    )
+    run(tx, INSERT_PLACEMENT, values.as_slice())
 }
 
 /// Inserts eight placed pieces by one statement, which takes half the time of eight. The values are those of their
@@ -57,11 +63,7 @@ pub fn put_eight<S: Alter>(
         (state S.Store tx.new.conn.now)) }
     ensures within { InTransaction S.Store tx.old tx.new }
 {
-    run(
-        tx,
-        "INSERT INTO placement (rowid, number, place, board, designator, machine, slot, reel, overdue) VALUES (?, ?, ?, ?, ?, ?, ?, ?, ?), (?, ?, ?, ?, ?, ?, ?, ?, ?), (?, ?, ?, ?, ?, ?, ?, ?, ?), (?, ?, ?, ?, ?, ?, ?, ?, ?), (?, ?, ?, ?, ?, ?, ?, ?, ?), (?, ?, ?, ?, ?, ?, ?, ?, ?), (?, ?, ?, ?, ?, ?, ?, ?, ?), (?, ?, ?, ?, ?, ?, ?, ?, ?)",
-        values,
-    )
+    run(tx, INSERT_PLACEMENTS, values)
 }
 
 /// Returns the values of the edits' rows, if each of them puts a placement.
@@ -103,10 +105,5 @@ pub fn put_found<S: Alter>(tx: &mut Transaction<'_, S>, reel: &Id, pieces: u64) 
         (state S.Store tx.new.conn.now)) }
     ensures within { InTransaction S.Store tx.old tx.new }
 {
-    change_or_put(
-        tx,
-        "UPDATE found SET pieces = ?2 WHERE reel = ?1",
-        "INSERT INTO found VALUES (?1, ?2)",
-        &[text(reel), int(pieces)?],
-    )
+    change_or_put(tx, UPDATE_FOUND, INSERT_FOUND, &[text(reel), int(pieces)?])
 }

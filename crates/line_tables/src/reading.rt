@@ -17,6 +17,18 @@ use crate::edit::Accepted;
 use crate::select::select;
 use sqlite::{Alter, Connection, Error, Row, params};
 
+const SELECT_UID: &str =
+    "SELECT number, uid, source, own, effective, command, detail FROM accepted WHERE uid = ?1";
+
+const SELECT_NUMBER: &str =
+    "SELECT number, uid, source, own, effective, command, detail FROM accepted WHERE number = ?1";
+
+const SELECT_BEFORE: &str = "SELECT number FROM accepted WHERE uid = ?1 AND number < ?2";
+
+const SELECT_LEAST: &str = "SELECT number FROM accepted ORDER BY number LIMIT 1";
+
+const SELECT_COUNT: &str = "SELECT count(*) FROM accepted";
+
 /// The greatest count of SQL.
 pub const MOST_COUNTED: u64 = 9_223_372_036_854_775_807;
 
@@ -30,11 +42,7 @@ pub fn find<S: Alter>(conn: &mut Connection<S>, uid: &str) -> Result<Option<Acce
     ensures reads { ReadsOnly S.Store conn.old conn.new }
     ensures inside { IsRefusedInside result conn.old conn.new }
 {
-    let rows = select(
-        conn,
-        "SELECT number, uid, source, own, effective, command, detail FROM accepted WHERE uid = ?1",
-        params![uid],
-    )?;
+    let rows = select(conn, SELECT_UID, params![uid])?;
     match at_most_one(rows)? {
         Some(row) => Ok(Some(accepted_of(&row)?)),
         None => Ok(None),
@@ -50,11 +58,7 @@ pub fn row_at<S: Alter>(conn: &mut Connection<S>, number: u32) -> Result<Option<
     ensures reads { ReadsOnly S.Store conn.old conn.new }
     ensures inside { IsRefusedInside result conn.old conn.new }
 {
-    let rows = select(
-        conn,
-        "SELECT number, uid, source, own, effective, command, detail FROM accepted WHERE number = ?1",
-        params![number],
-    )?;
+    let rows = select(conn, SELECT_NUMBER, params![number])?;
     at_most_one(rows)
 }
 
@@ -67,11 +71,7 @@ pub fn is_repeat<S: Alter>(conn: &mut Connection<S>, uid: &str, number: u32) -> 
     ensures reads { ReadsOnly S.Store conn.old conn.new }
     ensures inside { IsRefusedInside result conn.old conn.new }
 {
-    let rows = select(
-        conn,
-        "SELECT number FROM accepted WHERE uid = ?1 AND number < ?2",
-        params![uid, number],
-    )?;
+    let rows = select(conn, SELECT_BEFORE, params![uid, number])?;
     Ok(!rows.is_empty())
 }
 
@@ -83,11 +83,7 @@ pub fn least_number<S: Alter>(conn: &mut Connection<S>) -> Result<Option<i64>, E
     ensures reads { ReadsOnly S.Store conn.old conn.new }
     ensures inside { IsRefusedInside result conn.old conn.new }
 {
-    let rows = select(
-        conn,
-        "SELECT number FROM accepted ORDER BY number LIMIT 1",
-        &[],
-    )?;
+    let rows = select(conn, SELECT_LEAST, &[])?;
     least_of(rows.as_slice())
 }
 
@@ -98,7 +94,7 @@ pub fn count<S: Alter>(conn: &mut Connection<S>) -> Result<u64, Error>
     ensures reads { ReadsOnly S.Store conn.old conn.new }
     ensures inside { IsRefusedInside result conn.old conn.new }
 {
-    let rows = select(conn, "SELECT count(*) FROM accepted", &[])?;
+    let rows = select(conn, SELECT_COUNT, &[])?;
     count_of(rows.as_slice())
 }
 

@@ -14,6 +14,23 @@ use sqlite::types::ValueRef;
 use sqlite::{Alter, Error, Transaction};
 use std::alloc::Global;
 
+const DELETE_PART: &str = "DELETE FROM part WHERE part = ?1";
+
+const INSERT_PART: &str = "INSERT INTO part VALUES (?1)";
+
+const DELETE_ALTERNATE: &str = "DELETE FROM alternate WHERE part = ?1 AND alternate = ?2";
+
+const INSERT_ALTERNATE: &str = "INSERT INTO alternate VALUES (?1, ?2)";
+
+const DELETE_SHEET_ROW: &str =
+    "DELETE FROM sheet_row WHERE product = ?1 AND machine = ?2 AND place = ?3";
+
+const INSERT_SHEET_ROW: &str = "INSERT INTO sheet_row VALUES (?1, ?2, ?3, ?4, ?5, ?6)";
+
+const UPDATE_SELECTED: &str = "UPDATE selected SET product = ?2 WHERE machine = ?1";
+
+const INSERT_SELECTED: &str = "INSERT INTO selected VALUES (?1, ?2)";
+
 /// Writes a part, in place of its old row.
 pub fn put_part<S: Alter>(tx: &mut Transaction<'_, S>, part: &Id) -> Result<(), Error>
     ensures done { HasCleanDisk (state S.Store tx.new.conn.now)
@@ -22,8 +39,8 @@ pub fn put_part<S: Alter>(tx: &mut Transaction<'_, S>, part: &Id) -> Result<(), 
         (state S.Store tx.new.conn.now)) }
     ensures within { InTransaction S.Store tx.old tx.new }
 {
-    run(tx, "DELETE FROM part WHERE part = ?1", &[text(part)])?;
-    run(tx, "INSERT INTO part VALUES (?1)", &[text(part)])
+    run(tx, DELETE_PART, &[text(part)])?;
+    run(tx, INSERT_PART, &[text(part)])
 }
 
 /// Writes an alternate of a part, in place of its old row.
@@ -38,16 +55,8 @@ pub fn put_alternate<S: Alter>(
         (state S.Store tx.new.conn.now)) }
     ensures within { InTransaction S.Store tx.old tx.new }
 {
-    run(
-        tx,
-        "DELETE FROM alternate WHERE part = ?1 AND alternate = ?2",
-        &[text(part), text(alternate)],
-    )?;
-    run(
-        tx,
-        "INSERT INTO alternate VALUES (?1, ?2)",
-        &[text(part), text(alternate)],
-    )
+    run(tx, DELETE_ALTERNATE, &[text(part), text(alternate)])?;
+    run(tx, INSERT_ALTERNATE, &[text(part), text(alternate)])
 }
 
 /// Deletes the sheet's row at this place, if there is one.
@@ -66,7 +75,7 @@ pub fn take_sheet_row<S: Alter>(
 {
     run(
         tx,
-        "DELETE FROM sheet_row WHERE product = ?1 AND machine = ?2 AND place = ?3",
+        DELETE_SHEET_ROW,
         &[text(product), text(machine), int(place)?],
     )
 }
@@ -90,7 +99,7 @@ pub fn put_sheet_row<'x, S: Alter>(
     let designators = designators_text(alloc, row.designators.as_slice())?;
     run(
         tx,
-        "INSERT INTO sheet_row VALUES (?1, ?2, ?3, ?4, ?5, ?6)",
+        INSERT_SHEET_ROW,
         &[
             text(product),
             text(machine),
@@ -116,8 +125,8 @@ pub fn put_selected<S: Alter>(
 {
     change_or_put(
         tx,
-        "UPDATE selected SET product = ?2 WHERE machine = ?1",
-        "INSERT INTO selected VALUES (?1, ?2)",
+        UPDATE_SELECTED,
+        INSERT_SELECTED,
         &[text(machine), text(product)],
     )
 }

@@ -13,6 +13,8 @@ use crate::select::select;
 use sqlite::types::ValueRef;
 use sqlite::{Alter, Connection, Error, Row};
 
+const SELECT_VERSION: &str = "SELECT one, number, greatest FROM version";
+
 /// The whole numbers of the row of `version`.
 #[derive(Drop)]
 pub struct Version {
@@ -31,7 +33,7 @@ pub fn find_version<S: Alter>(conn: &mut Connection<S>) -> Result<Option<Version
     ensures reads { ReadsOnly S.Store conn.old conn.new }
     ensures inside { IsRefusedInside result conn.old conn.new }
 {
-    let rows = select(conn, "SELECT one, number, greatest FROM version", &[])?;
+    let rows = select(conn, SELECT_VERSION, &[])?;
     Ok(version_in(rows.as_slice()))
 }
 

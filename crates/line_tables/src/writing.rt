@@ -19,6 +19,8 @@ use sqlite::types::ValueRef;
 use sqlite::{Alter, Connection, Error, ErrorCode, Transaction, params};
 use std::alloc::Global;
 
+const INSERT_ACCEPTED: &str = "INSERT INTO accepted VALUES (?1, ?2, ?3, ?4, ?5, ?6, ?7)";
+
 /// Writes the row of an accepted command and the edits of the state tables, in their order, and commits
 /// them, or writes none. Inside an open transaction of the caller nothing is done. If a rule of a table
 /// refuses an edit, the error names the rule, as in `ConstraintViolation(Unique)`: the row of `accepted`
@@ -117,7 +119,7 @@ fn put_accepted<S: Alter>(tx: &mut Transaction<'_, S>, row: &Accepted) -> Result
 {
     run(
         tx,
-        "INSERT INTO accepted VALUES (?1, ?2, ?3, ?4, ?5, ?6, ?7)",
+        INSERT_ACCEPTED,
         params![
             row.number,
             &row.uid,

@@ -298,7 +298,7 @@ impl RowSet {
         self.found.iter()
     }
 
-    /// Returns the parts as a set. Takes no memory, like the next four.
+    /// Returns the parts as a set. Takes no memory, like the next five.
     pub fn part_set(&self) -> &Parts
         ensures { (part : Name) → is_among result.now part ≡ (tables_in self.now).parts part }
     {
@@ -311,6 +311,14 @@ impl RowSet {
             ≡ (tables_in self.now).alternates p q }
     {
         &self.alternates
+    }
+
+    /// Returns the row in this place, from 1, of the product's sheet on the machine.
+    pub fn sheet_row(&self, product: &Id, machine: &Id, place: u64) -> Option<&SheetRow>
+        ensures { option_copied result
+            ≡ (tables_in self.now).sheets product.now machine.now place }
+    {
+        self.sheets.get(&(*product, *machine, place))
     }
 
     /// Returns the product that is selected on the machine.

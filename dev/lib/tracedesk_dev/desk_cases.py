@@ -7,7 +7,7 @@ import re
 ROOT = pathlib.Path(__file__).resolve().parent.parent.parent.parent
 FILE = ROOT / "crates/desk_tests/src/tests/cases.rt"
 MOST = 400  # messages of a case: the test runs each beginning of it
-HEAD = '''//! The messages of the cases, made by `dev/rows --desks`.
+HEAD = '''//! The messages of the cases, made by `dev/cases --desks`.
 
 /// Each case has a line of its products, one of its other names, and its messages: a minute and the stored text of a
 /// command. An empty line ends it. One literal for all is cheap to prove; a list of them is not.
@@ -54,21 +54,22 @@ def text():
     with open(ROOT / "docs/api/messages.json", encoding="utf-8") as it:
         kinds = {kind["word"]: kind["members"] for kind in json.load(it)["messages"]}
     cases: dict = {}
-    for folder in sorted(it for it in (ROOT / "rows").iterdir() if it.is_dir()):
+    for folder in sorted(it for it in (ROOT / "cases").iterdir() if it.is_dir()):
         lines = [made for file in sorted(folder.glob("*.jsonl")) for line in file.read_bytes().decode("utf-8", "replace").split("\n") if (made := line_of(line, kinds))]
         if 1 < len(lines) <= MOST:
             cases.setdefault("\n".join(lines))
-    rows = []
+    texts = []
     for messages in cases:
         fields = [line.split("\t")[1:] for line in messages.split("\n")]
         products = sorted({it[{"SheetDefined": 1, "ProductSelected": 2}[it[0]]] for it in fields if it[0] in ("SheetDefined", "ProductSelected")})
         names = sorted({part for it in fields for part in it[1:] if len(part) <= 64} - set(products))
-        rows.append("\n".join(["\t".join(products or ["X"]), "\t".join(names or ["X"]), messages]))
-    return HEAD + "\n\n".join(rows).replace("\t", "\\t") + '";\n'
+        texts.append("\n".join(["\t".join(products or ["X"]), "\t".join(names or ["X"]), messages]))
+    return HEAD + "\n\n".join(texts).replace("\t", "\\t") + '";\n'
 
 
 def is_current():
-    return FILE.is_file() and FILE.read_text(encoding="utf-8") == text()
+    """Whether the table has the messages of the cases; the comment above it may be older."""
+    return FILE.is_file() and FILE.read_text(encoding="utf-8").partition("\n")[2] == text().partition("\n")[2]
 
 
 def write():

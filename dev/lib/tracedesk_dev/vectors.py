@@ -1,4 +1,4 @@
-"""The messages of rows/ with their answers, for dev/api-test, and whole exchanges of rows/ for other languages, for dev/api.
+"""The messages of cases/ with their answers, for dev/api-test, and whole exchanges of cases/ for other languages, for dev/api.
 They were worked out by hand, and no program is run for them."""
 import base64
 import contextlib
@@ -11,14 +11,14 @@ from typing import NamedTuple
 from tracedesk_dev import trial
 
 
-def tool_rows():
-    """dev/rows as a module: it knows how a row's files are made, and how a request and an answer are spelled."""
-    return trial.loaded("dev/rows")
+def tool_cases():
+    """dev/cases as a module: it knows how a case's files are made, and how a request and an answer are spelled."""
+    return trial.loaded("dev/cases")
 
 
 class Vector(NamedTuple):
-    """A message of a row and its answer; of an answer to something else the message is none. Over HTTP it has a status."""
-    row: str
+    """A message of a case and its answer; of an answer to something else the message is none. Over HTTP it has a status."""
+    case: str
     message: bytes | None
     answer: dict
     status: int | None = None
@@ -39,65 +39,65 @@ def answers_in(data):
     return []
 
 
-def of_lines(row, asked, told):
+def of_lines(case, asked, told):
     """Vectors of an input and an output: each line of the one has one of the other."""
     messages, answers = lines_of(asked), answers_in(told)
     if len(messages) == len(answers):
-        return [Vector(row, *it) for it in zip(messages, answers)]
-    return [Vector(row, None, it) for it in answers]
+        return [Vector(case, *it) for it in zip(messages, answers)]
+    return [Vector(case, None, it) for it in answers]
 
 
-def of_connection(row, sent, told, rows, bytes_of):
+def of_connection(case, sent, told, cases, bytes_of):
     """Vectors of the requests of a connection. A request that is spelled whole, and one of another route, has its answer alone."""
     for number, answer in enumerate(told):
         request = sent[number] if number < len(sent) else None
         body = None
         if isinstance(request, dict) and request.get("POST") == "/messages":
-            body = rows.spelled_request(request, bytes_of).partition(b"\r\n\r\n")[2]
+            body = cases.spelled_request(request, bytes_of).partition(b"\r\n\r\n")[2]
         if isinstance(answer, dict) and "json" in answer:
-            yield Vector(row, body, answer["json"], answer.get("status", 200))
+            yield Vector(case, body, answer["json"], answer.get("status", 200))
         elif isinstance(answer, str) and "application/json" in answer:
             head, _, text = answer.partition("\r\n\r\n")
             if text:
-                yield Vector(row, None, json.loads(text), int(head.split()[1]))
+                yield Vector(case, None, json.loads(text), int(head.split()[1]))
 
 
-def of_step(row, step, rows, bytes_of):
+def of_step(case, step, cases, bytes_of):
     if "serve" in step:
         for sent, told in step["connections"]:
-            yield from of_connection(row, sent, told, rows, bytes_of)
+            yield from of_connection(case, sent, told, cases, bytes_of)
     elif "cases" in step:
-        yield from (Vector(row, None, told) for _, told in step["cases"] if isinstance(told, dict))
+        yield from (Vector(case, None, told) for _, told in step["cases"] if isinstance(told, dict))
     elif "answer" in step:
-        yield from of_lines(row, bytes_of(step.get("input")), rows.object_line(step["answer"]))
+        yield from of_lines(case, bytes_of(step.get("input")), cases.object_line(step["answer"]))
     elif "output" in step and {"run", "talk", "each"} & set(step):
         if "read_from" not in step and "write_to" not in step:
-            yield from of_lines(row, bytes_of(step.get("input")), bytes_of(step["output"]))
+            yield from of_lines(case, bytes_of(step.get("input")), bytes_of(step["output"]))
 
 
 @contextlib.contextmanager
-def opened(rows, folder):
-    """A row, and a call that gives the bytes of a file of it, which its script may have made."""
+def opened(cases, folder):
+    """A case, and a call that gives the bytes of a file of it, which its script may have made."""
     with tempfile.TemporaryDirectory(prefix="vectors-") as room:
         made = pathlib.Path(room)
-        rows.make(folder, made)
+        cases.make(folder, made)
 
         def bytes_of(name):
             if name is None:
                 return b""
             return next(it for it in (made / name, folder / name) if it.exists() or it.parent == folder).read_bytes()
-        yield json.loads((folder / "row.json").read_text(encoding="utf-8")), bytes_of
+        yield json.loads((folder / "case.json").read_text(encoding="utf-8")), bytes_of
 
 
 def all_of(names=()):
-    """The vectors of all rows, or of these."""
-    rows = tool_rows()
-    for folder in sorted(it.parent for it in rows.ROWS.glob("*/row.json")):
+    """The vectors of all cases, or of these."""
+    cases = tool_cases()
+    for folder in sorted(it.parent for it in cases.CASES.glob("*/case.json")):
         if names and folder.name not in names:
             continue
-        with opened(rows, folder) as (row, bytes_of):
-            for step in row["steps"]:
-                yield from of_step(folder.name, step, rows, bytes_of)
+        with opened(cases, folder) as (case, bytes_of):
+            for step in case["steps"]:
+                yield from of_step(folder.name, step, cases, bytes_of)
 
 
 # --- Exchanges with a fresh desk, whole
@@ -106,7 +106,7 @@ def all_of(names=()):
 class Exchange(NamedTuple):
     """What goes to a fresh desk and what comes back, to the end of both: the lines of `feed`, or a connection of `serve`.
     `greatest` is how many commands it may take, none for the usual number; `status` the exit status of `feed`."""
-    rows: tuple
+    cases: tuple
     shows: str
     form: str
     greatest: int | None
@@ -116,7 +116,7 @@ class Exchange(NamedTuple):
 
     def line(self):
         """It as a line of the file that docs/api.md describes."""
-        told = {"Rows": list(self.rows), "Shows": self.shows, "Form": self.form, "Greatest": self.greatest, "Status": self.status}
+        told = {"Cases": list(self.cases), "Shows": self.shows, "Form": self.form, "Greatest": self.greatest, "Status": self.status}
         told.update([spelled("Request", self.request), spelled("Answer", self.answer)])
         return json.dumps({name: it for name, it in told.items() if it is not None}, separators=(",", ":")).encode() + b"\n"
 
@@ -124,7 +124,7 @@ class Exchange(NamedTuple):
     def read(cls, line):
         told = json.loads(line)
         request, answer = (base64.b64decode(told[f"{it}Base64"]) if f"{it}Base64" in told else told[it].encode() for it in ("Request", "Answer"))
-        return cls(tuple(told["Rows"]), told["Shows"], told["Form"], told.get("Greatest"), told.get("Status"), request, answer)
+        return cls(tuple(told["Cases"]), told["Shows"], told["Form"], told.get("Greatest"), told.get("Status"), request, answer)
 
 
 def spelled(name, data):
@@ -148,7 +148,7 @@ def names_no_file(step):
     return asked is not None and asked[1] is None
 
 
-def of_fresh_desk(step, is_fresh, rows, bytes_of):
+def of_fresh_desk(step, is_fresh, cases, bytes_of):
     """The exchanges of a step: form, greatest, status, request and answer, and what is put behind the step's number."""
     kind = next((it for it in ("run", "talk", "serve") if it in step), None)
     asked = asked_of(step[kind]) if kind else None
@@ -158,23 +158,23 @@ def of_fresh_desk(step, is_fresh, rows, bytes_of):
     if command == "feed" and (is_fresh or file is None):
         yield "", "lines", greatest, step.get("status", 0), bytes_of(step.get("input")), bytes_of(step.get("output"))
     for number, (sent, told) in enumerate(step.get("connections", ()), 1):
-        answer = b"".join(map(rows.spelled_answer, told))
+        answer = b"".join(map(cases.spelled_answer, told))
         if is_fresh:
-            yield f"/{number}", "http", greatest, None, b"".join(rows.spelled_request(it, bytes_of) for it in sent), answer
+            yield f"/{number}", "http", greatest, None, b"".join(cases.spelled_request(it, bytes_of) for it in sent), answer
         is_fresh = is_fresh and b'"Answer":"Accepted"' not in answer
 
 
 def exchanges(names=()):
-    """All exchanges of rows, or of these, with a fresh desk, each once, in the order of their first rows."""
-    rows = tool_rows()
+    """All exchanges of cases, or of these, with a fresh desk, each once, in the order of their first cases."""
+    cases = tool_cases()
     found: dict = {}
-    for folder in sorted(it.parent for it in rows.ROWS.glob("*/row.json")):
+    for folder in sorted(it.parent for it in cases.CASES.glob("*/case.json")):
         if names and folder.name not in names:
             continue
-        with opened(rows, folder) as (row, bytes_of):
-            is_fresh = True  # no step before has named a file of the row
-            for number, step in enumerate(row["steps"], 1):
-                for place, *exchange in of_fresh_desk(step, is_fresh, rows, bytes_of):
-                    found.setdefault(tuple(exchange), ([], row["shows"]))[0].append(f"{folder.name}/{number}{place}")
+        with opened(cases, folder) as (case, bytes_of):
+            is_fresh = True  # no step before has named a file of the case
+            for number, step in enumerate(case["steps"], 1):
+                for place, *exchange in of_fresh_desk(step, is_fresh, cases, bytes_of):
+                    found.setdefault(tuple(exchange), ([], case["shows"]))[0].append(f"{folder.name}/{number}{place}")
                 is_fresh = is_fresh and names_no_file(step)
     return [Exchange(tuple(them), shows, *exchange) for exchange, (them, shows) in found.items()]

@@ -105,10 +105,7 @@ def kept_in(to, db=None, archive=None):
 
 def kept_by_path(to, db):
     """The copies of a desk by the path that they have of it, for who may not open its file; a Fault where one can't be read."""
-    copies, faults = survey(to)
-    if faults:
-        raise plant.Fault(faults[0])
-    return [it for it in copies if about(it)["desk"] in ("", os.path.realpath(db))]
+    return [it for it in kept_in(to) if about(it)["desk"] in ("", os.path.realpath(db))]
 
 
 def held_by(copy):

@@ -7,14 +7,14 @@ baked before that. An exposure above the floor life is told as the floor life: t
 import argparse
 import copy
 import csv
+import collections
 import datetime
 import io
-import json
 import re
 import sqlite3
 from typing import NamedTuple
 
-from tracedesk_ops import copies, identity
+from tracedesk_ops import catalogue, copies, identity, stored
 
 FLOOR_LIFE = {"1": None, "2": 525_600, "2a": 40_320, "3": 10_080, "4": 4_320, "5": 2_880, "5a": 1_440}
 GREATEST_FLOOR_LIFE = 525_600  # in minutes, a label's too
@@ -22,7 +22,6 @@ FARTHEST_AHEAD = 20_160  # a message may be so many minutes after the desk's, if
 LONGEST_MESSAGE = 1_048_576
 KNOWN = 1_000  # UniqueIDs of each source that a new desk knows of the archive: those that a sender may still send again
 KNOWN_IN_ALL = 20_000  # of all sources, the newest ones
-EPOCH = datetime.datetime(1970, 1, 1)
 TABLES = ("accepted", "part", "alternate", "sheet_row", "selected", "reel", "mount", "board")
 COLUMNS = "reel, part, lot, level, label, remaining, used, open_since, baked"
 
@@ -63,14 +62,8 @@ class Reel(NamedTuple):
         return not (self.level == "1" or self.waits_for_its_bake())
 
 
-class Setup(NamedTuple):
-    """A sheet that is too long for a message: a setup file, and what its import is told."""
-    uid: str
-    source: str
-    stamp: str
-    product: str
-    machine: str
-    text: str
+# a sheet that is too long for a message: a setup file, and what its import is told
+Setup = collections.namedtuple("Setup", "uid source stamp product machine text")
 
 
 class Archive:
@@ -144,10 +137,8 @@ class Messages:
         self.minute = minute
 
     def add(self, uid, source, minute, word, body):
-        stamp = moment(minute).isoformat()  # without an offset: that is UTC to a desk, and the last day of the year 9999 is read only so
-        envelope = {"MessageName": "TraceDesk." + word, "UniqueID": uid, "Source": source, "TimeStamp": stamp, "MessageBody": body}
-        line = json.dumps(envelope, separators=(",", ":"))
-        self.lines.append(line if len(line) <= LONGEST_MESSAGE else setup(uid, source, stamp, body))
+        line = stored.line(uid, source, minute, word, body)
+        self.lines.append(line if len(line) <= LONGEST_MESSAGE else setup(uid, source, catalogue.spelled(minute), body))
 
     def say_known(self, known):
         """Says the UniqueIDs of an archive, each as a ClockSet of its own minute, which changes nothing: so a message that is sent again
@@ -261,12 +252,12 @@ class Carrier:
                     yield f"reel {reel.reel} is to be loaded on {machine}, slot {slot}{', after a bake' if gone else ''}"
 
 
-def begun(archive, at=None, loads=True, prefix="", checksum="", source="begin", name=""):
-    """The messages of a new desk that begins where an archived one ended, and who tells what is not in them. It has the archived desk's name, or else this one."""
+def begun(archive, checksum, at=None, loads=True, name=""):
+    """The messages of a new desk that begins where an archived one with this checksum ended, and who tells what is not in them. It has the archived desk's name, or else this one."""
     if archive.minute is None:
         raise NotCarried("it has accepted no command, so there is nothing to carry over")
     end = archive.minute if at is None else min(at, archive.minute)
-    messages = Messages(prefix or f"begin-{checksum[:identity.CHECKSUM]}", source)
+    messages = Messages(f"begin-{checksum[:identity.CHECKSUM]}", "begin")
     carrier = Carrier(archive, messages, end, loads)
     carrier.all()
     if at is not None and at > end:
@@ -285,20 +276,11 @@ def setup(uid, source, stamp, body):
     text = io.StringIO()
     rows = [[row["Slot"], row["PartNumber"], " ".join(row["Designators"])] for row in body["Rows"]]
     csv.writer(text, lineterminator="\n").writerows([["slot", "part", "designators"], *rows])
-    return Setup(uid, source, f"{stamp}Z", body["Product"], body["Machine"], text.getvalue().removesuffix("\n"))
-
-
-def moment(minute):
-    return EPOCH + datetime.timedelta(minutes=minute)
+    return Setup(uid, source, stamp, body["Product"], body["Machine"], text.getvalue().removesuffix("\n"))
 
 
 def spelled(minute):
-    return f"{moment(minute):%Y-%m-%d %H:%M UTC}"
-
-
-def stamped(minute):
-    """A minute as it is told on a command line."""
-    return moment(minute).isoformat() + "Z"
+    return f"{catalogue.EPOCH + datetime.timedelta(minutes=minute):%Y-%m-%d %H:%M UTC}"
 
 
 def minute_of(text):
@@ -310,19 +292,14 @@ def minute_of(text):
         moment = datetime.datetime.fromisoformat(f"{found[1]}T{found[2]}:00" + (found[3] or "Z").replace("Z", "+00:00"))
     except ValueError:
         raise argparse.ArgumentTypeError("a time is written as 2026-03-02T06:00:00Z")
-    minute = (moment - EPOCH.replace(tzinfo=datetime.timezone.utc)) // datetime.timedelta(minutes=1)
+    minute = (moment - catalogue.EPOCH.replace(tzinfo=datetime.timezone.utc)) // datetime.timedelta(minutes=1)
     if minute < 0:
         raise argparse.ArgumentTypeError("a time is from 1970 on")
     return minute
 
 
-def name(text, longest=50):
-    """A name of the desk's that leaves room for a number behind it."""
-    if len(text) > longest or not re.fullmatch(r"[!-~]([ -~]*[!-~])?", text):
-        raise argparse.ArgumentTypeError(f"a name is 1 to {longest} printable ASCII letters, without a space at its ends")
-    return text
-
-
 def identifier(text):
-    """A whole name of the desk's."""
-    return name(text, 64)
+    """A name of the desk's."""
+    if not re.fullmatch(r"[!-~]([ -~]{0,62}[!-~])?", text):
+        raise argparse.ArgumentTypeError("a name is 1 to 64 printable ASCII letters, without a space at its ends")
+    return text

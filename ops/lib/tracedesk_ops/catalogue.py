@@ -12,6 +12,7 @@ the desk's (identity.py), empty where it had none yet; up to 0.3.0 there was no 
 The catalogue is an index of the files: each file says itself from which one it was begun, and tracedesk-settle makes
 the catalogue anew from them.
 """
+import collections
 import contextlib
 import csv
 import datetime
@@ -26,12 +27,14 @@ import sqlite3
 import urllib.parse
 from typing import NamedTuple
 
+from tracedesk_ops import copies
+
 FILE_NAME = "catalogue.csv"
 RUNNING = "running desk"  # in the place of an archive's name
 HEADER = ("file", "sha256", "desk", "first_minute", "last_minute", "commands", "pieces", "from", "to", "name")
 EPOCH = datetime.datetime(1970, 1, 1)
 CHUNK = 1 << 20
-LOGS = ("-wal", "-journal")
+LOGS = copies.LOGS
 MAGIC = b"SQLite format 3\0"
 PLANS, ASIDE, LACKS = "rollover-*/plan.json", "aside", "restore.json"  # beside the archive's folder: what roll-overs and restores leave
 ENTRIES = "lacks-*.json"  # in the archive's folder: what a copy lacks that became the desk
@@ -86,11 +89,8 @@ def sha256_within(file):
 # --- Reading
 
 
-class Survey(NamedTuple):
-    """A catalogue as it is read by those who ask the archives that it does name: its bytes, and what is wrong with it."""
-    text: bytes
-    archives: list
-    faults: list
+# a catalogue as it is read by those who ask the archives that it does name: its bytes, and what is wrong with it
+Survey = collections.namedtuple("Survey", "text archives faults")
 
 
 def read(path):
@@ -202,11 +202,20 @@ def want_chains(path, lines):
 def has_no_archives(path):
     """Whether a line has none yet: there is no catalogue, and nothing lies where it would be. Where all around is empty too, a disk may not be mounted."""
     folder = path.parent
-    return not path.exists() and (all(any(map(it.match, STAY)) or it.suffix == ".new" for it in folder.iterdir()) if folder.exists() else folder.parent.is_dir() and any(folder.parent.iterdir()))
+    with contextlib.suppress(PermissionError):  # that is told where the catalogue is read
+        return not path.exists() and (all(any(map(it.match, STAY)) or it.suffix == ".new" for it in folder.iterdir()) if folder.exists() else folder.parent.is_dir() and any(folder.parent.iterdir()))
+    return False
 
 
 def unasked(path, archives):
     """What may have commands that no archive of the catalogue has, or has them twice; each with what to do."""
+    try:
+        yield from lying_around(path, archives)
+    except OSError as fault:
+        yield f"{fault.filename}: it can't be read, so it isn't known whether it has something of the line: {fault.strerror}"
+
+
+def lying_around(path, archives):
     named, around = {archive.file for archive in archives}, path.parent.parent
     for file in sorted(path.parent.iterdir()) if path.parent.exists() else ():
         if file.name not in named and is_database(file):
@@ -232,10 +241,11 @@ def lacks(entry):
 
 
 def is_database(file):
-    if not file.is_file():
-        return False
-    with open(file, "rb") as it:
-        return it.read(len(MAGIC)) == MAGIC
+    with contextlib.suppress(FileNotFoundError):  # a log goes once the run ends that has it
+        if file.is_file():
+            with open(file, "rb") as it:
+                return it.read(len(MAGIC)) == MAGIC
+    return False
 
 
 # --- The archives themselves
@@ -259,11 +269,9 @@ def check(path, archive):
         raise CatalogueError(f"{file}: its checksum is {told}, and in {path} {archive.sha256}: take it from a backup")
 
 
-@contextlib.contextmanager
 def opened(file):
     """A file that stands whole, as a database. It is not written any more, so nothing is locked or made beside it."""
-    with contextlib.closing(sqlite3.connect(f"file:{urllib.parse.quote(os.fsencode(file))}?mode=ro&immutable=1", uri=True)) as database:
-        yield database
+    return copies.database(f"file:{urllib.parse.quote(os.fsencode(file))}?mode=ro&immutable=1", uri=True)
 
 
 @contextlib.contextmanager
@@ -294,12 +302,6 @@ def log_of(file):
     return None
 
 
-def newest(archives, desk):
-    """The archive from which a line's running desk went on, or none."""
-    ends = [it for it in archives if it.desk == desk and not it.went_on_to]
-    return ends[-1] if ends else None
-
-
 def in_turn(archives):
     """Archives in the order of their chains: each right behind the one that it went on from, whatever their minutes say."""
     by_file, turn = {it.file: it for it in archives}, {}
@@ -314,10 +316,7 @@ def in_turn(archives):
 
 
 def add(path, archive):
-    """Adds a line, whole or not at all. The archive that `from` names goes on to this one from now on.
-
-    A catalogue that has this very line stays as it is.
-    """
+    """Adds a line, if it isn't there. The archive that `from` names goes on to this one from now on."""
     with changed(path) as archives:
         if archive not in archives:
             archives[:] = [it._replace(went_on_to=archive.file) if it.file == archive.went_on_from else it for it in archives]

@@ -8,9 +8,9 @@ It refuses a file that has several hard links. So what has those, is locked, or 
 Each desk names the file from which it was begun, by its checksum. After a roll-over with an option it doesn't carry that on
 as it was. Then the program is asked about the files before and behind this link, which is known by the checksum alone.
 """
+import collections
 import contextlib
 import csv
-import functools
 import io
 import os
 import pathlib
@@ -19,7 +19,6 @@ import shutil
 import subprocess
 import tempfile
 import time
-from typing import NamedTuple
 
 from tracedesk_ops import copies, identity, plant
 
@@ -27,9 +26,7 @@ NO_CHAIN, REFUSED, BEGUN = 1, 3, 5  # statuses of the program: no chain; a file 
 OPTION = re.compile(": differs (minute|slot|board .* in work old)")  # what --at, --no-loads and --with-board-in-work make
 SECONDS_BETWEEN_NOTES = 10
 FILE = re.compile(r"[^:]*: (.*): (\d+) commands, last minute (\d+|none)(?:, begun from ([0-9a-f-]+))?; (\d+) to go")
-PIECES = "board,designator,part,lot,reel,machine,slot,overdue"
-HEADERS = {"check": ["file,begun,commands,minute"], "lot": ["board,file"], "board": ["lot,file"], "reel": ["board,file"],
-           "--pieces": [f"{PIECES},minute,file", f"{PIECES},file"]}
+CHECKED, PIECES = "file,begun,commands,minute", "board,designator,part,lot,reel,machine,slot,overdue,minute,file"
 
 
 class NoAnswer(Exception):
@@ -40,37 +37,17 @@ class NoAnswer(Exception):
         self.status, self.ends = status, ends
 
 
-class End(NamedTuple):
-    """What the program read of a file: how many commands it has, its last minute, and the checksum of the one it was begun from, or nothing."""
-    commands: int
-    minute: int
-    mark: str
-
-
-class Answer(NamedTuple):
-    """The rows of an answer, each by its columns and with the file's place, and what the program read of each file; `text` is what it printed.
-    `options` are the links that are known by the checksum alone."""
-    rows: list
-    ends: list
-    text: str
-    options: list
-
-
-@functools.lru_cache
-def offers(chain, word):
-    """Whether this program has a verb or an option, by its usage."""
-    done = subprocess.run([chain, "--help"], stdin=subprocess.DEVNULL, capture_output=True, text=True)
-    return re.search(rf"^ *tracedesk-chain.*(?<![\w,-]){word}(?![\w,-])", done.stdout, re.M) is not None
+# what the program read of a file: how many commands it has, its last minute, and the checksum of the one it was begun from, or nothing
+End = collections.namedtuple("End", "commands minute mark")
+# the rows of an answer, each by its columns and with the file's place, and what the program read of each file; what it printed; and links that are known by the checksum alone
+Answer = collections.namedtuple("Answer", "rows ends text options")
 
 
 class Asker:
-    """The program, and the words by which it is asked a question: `check` where it has no verb of its kind yet."""
+    """The program, and the words by which it is asked a question."""
 
     def __init__(self, program, question):
-        self.program = plant.chain_of(program)
-        verb = self.program and offers(self.program, question.kind)
-        self.words = ["check"] if not verb else [*question, "--pieces"] if offers(self.program, "--pieces") else [*question]
-        self.has_pieces = "--pieces" in self.words
+        self.program, self.words = plant.chain_of(program), [*question, "--pieces"]
 
     def ask(self, files, archives, about):
         """What it answers about files, from the oldest on; a NoAnswer or a Fault where it has no answer."""
@@ -147,7 +124,7 @@ def said_of(run, words, files, about):
     if running.returncode:
         raise NoAnswer("; ".join(errors) or f"it ended with status {running.returncode}", running.returncode, ends)
     header, *rows = [*csv.reader(io.StringIO(text, newline=""))] or [[]]
-    if ",".join(header) not in HEADERS["--pieces" if "--pieces" in words else words[0]] or len(ends) != len(files):
+    if ",".join(header) != (CHECKED if words[0] == "check" else PIECES) or len(ends) != len(files):
         raise NoAnswer(f"it answers {words[0]} with {','.join(header)} about {len(ends)} of {len(files)} files: it is another version")
     place = {str(it): number for number, it in enumerate(files)}
     return Answer([{**dict(zip(header, row)), "file": place[row[header.index("file")]]} for row in rows], ends, folders.sub("", text), [])

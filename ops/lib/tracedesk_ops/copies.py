@@ -28,9 +28,9 @@ class InUse(Exception):
         super().__init__("a run has it open: stop that, or name a copy of the file and its log")
 
 
-def is_locked(file):
-    """Whether another process has a lock of SQLite's on an open file, by which it may write."""
-    asked = struct.pack(FLOCK, fcntl.F_RDLCK, os.SEEK_SET, LOCKED_FROM, LOCKED, 0)
+def is_locked(file, kind=fcntl.F_RDLCK):
+    """Whether another process has a lock of SQLite's on an open file, by which it may write; of any kind where a lock to write is asked for."""
+    asked = struct.pack(FLOCK, kind, os.SEEK_SET, LOCKED_FROM, LOCKED, 0)
     return struct.unpack(FLOCK, fcntl.fcntl(file, fcntl.F_GETLK, asked))[0] != fcntl.F_UNLCK
 
 
@@ -59,7 +59,17 @@ def copied(file, within=None):
 
 
 @contextlib.contextmanager
+def database(name, **how):
+    """A database. Damaged bytes in it are a fault of SQLite's, though what that says of them is no text."""
+    with contextlib.closing(sqlite3.connect(name, **how)) as it:
+        try:
+            yield it
+        except UnicodeDecodeError as fault:
+            raise sqlite3.DatabaseError(f"it has damaged bytes: {fault}") from fault
+
+
+@contextlib.contextmanager
 def opened(file, within=None):
     """A copy, as a database."""
-    with copied(file, within) as copy_of_it, contextlib.closing(sqlite3.connect(copy_of_it)) as database:
-        yield database
+    with copied(file, within) as copy_of_it, database(copy_of_it) as it:
+        yield it

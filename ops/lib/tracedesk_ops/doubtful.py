@@ -24,7 +24,7 @@ import sqlite3
 import tempfile
 from typing import NamedTuple
 
-from tracedesk_ops import catalogue, identity, untraced
+from tracedesk_ops import catalogue, copies, identity, plant, untraced
 
 WORDS = (*untraced.HANDLING, "MaterialsInstalled", "MaterialsScrapped")
 LOADED, SPLICED, UNLOADED = untraced.HANDLING
@@ -379,7 +379,7 @@ def copied(file):
         else:
             raise catalogue.CatalogueError(f"{file}: it was changed while it was copied, {TRIES} times: ask again")
         try:
-            with contextlib.closing(sqlite3.connect(to)) as database:
+            with copies.database(to) as database:
                 yield database
         except sqlite3.Error as fault:
             raise catalogue.CatalogueError(f"{file}: {fault}") from fault
@@ -406,20 +406,22 @@ class Line(NamedTuple):
     story: Story
 
 
-def look(path, archives, is_running=False):
-    """Looks at what is around a catalogue. The archives are in the order of their chain; the running desk's file lies beside their folder."""
+def look(path, archives, is_running=False, running=()):
+    """Looks at what is around a catalogue. The archives are in the order of their chain; the running desk's file lies beside their folder.
+    `running` has for each desk that runs a call that says whether it has a UniqueID, or None; in a copy of a line no desk runs."""
     notes: list = []
     book, faults, pieces = untraced.read(path.parent), [], []
-    refused, desk, decided = untraced.refused(book.records), path.parent.parent / "desk", untraced.decisions(book.records)
+    refused, decided = untraced.refused(book.records), untraced.decisions(book.records)
     works = [it for it in refused if untraced.is_work(it)]
     story = Story(map(work_of, works), [it for it in refused if not untraced.is_work(it) and not (it.id in decided and decided[it.id].told["Became"] == TAKEN_OFF)])
     try:
         with contextlib.ExitStack() as held:
             files = {it.file: held.enter_context(catalogue.unchanged(path, it, False)) for it in archives}
-            if is_running and (database := held.enter_context(copied(desk)) if desk.exists() else None) and goes_on(database, archives):
-                files[catalogue.RUNNING] = database
-            elif is_running:
-                faults.append(f"{desk} is not here, or is not the running desk's: whether pieces since the last archive may be of other reels isn't known")
+            for file, database, why in running_files(path.parent.parent, archives, running, held) if is_running else ():
+                if why:
+                    faults.append(f"{why}: whether pieces since the last archive may be of other reels isn't known")
+                else:
+                    files[f"{catalogue.RUNNING} {file.name}".removesuffix(" desk")] = database
             for name, database in files.items():
                 story.read(name, database)
             for place, database in enumerate(files.values()):
@@ -430,10 +432,32 @@ def look(path, archives, is_running=False):
     return Line([(it, decided.get(it.id), story.reels_of(work_of(it))) for it in works], pieces, [*book.faults, *faults, *waiting(path.parent.parent / STATUS)], notes, story)
 
 
-def goes_on(database, archives):
-    """Whether a desk was begun from the newest archive of a line, or no line has any."""
+def running_files(around, archives, running, held):
+    """Of each desk that runs its file and a copy of it, or why there is none. The file is `desk`; where several desks run, each has one beside the others."""
+    names = ["desk", *sorted(it.name for it in around.iterdir() if it.name != "desk" and catalogue.is_database(it))] if len(running) > 1 else ["desk"]
+    there = {around / name: held.enter_context(copied(around / name)) for name in names if (around / name).exists()}
+    for has in running or [None]:
+        whys = {file: why_not(file, database, archives, [has] if has else []) for file, database in there.items()}
+        if its := next((file for file, why in whys.items() if not why), None):
+            yield its, there[its], ""
+        else:
+            yield around, None, whys.get(around / "desk", f"{around / 'desk'} is not here")
+
+
+def why_not(desk, database, archives, running):
+    """Why a file is not the running desk's as it is now, if so; `database` is a copy of it. It may be an older copy, or another desk's."""
     ends, mark = [it for it in archives if not it.went_on_to], identity.read(database).mark
-    return not ends or any(identity.follows(mark, it) for it in ends)
+    if ends and not any(identity.follows(mark, it) for it in ends) and (mark or not running or any(has(identity.BEGUN) for has in running)):
+        return f"{desk} is not the running desk's: it didn't go on from the newest archive"
+    newest = database.execute("SELECT uid FROM accepted ORDER BY number DESC LIMIT 1").fetchone()
+    said = [has(newest[0]) if newest else True for has in running]
+    if not said or None in said:
+        return ""  # who asks says that the desk gave no answer
+    if False in said:
+        return f"{desk} is not the running desk's: that doesn't have {newest[0]}, the newest message in the file"
+    if not plant.is_open(desk):
+        return f"{desk} may be older than the running desk: no desk of this machine has it open. Ask on the desk's machine"
+    return ""
 
 
 def work_of(record):

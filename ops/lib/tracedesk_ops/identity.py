@@ -8,7 +8,9 @@ numbered so, the last one too, with the UniqueIDs that are carried over between 
 
     identity.of("/var/lib/tracedesk/archive/L1-20260302T0600Z-20260601T1412Z-41873").mark
 """
-import datetime
+import contextlib
+import csv
+import io
 import json
 import pathlib
 import re
@@ -16,13 +18,12 @@ import secrets
 import sqlite3
 from typing import NamedTuple
 
-from tracedesk_ops import catalogue
+from tracedesk_ops import catalogue, stored
 
 SOURCE, BEGUN = "tracedesk", "desk-begun"
 NAME = re.compile("desk-[0-9a-f]{32}")
 MARK = re.compile(r"begin-([0-9a-f]{24}|\d+-\d+)-1")  # the second up to 0.2.0: the archive's last minute, and how many commands it has
 CHECKSUM = 24  # digits of an archive's checksum in a mark
-EPOCH = datetime.datetime(1970, 1, 1)
 
 
 class Identity(NamedTuple):
@@ -76,8 +77,7 @@ def new_name():
 def naming(desk, name=""):
     """The messages that a desk lacks to have a name, this one or a new one, and to say that it was begun from an archive."""
     uids = ([] if desk.name else [name or new_name()]) + ([BEGUN] if desk.mark and BEGUN not in {it[1] for it in desk.rows} else [])
-    stamp = (EPOCH + datetime.timedelta(minutes=desk.minute)).isoformat()
-    return [json.dumps({"MessageName": "TraceDesk.ClockSet", "UniqueID": uid, "Source": SOURCE, "TimeStamp": stamp, "MessageBody": {}}) for uid in uids]
+    return [stored.line(uid, SOURCE, desk.minute, "ClockSet", {}) for uid in uids]
 
 
 # --- What the files say of each other
@@ -113,8 +113,7 @@ def chain(path, archives, mark):
 
 def question(uid):
     """A message that every desk refuses, and which tells whether the desk has accepted the UniqueID: it unloads a slot that no sheet names."""
-    body = {"Machine": f"none-{secrets.token_hex(16)}", "Slot": "-"}
-    return json.dumps({"MessageName": "TraceDesk.MaterialsUnloaded", "UniqueID": uid, "Source": SOURCE, "TimeStamp": "1970-01-01T00:00:00Z", "MessageBody": body}).encode()
+    return stored.line(uid, SOURCE, 0, "MaterialsUnloaded", {"Machine": f"none-{secrets.token_hex(16)}", "Slot": "-"}).encode()
 
 
 def has_it(status, body):
@@ -123,3 +122,14 @@ def has_it(status, body):
     if not isinstance(answer, dict) or answer.get("Answer") != "Refused":
         raise ValueError(f"its answer has status {status}: {body[:200].strip()}")
     return answer.get("Refusal") == "IdReused"
+
+
+def rows_of(columns, status, body):
+    """The rows of a report, each by its columns, or none where the desk doesn't know what is asked; a ValueError where it is another answer."""
+    with contextlib.suppress(ValueError, AttributeError):
+        if status == 404 and (answer := json.loads(body)).get("Answer") == "NotFound" and answer.get("Kind") != "Path":
+            return None
+    header, *rows = [*csv.reader(io.StringIO(body, newline=""))] or [[]]
+    if status != 200 or ",".join(header) != columns or any(len(row) != len(header) for row in rows) or not body.endswith("\n"):
+        raise ValueError(f"is answered with status {status}: {body[:100].strip()}")
+    return [dict(zip(header, row)) for row in rows]

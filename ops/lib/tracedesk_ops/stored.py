@@ -1,16 +1,16 @@
-"""The accepted commands of a desk as messages again: for ops/check, which gives them to a new desk.
+"""Messages to a desk, and the accepted commands of one as messages again: for ops/check, which gives them to a new desk.
 
 The table `accepted` keeps each command as one text: its word and its members, with a tab between each two
-(crates/stored_texts/specs/StoredText.antt). A list is its length and then its elements.
+(crates/desk_types/specs/StoredText.antt). A list is its length and then its elements.
 
     stored.message("u1", "S", 0, "PartDefined\tP")
     '{"MessageName":"TraceDesk.PartDefined","UniqueID":"u1","Source":"S","TimeStamp":"1970-01-01T00:00:00","MessageBody":{"PartNumber":"P"}}'
 """
-import datetime
 import json
 import re
 
-EPOCH = datetime.datetime(1970, 1, 1)
+from tracedesk_ops import catalogue
+
 NUMBER = re.compile(r"0|[1-9][0-9]{0,17}")
 
 
@@ -97,8 +97,12 @@ def message(uid, source, own, text):
         raise NotACommand("it has a value that is no text or no number")
     word, said = body(text)
     try:
-        stamp = (EPOCH + datetime.timedelta(minutes=own)).isoformat()  # without an offset, which is UTC to a desk: so the last day of the year 9999 is read too
+        return line(uid, source, own, word, said)
     except OverflowError:
         raise NotACommand(f"its minute {own} is in no year to 9999") from None
-    envelope = {"MessageName": "TraceDesk." + word, "UniqueID": uid, "Source": source, "TimeStamp": stamp, "MessageBody": said}
+
+
+def line(uid, source, minute, word, said):
+    """A message as a line. Its time has no offset, which is UTC to a desk: so the last day of the year 9999 is read too."""
+    envelope = {"MessageName": "TraceDesk." + word, "UniqueID": uid, "Source": source, "TimeStamp": catalogue.spelled(minute)[:-1], "MessageBody": said}
     return json.dumps(envelope, separators=(",", ":"))

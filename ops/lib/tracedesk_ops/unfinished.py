@@ -31,6 +31,11 @@ class Rolling:
         """Whether the new desk is in place, and may not be started yet."""
         return self.plan.exists() and not self.new.exists()
 
+    def tidy(self):
+        """Takes the folder away where the new desk is in place and runs, so that nothing else is left to do."""
+        if self.is_left_to_start() and plant.is_open(self.db):
+            self.clear()
+
     def goes_on(self, may_be_damaged=False):
         """Finishes what a run left that was cut off before that, or puts everything back; whether a roll-over is done by that."""
         if not self.plan.exists():
@@ -118,7 +123,6 @@ class Rolling:
         if not (filed.exists() and filed.samefile(self.copy)):
             os.link(self.copy, filed)  # never over another file
         plant.keep(self.archives)
-        plant.reached("file")
         catalogue.add(self.catalogue, archive)
         plant.reached("catalogue")
         plant.without_log(self.db)
@@ -128,7 +132,6 @@ class Rolling:
         plant.keep(self.db.parent)
         if self.held:
             self.held.spoil()
-        plant.reached("switch")
         plant.tell(f"{archive.file} is archived, with {archive.commands:,} commands and {archive.pieces:,} pieces; the new desk is in place")
 
 

@@ -1,54 +1,60 @@
 //! The setup, made from rows.
 
-ghost use Rattle.std.specs.Prelude.{◌≡◌, ◌&&◌, if◌then◌else◌, IfOk, OnOk};
+ghost use Rattle.std.specs.Prelude.{◌≡◌, ◌==◌, ◌&&◌, if◌then◌else◌, IfOk, OnOk};
 ghost use Rattle.std.specs.Option.{option_or};
 ghost use Rattle.desk_types.specs.Id.{Name, same};
-ghost use Rattle.desk_types.specs.Pair.{by_pair};
 ghost use Rattle.desk_types.specs.History.{History};
 ghost use Rattle.desk_types.specs.Setup.{sheet_of};
 ghost use Rattle.desk_types.specs.View.{has_sheet};
 ghost use Rattle.feeder_state.specs.Setup.{IsSetup, sheet_at, is_sheeted};
-ghost use Rattle.feeder_state.specs.Restored.{AreRowsOf, group_at, sheet_in};
+ghost use Rattle.feeder_state.specs.Restored.{AreRowsOf};
 
 use super::{Setup, put_sheet};
-use crate::groups::{Group, gather};
-use desk_types::{Bounded, Id, SheetRow};
+use desk_types::{Bounded, Id, LONGEST_LIST, SheetRows};
 use setup_sheets::Sheet;
 use state_rows::RowSet;
 use std::alloc::{AllocError, Global};
 use std::collections::{BTreeMap, BTreeSet};
 
+/// Returns the sheet of the product on the machine, made of its rows in turn.
 fn sheet_rows(
     alloc: Global,
     rows: &RowSet,
-) -> Result<BTreeMap<(Id, Id), Group<SheetRow>>, AllocError>
-    ensures { (H : History) → AreRowsOf H rows.now → (p m : Name)
-        → IfOk result (λ groups. sheet_in (group_at by_pair groups (p, m)) ≡ sheet_of H p m) }
+    product: &Id,
+    machine: &Id,
+) -> Result<Option<SheetRows>, AllocError>
+    ensures { (H : History) → AreRowsOf H rows.now
+        → IfOk result (λ sheet. sheet ≡ sheet_of H product.now machine.now) }
 {
-    let mut groups = BTreeMap::new(alloc);
-    for (key, row) in rows.sheets() {
+    let mut items = Vec::new(alloc);
+    for index in 0..LONGEST_LIST {
+        let Some(row) = rows.sheet_row(product, machine, index as u64 + 1) else {
+            return Ok(Bounded::new(items));
+        };
         let copy = row.clone()?;
-        gather(alloc, &mut groups, (key.0, key.1), copy)?;
+        items.push(copy)?;
     }
-    Ok(groups)
+    Ok(Bounded::new(items))
 }
 
-/// Inserts the sheet of these rows, if they are within the limit of a sheet.
-fn put_group(
+/// Inserts the sheet whose row this is, if it is the first row.
+fn put_first(
     alloc: Global,
     sheets: &mut BTreeMap<(Id, Id), Sheet>,
-    product: Id,
-    machine: Id,
-    group: Group<SheetRow>,
+    rows: &RowSet,
+    key: &(Id, Id, u64),
 ) -> Result<(), AllocError>
-    ensures { (p m : Name)
+    ensures { (H : History) → AreRowsOf H rows.now → (p m : Name)
         → OnOk result
         (sheet_at sheets.new p m
-        ≡ (if same product p && same machine m then option_or (sheet_in group)
-        (sheet_at sheets.old p m) else sheet_at sheets.old p m)) }
+        ≡ (if same p key.now.0 && same m key.now.1 && (1 == key.now.2)
+        then option_or (sheet_of H p m) (sheet_at sheets.old p m) else sheet_at sheets.old p m)) }
 {
-    if let Some(rows) = Bounded::new(group.items) {
-        put_sheet(sheets, product, machine, Sheet::new(alloc, rows)?)?;
+    if key.2 != 1 {
+        return Ok(());
+    }
+    if let Some(found) = sheet_rows(alloc, rows, &key.0, &key.1)? {
+        put_sheet(sheets, key.0, key.1, Sheet::new(alloc, found)?)?;
     }
     Ok(())
 }
@@ -59,8 +65,8 @@ pub fn sheets_of(alloc: Global, rows: &RowSet) -> Result<BTreeMap<(Id, Id), Shee
         → IfOk result (λ sheets. sheet_at sheets p m ≡ sheet_of H p m) }
 {
     let mut sheets = BTreeMap::new(alloc);
-    for (key, group) in sheet_rows(alloc, rows)? {
-        put_group(alloc, &mut sheets, key.0, key.1, group)?;
+    for (key, _) in rows.sheets() {
+        put_first(alloc, &mut sheets, rows, key)?;
     }
     Ok(sheets)
 }

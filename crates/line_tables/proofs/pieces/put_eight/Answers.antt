@@ -2,12 +2,12 @@ use Rattle.std.proofs.Common.{subst}
 use Rattle.std.proofs.lemmas.Result.{on_ok_weaker}
 use Rattle.sqlite.specs.Held.{state}
 use Rattle.line_tables.specs.Calls.{Runs}
-use Rattle.line_tables.proofs.RowTexts.{insert_placements}
 use Rattle.line_tables.proofs.Placing.{eight_put}
+use Rattle.line_tables.specs.declared.pieces.TheConstants.{INSERT_PLACEMENTS}
 use Rattle.line_tables.proofs.pieces.put_eight.Goals as goal
 
 pub returns-clause-done : goal.returns-clause-done
 returns-clause-done g c clean =
     let a = state g.S.Store c.args.tx.now.conn.now in
     let b = state g.S.Store c.run.new.tx.conn.now in
-    on_ok_weaker c.run.result (λ ran rows eight are. eight_put rows a b eight (subst (λ v. Runs insert_placements v a b) are ran)) (c.run.ensures.ran clean)
+    on_ok_weaker c.run.result (λ ran rows eight are. eight_put rows a b eight (subst (λ v. Runs INSERT_PLACEMENTS.now v a b) are ran)) (c.run.ensures.ran clean)

@@ -1,6 +1,6 @@
 use Rattle.std.proofs.Common.{◌≡◌, ◌++◌, ap, ◌∙◌}
 use Rattle.feeder_state.proofs.SortedNames.{gathered}
-use Rattle.feeder_state.proofs.placed.Placed.add_all.Goals as goal
+use Rattle.feeder_state.proofs.placed.PlacedNames.add_all.Goals as goal
 
 pub returns-clause-ok : goal.returns-clause-ok
 returns-clause-ok c = λ d.

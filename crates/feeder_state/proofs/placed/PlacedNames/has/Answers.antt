@@ -4,7 +4,7 @@ use Rattle.std.specs.List.{list_any}
 use Rattle.std.specs.List.Sorted.{IsBinarySearchResult, IsSearchInRange}
 use Rattle.desk_types.specs.Id.{same, by_name}
 use Rattle.judging.proofs.SortedSearch.{found-or-not}
-use Rattle.feeder_state.proofs.placed.Placed.has.Goals as goal
+use Rattle.feeder_state.proofs.placed.PlacedNames.has.Goals as goal
 
 pub returns : goal.returns
 returns c =

@@ -1,41 +1,35 @@
-use Rattle.std.proofs.Common.{rules, ◌≡◌, unwrap_or, [], cond, refl, sym, ap, subst, ◌∙◌}
+use Rattle.std.proofs.Common.{rules, ◌==◌, Some, cond, sym, ap, subst, ◌∙◌}
+use Rattle.std.specs.Prelude.{◌&&◌}
 use Rattle.std.specs.BTreeMap.{is_at}
 use Rattle.std.specs.Map.{lookup}
-use Rattle.std.specs.Option.{option_or}
-use Rattle.std.proofs.lemmas.Map.Lookups.{CmpEqualImpliesEq, exact_bytes, exact_pairs}
-use Rattle.desk_types.specs.Id.{Name, by_name}
+use Rattle.std.specs.Option.{option_and_then, option_or}
+use Rattle.desk_types.specs.declared.sheet.SheetRow.{SheetRow}
+use Rattle.desk_types.specs.Id.{same}
 use Rattle.desk_types.specs.Pair.{by_pair}
-use Rattle.desk_types.proofs.Keys.{is_at-by_pair}
-use Rattle.state_rows.specs.Kept.{row_at}
-use Rattle.feeder_state.specs.Restored.{sheet_in}
+use Rattle.desk_types.specs.Setup.{sheet_of}
+use Rattle.desk_types.specs.Tables.{Tables}
+use Rattle.state_rows.specs.Kept.{row_at, tables_in, by_sheet_place, Lists}
+use Rattle.state_rows.proofs.RowLists.{is_at-by_sheet_place}
 use Rattle.feeder_state.specs.Setup.{sheet_at}
-use Rattle.feeder_state.proofs.FilledMaps.{IsFilled, filled-first, filled-next}
-use Rattle.feeder_state.proofs.RestoredSheets.{group-sheet}
-use Rattle.feeder_state.proofs.SlotsOfMachines.{by_pair-total}
+use Rattle.feeder_state.proofs.RestoredSheets.{first-row, sheet-next}
 use Rattle.feeder_state.proofs.setup.rows.sheets_of.Goals as goal
 
-exact : CmpEqualImpliesEq by_pair
-exact = exact_pairs by_name by_name exact_bytes exact_bytes
-
 pub loop-key-init : goal.loop-key-init
-loop-key-init c =
+loop-key-init c = λ H rows p m.
     let es = c.into_iter-key-iterator.result in
-    filled-first by_pair by_pair-total exact (row_at by_pair es) sheet_in es (λ (k : Name × Name). sheet_at c.new-sheets.result k.0 k.1) (record { ascending = search rules; rows = λ k. refl })
-    (λ k. ap (lookup (is_at (by_pair k))) c.new-sheets.ensures.empty)
+    let sheets = (tables_in c.args.rows.now).sheets in
+    let lists : Lists by_sheet_place es (λ k. sheets k.0 k.1 k.2) = subst (λ xs. Lists by_sheet_place xs (λ k. sheets k.0 k.1 k.2)) (search rules) c.sheets-key-items.ensures in
+    ap (λ entries. option_or (lookup (is_at (by_pair (p, m))) entries) (option_and_then (λ (row : SheetRow). sheet_of H p m) (row_at by_sheet_place es (p, m, 1)))) c.new-sheets.ensures.empty
+    ∙ ap (option_and_then (λ (row : SheetRow). sheet_of H p m)) (lists.rows (p, m, 1) ∙ ap (λ (t : Tables). t.sheets p m 1) rows.tables)
+    ∙ first-row H p m rows.judged
 
 pub loop-key-preserved : goal.loop-key-preserved
-loop-key-preserved c =
-    let es = c.into_iter-key-iterator.result in
-    let old = λ (k : Name × Name). sheet_at c.loop-key.sheets k.0 k.1 in
-    let group = c.in-Some.group in
-    filled-next by_pair by_pair-total exact (row_at by_pair es) sheet_in (c.in-Some.key, group) c.next.new.self old (λ (k : Name × Name). sheet_at c.put_group.new.sheets k.0 k.1)
-    (subst (λ xs. IsFilled by_pair (row_at by_pair es) sheet_in xs old) c.in-Some.ensures.steps c.loop-key.invariant)
-    (λ q. c.in_ok-put_group.ensures q.0 q.1 ∙ ap (λ b. cond b (option_or (sheet_in group) (old q)) (old q)) (sym (is_at-by_pair c.in-Some.key q)))
-
-pub returns : goal.returns
-returns c = λ H rows p m.
-    let gone : c.into_iter-key-iterator.result ≡ c.in_ok-items.items.entries = search rules in
-    c.loop-key.invariant.done (p, m) (ap (λ es. row_at by_pair es (p, m)) c.in-None.ensures.steps.0)
-    ∙ group-sheet (row_at by_pair c.into_iter-key-iterator.result (p, m))
-    ∙ ap (λ entries. sheet_in (unwrap_or (lookup (is_at (by_pair (p, m))) entries) [])) gone
-    ∙ c.in_ok-items.ensures H rows p m
+loop-key-preserved c = λ H rows p m.
+    let key = c.in-Some.key.now in
+    let row = c.in-Some.field-0-1.now in
+    let left = row_at by_sheet_place c.next.new.self (p, m, 1) in
+    let now = sheet_at c.loop-key.sheets p m in
+    sheet-next (sheet_of H p m) now _ (same p key.0 && same m key.1 && (1 == key.2)) row left (c.in_ok-put_first.ensures H rows p m)
+    (ap (λ b. option_or now (option_and_then (λ (r : SheetRow). sheet_of H p m) (cond b (Some row) left))) (sym (is_at-by_sheet_place (p, m, 1) key))
+    ∙ ap (λ es. option_or now (option_and_then (λ (r : SheetRow). sheet_of H p m) (row_at by_sheet_place es (p, m, 1)))) (sym c.in-Some.ensures.steps)
+    ∙ c.loop-key.invariant H rows p m)

@@ -2,7 +2,7 @@ use Rattle.std.proofs.Common.{subst}
 use Rattle.desk_types.specs.Id.{by_name}
 use Rattle.state_rows.specs.Kept.{row_at, ListsMounts}
 use Rattle.state_rows.proofs.MountKeeping.{lists-mounts}
-use Rattle.state_rows.proofs.mounts.Mounts.iter.Goals as goal
+use Rattle.state_rows.proofs.mounts.MountTable.iter.Goals as goal
 
 pub returns : goal.returns
 returns c =

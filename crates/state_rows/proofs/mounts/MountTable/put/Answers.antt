@@ -2,7 +2,7 @@ use Rattle.std.proofs.Common.{Some, None, cond, ap, ◌∙◌}
 use Rattle.desk_types.specs.Id.{same, by_name}
 use Rattle.state_rows.specs.Kept.{row_at}
 use Rattle.state_rows.proofs.MountKeeping.{put-over}
-use Rattle.state_rows.proofs.mounts.Mounts.put.Goals as goal
+use Rattle.state_rows.proofs.mounts.MountTable.put.Goals as goal
 
 pub returns : goal.returns
 returns c = λ r.

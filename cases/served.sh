@@ -1,0 +1,35 @@
+# For scripts of cases that a step of the kind `tool` runs: sourced by them, in the folder where the case runs. The desk in `desk` is
+# served at a free port, and `here` are the words by which ops/rollover and ops/backup know that service.
+set -u
+export PYTHONDONTWRITEBYTECODE=1
+ops="$(cd "$(dirname "$0")/../../ops" && pwd)"
+port="$(python3 -c 'import socket; it = socket.socket(); it.bind(("127.0.0.1", 0)); print(it.getsockname()[1])')"
+here=(--db desk --port "$port" --drained drained --stop 'kill "$(cat pid)" 2> /dev/null || true' --start 'sh ./start')
+cat > start <<END
+"$PROGRAM" serve --db desk --port $port --connections 10000 > served.txt 2>&1 < /dev/null & echo \$! > pid
+END
+trap 'kill "$(cat pid)"' EXIT
+
+# told COMMAND..   what a command says and its status; for what is another in each run, as seconds, stands `..`
+told() {
+  { "$@" 2>&1; echo "status $?"; } |
+    sed -E "s,$PWD/,,g; s/[0-9a-f]{64}/../g; s/[0-9.]+ seconds/.. seconds/; s/20[0-9-]{8}T[0-9]{6}Z/../g; s/http:[^ ,]*/../g"
+}
+
+# ready            waits until the desk answers
+ready() {
+  for _ in $(seq 400); do
+    if curl -s -o ready.txt "http://127.0.0.1:$port/overdue"; then return; fi
+    sleep 0.05
+  done
+  echo "the desk does not answer"
+}
+
+# ask TARGET       a report of the running desk
+ask() { curl -sS "http://127.0.0.1:$port$1"; }
+
+# say UID WORD BODY    a message to it, of the second hour
+say() {
+  curl -sS --data-binary "{\"MessageName\":\"TraceDesk.$2\",\"UniqueID\":\"$1\",\"Source\":\"S\",\"TimeStamp\":\"1970-01-01T02:00:00Z\",\"MessageBody\":$3}" "http://127.0.0.1:$port/messages"
+  echo
+}
