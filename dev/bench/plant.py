@@ -1,34 +1,34 @@
-"""Loads made-up archives into a PostgreSQL of its own folder and asks for a lot and a board: how long, how large?
+"""Loads made-up archives into a PostgreSQL of its own folder and asks for a lot, a reel and a board: how long, how large?
 
-usage: dev/bench/run plant [--program FILE] [--folder FOLDER] [--archives N] [--minutes N] [--boards BOARDS] [--parts N]
-       dev/bench/run plant --recall [--program FILE] [--folder FOLDER] [--archives N] [--pieces N]
-       dev/bench/run plant --small N [--pieces N] [--minutes N]
+usage: dev/bench/run plant [--program FILE] [--folder FOLDER] [--archives N] [--boards BOARDS] [--files N] [--minutes N]
+       dev/bench/run plant --recall [--program FILE] [--folder FOLDER] [--archives N] [--pieces N] [--minutes N]
 
 examples:
-  dev/bench/run plant                              40 archives of a million pieces: 20 GB of disk at most, and an hour
-  dev/bench/run plant --archives 4 --boards 300    a minute
-  dev/bench/run plant --recall                     52 archives of 800,000 pieces: 10 GB of disk, and an hour
-  dev/bench/run plant --small 10000                10,000 files of 200 pieces that SQL makes up: six minutes and 1 GB
-  dev/bench/run plant --small 1000 --pieces 200000      24 GB of disk
+  dev/bench/run plant                                       1,000 files of 200,000 pieces: 25 GB of disk, and an hour
+  dev/bench/run plant --boards 1 --files 10000              10,000 files of 178 pieces: 3 GB
+  dev/bench/run plant --archives 41 --boards 5180 --files 40    40 archives of a million pieces, all loaded by ops/plant-load
+  dev/bench/run plant --recall                              52 archives of 810,000 pieces: 10 GB of disk, and an hour
 
 One shift of dev/lib/tracedesk_dev/shift.py is fed to the program: that is the first archive. The others, each of a line of its own, are its
-bytes with other names of boards, machines, reels and lots of the same length; the audit of the second has to be lawful.
-A lot has ten reels in five archives. Each archive is loaded by ops/plant-load, by a catalogue of its own, and then
-removed. PostgreSQL has fsync on and 512 MB of shared buffers. Cold is after a new start of it, with its files out of
-the system's cache. At the end empty parts are added, up to --parts, and it is asked once more.
+bytes with other names of boards, machines, reels and lots of the same length; the audit of the second must be lawful.
+Each archive is loaded by ops/plant-load, by a catalogue of its own, and then removed. SQL then copies the rows of
+the first one, by the same statements and with other names, until there are --files. Two reels in five of the files become the lot.
+PostgreSQL has its default settings, and fsync is on; while SQL copies, it is off, and no log is written. Cold is after a
+new start of it, with its files out of the system's cache.
 
 With --recall they are the archives of one line that rolls over, each begun by ops/begin from the one before. A lot with
 pieces in two of them is asked for, and a board, by tracedesk-chain and by ops/recall, and each file is audited: the same
 reading, so that is compared. tracedesk-chain is the one next to the program, or that of CHAIN. PostgreSQL isn't needed then.
 
-With --small nothing is loaded by ops/plant-load, and PostgreSQL has its default settings: files.sql and drop.sql are timed too.
-
 --folder   where all of it lies; it is new, and is removed at the end
---minutes  nothing more is loaded or made up after so many; what is there is asked
---boards   of the shift; 5,180 place a million pieces
---pieces   of each archive: 800,000 of --recall, and 200 of --small
+--archives made by the program: 52 with --recall, else 4; the last is loaded after all others
+--boards   of the shift: 1,040 place 200,000 pieces
+--files    in the tables, with those that SQL copies
+--minutes  nothing more is made after so many; the questions are about the files made by then
+--pieces   of each archive of --recall
 """
 import contextlib
+import itertools
 import json
 import os
 import pathlib
@@ -46,7 +46,7 @@ from tracedesk_dev import postgres, program, shift
 from tracedesk_dev.program import ROOT
 from tracedesk_ops import catalogue, plant
 
-TURNS = 5
+COLD, WARM = 3, 15  # turns
 MEMORY = "/dev/shm"
 LOT = "LOT-RECALL"
 BASE = "ZQZQ"  # no part of another name, and longer than two numbers of a row: so its bytes in a file are those of the names that begin with it
@@ -93,13 +93,6 @@ def of_its_own(file, number):
         database.execute("UPDATE accepted SET uid = ?1, detail = replace(detail, uid, ?1) WHERE number = (SELECT max(number) FROM accepted)", [f"last-{number}"])
 
 
-def of_the_lot(file):
-    """Makes two reels of an archive, those of which most was placed, reels of the lot."""
-    with contextlib.closing(sqlite3.connect(file, isolation_level=None)) as database:
-        database.execute("PRAGMA journal_mode = DELETE")
-        database.execute("UPDATE reel SET lot = ? WHERE reel IN (SELECT reel FROM reel ORDER BY placed DESC, reel LIMIT 2)", [LOT])
-
-
 def line_of(file, desk, before=""):
     with catalogue.opened(file) as database:
         ((commands, first, last),) = database.execute("SELECT count(*), min(effective), max(effective) FROM accepted")
@@ -108,7 +101,7 @@ def line_of(file, desk, before=""):
 
 
 def made(asked, room, folder_of):
-    """Makes each archive in its folder: its number and its file. Every fifth part of them has two reels of the lot."""
+    """Makes each archive in its folder: its number and its file."""
     base = room / "first"
     first_archive(asked, base)
     first = base.read_bytes()
@@ -120,8 +113,6 @@ def made(asked, room, folder_of):
             audited = shutil.copy(file, room / "audited")
             subprocess.run([asked.program, "audit", "--db", audited], check=True, stdout=subprocess.DEVNULL)
             os.unlink(audited)
-        if number % max(1, asked.archives // 5) == 0 and number // max(1, asked.archives // 5) < 5:
-            of_the_lot(file)
         yield number, file
 
 
@@ -135,28 +126,20 @@ def since(server, before):
     return tuple(round(now - then, 3) for now, then in zip(taken(server), before))
 
 
-def loaded(asked, server, room):
-    """Loads each archive by itself; the seconds of each, how many pieces there are, and the bytes of an archive."""
-    seconds, pieces, size, ticks = [], 0, 0, program.Ticks()
-    end = time.monotonic() + 60 * asked.minutes
-
+def loads(asked, server, room):
+    """Loads each archive by itself: its seconds, how many pieces it has, and its bytes."""
     def folder_of(number):
         at = room / f"archive-{number}"
         at.mkdir()
         return at
 
     for number, file in made(asked, room, folder_of):
-        if time.monotonic() > end:
-            break
         its, at, size = line_of(file, f"L{number + 1}"), file.parent, file.stat().st_size
         catalogue.add(at / catalogue.FILE_NAME, its)
         began = taken(server)
         subprocess.run([ROOT / "ops/plant-load", at / catalogue.FILE_NAME], check=True, stdout=subprocess.DEVNULL)
-        seconds.append(since(server, began))
-        pieces += its.pieces
+        yield since(server, began), its.pieces, size
         shutil.rmtree(at)
-        ticks.tell(f"{number + 1} archives, {seconds[-1][0]:.1f} s")
-    return seconds, pieces, size
 
 
 # --- A line's chain of archives, by tracedesk-chain and by ops/recall
@@ -164,8 +147,10 @@ def loaded(asked, server, room):
 
 def chain_of(asked, at):
     """Makes the archives of one line that rolls over, and its catalogue; the path of each, and how many pieces there are."""
-    messages, files, pieces, ticks = starts.Line().messages(), [], 0, program.Ticks()
+    messages, files, pieces, ticks, end = starts.Line().messages(), [], 0, program.Ticks(), time.monotonic() + 60 * asked.minutes
     for number in range(asked.archives):
+        if time.monotonic() > end:
+            break
         with tempfile.TemporaryDirectory(dir=MEMORY if os.path.isdir(MEMORY) else None) as room:
             desk = pathlib.Path(room, "desk")
             feed = subprocess.Popen([asked.program, "feed", "--db", desk], stdin=subprocess.PIPE, stdout=subprocess.DEVNULL)
@@ -206,19 +191,23 @@ def recall_bench(asked, room):
     files, pieces = chain_of(asked, at)
     with catalogue.opened(files[len(files) // 2]) as database:
         ((lot, board),) = database.execute("SELECT lot, board FROM placement JOIN reel USING (reel) WHERE remaining > 0 ORDER BY placement.number DESC LIMIT 1")
-    print(json.dumps({"pieces": pieces, "archives": len(files), "bytes of them": sum(it.stat().st_size for it in files), "load of the machine": os.getloadavg()[0]}), flush=True)
+    tell({"pieces": pieces, "archives": len(files), "bytes of them": sum(it.stat().st_size for it in files)})
+
+    def of(name, measured):
+        tell({f"{name}, by the clock, of the processor, bytes of memory, lines": measured})
+
     copies = [shutil.copy(it, room / it.name) for it in files]  # an audit leaves a log
+    if len(copies) > 2:
+        of("check of the last two", measured(asked.chain, "check", "--from-middle", *copies[-2:]))
     audits = [measured(asked.program, "audit", "--db", it) for it in copies]
-    told = {"the sum of their audits": (round(sum(it[0] for it in audits), 2), round(sum(it[1] for it in audits), 2), max(it[2] for it in audits), len(audits)),
-            "check": measured(asked.chain, "check", *copies), "lot": measured(asked.chain, "lot", lot, *copies), "check, of two": measured(asked.chain, "check", *copies[:2])}
+    of("the sum of their audits", (round(sum(it[0] for it in audits), 2), round(sum(it[1] for it in audits), 2), max(it[2] for it in audits), len(audits)))
+    of("check", measured(asked.chain, "check", *copies))
+    of("lot", measured(asked.chain, "lot", lot, *copies))
     for it in room.glob("archive-*"):
         it.unlink()
     line = ["--line", "L1", "-", at / catalogue.FILE_NAME, "--archives-only", "--program", asked.program]
-    for name, words in (("lot", ["lot", lot]), ("board", ["board", board])):
-        for how, more in (("", []), (" --quick", ["--quick"])):
-            told[f"ops/recall {name}{how}"] = measured(ROOT / "ops/recall", *words, *line, *more)
-    for name, it in told.items():
-        print(json.dumps({f"{name}, by the clock, of the processor, bytes of memory, lines": it, "load": round(os.getloadavg()[0], 1)}), flush=True)
+    for words in (["lot", lot, "--quick"], ["board", board, "--quick"], ["lot", lot], ["board", board]):
+        of("ops/recall " + " ".join((words[0], *words[2:])), measured(ROOT / "ops/recall", *words, *line))
 
 
 # --- By PostgreSQL
@@ -232,115 +221,129 @@ def out_of_cache(folder):
                 os.posix_fadvise(file.fileno(), 0, 0, os.POSIX_FADV_DONTNEED)
 
 
-def timed(server, query, **values):
-    """The seconds of one call of psql by the clock and of the processor, its start among them, and how many rows it printed."""
-    words = [word for key, value in values.items() for word in ("-v", f"{key}={value}")]
+def timed(server, *words):
+    """The seconds of one call of psql by the clock and of the processor, its start among them, and what it printed."""
     began = taken(server)
-    rows = postgres.asked("--csv", "-t", *words, "-f", postgres.SQL / f"{query}.sql").count("\n")
-    return since(server, began), rows
+    told = postgres.asked("--csv", "-t", *words)
+    clock, _ = since(server, began)
+    time.sleep(0.3)  # until the server counts the session's seconds
+    return (clock, since(server, began)[1]), told
 
 
 def medians(pairs):
     return tuple(map(statistics.median, zip(*pairs)))
 
 
-def asked_for(server, board):
-    """The lot and the board, cold and warm: the seconds by the clock and of the processor, and their medians of the warm turns."""
-    told = {}
-    for name, query, values in (("lot, its pieces", "pieces", {"lot": LOT}), ("lot, its boards", "recall", {"lot": LOT}), ("board, its pieces", "pieces", {"board": board})):
-        server.stop()
-        out_of_cache(server.data)
-        server.start()
-        cold, rows = timed(server, query, **values)
-        told[name] = {"rows": rows, "cold": cold, "warm": medians(timed(server, query, **values)[0] for _ in range(TURNS))}
-    return told
+def least(pairs):
+    return tuple(map(min, zip(*pairs)))
 
 
-def more_parts(upto):
-    """Adds empty parts, until there are so many."""
-    postgres.asked("-c", f"""DO $$ BEGIN FOR it IN (SELECT count(*) FROM pg_inherits WHERE inhparent = 'plant.placement'::regclass) + 1 .. {upto} LOOP
-        EXECUTE format('CREATE TABLE plant.placement_%s PARTITION OF plant.placement FOR VALUES IN (%s)', 100000 + it, 100000 + it); END LOOP; END $$""")
+def restarted(server, **options):
+    """A new start of the server, with its files out of the system's cache; `options` are not its defaults."""
+    postgres.asked("-c", "CHECKPOINT")
+    server.stop()
+    out_of_cache(server.data)
+    server.options.update({"fsync": "on", "wal_level": "replica", "max_wal_senders": "10", **options})
+    server.start()
+
+
+# a copy of what ops/plant-load made of the first archive, with other names, as that makes it
+COPIES = """DO $$ DECLARE its text; BEGIN FOR it IN {first} .. {last} LOOP
+    its := 'placement_' || it;
+    INSERT INTO file SELECT it, 'C' || it % 10, 'archive-' || it, md5(it::text), first_minute, last_minute, commands, last_uid, pieces, '', false, 0, said, md5(it::text) FROM file WHERE id = 1;
+    INSERT INTO command SELECT it, md5(identity || '-' || it)::uuid, places FROM command WHERE file = 1;
+    INSERT INTO reel SELECT it, renamed(reel, it), part, renamed(lot, it), level FROM reel WHERE file = 1;
+    INSERT INTO start SELECT it, number, renamed(machine, it), renamed(board, it), minute FROM start WHERE file = 1;
+    EXECUTE format('CREATE TABLE %s (LIKE placement, CONSTRAINT part CHECK (file = %s))', its, it);
+    EXECUTE format('COPY %s FROM PROGRAM ''sed "s/^1/%s/; s/{name}/%s/g" {file}'' WITH (FREEZE)', its, it, renamed('{name}', it));
+    EXECUTE format('CREATE INDEX ON %1$s (reel); CREATE INDEX ON %1$s (board); ANALYZE %1$s', its);
+    EXECUTE format('ALTER TABLE placement ATTACH PARTITION %s FOR VALUES IN (%s)', its, it);
+    COMMIT;
+END LOOP; END $$"""
+SIZES = """SELECT json_build_object('pieces', (SELECT sum(pieces) FROM plant.file), 'bytes of the database', pg_database_size('postgres'),
+    'placements', (SELECT sum(pg_table_size(inhrelid)) FROM pg_inherits WHERE inhparent = 'plant.placement'::regclass),
+    'their indexes', (SELECT sum(pg_indexes_size(inhrelid)) FROM pg_inherits WHERE inhparent = 'plant.placement'::regclass), 'command', pg_total_relation_size('plant.command'),
+    'reel', pg_total_relation_size('plant.reel'), 'start', pg_total_relation_size('plant.start'))"""
+RENAMED = "CREATE FUNCTION plant.renamed(name text, number integer) RETURNS text LANGUAGE sql AS $$ SELECT lpad(to_hex(number), 4, '0') || substr(name, 5) $$"
+
+
+def copied(asked, server, last):
+    """Lets SQL copy the first file until there are --files; how many there are."""
+    template, ticks, end = server.folder / "template", program.Ticks(), time.monotonic() + 60 * asked.minutes
+    restarted(server, fsync="off", wal_level="minimal", max_wal_senders="0")
+    postgres.asked("-c", f"COPY plant.placement_1 TO '{template}'", "-c", RENAMED)
+    name = postgres.asked("-At", "-c", "SELECT left(board, 4) FROM plant.start WHERE file = 1 LIMIT 1").strip()
+    while last < asked.files and time.monotonic() < end:
+        first, last = last + 1, min(asked.files, last + 20)
+        postgres.asked("-c", "SET search_path TO plant", "-c", COPIES.format(first=first, last=last, name=name, file=template))
+        ticks.tell(f"{last} files")
+    template.unlink()
+    return last
+
+
+def ask(server):
+    """Asks for the lot, one of its reels and a board, cold and warm, and for no piece; and how many pages of 8,192 bytes are read, cold."""
+    board, reel = postgres.asked("-At", "-F", " ", "-c", f"""SELECT (SELECT board FROM plant.start WHERE file = (SELECT max(id) / 2 FROM plant.file) ORDER BY number LIMIT 1),
+        (SELECT min(reel) FROM plant.reel WHERE lot = '{LOT}')""").split()
+    names = {"lot": LOT, "reel": reel, "board": board}
+    calls = {f"{kind}, its pieces": ("-v", f"{kind}={name}", "-f", postgres.SQL / "pieces.sql") for kind, name in names.items()}
+    calls |= {"lot, its boards": ("-v", f"lot={LOT}", "-f", postgres.SQL / "recall.sql"), "files.sql": ("-f", postgres.SQL / "files.sql"), "nothing": ("-c", "SELECT 1")}
+    for kind, name in names.items():
+        restarted(server)
+        plan = json.loads(postgres.asked("-At", "-c", f"EXPLAIN (ANALYZE, BUFFERS, FORMAT JSON) SELECT FROM plant.pieces_of('{kind}', '{name}')"))[0]["Plan"]
+        tell({f"{kind}, pages read cold, of so many pieces": (plan["Shared Read Blocks"], plan["Actual Rows"])})
+    for name, words in calls.items():
+        cold = []
+        for _ in range(COLD):
+            restarted(server)
+            its, printed = timed(server, *words)
+            cold.append(its)
+        warm = [timed(server, *words)[0] for _ in range(WARM)]
+        tell({name: {"rows": printed.count("\n"), "cold, by the clock and of the processor": cold, "warm, the least": least(warm), "warm, median": medians(warm)}})
 
 
 def postgres_bench(asked):
     with tempfile.TemporaryDirectory(prefix="plant-", dir=asked.folder) as room, tempfile.TemporaryDirectory(prefix="plant-", dir=asked.folder) as folder:
-        with postgres.Server(pathlib.Path(folder), fsync="on", shared_buffers="512MB") as server:
+        with postgres.Server(pathlib.Path(folder), fsync="on") as server:
             postgres.asked("-f", postgres.SQL / "schema.sql")
-            seconds, pieces, size = loaded(asked, server, pathlib.Path(room))
-            sizes = postgres.asked("-At", "-F", " ", "-c", "SELECT sum(pg_table_size(i)), sum(pg_indexes_size(i)) FROM (SELECT inhrelid AS i FROM pg_inherits "
-                                   "WHERE inhparent = 'plant.placement'::regclass) t; SELECT pg_database_size('postgres')").split()
-            board = postgres.asked("-At", "-c", f"SELECT board FROM plant.start WHERE file = {len(seconds) // 2 + 1} ORDER BY number DESC LIMIT 1").strip()
-            told = {"pieces": pieces, "archives": len(seconds), "bytes of an archive": size, "a load, by the clock and of the processor": medians(seconds),
-                    "all loads": tuple(map(sum, zip(*seconds))), "bytes of placements, their indexes, the database": [*map(int, sizes)]}
-            print(json.dumps(told, indent=1), flush=True)
-            print(json.dumps(asked_for(server, board), indent=1), flush=True)
-            more_parts(asked.parts)
-            print(json.dumps({f"with {asked.parts} parts": asked_for(server, board)}, indent=1), flush=True)
+            loading = loads(asked, server, pathlib.Path(room))
+            first = list(itertools.islice(loading, asked.archives - 1))
+            tell({"pieces and bytes of an archive": first[0][1:], "a load, by the clock and of the processor": medians(it[0] for it in first)})
+            count = copied(asked, server, len(first))
+            of_the_lot = [1 + number * count // 5 for number in range(5)]
+            for it in of_the_lot:
+                postgres.asked("-c", f"UPDATE plant.reel SET lot = '{LOT}' WHERE file = {it} AND reel IN (SELECT reel FROM plant.placement_{it} GROUP BY reel ORDER BY count(*) DESC, reel LIMIT 2)")
+            postgres.asked("-c", "SELECT setval('plant.file_id', (SELECT max(id) FROM plant.file))", "-c", "VACUUM ANALYZE plant.file, plant.reel, plant.start, plant.command")
+            restarted(server)
+            tell({"files": count, "a load then, of its own archive": [it[0] for it in loading]})
+            tell(json.loads(postgres.asked("-At", "-c", SIZES)))
+            ask(server)
+            tell({"drop.sql, of all": timed(server, "-v", "before=2027-01-01", "-f", postgres.SQL / "drop.sql")[0]})
 
 
-# a file as ops/plant-load makes it: twenty reels in turn, boards of twenty pieces; two reels of each fifth file are of the lot
-SMALL = """SET search_path TO plant;
-DO $$ BEGIN FOR it IN {first} .. {last} LOOP
-    INSERT INTO file VALUES (it, 'L' || it % 10, 'archive-' || it, 'sum', 1, 9, 5, 'u', {pieces}, '');
-    INSERT INTO reel SELECT it, 'R' || it || '-' || n, 'P', CASE WHEN it % {fifth} = 1 AND n < 3 THEN '{lot}' ELSE 'L' || it END, '1' FROM generate_series(1, 20) n;
-    EXECUTE format('CREATE TABLE placement_%1$s (LIKE placement, CONSTRAINT part CHECK (file = %1$s))', it);
-    EXECUTE format('INSERT INTO placement_%1$s SELECT %1$s, n, 1, ''B%1$s-'' || n / 20, ''C'' || n %% 20, ''M'', ''1'', ''R%1$s-'' || 1 + n %% 20, false, n
-                    FROM generate_series(1, {pieces}) n ORDER BY 1 + n %% 20, n', it);
-    EXECUTE format('CREATE INDEX ON placement_%1$s (reel); CREATE INDEX ON placement_%1$s (board)', it);
-    EXECUTE format('INSERT INTO start SELECT DISTINCT ON (board) %1$s, number, machine, board, minute FROM placement_%1$s', it);
-    EXECUTE format('ALTER TABLE placement ATTACH PARTITION placement_%1$s FOR VALUES IN (%1$s)', it);
-END LOOP; END $$"""
-
-
-def small_bench(asked):
-    """Makes up files, and asks them by PostgreSQL with its default settings."""
-    count, told = asked.small, {}
-    with tempfile.TemporaryDirectory(prefix="plant-", dir=asked.folder) as folder, postgres.Server(pathlib.Path(folder), fsync="on") as server:
-        postgres.asked("-f", postgres.SQL / "schema.sql")
-        began, ticks, last, fifth = taken(None), program.Ticks(), 0, max(2, count // 5)
-        while last < count and time.monotonic() < began[0] + 60 * asked.minutes:
-            first, last = last + 1, min(count, last + max(1, 100_000 // asked.pieces))
-            postgres.asked("-c", SMALL.format(first=first, last=last, pieces=asked.pieces, fifth=fifth, lot=LOT))
-            ticks.tell(f"{last} files")
-        count = last
-        postgres.asked("-c", "ANALYZE plant.file; ANALYZE plant.reel; ANALYZE plant.start")
-        told["made, by the clock"] = since(None, began)[0]
-        told["bytes of the database"] = int(postgres.asked("-At", "-c", "SELECT pg_database_size('postgres')"))
-        for name, query, values in (("lot, its boards", "recall", {"lot": LOT}), ("lot, its pieces", "pieces", {"lot": LOT}), ("reel", "pieces", {"reel": "R7-3"}),
-                                    ("board", "pieces", {"board": f"B{count // 2}-1"}), ("files", "files", {})):
-            server.stop()
-            out_of_cache(server.data)
-            server.start()
-            (cold, _), rows = timed(server, query, **values)
-            told[name] = {"rows": rows, "cold": cold, "warm": statistics.median(timed(server, query, **values)[0][0] for _ in range(TURNS))}
-        told["drop of all"] = timed(server, "drop", before="2027-01-01")[0][0]
-    print(json.dumps({"made-up files": count, "pieces of each": asked.pieces, **told, "load of the machine": os.getloadavg()[0]}, indent=1), flush=True)
+def tell(told):
+    print(json.dumps({**told, "load of the machine": round(os.getloadavg()[0], 1)}), flush=True)
 
 
 def words(reader):
     program.offer(reader)
     reader.add_argument("--folder", type=pathlib.Path)
     reader.add_argument("--recall", action="store_true")
-    reader.add_argument("--small", type=int)
-    reader.add_argument("--pieces", type=int)
+    reader.add_argument("--pieces", type=int, default=810_000)
     reader.add_argument("--archives", type=int)
     reader.add_argument("--minutes", type=float, default=600)
-    reader.add_argument("--boards", type=int)
-    reader.add_argument("--parts", type=int, default=400)
+    reader.add_argument("--boards", type=int, default=1_040)
+    reader.add_argument("--files", type=int, default=1_000)
 
 
 def main(asked, reader):
-    asked.pieces = asked.pieces or (800_000 if asked.recall else 200)
-    if asked.small:
-        return small_bench(asked)
     asked.program = program.to_use(asked.program)
     asked.chain = plant.chain_of(asked.program)
     if asked.recall and not shutil.which("time"):
         program.stop("there is no time: apt-get install time")
     if asked.recall and not asked.chain:
         program.stop("there is no tracedesk-chain next to the program: CHAIN names it")
-    asked.archives = asked.archives or (52 if asked.recall else 40)
-    asked.boards = asked.boards or 5_180
+    asked.archives = asked.archives or (52 if asked.recall else 4)
     if asked.folder and asked.folder.exists():
         reader.error(f"{asked.folder} is there already: name a new folder")
     if not asked.recall and not postgres.is_here():

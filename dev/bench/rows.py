@@ -1,11 +1,11 @@
-"""Measures what an accepted command costs: in memory, in a file, and beside SQLite; and what a repeat costs.
+"""Measures the cost of an accepted command, in memory, in a file and next to SQLite, and of a repeat.
 
 usage: dev/bench/run rows [--program FILE] [--rows ROWS] [--turns TURNS] [FOLDER]
 
 examples:
   dev/bench/run rows --turns 9 /srv
 
-The files are made in FOLDER, or in the folder for temporary files, so on the disk that is to be measured. Each
+The files are made in FOLDER, or in the folder for temporary files, so on the disk to measure. Each
 message is a ClockSet, which a desk judges without a search: measured is the reading of a message, its row and its
 answer. SQLite is Python's sqlite3 with the same table, a transaction for each row, in WAL mode with synchronous FULL,
 so one sync a row as in the program. Printed are medians of the turns, in microseconds a row.

@@ -1,29 +1,29 @@
-"""Fails each call of the program in turn, and looks whether what it answered is there, and acts once when sent again.
+"""Fails each call of the program in turn, and looks whether each answered command is in its file, and acts once when sent again.
 
 usage: dev/faults/run calls [--program FILE] [--jobs N] [--most N] [--seconds N] [--patience N] [--seed N] [--only WORD]
                             [--folder FOLDER] [PART..]
-       dev/faults/run calls --planted    calls that are told as done and are not, which have to be found out
-       dev/faults/run calls --gate       what `make test` tries of it, in two minutes on four cores
+       dev/faults/run calls --planted    calls that report success without it, which must be found
+       dev/faults/run calls --gate       the part of `make test`, in two minutes on four cores
 
 The parts, all of them where none is named:
-  wire    each read of what is given and each write of what is answered: it fails, or one byte goes, or none; and the
+  wire    each read of input and each write of an answer: it fails, or one byte goes, or none; and the
           same with all of them in pieces of one byte, so that it fails at each place of the bytes.
   memory  each allocation is refused, alone, and together with all that come after it.
   disk    each read, write, sync and other call on the desk's file, its log and their folder: it fails, once or from
-          there on; it fails in the midst of what it does, or behind it; or it does a part of it, and no error is told.
+          there on; it fails in the middle, or at its end; or it does a part of it and reports no error.
   kill    the program is killed at each change of the disk, in the midst of each, and at each answer.
-  power   the power fails at each change of the disk and behind each answer: of what was not synced any part is lost,
+  power   the power fails at each change of the disk and behind each answer: any part of the unsynced bytes is lost,
           by writes, by sectors and by bytes, and past the synced end there may be anything. Also while the file is
           opened again after that, and after a sync that failed, whose writes may be lost for good.
 
-What is run are `feed` (with a file, and in memory), the two imports, `migrate` and `audit` on worked cases, and `serve`
+It runs `feed` (with a file, and in memory), the two imports, `migrate` and `audit` on worked cases, and `serve`
 and `report` where the program has them. Where there are more than --most points in one of these, a seeded choice of so
 many is taken. A run goes on undisturbed, and before each call that is a point a copy of its process is made, with copies
-of its files, in which the call fails: so what came before is done once for all of them. The connection of `serve` is a
+of its files, in which the call fails: so the calls before it are made once for all of them. The connection of `serve` is a
 pair of files, and only each 25th copy gives memory back, since that would cost most of the time. After each failure:
   - the answers are those of an undisturbed run of the lines that were not answered Unavailable, and the last of them
-    may be cut; the status and what was told are the ones for such a failure;
-  - `audit` says lawful, and the tables are those of the lines that were answered, or of one more that was at hand;
+    may be cut; the status and the messages are the ones for such a failure;
+  - `audit` says lawful, and the tables are those of the lines that were answered, or of one more that was being answered;
   - everything sent again to the file that was left is answered as an undisturbed desk answers it a second time, and
     the tables are that desk's.
   - where one allocation alone was refused, at most one answer is Unavailable.
@@ -31,8 +31,8 @@ Wanted are a C compiler, cc, and Python 3.11. `dev/faults/run calls --only impor
 
 With --gate every point is tried of: `wire` of `feed` and `serve` on the first case; `memory` of `feed` and `serve` on it, and of the
 imports; `disk`, `kill` and `power` of `feed` with a file, and of `migrate`. Of all others one point in eight is tried, by a
-seed that is the commit's hash. Then what --planted has of `feed`, which has to be found out. The last line is 'N passed,
-M failed', over the parts of each story and the planted faults. Without a C compiler it is told as skipped, with status 0.
+seed that is the commit's hash. Then the part of --planted for `feed`, which must be found. The last line is 'N passed,
+M failed', over the parts of each story and the planted faults. Without a C compiler it is reported as skipped, with status 0.
 """
 import collections
 import concurrent.futures

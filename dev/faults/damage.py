@@ -1,4 +1,4 @@
-"""Damages a desk's file, and looks at what `audit` says of it.
+"""Damages a desk's file, and looks at the answer of `audit`.
 
 usage: dev/faults/run damage [--program FILE] [--boards N] [--pages N] [--seconds N] [--seed N] [--folder FOLDER]
 
@@ -11,7 +11,7 @@ of them, each page is filled with zeros in turn, and single bytes at random plac
   are those of the whole file: the damaged bytes were in use for nothing. Of a turned bit alone another thing may
   come: a command with another source, or another minute of its own where that is not the one at which it took effect.
   No rule speaks of these, and no table but `accepted` has them, so the list is a lawful one.
-- the copy's bytes are as they were before `audit` wherever it told a fault.
+- the copy's bytes are unchanged if `audit` reported a fault.
 """
 import collections
 import contextlib

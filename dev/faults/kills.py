@@ -1,7 +1,7 @@
-"""Kills the program, and fails its disk, while it takes commands, and looks whether what it acknowledged is there.
+"""Kills the program, and fails its disk, while it takes commands, and looks whether each acknowledged command is in its file.
 
 usage: dev/faults/run kills [--program FILE] [--kills N] [--seconds N] [--seed N] [--folder FOLDER] [PART..]
-       dev/faults/run kills --planted      the same on dev/faults/early-answers, which has to be found out by `feed`, `serve` and `order`
+       dev/faults/run kills --planted      the same on dev/faults/early-answers, which must be found by `feed`, `serve` and `order`
 
 examples:
   dev/faults/run kills --kills 20 feed
@@ -12,7 +12,7 @@ The parts, all of them where none is named:
           shift on a new file whenever one is done.
   serve   the same with `serve`, over one connection, where the program has it.
   order   strace's order of calls: the bytes of each Accepted answer go out after the sync of its commit has returned.
-          (A kill alone can't show it, since the system keeps what was written and not yet synced.)
+          (A kill alone can't show it, since the system keeps written bytes that are not yet synced.)
   disk    a limit on the size of files, with and without its signal; a full file system, where this user may mount one.
 
 `dev/faults/run calls` kills the program at each change of its disk, and fails each single call.

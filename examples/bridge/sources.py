@@ -2,6 +2,7 @@
 import bz2
 import collections
 import contextlib
+import errno
 import fnmatch
 import gzip
 import hashlib
@@ -22,7 +23,7 @@ PIECE = 1 << 16  # bytes that are read at a time, and more where a line is longe
 BEFORE = 4096  # bytes at the beginning of a file, and before a position, by which it is known again
 STAYS = 600.0  # seconds without a line more, after which nobody writes to a file that was moved away
 PACKED = {".gz": gzip.open, ".bz2": bz2.open, ".xz": lzma.open, ".zst": None}  # endings of files that are no lines any more
-NOT_UNPACKED = OSError, EOFError, lzma.LZMAError
+NOT_UNPACKED = OSError, EOFError, lzma.LZMAError, zlib.error
 KNOWN = 200  # rotated files that are remembered, besides those that are there
 SETTLES = 2.0  # seconds after a change of the folder, in which another one may have the same time
 UNFINISHED = 5.0  # seconds that the next file waits for the end of a line of such a file
@@ -172,14 +173,20 @@ class Following:
         return sorted(found, key=lambda it: (it[1].st_mtime_ns, it[0].name))
 
     def found(self, told):
-        """The file of which this was kept: here, or under a new name in the same folder, and packed where it is there in no other way."""
+        """The file of which this was kept: here, or under a new name in the same folder, and packed where it is there in no other way.
+        One that is there and can't be read now is an OSError, and no gap: it is waited for."""
         files, there = [], [self.path, *sorted(it for it in self.path.parent.iterdir() if it != self.path)]
         for path in sorted(there, key=lambda it: it.suffix in PACKED):
-            with contextlib.suppress(*NOT_UNPACKED):
-                if path.is_file() and not (files and path.suffix in PACKED) and (path.suffix in PACKED or path.stat().st_size >= told["At"]):
+            is_packed, is_same = path.suffix in PACKED, False
+            try:
+                is_same = path.stat().st_ino == told["Inode"]
+                if path.is_file() and not (files and is_packed) and (is_packed or path.stat().st_size >= told["At"]):
                     files.append(Opened(path, told))
-                    if not (files[-1].is_of(told) or told["At"] == 0 and files[-1].id[1] == told["Inode"]):
+                    if not (files[-1].is_of(told) or told["At"] == 0 and is_same):
                         files.pop().file.close()
+            except NOT_UNPACKED as fault:
+                if is_same or is_packed and getattr(fault, "errno", None) not in (None, errno.ENOENT, errno.EACCES):
+                    raise
         files.sort(key=lambda it: it.id[1] != told["Inode"])
         for it in files[1:]:
             it.file.close()
@@ -195,11 +202,14 @@ class Following:
         is_same = bool(self.files) and (there.st_dev, there.st_ino) == self.files[-1].id
         if not is_same or self.unreadable or time.monotonic() - self.changed < SETTLES:
             same = next((it for it in self.files if it.id == (there.st_dev, there.st_ino)), None)
-            self.files = [it for it in self.files if it is not same] + self.new_ones(there) + [same or Opened(self.path)]
+            self.files = [it for it in self.files if it is not same] + self.new_ones(there)
+            if same or not self.unreadable:
+                self.files.append(same or Opened(self.path))
 
     def new_ones(self, newest):
-        """The rotated files that aren't known, each opened."""
+        """The rotated files that aren't known, each opened, up to one that can't be read yet: those after it wait, so that lines stay in their order."""
         found, open_ones, candidates = [], {it.id[1] for it in self.files} | {newest.st_ino}, self.candidates()
+        self.unreadable = {path: since for path, since in self.unreadable.items() if path in dict(candidates)}
         for path, there in candidates:
             try:
                 head = head_of(path)
@@ -212,7 +222,7 @@ class Following:
                         self.known.append(mine)
             except NOT_UNPACKED as fault:
                 if self.follows and time.monotonic() - self.unreadable.setdefault(path, time.monotonic()) < UNFINISHED:
-                    continue
+                    break
                 self.gap(f"{path} can't be read: {fault or repr(fault)}. What it had is given by its name, once it is mended")
                 self.known.append(identity(there.st_ino, head))
             self.unreadable.pop(path, None)

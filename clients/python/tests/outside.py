@@ -414,6 +414,7 @@ class Run:
         self.wanted = {}  # of each source the messages, in order, each with what becomes of it
         self.files, self.lines, self.puts = self.made("folder", 9), self.made("log", 9, said=True), self.made("put", 5)
         self.log, self.number, self.rotation, self.is_clock_wrong = None, 0, self.chance.choice(ROTATIONS), self.chance.random() < 0.25
+        self.haste = self.chance.choice((1, 0.5, 0.1))  # of whoever starts the bridge again
         self.sender = self.bridging = self.copied = None
 
     def made(self, source, most, said=False):
@@ -514,7 +515,7 @@ class Run:
         if self.sender is None or self.sender.is_over():
             more = self.chance.choice(([], ["--patience", "20"], ["--stop-at-refusal"], ["--rate", "0"])) if self.world.has_faults else []
             self.sender = self.world.send(*self.chance.choice((["--follow", self.world.out], ["--follow", self.world.out], ["--stay"], [])), *more)
-        if self.bridge and (self.bridging is None or self.bridging.is_over()) and (not self.world.has_faults or self.chance.random() < 0.6):
+        if self.bridge and (self.bridging is None or self.bridging.is_over()) and (not self.world.has_faults or self.chance.random() < self.haste):
             more = ["--rotated", "old-*"] if self.rotation == "own" else []
             self.bridging = self.world.start(self.bridge.main, "--table", self.world.room / "table", "--spool", self.world.room / "spool", self.world.log, "--follow", *more)
 
@@ -556,7 +557,7 @@ class Run:
         for _ in range(steps):
             self.keep_up()
             does = [it for it, is_there in ((self.write_file, self.files), (self.write_line, self.lines and self.bridge), (lambda: world.spool.put(self.puts.pop(0)), self.puts), (self.rotate, self.bridge),
-                                            (self.write_anew, self.bridge), (self.signal, True), (self.roll_over, self.chance.random() < 0.5), (self.copy, True)) if is_there]
+                                            (self.write_anew, self.bridge), (self.signal, True), (lambda: self.end(self.bridging), self.bridging), (self.roll_over, self.chance.random() < 0.5), (self.copy, True)) if is_there]
             self.chance.choice(does)()
             world.sleep(self.chance.choice((0, 0.1, 1, 5, 20)))
             world.ahead += self.chance.choice((0,) * 9 + (864000, -864000))

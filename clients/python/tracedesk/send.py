@@ -26,21 +26,21 @@ Started again, it goes on behind the last whole line of ANSWERS.
 With --spool it sends what waits in that folder, and each message is on disk there before it is sent. Started again after
 whatever ended it, it goes on where it was. One sender has a spool at a time; any number may put messages in.
 --follow FOLDER  takes in the files *.json and *.jsonl of FOLDER, by their names, a message a line, and deletes each once it
-                 is in the spool. Write a file under another ending and rename it, so that it is there whole. A name may be
+                 is in the spool. Write a file under another ending and rename it, so that it appears whole. A name may be
                  used again at any time
 --follow -       takes in the lines of standard input, and prints 'kept NAME' for each once it is on disk
 --stay           goes on when nothing waits, for programs that put messages in
 --put            puts lines into the spool and sends nothing
---again          puts requests that were set aside behind those that wait, once what they name is mended. A report of work says
-                 what was done, so it is judged by the reels of its time or not at all: it is listed, and not sent, with status 6.
+--again          puts requests that were set aside behind those that wait, once the fault is mended. A report of work is about
+                 the past, so it is judged by the reels of its time or not at all: it is listed, and not sent, with status 6.
                  With a TIME, as 2026-03-02T06:00Z, puts each message that was accepted since then before those that wait, and none
-                 that was refused: after the desk was restored from a copy of that time. What the desk has already isn't done
+                 that was refused: after the desk was restored from a copy of that time. Messages that the desk has already aren't done
                  twice. No sender may run meanwhile
---by --reason    who decides that a report of work is sent again, and why. First what the desk accepted since is shown, with the
-                 CODE that --seen wants; then the decision is kept as a record, and the message waits again
+--by --reason    who decides that a report of work is sent again, and why. First the commands accepted since are shown, with the
+                 CODE for --seen; then the decision is kept as a record, and the message waits again
 --untraced       where the records of reports of work that were not taken go: a folder, or https://desk.plant/line/untraced.
                  Without it they are kept in the folder `untraced` of the spool, and are handed on once it is named
---status         where NAME.json says every few seconds what waits, what was set aside, and the state of machines: a folder, or
+--status         where NAME.json lists every few seconds the messages that wait or were set aside, and the state of machines: a folder, or
                  https://desk.plant/line/status
 --name           the sender's name there (that of the spool's folder)
 --interlock      a command that is called as COMMAND MACHINE STATE REASON, at each change and every --every seconds (2). STATE is `go`
@@ -51,10 +51,10 @@ whatever ended it, it goes on where it was. One sender has a spool at a time; an
 --keep-days N    how long the spool keeps sent messages for --again TIME (7): longer than from one copy of the desk to the next
 --keep-mib N     how much disk they may take (512). The oldest go first, and standard error says so
 
-No answer is a connection that breaks, a port where nobody listens, status 408, 429 or 5xx of the desk or of what is
+No answer is a connection that breaks, a port where nobody listens, status 408, 429 or 5xx of the desk or of a server
 in front of it, an answer that was cut, the answer to another message, and a certificate that isn't valid yet or any more.
 Then the same bytes are sent again, after a wait that grows, or that Retry-After asks for, ten minutes at most: a
-message that was accepted the first time gets its first answer and changes nothing. An answer is what a desk says of
+message that was accepted the first time gets its first answer and changes nothing. An answer is a desk's text for
 a message, with status 200, 202, 400, 409 or 422. Anything else is for a person to mend: a log-in that is refused, a
 certificate that is another's, an answer that is no desk's. With two files it ends the run. With a spool it is reported, on
 standard error and in the status, and tried again after 30 seconds, then after twice as long each time, ten minutes at most.
@@ -65,7 +65,7 @@ asked whether its archive has that message. If it has, the message is done, and 
 A message that is refused, faulty, too long, or Ignored though its name begins with TraceDesk. was not taken. With a spool it is
 set aside in its folder `aside`, with the reason, and the next one is sent. With two files its answer is in ANSWERS.
 --stop-at-refusal  ends the run at such a message, on standard error. A request stays the next one that is sent, so that it is
-                   sent again once what it names is mended. A report of work is done with: it is set aside, or its answer is kept
+                   sent again once its fault is mended. A report of work is done with: it is set aside, or its answer is kept
 --rate N           at most so many tries in a second (with a spool 40, since nginx lets 50 pass); 0 is no limit
 --patience SECONDS  for one message: 600, and with a spool no end. A line after ten seconds, and then each minute, says that
                    there is no answer, and why
@@ -73,8 +73,8 @@ The password is in FILE, or in the environment as TRACEDESK_PASSWORD.
 
 A full disk, and a file that can't be read, are reported and waited out. Standard output may be closed: nothing more is printed.
 
-Exit status: 0 every message has its answer, or what was checked is right; 1 stopped at a message that was not taken; or some
-are set aside in this run, or with two files were Ignored though their names begin with TraceDesk.; or what was checked is wrong;
+Exit status: 0 every message has its answer, or the check found no fault; 1 stopped at a message that was not taken; or some
+are set aside in this run, or with two files were Ignored though their names begin with TraceDesk.; or the check found a fault;
 2 bad command line, or a file or a spool that can't be used; 3 given up: no answer in all the time that was given; 4 a message
 can't be sent so, and standard error says why; 5 an error of this program, which standard error has; 6 a report of work is not
 sent again: a person has to decide. With 3, 4 and 5 what has no answer is sent by the next run.
@@ -285,7 +285,7 @@ def reader_of_words() -> argparse.ArgumentParser:
     reader.add_argument("--keep-days", type=float, default=spool.KEPT_DAYS, metavar="N", help="how long sent messages are kept")
     reader.add_argument("--keep-mib", type=float, default=spool.KEPT_BYTES / (1 << 20), metavar="N", help="how much disk they may take")
     what = reader.add_mutually_exclusive_group()
-    what.add_argument("--follow", metavar="FOLDER", help="what is taken into the spool: a folder, or - for standard input")
+    what.add_argument("--follow", metavar="FOLDER", help="the messages for the spool: a folder, or - for standard input")
     what.add_argument("--stay", action="store_true")
     what.add_argument("--put", metavar="FILE")
     what.add_argument("--again", nargs="+", metavar="NAME")
