@@ -74,7 +74,8 @@ ALL = len(NEW) + len(KNOWN) + 1  # the last command is a ClockSet of its own
 
 
 def own(number):
-    return "desk-begun" if number == len(NEW) else f"goes-on-{number}"
+    """The UniqueID of a message that begins the new desk; all but the last name the checksum of the old desk's file, which is the same in each run."""
+    return "desk-begun" if number == len(NEW) else f"begin-fd09d4110d58226e648b787d-{number}"
 
 
 def begun(uid, minute, word, body, source="begin"):

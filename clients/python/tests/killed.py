@@ -91,7 +91,8 @@ class Run:
             now = self.answered()
             if now > seen:
                 seen, since = now, time.monotonic()
-            ticks.tell(f"{now} of {len(self.clean)} answers, {self.kills.total()} kills")
+            if self.most_kills > 12:  # a short run says nothing on its way, however busy the machine is
+                ticks.tell(f"{now} of {len(self.clean)} answers, {self.kills.total()} kills")
             if time.monotonic() - since > PATIENCE:
                 raise Difference(f"it stands still at {now} of {len(self.clean)} answers: {''.join(it.read_text()[-300:] for it in self.at.glob('*.txt'))}")
             if due < self.most_kills and now >= len(self.clean) * (due + 1) // (self.most_kills + 2):
