@@ -10,7 +10,7 @@ PORT, BOARDS = int(sys.argv[2]), open(sys.argv[1]).read().split()[1:]
 def link():
     for _ in range(5_000):
         try:
-            return socket.create_connection(("127.0.0.1", PORT), timeout=20)
+            return socket.create_connection(("127.0.0.1", PORT), timeout=100)
         except ConnectionRefusedError:
             time.sleep(0.01)
     raise SystemExit("no connection was taken")
@@ -21,7 +21,7 @@ def lines(target):
     return desk.getresponse().read().count(b"\n")
 
 
-desk = http.client.HTTPConnection("127.0.0.1", PORT, timeout=20)
+desk = http.client.HTTPConnection("127.0.0.1", PORT, timeout=100)
 desk.sock = link()
 for n in sorted(int(board[1:]) for board in BOARDS):
     print(f"{n}: {lines(f'/trace/board?board=B{n}&detail=4')} {lines(f'/kit?product=PR{n}&machine=M&boards=1')}")

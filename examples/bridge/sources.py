@@ -185,8 +185,8 @@ class Following:
                     if not (files[-1].is_of(told) or told["At"] == 0 and is_same):
                         files.pop().file.close()
             except NOT_UNPACKED as fault:
-                if is_same or is_packed and getattr(fault, "errno", None) not in (None, errno.ENOENT, errno.EACCES):
-                    raise
+                if (is_packed or is_same) and getattr(fault, "errno", None) not in (None, errno.ENOENT, errno.EACCES if is_packed else None):
+                    raise  # no errno: what is packed is damaged
         files.sort(key=lambda it: it.id[1] != told["Inode"])
         for it in files[1:]:
             it.file.close()

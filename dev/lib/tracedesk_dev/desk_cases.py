@@ -68,8 +68,8 @@ def text():
 
 
 def is_current():
-    """Whether the table has the messages of the cases; the comment above it may be older."""
-    return FILE.is_file() and FILE.read_text(encoding="utf-8").partition("\n")[2] == text().partition("\n")[2]
+    """Whether the table has the messages of the cases."""
+    return FILE.is_file() and FILE.read_text(encoding="utf-8") == text()
 
 
 def write():

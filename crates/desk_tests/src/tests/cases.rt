@@ -1,4 +1,4 @@
-//! The messages of the cases, made by `dev/rows --desks`.
+//! The messages of the cases, made by `dev/cases --desks`.
 
 /// Each case has a line of its products, one of its other names, and its messages: a minute and the stored text of a
 /// command. An empty line ends it. One literal for all is cheap to prove; a list of them is not.
