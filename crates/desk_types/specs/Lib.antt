@@ -1,4 +1,5 @@
 pub mod Apart
+pub mod Basis
 pub mod Boards
 pub mod Bounds
 pub mod Command
