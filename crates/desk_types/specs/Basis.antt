@@ -1,7 +1,6 @@
 -- What a desk judges by.
 use Rattle.desk_types.specs.declared.command.Stamped.{Stamped}
 use Rattle.desk_types.specs.declared.rules.Rules.{Rules}
-use Rattle.desk_types.specs.declared.rules.Rules.TheVariants.{Two}
 use Rattle.desk_types.specs.History.{History, accept}
 
 -- Rules, and a history of accepted commands.
@@ -9,9 +8,9 @@ pub record Basis : Type 0 where
   pub rules : Rules
   pub history : History
 
--- The history with rules Two.
-abbrev pub with_two : History → Basis
-with_two H = record { rules = Two; history = H }
+-- The rules with the history.
+abbrev pub basis : Rules → History → Basis
+basis rules H = record { rules = rules; history = H }
 
 -- The basis with the command accepted.
 abbrev pub basis_after : Basis → Stamped → Basis

@@ -45,7 +45,7 @@ impl From<AllocError> for JudgeFault {
 pub trait Desk {
     ghost use Rattle.std.specs.Prelude.{[]};
     ghost use Rattle.desk_types.specs.Front.{fronts_of};
-    ghost use Rattle.desk_types.specs.Basis.{Basis, basis_after};
+    ghost use Rattle.desk_types.specs.Basis.{Basis, basis, basis_after};
     ghost use Rattle.desk_types.specs.History.{desk_minute};
     ghost use Rattle.desk_types.specs.Setup.{selected_on, sheet_of};
     ghost use Rattle.desk_types.specs.View.{reel_view, mounts_on};
@@ -58,7 +58,7 @@ pub trait Desk {
 
     /// Returns an empty desk with these rules. Takes no memory.
     fn fresh(alloc: Global, rules: Rules) -> Self
-        ensures { Stands result (record { rules = rules; history = [] }) };
+        ensures { Stands result (basis rules []) };
 
     /// Returns the desk's rules. Takes no memory.
     fn rules(&self) -> Rules

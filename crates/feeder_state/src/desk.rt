@@ -2,7 +2,8 @@
 
 ghost use Rattle.std.specs.Prelude.{◌≡◌, [], IfOk, OnOk};
 ghost use Rattle.std.specs.Option.{option_copied};
-ghost use Rattle.desk_types.specs.Basis.{Basis, with_two, basis_after};
+ghost use Rattle.desk_types.specs.declared.rules.Rules.TheVariants.{Two};
+ghost use Rattle.desk_types.specs.Basis.{Basis, basis, basis_after};
 ghost use Rattle.desk_types.specs.History.{History, accept, desk_minute};
 ghost use Rattle.desk_types.specs.Setup.{sheet_on};
 ghost use Rattle.desk_types.specs.Desk.{HasRoom, IsChange};
@@ -60,14 +61,14 @@ impl Drop for StateDesk {
 impl StateDesk {
     /// A desk of rules Two that has accepted nothing. Takes no memory.
     pub fn new(alloc: Global) -> StateDesk
-        ensures { Represents result (with_two []) }
+        ensures { Represents result (basis Two []) }
     {
         StateDesk::with_rules(alloc, Rules::Two)
     }
 
     /// A desk of these rules that has accepted nothing. Takes no memory.
     pub fn with_rules(alloc: Global, rules: Rules) -> StateDesk
-        ensures { Represents result (record { rules = rules; history = [] }) }
+        ensures { Represents result (basis rules []) }
     {
         StateDesk {
             alloc,
@@ -89,7 +90,7 @@ impl StateDesk {
     ) -> Result<StateDesk, AllocError>
         requires { (H : History) × AreRowsOf H rows.now × (minute ≡ desk_minute H) }
         ensures { (H : History) → AreRowsOf H rows.now → minute ≡ desk_minute H
-            → IfOk result (λ desk. Represents desk (with_two H)) }
+            → IfOk result (λ desk. Represents desk (basis Two H)) }
     {
         let Some(_) = minute else {
             return Ok(StateDesk::new(alloc));

@@ -5,6 +5,7 @@ use Rattle.sqlite_value.specs.Order.{Row}
 use Rattle.sqlite.specs.Effect.{Database}
 use Rattle.sqlite.specs.State.{State, KeepsCommit}
 use Rattle.desk_types.specs.declared.rules.Rules.{Rules}
+use Rattle.desk_types.specs.Basis.{Basis}
 use Rattle.desk_types.specs.History.{History}
 use Rattle.desk_types.specs.declared.command.Entry.{Entry}
 use Rattle.line_tables.specs.Rows.{accepted_in}
@@ -20,7 +21,7 @@ use Rattle.state_rows.specs.declared.lists.TraceLists.{TraceLists}
 use Rattle.line_replay.proofs.ExpectedRows.{expected_more}
 use Rattle.line_replay.proofs.ReadOfCommitted.{reads_back, reads_two}
 
-module _ {D : Type 0} (F : D → History → Type 0) (rules : Rules) (old mid : State) (Before After : Type 0) (early : After → Before) (kept : Before → KeepsCommit old mid)
+module _ {D : Type 0} (F : D → Basis → Type 0) (rules : Rules) (old mid : State) (Before After : Type 0) (early : After → Before) (kept : Before → KeepsCommit old mid)
     (desk new : D) (before after : Expected) (count : ℕ) (H : History) (taken : IsTaken F rules Before old.committed desk before count H) where
   at_first : (P : Database → Type 0) → After → Reads mid P → Reads old P
   at_first P clean r = reads_back old mid P (kept (early clean)) r
@@ -72,7 +73,7 @@ pub fault_stuck : (rules : Rules) (old first : State) (o : Option Row) (row : Ro
 fault_stuck rules old first o row H number kept is numbered found f (inl none) = inl none
 fault_stuck rules old first o row H number kept is numbered found f (inr stop) = inr (stop.0, row_stuck rules old first o row H number kept is numbered found stop.1)
 
-pub fault_taken : {D : Type 0} (F : D → History → Type 0) (rules : Rules) (greatest : ℕ) (old mid : State) (Clean : Type 0) (desk : D) (expected : Expected) (count : ℕ) (H : History) → Clean → KeepsCommit old mid
+pub fault_taken : {D : Type 0} (F : D → Basis → Type 0) (rules : Rules) (greatest : ℕ) (old mid : State) (Clean : Type 0) (desk : D) (expected : Expected) (count : ℕ) (H : History) → Clean → KeepsCommit old mid
     → IsTaken F rules Clean old.committed desk expected count H → count + 1 ≤ greatest → (f : ReplayFault) → (f ≡ Unavailable) ⊎ ((f ≡ NotLawful (count + 1)) × Reads mid (λ db. IsStuck rules H (accepted_in db)))
     → (f ≡ Unavailable) ⊎ ((n : ℕ) × (f ≡ NotLawful n) × IsStop rules greatest old n)
 fault_taken F rules greatest old mid Clean desk expected count H clean kept taken low f (inl none) = inl none
@@ -80,6 +81,6 @@ fault_taken F rules greatest old mid Clean desk expected count H clean kept take
     let stuck = reads_back old mid _ kept stop.1 in
     inr (count + 1, stop.0, (H, taken.judged, omega (arith, taken.counted), low, record { was_open = stuck.was_open; are = λ schema. (taken.rows clean schema, stuck.are schema) }))
 
-pub desk-taken : {D : Type 0} {F : D → History → Type 0} {rules : Rules} {Clean : Type 0} {db : Database} {desk : D} {lists : TraceLists} {expected : Expected} {count : ℕ} {H : History}
+pub desk-taken : {D : Type 0} {F : D → Basis → Type 0} {rules : Rules} {Clean : Type 0} {db : Database} {desk : D} {lists : TraceLists} {expected : Expected} {count : ℕ} {H : History}
     → IsTaken (StandsListed F) rules Clean db (desk, lists) expected count H → IsTaken F rules Clean db desk expected count H
 desk-taken taken = record { stands = taken.stands.0; judged = taken.judged; counted = taken.counted; rows = taken.rows; others = taken.others }

@@ -4,7 +4,8 @@ ghost use Rattle.std.specs.Prelude.{◌≡◌, ◌+◌, ◌≤◌, [], length, r
 ghost use Rattle.std.specs.List.{find};
 ghost use Rattle.std.specs.Option.{option_copied};
 ghost use Rattle.desk_types.specs.declared.limits.TheConstants.{MOST_ENTRIES};
-ghost use Rattle.desk_types.specs.Basis.{with_two, basis_after};
+ghost use Rattle.desk_types.specs.declared.rules.Rules.TheVariants.{Two};
+ghost use Rattle.desk_types.specs.Basis.{basis, basis_after};
 ghost use Rattle.desk_types.specs.Id.{same};
 ghost use Rattle.desk_types.specs.Desk.{IsChange};
 
@@ -51,7 +52,7 @@ impl Model for PlainDesk {
 impl PlainDesk {
     /// Returns an empty desk with rules Two. Takes no memory.
     pub fn new(alloc: Global) -> PlainDesk
-        ensures { result ≡ with_two [] }
+        ensures { result ≡ basis Two [] }
     {
         PlainDesk::with_rules(alloc, Rules::Two)
     }

@@ -37,7 +37,8 @@ fn lessen(row: &mut ReelRow, take: &Take)
 fn note<D: Views>(rows: &mut BTreeMap<Id, ReelRow>, desk: &D, take: &Take) -> Result<(), AllocError>
     requires fits { (B : Basis) × D.Stands desk.now B
         × ((row : ReelRow)
-        → option_or (get by_name rows.old take.now.reel) (reel_row B.history take.now.reel) ≡ Some row
+        → option_or (get by_name rows.old take.now.reel) (reel_row B.history take.now.reel)
+        ≡ Some row
         → LessFits (pick_of take.now) row) }
     ensures { (B : Basis) → D.Stands desk.now B → (r : Name) → OnOk result (get by_name rows.new r
         ≡ (if same take.now.reel r then option_map (less_by (pick_of take.now))

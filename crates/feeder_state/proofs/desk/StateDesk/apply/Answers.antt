@@ -30,12 +30,15 @@ returns-clause-stands c = λ B stands.
     let judged = accepted-judged B.rules H s change was c.ranges_hold.ensures range is in
     let noted = accepted-noted B.rules H s change was c.ranges_hold.ensures range is in
     let rows = ap unnumbered c.in_ok-apply_but_placements.ensures ∙ edits-unnumbered c.args.edits.now _ _ state.rows ∙ c.requires.lead B stands in
-    record { rules = stands.rules; state = record {
-      judged = subst (λ r. IsJudged r (accept H s)) (sym stands.rules) judged;
-      minute = accepted-minute B.rules H s change is;
-      rows = rows;
-      setup = c.in_ok-note-3.ensures H (entry_of H s) refl state.setup;
-      floor = c.in_ok-note.ensures H (entry_of H s) change.minute (subst (IsNoted H (entry_of H s) s.command change.minute) (sym c.as_slice.ensures) noted) (record { judged = noted.judged; same = rows })
-          (accepted-spends H c.args.self.now _ c.args.edits.now _ state c.spends.ensures c.in_ok-apply_but_placements.ensures) state.floor;
-      work = c.in_ok-note-2.ensures H (entry_of H s) refl state.work;
-    } }
+    record {
+      rules = stands.rules;
+      state = record {
+        judged = subst (λ r. IsJudged r (accept H s)) (sym stands.rules) judged;
+        minute = accepted-minute B.rules H s change is;
+        rows = rows;
+        setup = c.in_ok-note-3.ensures H (entry_of H s) refl state.setup;
+        floor = c.in_ok-note.ensures H (entry_of H s) change.minute (subst (IsNoted H (entry_of H s) s.command change.minute) (sym c.as_slice.ensures) noted) (record { judged = noted.judged; same = rows })
+            (accepted-spends H c.args.self.now _ c.args.edits.now _ state c.spends.ensures c.in_ok-apply_but_placements.ensures) state.floor;
+        work = c.in_ok-note-2.ensures H (entry_of H s) refl state.work;
+      };
+    }
