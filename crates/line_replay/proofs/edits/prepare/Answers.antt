@@ -14,4 +14,5 @@ returns-clause-edits g c greatest B stands is numbered =
 pub returns-clause-new : goal.returns-clause-new
 returns-clause-new g c greatest B stands numbered =
     let again : c.from-2.result ≡ c.args.number = search rules in
-    put_new greatest B.history c.in_ok-row.row c.in_ok-edits.edits (c.in_ok-edits.ensures.new B stands (again ∙ numbered))
+    let new = c.in_ok-edits.ensures.new B stands (again ∙ numbered) in
+    put_new greatest B.history c.in_ok-row.row c.in_ok-edits.edits new

@@ -1,12 +1,25 @@
-use Rattle.std.proofs.Common.{arith}
+use Rattle.std.proofs.Common.{◌≡◌, [], subst, arith}
 use Rattle.std.proofs.lemmas.Result.{err_from_is_err_and}
 use Rattle.sqlite.specs.State.{HasCleanDisk}
 use Rattle.sqlite.specs.Held.{state}
+use Rattle.desk_types.specs.Basis.{basis}
+use Rattle.desk_types.specs.Tables.{tables_of}
+use Rattle.state_rows.specs.Kept.{KeptRows, tables_in, unnumbered}
 use Rattle.line_replay.specs.Expected.{kept_with}
 use Rattle.line_replay.specs.Replay.{StandsListed}
 use Rattle.line_replay.proofs.Committed.{replayed, too_few, fault_before}
 use Rattle.line_replay.proofs.OneRowMore.{desk-taken}
 use Rattle.line_replay.proofs.replaying.replay.Goals as goal
+
+pub take_rows-requires-clause-start : goal.take_rows-requires-clause-start
+take_rows-requires-clause-start g c =
+    let IsEmpty : KeptRows → Type 0 = λ rows. unnumbered (tables_in rows) ≡ unnumbered (tables_of []) in
+    let empty = c.rows-empty.ensures in record {
+      rules = c.args.rules;
+      stands = c.fresh-desk.ensures;
+      listed = c.new-lists.ensures.listed;
+      empty = subst IsEmpty empty.kept (empty.same (basis c.args.rules []) c.fresh-desk.ensures);
+    }
 
 pub returns-in_err-least_is_one-clause-fault : goal.returns-in_err-least_is_one-clause-fault
 returns-in_err-least_is_one-clause-fault g c clean =

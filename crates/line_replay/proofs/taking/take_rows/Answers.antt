@@ -29,6 +29,13 @@ loop-number-init g c =
       reads = reads_same g.S.Store c.args.conn.now;
     }
 
+pub take_row-requires : goal.take_row-requires
+take_row-requires g c =
+    let start = c.requires.start in
+    let was = c.loop-number.invariant.taken start.rules start.stands in
+    let high = c.requires.bound in
+    record { room = (basis start.rules was.0, was.1.stands.0, omega (arith, was.1.counted, c.loop-number-test.true, high)) }
+
 pub loop-number-preserved : goal.loop-number-preserved
 loop-number-preserved g c =
     let F = StandsListed g.D.Desk.Stands in
