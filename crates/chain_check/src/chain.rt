@@ -2,8 +2,7 @@
 
 ghost use Rattle.std.specs.Prelude.{◌≡◌, [], ◌∷◌, IfOk, IfErr, List};
 ghost use Rattle.desk_types.specs.declared.rules.Rules.TheVariants.{Two};
-ghost use Rattle.desk_types.specs.Basis.{basis};
-ghost use Rattle.desk_types.specs.History.{History, IsPrefix};
+ghost use Rattle.desk_types.specs.History.{History, basis, IsPrefix};
 ghost use Rattle.feeder_state.specs.State.{IsState, Represents};
 ghost use Rattle.desk_laws.specs.Chain.{DeskFile};
 ghost use Rattle.chain_check.specs.Chained.{IsReason, IsSoFar};

@@ -3,8 +3,7 @@ use Rattle.std.specs.Prelude.{◌≡◌, ◌+◌, ℕ, ◌∷◌, [], IsTrue, le
 use Rattle.sqlite.specs.State.{State}
 use Rattle.desk_types.specs.declared.command.Entry.{Entry}
 use Rattle.desk_types.specs.declared.rules.Rules.{Rules}
-use Rattle.desk_types.specs.Basis.{Basis, basis}
-use Rattle.desk_types.specs.History.{History, IsPrefix}
+use Rattle.desk_types.specs.History.{History, Basis, basis, IsPrefix}
 use Rattle.desk_types.specs.Judged.{IsJudged, IsNext}
 use Rattle.line_tables.specs.Calls.{Reads, has_number}
 use Rattle.line_tables.specs.Rows.{Holds, accepted_in}

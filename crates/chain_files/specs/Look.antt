@@ -1,8 +1,7 @@
 -- The answer of a store by its history.
 use Rattle.std.specs.Prelude.{◌≡◌, length}
 use Rattle.desk_types.specs.declared.rules.Rules.TheVariants.{Two}
-use Rattle.desk_types.specs.Basis.{Basis, basis}
-use Rattle.desk_types.specs.History.{History, IsPrefix}
+use Rattle.desk_types.specs.History.{History, Basis, basis, IsPrefix}
 use Rattle.chain_check.specs.declared.question.Question.{Question}
 use Rattle.chain_check.specs.Rows.{asked_of}
 use Rattle.chain_files.specs.declared.looking.Looked.{Looked}

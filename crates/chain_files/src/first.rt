@@ -4,7 +4,7 @@ ghost use Rattle.std.specs.Prelude.{◌≡◌, ◌+◌, ◌≤◌, IsTrue, IfSom
 ghost use Rattle.sqlite.specs.State.{HasCleanDisk};
 ghost use Rattle.sqlite.specs.Held.{state};
 ghost use Rattle.desk_types.specs.declared.limits.TheConstants.{MOST_ENTRIES};
-ghost use Rattle.desk_types.specs.Basis.{Basis};
+ghost use Rattle.desk_types.specs.History.{Basis};
 ghost use Rattle.desk_types.specs.Desk.{HasRoom};
 ghost use Rattle.line_tables.specs.Frames.{ReadsOnly};
 ghost use Rattle.chain_files.specs.First.{IsFirst, TakesNext};

@@ -19,7 +19,7 @@ use Rattle.sqlite.specs.Closing.{HoldsAlone, IsCopied}
 use Rattle.sqlite.specs.Files.{image_of, file_state, IsClosed}
 use Rattle.sqlite.specs.Held.{AreDatabases, Held}
 use Rattle.sqlite.specs.State.{HasCleanDisk, IsLive}
-use Rattle.desk_types.specs.Basis.{Basis}
+use Rattle.desk_types.specs.History.{Basis}
 use Rattle.line_tables.specs.Rows.{Holds}
 use Rattle.line_replay.specs.Rows.{ledger_tables}
 use Rattle.line_schema.specs.declared.store.LineStore.{LineStore}

@@ -22,8 +22,7 @@ use Rattle.sqlite.specs.Held.{Held}
 use Rattle.sqlite.specs.State.{HasCleanDisk, IsLive}
 use Rattle.desk_file.specs.Found.{AreReadIn}
 use Rattle.desk_types.specs.declared.rules.Rules.TheVariants.{One, Two}
-use Rattle.desk_types.specs.Basis.{Basis}
-use Rattle.desk_types.specs.History.{History}
+use Rattle.desk_types.specs.History.{History, Basis}
 use Rattle.desk_types.specs.Judged.{IsLawful}
 use Rattle.line_tables.specs.Line.{IsOurs, no_schema}
 use Rattle.line_tables.specs.Rows.{Tables, Holds, HoldsAt, HoldsBy}

@@ -3,7 +3,7 @@
 ghost use Rattle.std.specs.Prelude.{◌≡◌, ◌+◌, ◌↔◌, All, Contains};
 ghost use Rattle.std.specs.List.{IsDistinct};
 ghost use Rattle.desk_types.specs.Id.{Name, same};
-ghost use Rattle.desk_types.specs.Basis.{Basis};
+ghost use Rattle.desk_types.specs.History.{Basis};
 ghost use Rattle.desk_types.specs.Pieces.{left_of, received_of, placed_of, scrapped_of, live_on};
 ghost use Rattle.desk_types.specs.Placements.{placements_of, lots_of, boards_of};
 ghost use Rattle.desk_laws.specs.Verified.{IsRightlyPlaced};

@@ -1,8 +1,7 @@
 -- A desk and the rows of its history.
 use Rattle.std.specs.Prelude.{◌≡◌, ℕ, ◌+◌, ◌≤◌, length}
 use Rattle.desk_types.specs.declared.rules.Rules.TheVariants.{Two}
-use Rattle.desk_types.specs.Basis.{Basis, basis}
-use Rattle.desk_types.specs.History.{History}
+use Rattle.desk_types.specs.History.{History, Basis, basis}
 use Rattle.feeder_state.specs.Restored.{AreRowsOf}
 use Rattle.state_rows.specs.Kept.{KeptRows}
 

@@ -6,8 +6,7 @@ use Rattle.desk_types.specs.declared.desk.JudgeFault.{JudgeFault}
 use Rattle.desk_types.specs.declared.desk.JudgeFault.TheVariants.{Refused, NoMemory}
 use Rattle.desk_types.specs.declared.limits.TheConstants.{MOST_ENTRIES}
 use Rattle.desk_types.specs.declared.rules.Rules.{Rules}
-use Rattle.desk_types.specs.Basis.{Basis}
-use Rattle.desk_types.specs.History.{History}
+use Rattle.desk_types.specs.History.{History, Basis}
 use Rattle.desk_types.specs.Refusals.{refusal_of}
 use Rattle.desk_types.specs.Outcome.{change_of}
 

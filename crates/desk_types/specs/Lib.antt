@@ -1,5 +1,4 @@
 pub mod Apart
-pub mod Basis
 pub mod Boards
 pub mod Bounds
 pub mod Command

@@ -1,7 +1,7 @@
 //! The trait of a desk, and a run of commands on one.
 
 ghost use Rattle.std.specs.Prelude.{◌≡◌, ℕ, IfOk, OnOk, length};
-ghost use Rattle.desk_types.specs.Basis.{Basis};
+ghost use Rattle.desk_types.specs.History.{Basis};
 ghost use Rattle.desk_types.specs.Outcome.{reply_to, after_command, replies_to, after_commands};
 ghost use Rattle.desk_types.specs.Desk.{HasRoom};
 
@@ -45,8 +45,7 @@ impl From<AllocError> for JudgeFault {
 pub trait Desk {
     ghost use Rattle.std.specs.Prelude.{[]};
     ghost use Rattle.desk_types.specs.Front.{fronts_of};
-    ghost use Rattle.desk_types.specs.Basis.{Basis, basis, basis_after};
-    ghost use Rattle.desk_types.specs.History.{desk_minute};
+    ghost use Rattle.desk_types.specs.History.{Basis, basis, basis_after, desk_minute};
     ghost use Rattle.desk_types.specs.Setup.{selected_on, sheet_of};
     ghost use Rattle.desk_types.specs.View.{reel_view, mounts_on};
     ghost use Rattle.desk_types.specs.Free.{free_reels};

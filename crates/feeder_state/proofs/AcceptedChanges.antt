@@ -8,8 +8,7 @@ use Rattle.desk_types.specs.declared.command.Stamped.{Stamped}
 use Rattle.desk_types.specs.declared.rules.Rules.{Rules}
 use Rattle.desk_types.specs.Command.{IsStamped}
 use Rattle.desk_types.specs.Number.{IsMinute}
-use Rattle.desk_types.specs.History.{History, now_of, desk_minute, effective_minute, entry_of, accept}
-use Rattle.desk_types.specs.Basis.{Basis}
+use Rattle.desk_types.specs.History.{History, Basis, now_of, desk_minute, effective_minute, entry_of, accept}
 use Rattle.desk_types.specs.Judged.{IsJudged}
 use Rattle.desk_types.specs.Outcome.{takes_by}
 use Rattle.desk_types.specs.Desk.{IsChange}

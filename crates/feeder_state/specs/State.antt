@@ -1,7 +1,6 @@
 -- The histories that a state represents.
 use Rattle.std.specs.Prelude.{◌≡◌}
-use Rattle.desk_types.specs.Basis.{Basis}
-use Rattle.desk_types.specs.History.{History, desk_minute}
+use Rattle.desk_types.specs.History.{History, Basis, desk_minute}
 use Rattle.desk_types.specs.Judged.{IsJudged}
 use Rattle.feeder_state.specs.declared.desk.StateDesk.{StateDesk}
 use Rattle.desk_types.specs.Tables.{tables_of}

@@ -3,7 +3,7 @@
 ghost use Rattle.std.specs.Prelude.{◌≡◌, List, All};
 ghost use Rattle.desk_types.specs.declared.command.Stamped.{Stamped};
 ghost use Rattle.desk_types.specs.Command.{IsStamped};
-ghost use Rattle.desk_types.specs.Basis.{Basis};
+ghost use Rattle.desk_types.specs.History.{Basis};
 ghost use Rattle.desk_types.specs.Outcome.{replies_to};
 ghost use Rattle.feeder_state.specs.contracts.desk.StateDeskDesk.TheImpl.{ghosts as state};
 

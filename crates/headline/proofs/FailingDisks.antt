@@ -8,8 +8,7 @@ use Rattle.desk_types.specs.declared.answer.Reply.TheVariants as reply
 use Rattle.desk_types.specs.declared.command.Stamped.{Stamped}
 use Rattle.desk_types.specs.declared.rules.Rules.{Rules}
 use Rattle.desk_types.specs.declared.rules.Rules.TheVariants.{Two}
-use Rattle.desk_types.specs.Basis.{Basis}
-use Rattle.desk_types.specs.History.{accept}
+use Rattle.desk_types.specs.History.{Basis, accept}
 use Rattle.desk_types.specs.Outcome.{change_of}
 use Rattle.desk_types.specs.Refusals.{refusal_of}
 use Rattle.desk_answers.specs.declared.answer.Answer.{Answer}

@@ -4,8 +4,7 @@ use Rattle.sqlite_trees.specs.declared.store.Store.{Ghosts}
 use Rattle.sqlite_trees.specs.Tree.{Trees}
 use Rattle.sqlite.specs.State.{HasCleanDisk}
 use Rattle.desk_types.specs.declared.command.Stamped.{Stamped}
-use Rattle.desk_types.specs.Basis.{Basis}
-use Rattle.desk_types.specs.History.{accept}
+use Rattle.desk_types.specs.History.{Basis, accept}
 use Rattle.desk_answers.specs.Ledger.{Ledger}
 use Rattle.gateway_http.specs.Requests.{Reports}
 use Rattle.line_tables.specs.Rows.{HoldsAt}

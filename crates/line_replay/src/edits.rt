@@ -2,9 +2,8 @@
 
 ghost use Rattle.std.specs.Prelude.{◌≡◌, ◌+◌, ℕ, IfOk, length};
 ghost use Rattle.desk_types.specs.declared.rules.Rules.TheVariants.{Two};
-ghost use Rattle.desk_types.specs.Basis.{Basis};
 ghost use Rattle.desk_types.specs.Desk.{HasRoom, IsChange};
-ghost use Rattle.desk_types.specs.History.{accept};
+ghost use Rattle.desk_types.specs.History.{Basis, accept};
 ghost use Rattle.desk_answers.specs.Texts.{accepted_text};
 ghost use Rattle.desk_types.specs.Edits.{with_edits};
 ghost use Rattle.desk_types.specs.Tables.{tables_of};

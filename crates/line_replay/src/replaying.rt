@@ -4,8 +4,7 @@ ghost use Rattle.std.specs.Prelude.{◌≡◌, ◌≤◌, IsTrue, IfOk, IfErr, I
 ghost use Rattle.sqlite.specs.State.{HasCleanDisk};
 ghost use Rattle.sqlite.specs.Held.{state};
 ghost use Rattle.desk_types.specs.declared.limits.TheConstants.{MOST_ENTRIES};
-ghost use Rattle.desk_types.specs.Basis.{basis};
-ghost use Rattle.desk_types.specs.History.{History};
+ghost use Rattle.desk_types.specs.History.{History, basis};
 ghost use Rattle.desk_types.specs.Judged.{IsJudged};
 ghost use Rattle.line_tables.specs.Rows.{Holds};
 ghost use Rattle.line_tables.specs.Frames.{ReadsOnly};

@@ -7,7 +7,7 @@ ghost use Rattle.sqlite.specs.Held.{state};
 ghost use Rattle.desk_types.specs.declared.command.Entry.{Entry};
 ghost use Rattle.desk_types.specs.declared.limits.TheConstants.{MOST_ENTRIES};
 ghost use Rattle.desk_types.specs.declared.rules.Rules.{Rules};
-ghost use Rattle.desk_types.specs.Basis.{Basis, basis};
+ghost use Rattle.desk_types.specs.History.{Basis, basis};
 ghost use Rattle.desk_types.specs.Desk.{HasRoom};
 ghost use Rattle.line_tables.specs.Rows.{accepted_in};
 ghost use Rattle.line_tables.specs.Calls.{Reads, is_before};

@@ -13,11 +13,10 @@ use Rattle.desk_types.specs.declared.command.Entry.{Entry}
 use Rattle.desk_types.specs.declared.command.Stamped.{Stamped}
 use Rattle.desk_types.specs.declared.rules.Rules.{Rules}
 use Rattle.desk_types.specs.declared.rules.Rules.TheVariants.{Two}
-use Rattle.desk_types.specs.Basis.{Basis, basis}
 use Rattle.desk_types.specs.Command.{IsStamped}
 use Rattle.desk_types.specs.Number.{IsMinute}
 use Rattle.desk_types.specs.Desk.{IsChange}
-use Rattle.desk_types.specs.History.{History, accept}
+use Rattle.desk_types.specs.History.{History, Basis, basis, accept}
 use Rattle.desk_types.specs.Id.{same}
 use Rattle.desk_types.specs.Judged.{IsJudged, IsLawful}
 use Rattle.desk_types.specs.declared.answer.Reply.TheVariants.{Accepted, Refused}

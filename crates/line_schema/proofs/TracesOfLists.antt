@@ -5,8 +5,7 @@ use Rattle.sqlite_trees.specs.declared.store.Store.{Ghosts}
 use Rattle.sqlite.specs.State.{State, HasCleanDisk, Survives}
 use Rattle.sqlite.specs.Held.{state}
 use Rattle.desk_types.specs.declared.rules.Rules.TheVariants.{Two}
-use Rattle.desk_types.specs.Basis.{Basis, basis}
-use Rattle.desk_types.specs.History.{History}
+use Rattle.desk_types.specs.History.{History, Basis, basis}
 use Rattle.line_replay.specs.Rows.{rows_of}
 use Rattle.line_traces.specs.declared.working.Working.{Working}
 use Rattle.line_traces.specs.Working.{FindsOfBoth, IsWorking}

@@ -7,8 +7,7 @@ use Rattle.sqlite.specs.State.{HasCleanDisk}
 use Rattle.desk_types.proofs.Keys.{same-refl}
 use Rattle.desk_types.specs.declared.command.Stamped.{Stamped}
 use Rattle.desk_types.specs.declared.rules.Rules.TheVariants.{Two}
-use Rattle.desk_types.specs.Basis.{Basis}
-use Rattle.desk_types.specs.History.{History, accept, entry_of}
+use Rattle.desk_types.specs.History.{History, Basis, accept, entry_of}
 use Rattle.desk_types.specs.Outcome.{after_command}
 use Rattle.desk_answers.specs.declared.answer.Answer.TheVariants.{Unavailable}
 use Rattle.desk_answers.specs.Commands.{answer_under, command_after, earlier_answer, is_full}

@@ -5,8 +5,7 @@ use Rattle.sqlite.specs.Effect.{Database}
 use Rattle.sqlite.specs.State.{State, HasCleanDisk, KeepsCommit, Survives}
 use Rattle.sqlite.proofs.StateLemmas.{survives_then}
 use Rattle.desk_types.specs.declared.rules.Rules.TheVariants.{One}
-use Rattle.desk_types.specs.Basis.{Basis}
-use Rattle.desk_types.specs.History.{History}
+use Rattle.desk_types.specs.History.{History, Basis}
 use Rattle.desk_types.proofs.BothRules.{judged-by-two}
 use Rattle.line_tables.specs.Line.{IsOurs}
 use Rattle.line_tables.specs.Rows.{HoldsBy, accepted_columns, accepted_in}

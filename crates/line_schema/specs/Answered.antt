@@ -4,8 +4,7 @@ use Rattle.sqlite_trees.specs.declared.store.Store.{Ghosts}
 use Rattle.sqlite_trees.specs.Tree.{Trees}
 use Rattle.sqlite.specs.State.{HasCleanDisk, Survives}
 use Rattle.desk_types.specs.declared.command.Stamped.{Stamped}
-use Rattle.desk_types.specs.Basis.{Basis}
-use Rattle.desk_types.specs.History.{History, accept}
+use Rattle.desk_types.specs.History.{History, Basis, accept}
 use Rattle.desk_answers.specs.declared.answer.Answer.{Answer}
 use Rattle.desk_answers.specs.Commands.{earlier_answer}
 use Rattle.desk_answers.specs.Ledger.{IsAnswer}

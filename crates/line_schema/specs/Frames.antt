@@ -5,7 +5,7 @@ use Rattle.sqlite_trees.specs.Tree.{Trees}
 use Rattle.sqlite_trees.specs.declared.store.Store.{Ghosts}
 use Rattle.sqlite.specs.State.{State, HasCleanDisk, KeepsCommit, Survives}
 use Rattle.sqlite.specs.Held.{Held, state}
-use Rattle.desk_types.specs.Basis.{Basis}
+use Rattle.desk_types.specs.History.{Basis}
 use Rattle.line_tables.specs.Calls.{LeavesBlank, HasOthers, KeepsOthers}
 use Rattle.line_tables.specs.Frames.{ReadsOnly}
 use Rattle.line_tables.specs.Names.{has_name}

@@ -5,7 +5,7 @@ use Rattle.sqlite_trees.specs.declared.store.Store.{Ghosts}
 use Rattle.sqlite_trees.specs.Tree.{Trees}
 use Rattle.sqlite.specs.Held.{Held, state}
 use Rattle.sqlite.specs.State.{HasCleanDisk, Survives}
-use Rattle.desk_types.specs.Basis.{Basis}
+use Rattle.desk_types.specs.History.{Basis}
 use Rattle.state_rows.specs.Kept.{KeptRows}
 use Rattle.line_tables.specs.Calls.{LeavesBlank, Reads}
 use Rattle.line_tables.specs.Frames.{ReadsOnly}

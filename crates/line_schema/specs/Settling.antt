@@ -2,10 +2,9 @@
 use Rattle.std.specs.Prelude.{◌≡◌, List}
 use Rattle.desk_types.specs.declared.change.Change.{Change}
 use Rattle.desk_types.specs.declared.edit.RowEdit.{RowEdit}
-use Rattle.desk_types.specs.Basis.{Basis}
 use Rattle.desk_types.specs.Desk.{HasRoom, IsChange}
 use Rattle.desk_types.specs.Edits.{with_edits}
-use Rattle.desk_types.specs.History.{accept}
+use Rattle.desk_types.specs.History.{Basis, accept}
 use Rattle.desk_types.specs.Tables.{tables_of}
 use Rattle.state_rows.specs.Kept.{unnumbered}
 

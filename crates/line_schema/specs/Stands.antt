@@ -8,8 +8,7 @@ use Rattle.sqlite.specs.Held.{Held, state}
 use Rattle.desk_types.specs.declared.command.Stamped.{Stamped}
 use Rattle.desk_types.specs.declared.limits.TheConstants.{MOST_ENTRIES}
 use Rattle.desk_types.specs.declared.rules.Rules.TheVariants.{Two}
-use Rattle.desk_types.specs.Basis.{Basis, basis}
-use Rattle.desk_types.specs.History.{History, accept}
+use Rattle.desk_types.specs.History.{History, Basis, basis, accept}
 use Rattle.desk_types.specs.Judged.{IsJudged, IsLawful}
 use Rattle.desk_types.specs.Refusals.{refusal_of}
 use Rattle.desk_laws.specs.Consistent.{IsConsistent}

@@ -4,9 +4,8 @@ use Rattle.std.specs.List.{AllByRecursion}
 use Rattle.std.proofs.lemmas.List.{map-append}
 use Rattle.sqlite.specs.State.{State}
 use Rattle.desk_types.specs.declared.placement.Placement.{Placement}
-use Rattle.desk_types.specs.Basis.{Basis}
 use Rattle.desk_types.specs.Id.{Name}
-use Rattle.desk_types.specs.History.{History}
+use Rattle.desk_types.specs.History.{History, Basis}
 use Rattle.desk_types.specs.Placements.{set_of, boards_of}
 use Rattle.desk_types.proofs.LoopSteps.{take-next}
 use Rattle.state_rows.specs.declared.lists.PieceKey.{PieceKey}

@@ -5,9 +5,8 @@ use Rattle.sqlite_value.specs.Order.{Row}
 use Rattle.sqlite.specs.Effect.{Database}
 use Rattle.sqlite.specs.State.{State, KeepsCommit}
 use Rattle.desk_types.specs.declared.placement.Placement.{Placement}
-use Rattle.desk_types.specs.Basis.{Basis}
 use Rattle.desk_types.specs.Id.{Name}
-use Rattle.desk_types.specs.History.{History}
+use Rattle.desk_types.specs.History.{History, Basis}
 use Rattle.line_tables.specs.Calls.{Reads}
 use Rattle.line_tables.specs.StateRows.{flag}
 use Rattle.line_traces.specs.Committed.{FindsOfList, placed_columns, name_row}

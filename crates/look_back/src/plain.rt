@@ -5,7 +5,7 @@ ghost use Rattle.std.specs.List.{find};
 ghost use Rattle.std.specs.Option.{option_copied};
 ghost use Rattle.desk_types.specs.declared.limits.TheConstants.{MOST_ENTRIES};
 ghost use Rattle.desk_types.specs.declared.rules.Rules.TheVariants.{Two};
-ghost use Rattle.desk_types.specs.Basis.{basis, basis_after};
+ghost use Rattle.desk_types.specs.History.{basis, basis_after};
 ghost use Rattle.desk_types.specs.Id.{same};
 ghost use Rattle.desk_types.specs.Desk.{IsChange};
 
@@ -36,7 +36,7 @@ pub struct PlainDesk {
 impl Model for PlainDesk {
     ghost use Rattle.std.specs.Prelude.{◌≤◌, length, reverse};
     ghost use Rattle.desk_types.specs.declared.limits.TheConstants.{MOST_ENTRIES};
-    ghost use Rattle.desk_types.specs.Basis.{Basis};
+    ghost use Rattle.desk_types.specs.History.{Basis};
     ghost use Rattle.desk_types.specs.Judged.{IsJudged};
     ghost use Rattle.look_back.specs.Kept.{AreTakes};
 

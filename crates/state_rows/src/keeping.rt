@@ -11,8 +11,7 @@ use std::alloc::AllocError;
 /// other numbers than in the database.
 pub trait KeepsRows: Desk {
     ghost use Rattle.std.specs.Prelude.{◌≡◌, OnOk};
-    ghost use Rattle.desk_types.specs.Basis.{Basis, basis_after};
-    ghost use Rattle.desk_types.specs.History.{accept};
+    ghost use Rattle.desk_types.specs.History.{Basis, basis_after, accept};
     ghost use Rattle.desk_types.specs.Desk.{HasRoom, IsChange};
     ghost use Rattle.desk_types.specs.Tables.{tables_of};
     ghost use Rattle.desk_types.specs.Edits.{with_edits};

@@ -1,8 +1,7 @@
 //! Rows of reels.
 
 ghost use Rattle.std.specs.Prelude.{◌≡◌, ◌≤◌, ◌∷◌, IfOk};
-ghost use Rattle.desk_types.specs.Basis.{Basis};
-ghost use Rattle.desk_types.specs.History.{now_of};
+ghost use Rattle.desk_types.specs.History.{Basis, now_of};
 ghost use Rattle.desk_types.specs.Judged.{IsJudged};
 ghost use Rattle.desk_types.specs.declared.rules.Rules.TheVariants.{Two};
 ghost use Rattle.desk_types.specs.Tables.{columns_of, reel_row};

@@ -2,8 +2,7 @@
 
 ghost use Rattle.std.specs.Prelude.{◌≡◌, ◌+◌, ◌≤◌, IfOk, length, map, ◌∷◌, []};
 ghost use Rattle.desk_types.specs.declared.rules.Rules.TheVariants.{Two};
-ghost use Rattle.desk_types.specs.Basis.{Basis};
-ghost use Rattle.desk_types.specs.History.{now_of, accept};
+ghost use Rattle.desk_types.specs.History.{Basis, now_of, accept};
 ghost use Rattle.desk_types.specs.Judged.{IsJudged};
 ghost use Rattle.desk_types.specs.Desk.{HasRoom, IsChange};
 ghost use Rattle.desk_types.specs.Tables.{tables_of};

@@ -1,7 +1,7 @@
 //! Rows of sheets.
 
 ghost use Rattle.std.specs.Prelude.{◌≡◌, ◌++◌, [], IfOk, OnOk, unwrap_or};
-ghost use Rattle.desk_types.specs.Basis.{Basis};
+ghost use Rattle.desk_types.specs.History.{Basis};
 ghost use Rattle.desk_types.specs.Setup.{sheet_of};
 ghost use Rattle.state_rows.specs.EditsOf.{taken_rows, put_rows};
 

@@ -4,7 +4,7 @@ ghost use Rattle.std.specs.Prelude.{◌≡◌, ◌++◌, [], IfOk, OnOk, unwrap_
 ghost use Rattle.std.specs.List.{filter_map};
 ghost use Rattle.std.specs.Option.{option_to_list};
 ghost use Rattle.desk_types.specs.Id.{Name};
-ghost use Rattle.desk_types.specs.Basis.{Basis};
+ghost use Rattle.desk_types.specs.History.{Basis};
 ghost use Rattle.desk_types.specs.Setup.{selected_on};
 ghost use Rattle.state_rows.specs.EditsOf.{reel_on_slot, reels_on, board_edit};
 ghost use Rattle.desk_types.specs.declared.edit.RowEdit.TheVariants.{TakeMount};

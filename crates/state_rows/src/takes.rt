@@ -6,7 +6,7 @@ ghost use Rattle.std.specs.List.Sorted.{IsStrictlySortedBy};
 ghost use Rattle.std.specs.Option.{option_map, option_or, option_to_list};
 ghost use Rattle.std.specs.BTreeMap.{get, keys, values};
 ghost use Rattle.desk_types.specs.Id.{Name, same, by_name};
-ghost use Rattle.desk_types.specs.Basis.{Basis};
+ghost use Rattle.desk_types.specs.History.{Basis};
 ghost use Rattle.desk_types.specs.declared.row.ReelRow.{ReelRow};
 ghost use Rattle.desk_types.specs.declared.row.PlacementRow.{PlacementRow};
 ghost use Rattle.desk_types.specs.declared.edit.RowEdit.TheVariants.{PutReel, PutPlacement};

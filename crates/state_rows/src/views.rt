@@ -9,7 +9,7 @@ use std::alloc::AllocError;
 /// trait for itself, because `settle` may not call what needs a `Desk`.
 pub trait Views {
     ghost use Rattle.std.specs.Prelude.{◌≡◌, IfOk};
-    ghost use Rattle.desk_types.specs.Basis.{Basis};
+    ghost use Rattle.desk_types.specs.History.{Basis};
     ghost use Rattle.desk_types.specs.Judged.{IsJudged};
     ghost use Rattle.desk_types.specs.Setup.{selected_on, sheet_of};
     ghost use Rattle.desk_types.specs.View.{reel_view, mounts_on};

@@ -1,7 +1,7 @@
 //! The card of a reel.
 
 ghost use Rattle.std.specs.Prelude.{◌≡◌, IfOk};
-ghost use Rattle.desk_types.specs.Basis.{Basis};
+ghost use Rattle.desk_types.specs.History.{Basis};
 ghost use Rattle.desk_types.specs.Level.{text_of};
 ghost use Rattle.trace_reports.specs.Card.{state_text, reel_card};
 

@@ -3,7 +3,7 @@
 ghost use Rattle.std.specs.Prelude.{◌≡◌, ◌++◌, ℕ, not, List, [], map, IfOk, OnOk};
 ghost use Rattle.std.specs.List.{filter};
 ghost use Rattle.desk_types.specs.declared.view.ReelView.{ReelView};
-ghost use Rattle.desk_types.specs.Basis.{Basis};
+ghost use Rattle.desk_types.specs.History.{Basis};
 ghost use Rattle.desk_types.specs.Id.{Name};
 ghost use Rattle.setup_sheets.specs.Names.{is_among, HasSeen};
 ghost use Rattle.trace_reports.specs.Kit.{needed_by, enough, rows_for, kit_rows, kit_list};

@@ -1,7 +1,7 @@
 //! The slot list of a machine.
 
 ghost use Rattle.std.specs.Prelude.{◌≡◌, IfOk};
-ghost use Rattle.desk_types.specs.Basis.{Basis};
+ghost use Rattle.desk_types.specs.History.{Basis};
 ghost use Rattle.trace_reports.specs.Slots.{slot_list};
 
 use crate::report::{CsvReport, TextWriter, csv_text, write_fields};

@@ -3,7 +3,7 @@
 ghost use Rattle.std.specs.Prelude.{◌≡◌, false, IfOk, OnErr};
 ghost use Rattle.std.specs.Borrow.{sem};
 ghost use Rattle.std.specs.Io.BufRead.{Rests};
-ghost use Rattle.desk_types.specs.Basis.{basis};
+ghost use Rattle.desk_types.specs.History.{basis};
 ghost use Rattle.desk_types.specs.declared.rules.Rules.TheVariants.{Two};
 ghost use Rattle.line_schema.specs.contracts.store.LineStore.{the_row};
 ghost use Rattle.line_schema.specs.Frames.{LetsOthersBe, MakesDesk};

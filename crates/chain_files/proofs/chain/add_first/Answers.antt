@@ -1,5 +1,5 @@
 use Rattle.std.proofs.Common.{◌≡◌, ◌∙◌, ◌++◌, [], subst}
-use Rattle.desk_types.specs.Basis.{basis}
+use Rattle.desk_types.specs.History.{basis}
 use Rattle.desk_types.specs.declared.rules.Rules.TheVariants.{Two}
 use Rattle.trace_reports.specs.Csv.{HasWritten}
 use Rattle.chain_check.specs.Rows.{asked_of, facts_of, rows_in, rows_text}

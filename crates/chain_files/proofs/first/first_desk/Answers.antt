@@ -1,7 +1,7 @@
 use Rattle.std.proofs.Common.{◌∙◌, [], ◌∷◌, refl, sym, subst, append-nil, arith}
 use Rattle.sqlite.specs.State.{HasCleanDisk}
 use Rattle.sqlite.specs.Held.{state}
-use Rattle.desk_types.specs.Basis.{basis}
+use Rattle.desk_types.specs.History.{basis}
 use Rattle.line_tables.proofs.Frames.{reads_same, reads_then}
 use Rattle.line_replay.proofs.ReadOfCommitted.{reads_back}
 use Rattle.chain_files.specs.First.{TakesNext}

@@ -1,7 +1,6 @@
 use Rattle.std.proofs.Common.{◌≡◌, ◌-◌, ◌++◌, length, drop}
-use Rattle.desk_types.specs.Basis.{Basis}
 use Rattle.desk_types.specs.Desk.{HasRoom}
-use Rattle.desk_types.specs.History.{History}
+use Rattle.desk_types.specs.History.{History, Basis}
 use Rattle.desk_types.specs.Outcome.{after_commands, replies_to}
 use Rattle.desk_types.proofs.desk.run.Given as goal
 

@@ -1,6 +1,5 @@
 use Rattle.std.proofs.Common.{◌∙◌, sym, ap, subst, length}
-use Rattle.desk_types.specs.Basis.{basis}
-use Rattle.desk_types.specs.History.{History}
+use Rattle.desk_types.specs.History.{History, basis}
 use Rattle.line_replay.proofs.Committed.{same_list}
 use Rattle.line_replay.specs.Expected.{AreKept}
 use Rattle.state_rows.specs.Lists.{IsListed}

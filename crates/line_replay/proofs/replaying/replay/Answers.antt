@@ -2,7 +2,7 @@ use Rattle.std.proofs.Common.{◌≡◌, [], subst, arith}
 use Rattle.std.proofs.lemmas.Result.{err_from_is_err_and}
 use Rattle.sqlite.specs.State.{HasCleanDisk}
 use Rattle.sqlite.specs.Held.{state}
-use Rattle.desk_types.specs.Basis.{basis}
+use Rattle.desk_types.specs.History.{basis}
 use Rattle.desk_types.specs.Tables.{tables_of}
 use Rattle.state_rows.specs.Kept.{KeptRows, tables_in, unnumbered}
 use Rattle.line_replay.specs.Expected.{kept_with}

@@ -2,8 +2,7 @@ use Rattle.std.proofs.Common.{◌≡◌, []}
 use Rattle.sqlite.specs.State.{HasCleanDisk}
 use Rattle.sqlite.specs.Held.{state}
 use Rattle.desk_types.specs.declared.rules.Rules.{Rules}
-use Rattle.desk_types.specs.Basis.{basis}
-use Rattle.desk_types.specs.History.{History}
+use Rattle.desk_types.specs.History.{History, basis}
 use Rattle.line_tables.specs.Frames.{ReadsOnly}
 use Rattle.line_replay.specs.Expected.{kept_with}
 use Rattle.line_replay.specs.Replay.{StandsListed, IsTaken}

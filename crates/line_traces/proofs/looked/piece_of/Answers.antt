@@ -1,7 +1,7 @@
 use Rattle.std.proofs.Common.{◌≡◌, ◌∙◌, Some, sym, ap, ap₂, subst, rules}
 use Rattle.sqlite_rules.specs.Lists.{Has}
 use Rattle.desk_types.specs.declared.rules.Rules.TheVariants.{Two}
-use Rattle.desk_types.specs.Basis.{basis}
+use Rattle.desk_types.specs.History.{basis}
 use Rattle.line_tables.specs.Line as line
 use Rattle.line_tables.specs.StateRows.{rows_in}
 use Rattle.state_rows.specs.Lists.{Key, key_of, minute_of}

@@ -1,6 +1,6 @@
 use Rattle.std.proofs.Common.{◌∙◌, sym, ap, subst, map}
 use Rattle.desk_types.specs.Number.{IsMinute}
-use Rattle.desk_types.specs.Basis.{Basis}
+use Rattle.desk_types.specs.History.{Basis}
 use Rattle.desk_types.proofs.BothRules.{judged-by-two}
 use Rattle.desk_types.specs.Tables.{tables_of}
 use Rattle.desk_types.specs.Edits.{with_edits, AreNew, AreTakesFirst, AreBalanced}

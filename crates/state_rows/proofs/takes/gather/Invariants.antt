@@ -1,7 +1,7 @@
 use Rattle.std.proofs.Common.{◌≡◌, map, take}
 use Rattle.std.specs.BTreeMap.{get}
 use Rattle.desk_types.specs.Id.{Name, by_name}
-use Rattle.desk_types.specs.Basis.{Basis}
+use Rattle.desk_types.specs.History.{Basis}
 use Rattle.desk_types.specs.Tables.{reel_row}
 use Rattle.state_rows.specs.EditsOf.{pick_of, picked_rows}
 use Rattle.state_rows.proofs.takes.gather.Given as goal

@@ -1,6 +1,6 @@
 use Rattle.std.proofs.Common.{◌≡◌, ◌++◌, List, [], drop}
 use Rattle.desk_types.specs.Id.{Name}
-use Rattle.desk_types.specs.Basis.{Basis}
+use Rattle.desk_types.specs.History.{Basis}
 use Rattle.setup_sheets.specs.Names.{HasSeen}
 use Rattle.trace_reports.specs.Kit.{kit_rows}
 use Rattle.trace_reports.proofs.kit.kit_rows.Given as goal

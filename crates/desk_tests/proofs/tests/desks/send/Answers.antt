@@ -1,7 +1,6 @@
 use Rattle.std.proofs.Common.{◌∙◌, ap, arith}
 use Rattle.desk_types.specs.declared.rules.Rules.TheVariants.{Two}
-use Rattle.desk_types.specs.Basis.{basis}
-use Rattle.desk_types.specs.History.{accept}
+use Rattle.desk_types.specs.History.{basis, accept}
 use Rattle.desk_types.specs.Edits.{with_edits}
 use Rattle.desk_tests.proofs.tests.desks.send.Goals as goal
 

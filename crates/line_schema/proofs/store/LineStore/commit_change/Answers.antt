@@ -5,8 +5,7 @@ use Rattle.std.proofs.lemmas.Result.{err_from_is_err_and}
 use Rattle.sqlite.specs.State.{HasCleanDisk}
 use Rattle.sqlite.specs.Held.{state}
 use Rattle.desk_types.specs.declared.rules.Rules.TheVariants.{Two}
-use Rattle.desk_types.specs.Basis.{basis}
-use Rattle.desk_types.specs.History.{accept}
+use Rattle.desk_types.specs.History.{basis, accept}
 use Rattle.desk_types.specs.Number.{IsMinute}
 use Rattle.line_tables.specs.Edit.{command_edits}
 use Rattle.line_tables.proofs.Keeps.{keeps_same}

@@ -1,5 +1,5 @@
 use Rattle.std.proofs.Common.{[], inl, refl, subst, rules, arith}
-use Rattle.desk_types.specs.Basis.{basis}
+use Rattle.desk_types.specs.History.{basis}
 use Rattle.desk_types.specs.declared.rules.Rules.TheVariants.{Two}
 use Rattle.desk_laws.proofs.JudgedLists.{consistent}
 use Rattle.line_tables.proofs.Ours.{blank_is}
