@@ -1,5 +1,5 @@
 -- One more row is taken.
-use Rattle.std.proofs.Common.{◌≡◌, ◌∙◌, ◌⊎◌, ◌+◌, ◌≤◌, inl, inr, ℕ, true, false, true≢false, Option, Some, [], ◌∷◌, length, filter, sym, ap, arith}
+use Rattle.std.proofs.Common.{◌≡◌, ◌∙◌, ◌⊎◌, ◌+◌, ◌≤◌, inl, inr, ℕ, true, false, true≢false, Option, Some, [], ◌∷◌, length, filter, sym, ap, subst, arith}
 use Rattle.std.specs.List.{list_any}
 use Rattle.sqlite_value.specs.Order.{Row}
 use Rattle.sqlite.specs.Effect.{Database}
@@ -12,10 +12,10 @@ use Rattle.line_tables.specs.Calls.{Reads, has_number, is_before, only}
 use Rattle.line_replay.specs.Judging.{GoesOn}
 use Rattle.line_replay.specs.Rows.{entry_row}
 use Rattle.line_replay.specs.Listed.{IsAt}
-use Rattle.line_replay.specs.Expected.{Expected}
+use Rattle.line_replay.specs.Expected.{Expected, AreExpected}
 use Rattle.line_replay.specs.declared.fault.ReplayFault.{ReplayFault}
 use Rattle.line_replay.specs.declared.fault.ReplayFault.TheVariants.{NotLawful, Unavailable}
-use Rattle.line_replay.specs.Replay.{StandsListed, Goes, IsStuck, IsStop, IsTaken}
+use Rattle.line_replay.specs.Replay.{StandsListed, Goes, IsStuck, IsStop, IsTaken, TakesAll}
 use Rattle.state_rows.specs.declared.lists.TraceLists.{TraceLists}
 use Rattle.line_replay.proofs.ExpectedRows.{expected_more}
 use Rattle.line_replay.proofs.ReadOfCommitted.{reads_back, reads_two}
@@ -36,6 +36,28 @@ module _ {D : Type 0} (F : D → Basis → Type 0) (rules : Rules) (old mid : St
       others = expected_more Before After old mid went.edits before after H went.entry early (λ clean. kept (early clean)) taken.others went.lead went.adds;
     },
   )
+
+  pub taken_end : Goes F rules After mid H before new after false → (greatest : ℕ) → count ≤ greatest → TakesAll F rules greatest After old new after count
+  taken_end went greatest low = record {
+    history = H;
+    within = low;
+    taken = record {
+      stands = went.0;
+      judged = taken.judged;
+      counted = taken.counted;
+      rows = λ clean schema. taken.rows (early clean) schema;
+      others = subst (λ (x : Expected). AreExpected After old.committed x H) (sym went.2) (record {
+        rows = taken.others.rows;
+        pieces = taken.others.pieces;
+        listed = taken.others.listed;
+        named = taken.others.named;
+        counted = taken.others.counted;
+        told = λ clean. taken.others.told (early clean);
+        before = λ clean. taken.others.before (early clean);
+      });
+    };
+    ends = λ clean. inr (at_first _ clean (subst (λ (n : ℕ). Reads mid (λ db. filter (has_number (n + 1)) (accepted_in db) ≡ [])) taken.counted (went.1 clean)));
+  }
 
 pub row_taken : (old first : State) (o : Option Row) (row : Row) (H : History) (e : Entry) (number : ℕ) → KeepsCommit old first → o ≡ Some row → length H + 1 ≡ number → row ≡ entry_row H e
     → Reads old (λ db. filter (has_number number) (accepted_in db) ≡ only o) → Reads first (λ db. list_any (is_before e.stamped.uid number) (accepted_in db) ≡ false) → Reads old (λ db. IsAt (accepted_in db) H e)

@@ -10,7 +10,7 @@ use Rattle.line_tables.specs.Rows.{accepted_in}
 use Rattle.line_replay.specs.Replay.{StandsListed, Goes, IsStuck}
 use Rattle.line_replay.specs.Expected.{kept_with}
 use Rattle.line_replay.proofs.ExpectedRows.{none_expected}
-use Rattle.line_replay.proofs.OneRowMore.{taken_more, fault_taken}
+use Rattle.line_replay.proofs.OneRowMore.{taken_more, taken_end, fault_taken}
 use Rattle.line_replay.proofs.taking.take_rows.Goals as goal
 
 pub loop-number-init : goal.loop-number-init
@@ -52,6 +52,20 @@ loop-number-preserved g c =
           taken_more F rules old mid (HasCleanDisk mid) (HasCleanDisk new) early was.reads.kept (c.loop-number.desk, c.loop-number.lists) (c.take_row.new.desk, c.take_row.new.lists) (kept_with (g.D.KeepsRows.kept_rows c.loop-number.desk) c.loop-number.placed) (kept_with (g.D.KeepsRows.kept_rows c.take_row.new.desk) c.take_row.new.placed) c.loop-number.number H taken more;
       reads = reads_then g.S.Store c.args.conn.now c.loop-number.conn c.take_row.new.conn was.reads c.take_row.ensures.reads;
     }
+
+pub returns-then-not-taken-clause-taken : goal.returns-then-not-taken-clause-taken
+returns-then-not-taken-clause-taken g c rules stands =
+    let F = StandsListed g.D.Desk.Stands in
+    let old = state g.S.Store c.args.conn.now in
+    let mid = state g.S.Store c.loop-number.conn in
+    let new = state g.S.Store c.take_row.new.conn in
+    let was = c.loop-number.invariant in
+    let H = (was.taken rules stands).0 in
+    let taken = (was.taken rules stands).1 in
+    let early : HasCleanDisk new → HasCleanDisk mid = λ clean. omega (arith, c.take_row.ensures.reads.survives.clean) in
+    let went = c.in_ok-taken.ensures.ok (basis rules H) taken.stands (omega (arith, taken.counted)) in
+    let none = subst (λ (b : Bool). Goes F rules (HasCleanDisk new) mid H (kept_with (g.D.KeepsRows.kept_rows c.loop-number.desk) c.loop-number.placed) (c.take_row.new.desk, c.take_row.new.lists) (kept_with (g.D.KeepsRows.kept_rows c.take_row.new.desk) c.take_row.new.placed) b) c.if-not-taken.true went in
+    taken_end F rules old mid (HasCleanDisk mid) (HasCleanDisk new) early was.reads.kept (c.loop-number.desk, c.loop-number.lists) (c.take_row.new.desk, c.take_row.new.lists) (kept_with (g.D.KeepsRows.kept_rows c.loop-number.desk) c.loop-number.placed) (kept_with (g.D.KeepsRows.kept_rows c.take_row.new.desk) c.take_row.new.placed) c.loop-number.number H taken none c.args.greatest (omega (arith, c.loop-number-test.true))
 
 pub returns-in_err-taken-clause-err : goal.returns-in_err-taken-clause-err
 returns-in_err-taken-clause-err g c rules stands clean =
