@@ -2,8 +2,8 @@
 
 ghost use Rattle.std.specs.Prelude.{◌≡◌, [], ◌∷◌, IfOk, IfErr, List};
 ghost use Rattle.desk_types.specs.declared.rules.Rules.TheVariants.{Two};
-ghost use Rattle.desk_types.specs.History.{History, IsPrefix};
-ghost use Rattle.feeder_state.specs.State.{IsState, rules_of};
+ghost use Rattle.desk_types.specs.History.{History, basis, IsPrefix};
+ghost use Rattle.feeder_state.specs.State.{IsState, Represents};
 ghost use Rattle.desk_laws.specs.Chain.{DeskFile};
 ghost use Rattle.chain_check.specs.Chained.{IsReason, IsSoFar};
 
@@ -20,7 +20,7 @@ pub struct Chain {
 impl Chain {
     /// Begins with the first file's desk.
     pub fn first(whole: StateDesk) -> Chain
-        ensures { (H : History) → IsState H whole → rules_of whole ≡ Two
+        ensures { (H : History) → Represents whole (basis Two H)
             → IsSoFar result (record { rules = Two; begun = []; whole = H } ∷ []) }
     {
         Chain { newest: whole }
@@ -30,7 +30,7 @@ impl Chain {
     /// it doesn't carry on the newest file.
     pub fn next(self, begun: &StateDesk, whole: StateDesk) -> Result<Chain, Difference>
         ensures ok { (files : List DeskFile) (B H : History) → IsSoFar self files
-            → IsState B begun.now → IsState H whole → rules_of whole ≡ Two → IsPrefix B H
+            → IsState B begun.now → Represents whole (basis Two H) → IsPrefix B H
             → IfOk result
             (λ chain. IsSoFar chain (record { rules = Two; begun = B; whole = H } ∷ files)) }
         ensures err { (G B : History) → IsState G self.newest → IsState B begun.now

@@ -17,7 +17,7 @@ use Rattle.sqlite.specs.State.{State}
 use Rattle.desk_types.specs.declared.command.Entry.{Entry}
 use Rattle.desk_types.specs.declared.rules.Rules.{Rules}
 use Rattle.desk_types.specs.declared.rules.Rules.TheVariants.{Two}
-use Rattle.desk_types.specs.History.{History, IsPrefix}
+use Rattle.desk_types.specs.History.{History, Basis, IsPrefix}
 use Rattle.desk_types.specs.Judged.{IsJudged}
 use Rattle.line_tables.specs.Calls.{has_number}
 use Rattle.line_tables.specs.Rows.{accepted_in}
@@ -81,7 +81,7 @@ module _ (rules : Rules) (P : History) (row : Row) where
 abbrev pub RowsTell : Rules → Type 0
 RowsTell rules = (G H : History) → IsJudged rules G → IsJudged rules H → IsPermutation (rows_of G) (rows_of H) → G ≡ H
 
-pub next-prefix : {D : Type 0} (F : D → History → Type 0) (rules : Rules) (Clean : Type 0) (old : State) (P : History) (desk : D) → RowsTell rules → IsJudged rules P
+pub next-prefix : {D : Type 0} (F : D → Basis → Type 0) (rules : Rules) (Clean : Type 0) (old : State) (P : History) (desk : D) → RowsTell rules → IsJudged rules P
     → (takes : TakesNext F rules Clean old P desk) → (greatest : ℕ) (G : History) → HoldsHistory rules old greatest G → Clean → IsPrefix P G → IsPrefix (takes.entry ∷ P) G
 next-prefix F rules Clean old P desk tell judged takes greatest G holds clean prefix =
     let read = takes.row clean in

@@ -61,7 +61,7 @@ module _ {D : Type 0} (g : disk.Ghosts D) (image : ℕ → Image) (question : Qu
   pub added : (after : List (Files D)) (next : Chain) (answer' : Answer) → after ≡ closed ++ f ∷ [] → length closed ≡ n → Reaches g image question paths closed n chain answer
       → (AreClean g f.log f.db → HasOursFirst (image n) → HoldsSaid g (image n) question f looked)
       → (path : List ℕ) → path ≡ get_or paths n []
-      → ((files : List DeskFile) (H : History) (text : List ℕ) → Continues chain files → Says state.Stands state.kept_rules H question looked → HasWritten answer text → Adds next files H question path text answer')
+      → ((files : List DeskFile) (H : History) (text : List ℕ) → Continues chain files → Says state.Stands H question looked → HasWritten answer text → Adds next files H question path text answer')
       → Reaches g image question paths after (n + 1) (Some next) answer'
   added after next answer' is long was said path at adds honest =
       let it = both-in long was said (subst (λ (fs : List (Files D)). AreHonest g image fs) is honest) in
@@ -86,7 +86,7 @@ module _ {D : Type 0} (g : disk.Ghosts D) (image : ℕ → Image) (question : Qu
 
   pub stopped : (after : List (Files D)) (fault : Fault) → after ≡ closed ++ f ∷ [] → length closed ≡ n → Reaches g image question paths closed n chain answer
       → (AreClean g f.log f.db → HasOursFirst (image n) → HoldsSaid g (image n) question f looked)
-      → ((files : List DeskFile) (H : History) → Continues chain files → Says state.Stands state.kept_rules H question looked → Stops files H fault)
+      → ((files : List DeskFile) (H : History) → Continues chain files → Says state.Stands H question looked → Stops files H fault)
       → AreHonest g image after → IsStop g image n fault
   stopped after fault is long was said stops honest =
       let it = both-in long was said (subst (λ (fs : List (Files D)). AreHonest g image fs) is honest) in

@@ -85,7 +85,7 @@ oldest_first (x ∷ older) = oldest_first older ++ x ∷ []
 abbrev pub HoldsSaid : {D : Type 0} → disk.Ghosts D → Image → Question → Files D
     → Looked StateDesk → Type 0
 HoldsSaid g image question f looked = (H : History) × HoldHistory g image f H
-    × Says state.Stands state.kept_rules H question looked
+    × Says state.Stands H question looked
 
 -- One more was closed. If it is honest, it held such a history.
 abbrev pub Takes : {D : Type 0} → disk.Ghosts D → Image → Question → List (Files D)

@@ -143,10 +143,10 @@ fn add(
     answer: &mut TextWriter,
 ) -> Result<Chain, Fault>
     ensures ok { (files : List DeskFile) (H : History) (text : List ℕ) → Continues chain files
-        → Says state.Stands state.kept_rules H question.now looked → HasWritten answer.old text
+        → Says state.Stands H question.now looked → HasWritten answer.old text
         → IfOk result (λ it. Adds it files H question.now path.now text answer.new) }
     ensures err { (files : List DeskFile) (H : History) → Continues chain files
-        → Says state.Stands state.kept_rules H question.now looked
+        → Says state.Stands H question.now looked
         → IfErr result (Stops files H) }
 {
     match chain {
@@ -164,7 +164,7 @@ fn add_first(
     answer: &mut TextWriter,
 ) -> Result<Chain, Fault>
     ensures ok { (H : History) (text : List ℕ)
-        → Says state.Stands state.kept_rules H question.now looked → HasWritten answer.old text
+        → Says state.Stands H question.now looked → HasWritten answer.old text
         → IfOk result (λ it. Adds it [] H question.now path.now text answer.new) }
     ensures err { (H : History) → IfErr result (Stops [] H) }
 {
@@ -204,10 +204,10 @@ fn add_next(
     answer: &mut TextWriter,
 ) -> Result<Chain, Fault>
     ensures ok { (files : List DeskFile) (H : History) (text : List ℕ) → IsSoFar chain files
-        → Says state.Stands state.kept_rules H question.now looked → HasWritten answer.old text
+        → Says state.Stands H question.now looked → HasWritten answer.old text
         → IfOk result (λ it. Adds it files H question.now path.now text answer.new) }
     ensures err { (files : List DeskFile) (H : History) → IsSoFar chain files
-        → Says state.Stands state.kept_rules H question.now looked
+        → Says state.Stands H question.now looked
         → IfErr result (Stops files H) }
 {
     let Looked {

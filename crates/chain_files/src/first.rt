@@ -4,8 +4,8 @@ ghost use Rattle.std.specs.Prelude.{◌≡◌, ◌+◌, ◌≤◌, IsTrue, IfSom
 ghost use Rattle.sqlite.specs.State.{HasCleanDisk};
 ghost use Rattle.sqlite.specs.Held.{state};
 ghost use Rattle.desk_types.specs.declared.limits.TheConstants.{MOST_ENTRIES};
+ghost use Rattle.desk_types.specs.History.{Basis};
 ghost use Rattle.desk_types.specs.Desk.{HasRoom};
-ghost use Rattle.desk_types.specs.History.{History};
 ghost use Rattle.line_tables.specs.Frames.{ReadsOnly};
 ghost use Rattle.chain_files.specs.First.{IsFirst, TakesNext};
 
@@ -25,10 +25,9 @@ fn take_row<S: Alter, D: KeepsRows>(
     number: u32,
 ) -> bool
     requires room { HasRoom D.Stands desk.old 1 }
-    ensures takes { (H : History) → D.Stands desk.old H → length H + 1 ≡ number → IsTrue result
-        → TakesNext D.Stands (D.kept_rules desk.old) (HasCleanDisk (state S.Store conn.new))
-        (state S.Store conn.old) H desk.new }
-    ensures rules { IsTrue result → D.kept_rules desk.new ≡ D.kept_rules desk.old }
+    ensures takes { (B : Basis) → D.Stands desk.old B → length B.history + 1 ≡ number
+        → IsTrue result → TakesNext D.Stands B.rules (HasCleanDisk (state S.Store conn.new))
+        (state S.Store conn.old) B.history desk.new }
     ensures reads { ReadsOnly S.Store conn.old conn.new }
 {
     match row_at(conn, number) {
@@ -57,7 +56,6 @@ pub fn first_desk<S: Alter, D: KeepsRows + Drop>(
     ensures first { IfSome result
         (IsFirst D.Stands rules (HasCleanDisk (state S.Store conn.new)) (state S.Store conn.old)
         count) }
-    ensures rules { IfSome result (λ desk. D.kept_rules desk ≡ rules) }
     ensures reads { ReadsOnly S.Store conn.old conn.new }
 {
     rows_tell_lists_apart();

@@ -46,9 +46,9 @@ fn of_lot<S: Alter, D: KeepsRows + Drop>(
     store: &mut LineStore<S, D>,
     lot: &Id,
 ) -> Result<PlacedRows, Unavailable>
-    ensures pieces { ForKept S.Store D.Stands D.kept_rules store.old store.new
+    ensures pieces { ForKept S.Store D.Stands store.old store.new
         (λ L. IfOk result (λ pieces. pieces ≡ unwrap_or (lot_trace L.history lot.now) [])) }
-    ensures reads { ReadsStore S.Store D.Stands D.kept_rules store.old store.new }
+    ensures reads { ReadsStore S.Store D.Stands store.old store.new }
 {
     match store.lot_rows(lot) {
         Ok(Some(pieces)) => Ok(pieces),
@@ -63,9 +63,9 @@ fn on_board<S: Alter, D: KeepsRows + Drop>(
     store: &mut LineStore<S, D>,
     board: &Id,
 ) -> Result<PlacedRows, Unavailable>
-    ensures pieces { ForKept S.Store D.Stands D.kept_rules store.old store.new
+    ensures pieces { ForKept S.Store D.Stands store.old store.new
         (λ L. IfOk result (λ pieces. pieces ≡ unwrap_or (board_trace L.history board.now) [])) }
-    ensures reads { ReadsStore S.Store D.Stands D.kept_rules store.old store.new }
+    ensures reads { ReadsStore S.Store D.Stands store.old store.new }
 {
     match store.board_rows(board) {
         Ok(Some(pieces)) => Ok(pieces),
@@ -79,7 +79,7 @@ fn lot_of<S: Alter, D: KeepsRows + Drop>(
     store: &LineStore<S, D>,
     reel: &Id,
 ) -> Result<Option<Id>, Unavailable>
-    ensures { (L : Kept) → Stands S.Store D.Stands D.kept_rules store.now L
+    ensures { (L : Kept) → Stands S.Store D.Stands store.now L
         → IfOk result
         (λ lot. lot ≡ option_map (λ (r : Receipt). r.lot) (receipt_of L.history reel.now)) }
 {
@@ -111,9 +111,9 @@ fn of_reel<S: Alter, D: KeepsRows + Drop>(
     store: &mut LineStore<S, D>,
     reel: &Id,
 ) -> Result<PlacedRows, Unavailable>
-    ensures pieces { ForKept S.Store D.Stands D.kept_rules store.old store.new
+    ensures pieces { ForKept S.Store D.Stands store.old store.new
         (λ L. IfOk result (λ pieces. pieces ≡ pieces_of (Reel reel.now) L.history)) }
-    ensures reads { ReadsStore S.Store D.Stands D.kept_rules store.old store.new }
+    ensures reads { ReadsStore S.Store D.Stands store.old store.new }
 {
     let lot = match lot_of(store, reel) {
         Ok(Some(lot)) => lot,
@@ -133,9 +133,9 @@ fn of_subject<S: Alter, D: KeepsRows + Drop>(
     store: &mut LineStore<S, D>,
     subject: &Subject,
 ) -> Result<PlacedRows, Unavailable>
-    ensures pieces { ForKept S.Store D.Stands D.kept_rules store.old store.new
+    ensures pieces { ForKept S.Store D.Stands store.old store.new
         (λ L. IfOk result (λ pieces. pieces ≡ pieces_of subject.now L.history)) }
-    ensures reads { ReadsStore S.Store D.Stands D.kept_rules store.old store.new }
+    ensures reads { ReadsStore S.Store D.Stands store.old store.new }
 {
     match subject {
         Subject::Lot(lot) => of_lot(alloc, store, lot),
@@ -150,9 +150,9 @@ fn asked_of<S: Alter, D: KeepsRows + Drop>(
     store: &mut LineStore<S, D>,
     question: &Question,
 ) -> Result<PlacedRows, Unavailable>
-    ensures pieces { ForKept S.Store D.Stands D.kept_rules store.old store.new
+    ensures pieces { ForKept S.Store D.Stands store.old store.new
         (λ L. IfOk result (λ pieces. pieces ≡ asked_of question.now L.history)) }
-    ensures reads { ReadsStore S.Store D.Stands D.kept_rules store.old store.new }
+    ensures reads { ReadsStore S.Store D.Stands store.old store.new }
 {
     match question {
         Question::Chain => Ok(Listing::new(Vec::new(alloc))),
@@ -168,9 +168,9 @@ pub fn look<S: Alter, D: KeepsRows + Drop>(
     question: &Question,
     is_first: bool,
 ) -> (Connection<S>, Result<Looked<D>, Unavailable>)
-    ensures says { (L : Kept) → Stands S.Store D.Stands D.kept_rules store L → IsTrue L.own
+    ensures says { (L : Kept) → Stands S.Store D.Stands store L → IsTrue L.own
         → HasCleanDisk (state S.Store result.0)
-        → IfOk result.1 (Says D.Stands D.kept_rules L.history question.now) }
+        → IfOk result.1 (Says D.Stands L.history question.now) }
     ensures reads { ReadsOnly S.Store (conn_of store) result.0 }
 {
     let mut store = store;

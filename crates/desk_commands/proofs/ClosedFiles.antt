@@ -38,7 +38,7 @@ use Rattle.desk_commands.specs.Runs.{Audits, Migrates, Refuses, RefusesToMigrate
 use Rattle.desk_commands.specs.Closed.{Close, whole, failed, ClosesLeft, HoldsDesk, HoldsFound, IsRefusedTo, AuditsTo, MigratesTo, RefusesTo, RefusesToMigrateTo, RunsTo}
 
 -- The files of a desk after a close that failed.
-desk_left : {D : Type 0} {g : disk.Ghosts D} (d : LineStore (FileStore D g) StateDesk) (f : Files D) (L : Kept) → IsLeft (conn_of d) f → Stands over_files state.Stands state.kept_rules d L → IsTrue L.own
+desk_left : {D : Type 0} {g : disk.Ghosts D} (d : LineStore (FileStore D g) StateDesk) (f : Files D) (L : Kept) → IsLeft (conn_of d) f → Stands over_files state.Stands d L → IsTrue L.own
     → HoldsDesk failed g f (ledger_tables L.greatest L.history)
 desk_left d f L left stands own = elim (cases_Bool (file_state (conn_of d)).is_open) [
   | inl on ↦ inl (λ image reads.

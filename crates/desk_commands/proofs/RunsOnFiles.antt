@@ -20,12 +20,12 @@ use Rattle.desk_commands.specs.Runs.{Audits, RunsOn}
 
 -- The store of a file represents the history by rules Two, with its own tables.
 abbrev pub IsKept : {D : Type 0} {g : disk.Ghosts D} → LineStore (FileStore D g) StateDesk → Ledger → Type 0
-IsKept store G = (G.rules ≡ Two) × Stands over_files state.Stands state.kept_rules store (record { greatest = G.greatest; history = G.history; own = true })
+IsKept store G = (G.rules ≡ Two) × Stands over_files state.Stands store (record { greatest = G.greatest; history = G.history; own = true })
 
 pub runs_on : {T D : Type 0} {g : disk.Ghosts D} (first : start.Ghosts T) (make : Option ℕ) (old new : LineStore (FileStore D g) StateDesk) (Fact : Ledger → History → Type 0)
     → (HasCleanDisk (state_of over_files new) → HasCleanDisk (state_of over_files old))
     → (HasCleanDisk (state_of over_files old) → HasOursFirst (image_at first) → (greatest : ℕ) × (H : History) × Begins (image_at first) make greatest H
-    × Stands over_files state.Stands state.kept_rules old (record { greatest = greatest; history = H; own = true }))
+    × Stands over_files state.Stands old (record { greatest = greatest; history = H; own = true }))
     → ForLists IsKept (λ store. HasCleanDisk (state_of over_files store)) old new Fact → RunsOn first make (Desk new) Fact
 runs_on first make old new Fact trusts begins goes clean alone =
     let b = begins (trusts clean) alone in
@@ -34,17 +34,17 @@ runs_on first make old new Fact trusts begins goes clean alone =
 
 pub stays : {T D : Type 0} {g : disk.Ghosts D} (first : start.Ghosts T) (make : Option ℕ) (old new : LineStore (FileStore D g) StateDesk) → new ≡ old
     → (HasCleanDisk (state_of over_files old) → HasOursFirst (image_at first) → (greatest : ℕ) × (H : History) × Begins (image_at first) make greatest H
-    × Stands over_files state.Stands state.kept_rules old (record { greatest = greatest; history = H; own = true }))
+    × Stands over_files state.Stands old (record { greatest = greatest; history = H; own = true }))
     → RunsOn first make (Desk new) StaysSame
 stays first make old new same begins =
     subst (λ (store : LineStore (FileStore _ _) StateDesk). RunsOn first make (Desk store) StaysSame) (sym same)
     (runs_on first make old old StaysSame (λ clean. clean) begins (λ G stands clean. (G.history, stands, refl)))
 
 pub audits : {T D : Type 0} {g : disk.Ghosts D} (first : start.Ghosts T) (store : LineStore (FileStore D g) StateDesk) (count : ℕ)
-    → (L : Kept) × Stands over_files state.Stands state.kept_rules store L
+    → (L : Kept) × Stands over_files state.Stands store L
     → (HasCleanDisk (state_of over_files store) → HasOursFirst (image_at first) → (greatest : ℕ) × (H : History) × Begins (image_at first) None greatest H
-    × Stands over_files state.Stands state.kept_rules store (record { greatest = greatest; history = H; own = true }))
-    → ((L : Kept) → Stands over_files state.Stands state.kept_rules store L → count ≡ length L.history) → Audits first (Desk store) count
+    × Stands over_files state.Stands store (record { greatest = greatest; history = H; own = true }))
+    → ((L : Kept) → Stands over_files state.Stands store L → count ≡ length L.history) → Audits first (Desk store) count
 audits first store count stands begins counts = (
   (stands.0, stands.1, counts stands.0 stands.1),
   λ clean alone.

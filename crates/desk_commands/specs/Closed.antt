@@ -49,7 +49,7 @@ ClosesConn failed conn files = Leaves conn files
 abbrev pub ClosesDesk : {D : Type 0} {g : disk.Ghosts D} → Close
     → LineStore (FileStore D g) StateDesk → Files D → Type 0
 ClosesDesk whole desk files =
-    Closes state.Stands state.kept_rules desk files × Copies (conn_of desk) files
+    Closes state.Stands desk files × Copies (conn_of desk) files
 ClosesDesk failed desk files = Leaves (conn_of desk) files
 
 -- So were the files that a command left, if it opened any.

@@ -41,7 +41,7 @@ RunsOn first make (Desk d) Fact =
     → (greatest : ℕ) × (H : History) × Begins (image_at first) make greatest H
     × IsLawful Two greatest H
     × (H' : History)
-    × Stands over_files state.Stands state.kept_rules d
+    × Stands over_files state.Stands d
     (record { greatest = greatest; history = H'; own = true })
     × Fact (record { rules = Two; greatest = greatest; history = H }) H'
 RunsOn first make _ Fact = ⊥
@@ -50,7 +50,7 @@ RunsOn first make _ Fact = ⊥
 -- the file held only the desk's tables, this is the history at the start of the run.
 abbrev pub Audits : {T D : Type 0} {g : disk.Ghosts D} → start.Ghosts T → ToClose D g → ℕ → Type 0
 Audits first (Desk d) count =
-    ((L : Kept) × Stands over_files state.Stands state.kept_rules d L × (count ≡ length L.history))
+    ((L : Kept) × Stands over_files state.Stands d L × (count ≡ length L.history))
     × RunsOn first None (Desk d) (λ G H. (H ≡ G.history) × (count ≡ length H))
 Audits first _ count = ⊥
 

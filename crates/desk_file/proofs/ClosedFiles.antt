@@ -19,8 +19,7 @@ use Rattle.sqlite.specs.Closing.{HoldsAlone, IsCopied}
 use Rattle.sqlite.specs.Files.{image_of, file_state, IsClosed}
 use Rattle.sqlite.specs.Held.{AreDatabases, Held}
 use Rattle.sqlite.specs.State.{HasCleanDisk, IsLive}
-use Rattle.desk_types.specs.declared.rules.Rules.{Rules}
-use Rattle.desk_types.specs.History.{History}
+use Rattle.desk_types.specs.History.{Basis}
 use Rattle.line_tables.specs.Rows.{Holds}
 use Rattle.line_replay.specs.Rows.{ledger_tables}
 use Rattle.line_schema.specs.declared.store.LineStore.{LineStore}
@@ -78,9 +77,9 @@ leaves {g = g} stays conn last files same live closed clean =
           (found.0, record { may = before; last = λ on. settled_at conn.store stays found.0 on before }, found.2));
     }
 
-pub closes : {D E : Type 0} {g : disk.Ghosts D} (StandsFor : E → History → Type 0) (kept_rules : E → Rules) (desk : LineStore (FileStore D g) E) (conn : Held (FileStore D g)) (files : Files D)
-    → conn ≡ conn_of desk → KeepsTables conn files → Closes StandsFor kept_rules desk files
-closes StandsFor kept_rules desk conn files same kept L stands own clean image left =
+pub closes : {D E : Type 0} {g : disk.Ghosts D} (StandsFor : E → Basis → Type 0) (desk : LineStore (FileStore D g) E) (conn : Held (FileStore D g)) (files : Files D)
+    → conn ≡ conn_of desk → KeepsTables conn files → Closes StandsFor desk files
+closes StandsFor desk conn files same kept L stands own clean image left =
     let holds = subst (λ h. HasCleanDisk (file_state h) → IsTrue L.own → IsTrue (file_state h).is_open → Holds (file_state h).committed (ledger_tables L.greatest L.history))
     (sym same) stands.tables in
     kept (ledger_tables L.greatest L.history) (λ was_clean was_open. holds was_clean own was_open) clean image left

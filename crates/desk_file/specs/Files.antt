@@ -21,9 +21,8 @@ use Rattle.sqlite.specs.Files.{HoldsDatabase, file_state, image_of, over_files}
 use Rattle.sqlite.specs.Held.{Held}
 use Rattle.sqlite.specs.State.{HasCleanDisk, IsLive}
 use Rattle.desk_file.specs.Found.{AreReadIn}
-use Rattle.desk_types.specs.declared.rules.Rules.{Rules}
 use Rattle.desk_types.specs.declared.rules.Rules.TheVariants.{One, Two}
-use Rattle.desk_types.specs.History.{History}
+use Rattle.desk_types.specs.History.{History, Basis}
 use Rattle.desk_types.specs.Judged.{IsLawful}
 use Rattle.line_tables.specs.Line.{IsOurs, no_schema}
 use Rattle.line_tables.specs.Rows.{Tables, Holds, HoldsAt, HoldsBy}
@@ -130,8 +129,8 @@ KeepsTables {g = g} conn files = (tables : Tables) → (HasCleanDisk (file_state
     → IsWhole tables image
 
 -- The files of a desk with its own tables hold those of its history, now and after any crash, if the disk never lied.
-abbrev pub Closes : {D E : Type 0} {g : disk.Ghosts D} → (E → History → Type 0) → (E → Rules)
+abbrev pub Closes : {D E : Type 0} {g : disk.Ghosts D} → (E → Basis → Type 0)
     → LineStore (FileStore D g) E → Files D → Type 0
-Closes {g = g} StandsFor kept_rules desk files = (L : Kept)
-    → Stands over_files StandsFor kept_rules desk L → IsTrue L.own → AreClean g files.log files.db
+Closes {g = g} StandsFor desk files = (L : Kept)
+    → Stands over_files StandsFor desk L → IsTrue L.own → AreClean g files.log files.db
     → (image : Image) → MayRead g files image → IsWhole (ledger_tables L.greatest L.history) image

@@ -27,7 +27,7 @@ pub fn in_memory<D: KeepsRows + Drop>(
     requires least { 1 ≤ greatest }
     requires most { greatest ≤ MOST_ENTRIES }
     ensures stands { IfOk result
-        (λ store. Stands over_files D.Stands D.kept_rules store
+        (λ store. Stands over_files D.Stands store
         (record { greatest = greatest; history = []; own = true })) }
 {
     let conn = open(alloc)?;

@@ -42,12 +42,12 @@ pub fn open_desk<T: Start, D: KeepsRows + Drop>(
 ) -> Result<FileDesk<T, D>, RefusedFile<FileFrom<T>>>
     requires range { IfSome make (λ greatest. (1 ≤ greatest) × (greatest ≤ MOST_ENTRIES)) }
     ensures stands { IfOk result
-        (λ store. (L : Kept) × Stands over_files D.Stands D.kept_rules store L) }
+        (λ store. (L : Kept) × Stands over_files D.Stands store L) }
     ensures refused { IfErr result (RefusesRun (image_at T.Start) make) }
     ensures begins { IfOk result
         (λ store. HasCleanDisk (state_of over_files store) → HasOursFirst (image_at T.Start)
         → (greatest : _) × (H : History) × Begins (image_at T.Start) make greatest H
-        × Stands over_files D.Stands D.kept_rules store
+        × Stands over_files D.Stands store
         (record { greatest = greatest; history = H; own = true })) }
     ensures alone { IfOk result
         (λ store. HasCleanDisk (state_of over_files store) → FindsNoTable (image_at T.Start)
@@ -99,7 +99,7 @@ pub fn migrate_desk<T: Start, D: KeepsRows + Drop>(
 pub fn close_desk<T: Start, D: KeepsRows + Drop>(
     desk: FileDesk<T, D>,
 ) -> Result<Files<FileFrom<T>>, (OpenFault, Files<FileFrom<T>>)>
-    ensures whole { IfOk result (Closes D.Stands D.kept_rules desk) }
+    ensures whole { IfOk result (Closes D.Stands desk) }
     ensures copied { IfOk result (Copies (conn_of desk)) }
     ensures err { IfErr result (λ e. e.0 ≡ Fault.Unavailable) }
     ensures left { IfErr result (λ e. Leaves (conn_of desk) e.1) }
@@ -171,11 +171,11 @@ fn new_desk<T: Start, D: KeepsRows + Drop>(
     requires most { greatest ≤ MOST_ENTRIES }
     ensures refused { IfErr result (RefusesRun (image_at T.Start) (Some greatest)) }
     ensures stands { IfOk result
-        (λ store. (L : Kept) × Stands over_files D.Stands D.kept_rules store L) }
+        (λ store. (L : Kept) × Stands over_files D.Stands store L) }
     ensures begins { IfOk result
         (λ store. HasCleanDisk (state_of over_files store) → HasOursFirst (image_at T.Start)
         → Begins (image_at T.Start) (Some greatest) greatest []
-        × Stands over_files D.Stands D.kept_rules store
+        × Stands over_files D.Stands store
         (record { greatest = greatest; history = []; own = true })) }
     ensures alone { IfOk result
         (λ store. HasCleanDisk (state_of over_files store) → FindsNoTable (image_at T.Start)
@@ -198,11 +198,11 @@ fn kept_desk<T: Start, D: KeepsRows + Drop>(
     start: T,
 ) -> Result<FileDesk<T, D>, RefusedFile<FileFrom<T>>>
     ensures stands { IfOk result
-        (λ store. (L : Kept) × Stands over_files D.Stands D.kept_rules store L) }
+        (λ store. (L : Kept) × Stands over_files D.Stands store L) }
     ensures begins { IfOk result
         (λ store. HasCleanDisk (state_of over_files store) → HasOursFirst (image_at T.Start)
         → (greatest : _) × (H : History) × Begins (image_at T.Start) None greatest H
-        × Stands over_files D.Stands D.kept_rules store
+        × Stands over_files D.Stands store
         (record { greatest = greatest; history = H; own = true })) }
     ensures refused { IfErr result
         (IsRefused (image_at T.Start) (IsFaultIn (image_at T.Start) Two) (λ _ _. ⊥) ⊥) }

@@ -6,7 +6,7 @@ use Rattle.desk_types.specs.declared.desk.JudgeFault.{JudgeFault}
 use Rattle.desk_types.specs.declared.desk.JudgeFault.TheVariants.{Refused, NoMemory}
 use Rattle.desk_types.specs.declared.limits.TheConstants.{MOST_ENTRIES}
 use Rattle.desk_types.specs.declared.rules.Rules.{Rules}
-use Rattle.desk_types.specs.History.{History}
+use Rattle.desk_types.specs.History.{History, Basis}
 use Rattle.desk_types.specs.Refusals.{refusal_of}
 use Rattle.desk_types.specs.Outcome.{change_of}
 
@@ -22,5 +22,5 @@ IsJudgement rules H s (Err (Refused refusal)) = refusal_of rules H s ≡ Some re
 IsJudgement rules H s (Err NoMemory) = ⊤
 
 -- The desk represents some history with room for n more entries.
-abbrev pub HasRoom : {D : Type 0} → (D → History → Type 0) → D → ℕ → Type 0
-HasRoom Stands desk n = (H : History) × Stands desk H × (length H + n ≤ MOST_ENTRIES)
+abbrev pub HasRoom : {D : Type 0} → (D → Basis → Type 0) → D → ℕ → Type 0
+HasRoom Stands desk n = (B : Basis) × Stands desk B × (length B.history + n ≤ MOST_ENTRIES)

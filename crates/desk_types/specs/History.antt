@@ -1,8 +1,9 @@
--- The history of accepted commands, and the desk's clock.
+-- The history of accepted commands, the rules with it, and the desk's clock.
 use Rattle.std.specs.Prelude.{◌≡◌, ℕ, ◌+◌, max, Option, Some, None, List, [], ◌∷◌, ◌++◌, length, unwrap_or}
 use Rattle.std.specs.Option.{option_or}
 use Rattle.desk_types.specs.declared.command.Entry.{Entry}
 use Rattle.desk_types.specs.declared.command.Stamped.{Stamped}
+use Rattle.desk_types.specs.declared.rules.Rules.{Rules}
 
 -- The accepted entries, newest first.
 abbrev pub History : Type 0
@@ -41,3 +42,15 @@ entry_of H s = record {
 -- The history after accepting the command.
 abbrev pub accept : History → Stamped → History
 accept H s = entry_of H s ∷ H
+
+-- What a desk judges by: rules, and a history.
+pub record Basis : Type 0 where
+  pub rules : Rules
+  pub history : History
+
+abbrev pub basis : Rules → History → Basis
+basis rules H = record { rules = rules; history = H }
+
+-- The basis with the command accepted.
+abbrev pub basis_after : Basis → Stamped → Basis
+basis_after B s = record B { history = accept B.history s }

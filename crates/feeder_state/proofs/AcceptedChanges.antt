@@ -1,5 +1,5 @@
 -- A change that is accepted.
-use Rattle.std.proofs.Common.{◌≡◌, ℕ, nat_lt, Bool, true, false, is_some, Some, None, List, [], ◌∷◌, refl, sym, ap, ◌∙◌, arith}
+use Rattle.std.proofs.Common.{◌≡◌, ℕ, nat_lt, Bool, true, false, is_some, Some, None, List, [], ◌∷◌, refl, sym, ap, subst, ◌∙◌, arith}
 use Rattle.std.specs.Prelude.{max, if◌then◌else◌}
 use Rattle.std.specs.Option.{option_map_or}
 use Rattle.std.proofs.lemmas.Bool.{or_parts}
@@ -8,7 +8,7 @@ use Rattle.desk_types.specs.declared.command.Stamped.{Stamped}
 use Rattle.desk_types.specs.declared.rules.Rules.{Rules}
 use Rattle.desk_types.specs.Command.{IsStamped}
 use Rattle.desk_types.specs.Number.{IsMinute}
-use Rattle.desk_types.specs.History.{History, now_of, desk_minute, effective_minute, entry_of, accept}
+use Rattle.desk_types.specs.History.{History, Basis, now_of, desk_minute, effective_minute, entry_of, accept}
 use Rattle.desk_types.specs.Judged.{IsJudged}
 use Rattle.desk_types.specs.Outcome.{takes_by}
 use Rattle.desk_types.specs.Desk.{IsChange}
@@ -28,7 +28,7 @@ use Rattle.state_rows.specs.Kept.{KeptRows, tables_in, but_placements}
 use Rattle.feeder_state.specs.Tape.{tape_at}
 use Rattle.desk_types.proofs.BothRules.{judged-by-two}
 use Rattle.feeder_state.specs.Noted.{IsNoted}
-use Rattle.feeder_state.specs.State.{IsState}
+use Rattle.feeder_state.specs.State.{IsState, Represents}
 use Rattle.feeder_state.specs.Rows.{AreRows, AreRowsAt, left_at}
 use Rattle.feeder_state.specs.Spending.{empties, NoneIsSpent}
 use Rattle.feeder_state.specs.declared.desk.StateDesk.{StateDesk}
@@ -66,6 +66,12 @@ none-accepted [] none = refl
 none-accepted (e ∷ H) none = cc
 
 -- ---- the facts of a state
+
+pub represents-judged : (desk : StateDesk) (B : Basis) → Represents desk B → IsJudged B.rules B.history
+represents-judged desk B stands = subst (λ r. IsJudged r B.history) stands.rules stands.state.judged
+
+pub represents-state : (desk : StateDesk) (B : Basis) → Represents desk B → IsState B.history desk
+represents-state desk B stands = stands.state
 
 pub state-two : (H : History) (desk : StateDesk) → IsState H desk → IsJudged Two H
 state-two H desk state = judged-by-two desk.rules H state.judged
@@ -137,4 +143,4 @@ accepted-spends H desk after edits spends state is made none r some =
     ap (λ (t : Tables). nat_lt 0 (left_in t r)) made
     ∙ edits-left edits (tables_in desk.rows) r (sym is ∙ none) (ap (nat_lt 0) (state-left H desk r state) ∙ some))
 
-pub ruleset of_state = (state-two, state-live, state-told, state-selected)
+pub ruleset of_state = (represents-judged, represents-state, state-two, state-live, state-told, state-selected)

@@ -1,8 +1,7 @@
 -- The histories that a state represents.
 use Rattle.std.specs.Prelude.{◌≡◌}
-use Rattle.desk_types.specs.History.{History, desk_minute}
+use Rattle.desk_types.specs.History.{History, Basis, desk_minute}
 use Rattle.desk_types.specs.Judged.{IsJudged}
-use Rattle.desk_types.specs.declared.rules.Rules.{Rules}
 use Rattle.feeder_state.specs.declared.desk.StateDesk.{StateDesk}
 use Rattle.desk_types.specs.Tables.{tables_of}
 use Rattle.state_rows.specs.Kept.{tables_in, unnumbered}
@@ -19,6 +18,7 @@ pub record IsState (H : History) (desk : StateDesk) : Type 0 where
   pub floor : IsFloor H desk.floor
   pub work : IsWork H desk.work
 
--- The rules that the desk keeps.
-abbrev pub rules_of : StateDesk → Rules
-rules_of desk = desk.rules
+-- The desk has these rules, and can come to have this history.
+pub record Represents (desk : StateDesk) (B : Basis) : Type 0 where
+  pub rules : desk.rules ≡ B.rules
+  pub state : IsState B.history desk

@@ -3,14 +3,14 @@
 ghost use Rattle.std.specs.Prelude.{◌≡◌, [], IfOk, OnOk};
 ghost use Rattle.std.specs.Option.{option_copied};
 ghost use Rattle.desk_types.specs.declared.rules.Rules.TheVariants.{Two};
-ghost use Rattle.desk_types.specs.History.{History, accept, desk_minute};
+ghost use Rattle.desk_types.specs.History.{History, Basis, basis, basis_after, accept, desk_minute};
 ghost use Rattle.desk_types.specs.Setup.{sheet_on};
 ghost use Rattle.desk_types.specs.Desk.{HasRoom, IsChange};
 ghost use Rattle.desk_types.specs.Tables.{tables_of};
 ghost use Rattle.desk_types.specs.Edits.{with_edits};
 ghost use Rattle.state_rows.specs.Kept.{tables_in, but_placements, unnumbered};
 ghost use Rattle.feeder_state.specs.Restored.{AreRowsOf};
-ghost use Rattle.feeder_state.specs.State.{IsState, rules_of};
+ghost use Rattle.feeder_state.specs.State.{IsState, Represents};
 
 use crate::floor::{Floor, floor_of};
 use crate::free::free_reels;
@@ -60,16 +60,14 @@ impl Drop for StateDesk {
 impl StateDesk {
     /// A desk of rules Two that has accepted nothing. Takes no memory.
     pub fn new(alloc: Global) -> StateDesk
-        ensures stands { IsState [] result }
-        ensures rules { rules_of result ≡ Two }
+        ensures { Represents result (basis Two []) }
     {
         StateDesk::with_rules(alloc, Rules::Two)
     }
 
     /// A desk of these rules that has accepted nothing. Takes no memory.
     pub fn with_rules(alloc: Global, rules: Rules) -> StateDesk
-        ensures stands { IsState [] result }
-        ensures rules { rules_of result ≡ rules }
+        ensures { Represents result (basis rules []) }
     {
         StateDesk {
             alloc,
@@ -90,9 +88,8 @@ impl StateDesk {
         minute: Option<Minute>,
     ) -> Result<StateDesk, AllocError>
         requires { (H : History) × AreRowsOf H rows.now × (minute ≡ desk_minute H) }
-        ensures stands { (H : History) → AreRowsOf H rows.now → minute ≡ desk_minute H
-            → IfOk result (IsState H) }
-        ensures rules { IfOk result (λ desk. rules_of desk ≡ Two) }
+        ensures { (H : History) → AreRowsOf H rows.now → minute ≡ desk_minute H
+            → IfOk result (λ desk. Represents desk (basis Two H)) }
     {
         let Some(_) = minute else {
             return Ok(StateDesk::new(alloc));
@@ -123,12 +120,11 @@ impl StateDesk {
 
     /// Accepts a judged change. After an `Err` drop the desk, whose state is unknown.
     fn accept(&mut self, change: Change) -> Result<(), AllocError>
-        requires room { HasRoom (λ desk H. IsState H desk) self.old 1 }
-        requires judged { (H : History) → IsState H self.old
-            → IsChange self.old.rules H change.stamped change }
-        ensures stands { (H : History) → IsState H self.old
-            → OnOk result (IsState (accept H change.stamped) self.new) }
-        ensures rules { OnOk result (self.new.rules ≡ self.old.rules) }
+        requires room { HasRoom Represents self.old 1 }
+        requires judged { (B : Basis) → Represents self.old B
+            → IsChange B.rules B.history change.stamped change }
+        ensures stands { (B : Basis) → Represents self.old B
+            → OnOk result (Represents self.new (basis_after B change.stamped)) }
     {
         let edits = edits_for(self.alloc, self, &change, 0)?;
         self.apply(change, edits.as_slice())
@@ -136,15 +132,14 @@ impl StateDesk {
 
     /// Accepts a judged change by its edits. After an `Err` drop the desk, whose state is unknown.
     fn apply(&mut self, change: Change, edits: &[RowEdit]) -> Result<(), AllocError>
-        requires room { HasRoom (λ desk H. IsState H desk) self.old 1 }
-        requires judged { (H : History) → IsState H self.old
-            → IsChange self.old.rules H change.stamped change }
-        requires lead { (H : History) → IsState H self.old
-            → unnumbered (with_edits edits.now (tables_of H))
-            ≡ unnumbered (tables_of (accept H change.stamped)) }
-        ensures stands { (H : History) → IsState H self.old
-            → OnOk result (IsState (accept H change.stamped) self.new) }
-        ensures rules { OnOk result (self.new.rules ≡ self.old.rules) }
+        requires room { HasRoom Represents self.old 1 }
+        requires judged { (B : Basis) → Represents self.old B
+            → IsChange B.rules B.history change.stamped change }
+        requires lead { (B : Basis) → Represents self.old B
+            → unnumbered (with_edits edits.now (tables_of B.history))
+            ≡ unnumbered (tables_of (accept B.history change.stamped)) }
+        ensures stands { (B : Basis) → Represents self.old B
+            → OnOk result (Represents self.new (basis_after B change.stamped)) }
         ensures rows { OnOk result (tables_in self.new.rows
             ≡ but_placements (with_edits edits.now (tables_in self.old.rows))
             (tables_in self.old.rows)) }
@@ -269,11 +264,9 @@ impl Facts for StateDesk {
 
 #[tactic(auto, using(crate::proofs::AcceptedChanges::of_state))]
 impl Views for StateDesk {
-    ghost use Rattle.feeder_state.specs.State.{IsState};
+    ghost use Rattle.feeder_state.specs.State.{Represents};
 
-    ghost Stands = { λ desk H. IsState H desk };
-
-    ghost kept_rules = { λ desk. desk.rules };
+    ghost Stands = { λ desk B. Represents desk B };
 
     fn is_judged(&self) {
         let _ = &self.rules;
@@ -308,11 +301,9 @@ impl Views for StateDesk {
 
 #[tactic(auto, using(crate::proofs::AcceptedChanges::of_state))]
 impl Desk for StateDesk {
-    ghost use Rattle.feeder_state.specs.State.{IsState};
+    ghost use Rattle.feeder_state.specs.State.{Represents};
 
-    ghost Stands = { λ desk H. IsState H desk };
-
-    ghost kept_rules = { λ desk. desk.rules };
+    ghost Stands = { λ desk B. Represents desk B };
 
     fn fresh(alloc: Global, rules: Rules) -> StateDesk {
         StateDesk::with_rules(alloc, rules)

@@ -8,7 +8,7 @@ use Rattle.desk_types.specs.declared.answer.Reply.TheVariants as reply
 use Rattle.desk_types.specs.declared.command.Stamped.{Stamped}
 use Rattle.desk_types.specs.declared.rules.Rules.{Rules}
 use Rattle.desk_types.specs.declared.rules.Rules.TheVariants.{Two}
-use Rattle.desk_types.specs.History.{History, accept}
+use Rattle.desk_types.specs.History.{Basis, accept}
 use Rattle.desk_types.specs.Outcome.{change_of}
 use Rattle.desk_types.specs.Refusals.{refusal_of}
 use Rattle.desk_answers.specs.declared.answer.Answer.{Answer}
@@ -43,17 +43,17 @@ module _ (L : Kept) (s : Stamped) (before : Type 0) (trees : Trees) (near : befo
   step DeskFull told h = by_answer DeskFull told h
   step Unavailable told h = elim (left (is_some (earlier_answer L.history s)) _ _ h) [ inl was ↦ near was | inr made ↦ inr (s, made.0, made.1) ]
 
-module _ {S D : Type 0} (g : Ghosts S) (F : D → History → Type 0) (K : D → Rules) (store : LineStore S D) (G : Ledger) (s : Stamped) (two : G.rules ≡ Two) where
+module _ {S D : Type 0} (g : Ghosts S) (F : D → Basis → Type 0) (store : LineStore S D) (G : Ledger) (s : Stamped) (two : G.rules ≡ Two) where
   pub answer_so : (a : Answer) → IsAnswer (ledger (own_kept G)) s a → IsAnswer G s a
   answer_so a told = subst (λ (r : Rules). IsAnswer (record { rules = r; greatest = G.greatest; history = G.history }) s a) (sym two) told
 
   abbrev after : Rules → Kept
   after rules = record { greatest = G.greatest; history = command_after rules G.greatest G.history s; own = true }
 
-  by_rules : IsWatched g F K store (after Two) → IsWatched g F K store (after G.rules)
-  by_rules = subst (λ (r : Rules). IsWatched g F K store (after r)) (sym two)
+  by_rules : IsWatched g F store (after Two) → IsWatched g F store (after G.rules)
+  by_rules = subst (λ (r : Rules). IsWatched g F store (after r)) (sym two)
 
-  pub watched_so : (a : Answer) → IsWatched g F K store (kept_after (own_kept G) s a) → ((ledger_after G s a).rules ≡ Two) × IsWatched g F K store (own_kept (ledger_after G s a))
+  pub watched_so : (a : Answer) → IsWatched g F store (kept_after (own_kept G) s a) → ((ledger_after G s a).rules ≡ Two) × IsWatched g F store (own_kept (ledger_after G s a))
   watched_so (Accepted n text) h = (two, by_rules h)
   watched_so (Refused r) h = (two, by_rules h)
   watched_so (IdReused n) h = (two, by_rules h)

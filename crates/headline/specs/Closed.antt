@@ -33,7 +33,7 @@ use Rattle.headline.specs.Runs.Ending.{closed}
 abbrev pub ClosesTo : {D : Type 0} {g : disk.Ghosts D} → LineStore (FileStore D g) StateDesk
     → Files D → Image → Type 0
 ClosesTo {g = g} desk files image =
-    Closes state.Stands state.kept_rules desk files × HasCleanDisk (state_of over_files desk)
+    Closes state.Stands desk files × HasCleanDisk (state_of over_files desk)
     × AreClean g files.log files.db × MayRead g files image
 
 -- The disk never lied, and these are the closed files' contents then, or after a crash.

@@ -4,8 +4,7 @@ use Rattle.sqlite_trees.specs.declared.store.Store.{Ghosts}
 use Rattle.sqlite_trees.specs.Tree.{Trees}
 use Rattle.sqlite.specs.State.{HasCleanDisk}
 use Rattle.desk_types.specs.declared.command.Stamped.{Stamped}
-use Rattle.desk_types.specs.declared.rules.Rules.{Rules}
-use Rattle.desk_types.specs.History.{History, accept}
+use Rattle.desk_types.specs.History.{Basis, accept}
 use Rattle.desk_answers.specs.Ledger.{Ledger}
 use Rattle.gateway_http.specs.Requests.{Reports}
 use Rattle.line_tables.specs.Rows.{HoldsAt}
@@ -22,9 +21,9 @@ HoldsUpToOneMore L trees =
 
 -- The store represents the history, and a crash leaves its tables, or those with one more command. Its connection may
 -- be shut.
-pub record IsWatched {S D : Type 0} (g : Ghosts S) (StandsFor : D → History → Type 0)
-    (kept_rules : D → Rules) (store : LineStore S D) (L : Kept) : Type 0 where
-  pub stands : Stands g StandsFor kept_rules store L
+pub record IsWatched {S D : Type 0} (g : Ghosts S) (StandsFor : D → Basis → Type 0)
+    (store : LineStore S D) (L : Kept) : Type 0 where
+  pub stands : Stands g StandsFor store L
   pub crash : HasCleanDisk (state_of g store) → (trees : Trees) → (state_of g store).may_leave trees
       → HoldsUpToOneMore L trees
 

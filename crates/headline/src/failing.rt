@@ -29,10 +29,10 @@ impl<S: Alter, D: KeepsRows + Drop> Owner for WatchedStore<S, D> {
     ghost use Rattle.headline.specs.Failing.{IsWatched, own_kept};
 
     ghost Stands = { λ watched G. (G.rules ≡ Two)
-        × IsWatched S.Store D.Stands D.kept_rules watched.store (own_kept G) };
+        × IsWatched S.Store D.Stands watched.store (own_kept G) };
 
     ghost Ready = { λ watched. (L : Kept)
-        × StandsFor S.Store D.Stands D.kept_rules watched.store L };
+        × StandsFor S.Store D.Stands watched.store L };
 
     ghost Trusts = { λ watched. HasCleanDisk (state_of S.Store watched.store) };
 
@@ -63,14 +63,14 @@ pub fn failing_disks_leave_the_list<S: Alter, D: KeepsRows + Drop>(
     last: &WatchedStore<S, D>,
 )
     ensures list { (calls : List Call) (greatest : ℕ) (G : History)
-        → Stands S.Store D.Stands D.kept_rules first.now.store (own_kept (by_two greatest G))
+        → Stands S.Store D.Stands first.now.store (own_kept (by_two greatest G))
         → IsTrue (state_of S.Store first.now.store).is_open
         → Calls no_reports ⟦<WatchedStore<S, D> as Owner>⟧.Stands
         ⟦<WatchedStore<S, D> as Owner>⟧.Trusts
         first.now calls last.now
         → HasCleanDisk (state_of S.Store last.now.store)
         → (H : History) × AnswersByTheList no_reports (by_two greatest G) calls H
-        × IsWatched S.Store D.Stands D.kept_rules last.now.store (own_kept (by_two greatest H)) }
+        × IsWatched S.Store D.Stands last.now.store (own_kept (by_two greatest H)) }
 {
     first.store.crash_leaves_the_list();
 }

@@ -63,7 +63,7 @@ pub fn refused_runs_keep_lists<T: Start>(files: &Files<FileFrom<T>>)
 /// A law: after a kill between two calls, which drops the files without a close, they hold the tables of the desk's
 /// history.
 pub fn let_go<F: Disk + Drop, D: KeepsRows + Drop>(desk: LineStore<FileStore<F>, D>) -> Files<F>
-    ensures left { Crashes D.Stands D.kept_rules desk result }
+    ensures left { Crashes D.Stands desk result }
 {
     let conn = desk.into_connection();
     let _obeyed = conn.schema();

@@ -6,7 +6,7 @@ use Rattle.std.proofs.lemmas.List.Sorted.{IsPermutation-sym, IsPermutation-trans
 use Rattle.sqlite.specs.Effect.{Database}
 use Rattle.sqlite.specs.State.{State, KeepsCommit}
 use Rattle.desk_types.specs.declared.rules.Rules.{Rules}
-use Rattle.desk_types.specs.History.{History}
+use Rattle.desk_types.specs.History.{History, Basis}
 use Rattle.desk_types.specs.Judged.{IsJudged}
 use Rattle.line_tables.specs.Line.{IsOurs}
 use Rattle.line_tables.specs.Rows.{Holds, accepted_in}
@@ -38,7 +38,7 @@ pub fault_before : (rules : Rules) (greatest : ℕ) (old mid : State) (f : Repla
 fault_before rules greatest old mid f kept numbered (inl is) = subst (IsFaultOf rules greatest old) (sym is) tt
 fault_before rules greatest old mid f kept numbered (inr stop) = subst (IsFaultOf rules greatest old) (sym stop.1) (stops_before rules greatest old mid stop.0 kept numbered stop.2)
 
-module _ {D : Type 0} (F : D → History → Type 0) (rules : Rules) (greatest : ℕ) (first mid last : State) (desk : D) (expected : Expected) (n : ℕ) (H : History) (Before After : Type 0)
+module _ {D : Type 0} (F : D → Basis → Type 0) (rules : Rules) (greatest : ℕ) (first mid last : State) (desk : D) (expected : Expected) (n : ℕ) (H : History) (Before After : Type 0)
     (early : After → Before) (kept : After → KeepsCommit first mid) (kept_on : After → KeepsCommit mid last) (low : n ≤ greatest) (taken : IsTaken F rules Before mid.committed desk expected n H)
     (are : Bool) (counted : After → Reads last (λ db. are ≡ (n == length (accepted_in db)))) where
   same : After → mid.committed ≡ first.committed
@@ -91,7 +91,7 @@ module _ {D : Type 0} (F : D → History → Type 0) (rules : Rules) (greatest :
             (stops_short rules greatest (accepted_in first.committed) H (numbered.are schema) taken.judged (here clean schema) within (end_of clean end schema) (apart _ (r.are schema) not));
       }
 
-pub same_list : {D : Type 0} (F : D → History → Type 0) (rules : Rules) (greatest : ℕ) (Clean : Type 0) (old : State) (desk : D) (expected : Expected) (count : ℕ) (H G : History)
+pub same_list : {D : Type 0} (F : D → Basis → Type 0) (rules : Rules) (greatest : ℕ) (Clean : Type 0) (old : State) (desk : D) (expected : Expected) (count : ℕ) (H G : History)
     → ((A B : History) → IsJudged rules A → IsJudged rules B → IsPermutation (rows_of A) (rows_of B) → A ≡ B) → IsReplayed F rules greatest Clean old desk expected count H → IsJudged rules G
     → (IsTrue old.is_open → Holds old.committed (ledger_tables greatest G)) → Clean → H ≡ G
 same_list F rules greatest Clean old desk expected count H G tell all judged holds clean =

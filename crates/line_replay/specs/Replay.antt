@@ -6,7 +6,7 @@ use Rattle.sqlite.specs.Effect.{Database}
 use Rattle.sqlite.specs.State.{State}
 use Rattle.desk_types.specs.declared.command.Entry.{Entry}
 use Rattle.desk_types.specs.declared.rules.Rules.{Rules}
-use Rattle.desk_types.specs.History.{History}
+use Rattle.desk_types.specs.History.{History, Basis, basis}
 use Rattle.desk_types.specs.Judged.{IsJudged, IsNext}
 use Rattle.line_tables.specs.Line.{IsOurs}
 use Rattle.line_tables.specs.Rows.{accepted_in}
@@ -25,10 +25,10 @@ use Rattle.state_rows.specs.Lists.{IsListed}
 
 -- The desk represents a judged history of this length, within the greatest number, and the expected rows are the
 -- history's. On a clean disk the history is lawful, and the committed rows of `accepted` are its rows.
-pub record IsReplayed {D : Type 0} (StandsFor : D → History → Type 0) (rules : Rules)
+pub record IsReplayed {D : Type 0} (StandsFor : D → Basis → Type 0) (rules : Rules)
     (greatest : ℕ) (Clean : Type 0) (old : State) (desk : D) (expected : Expected) (count : ℕ)
     (H : History) : Type 0 where
-  pub stands : StandsFor desk H
+  pub stands : StandsFor desk (basis rules H)
   pub judged : IsJudged rules H
   pub counted : length H ≡ count
   pub within : length H ≤ greatest
@@ -43,14 +43,15 @@ IsFaultOf rules greatest old Unavailable = ⊤
 
 -- ---- during the replay
 
--- A desk with its trace indexes represents a history if the desk does, and the indexes list it.
-abbrev pub StandsListed : {D : Type 0} → (D → History → Type 0) → D × TraceLists → History → Type 0
-StandsListed StandsFor it H = StandsFor it.0 H × IsListed it.1 H
+-- A desk with its trace indexes represents a basis if the desk does, and the indexes list its history.
+abbrev pub StandsListed : {D : Type 0} → (D → Basis → Type 0) → D × TraceLists → Basis → Type 0
+StandsListed StandsFor it B = StandsFor it.0 B × IsListed it.1 B.history
 
 -- The desk and its trace indexes are those of an empty history, and so are the rows that it keeps.
-pub record IsFresh {D : Type 0} (StandsFor : D → History → Type 0) (desk : D) (lists : TraceLists)
+pub record IsFresh {D : Type 0} (StandsFor : D → Basis → Type 0) (desk : D) (lists : TraceLists)
     (rows : KeptRows) : Type 0 where
-  pub stands : StandsFor desk []
+  pub rules : Rules
+  pub stands : StandsFor desk (basis rules [])
   pub listed : IsListed lists []
   pub empty : unnumbered (tables_in rows) ≡ unnumbered (tables_of [])
 
@@ -66,11 +67,11 @@ pub record IsStuck (rules : Rules) (H : History) (rows : List Row) : Type 0 wher
 
 -- A row was taken with these edits of the state tables: the desk represents the history with its entry, and no row of a
 -- lower number has its UniqueID.
-pub record Accepts {D : Type 0} (StandsFor : D → History → Type 0) (rules : Rules) (Clean : Type 0)
+pub record Accepts {D : Type 0} (StandsFor : D → Basis → Type 0) (rules : Rules) (Clean : Type 0)
     (old : State) (number : ℕ) (row : Row) (H : History) (desk : D) (edits : List RowEdit)
     (before after : KeptRows) : Type 0 where
   pub entry : Entry
-  pub stands : StandsFor desk (entry ∷ H)
+  pub stands : StandsFor desk (basis rules (entry ∷ H))
   pub goes : GoesOn rules H row entry
   pub lead : Lead edits H entry
   pub rows : tables_in after
@@ -79,10 +80,10 @@ pub record Accepts {D : Type 0} (StandsFor : D → History → Type 0) (rules : 
       (λ db. list_any (is_before entry.stamped.uid number) (accepted_in db) ≡ false)
 
 -- One more entry is taken.
-pub record Takes {D : Type 0} (StandsFor : D → History → Type 0) (rules : Rules) (Clean : Type 0)
+pub record Takes {D : Type 0} (StandsFor : D → Basis → Type 0) (rules : Rules) (Clean : Type 0)
     (old : State) (H : History) (desk : D) (before after : Expected) : Type 0 where
   pub entry : Entry
-  pub stands : StandsFor desk (entry ∷ H)
+  pub stands : StandsFor desk (basis rules (entry ∷ H))
   pub next : IsNext rules H entry
   pub row : Clean → Reads old (λ db. IsAt (accepted_in db) H entry)
   pub edits : List RowEdit
@@ -90,18 +91,18 @@ pub record Takes {D : Type 0} (StandsFor : D → History → Type 0) (rules : Ru
   pub adds : Adds Clean old edits before after
 
 -- A row was taken, or there is no row of the next number, and the desk represents the history.
-abbrev pub Goes : {D : Type 0} → (D → History → Type 0) → Rules → Type 0 → State → History
+abbrev pub Goes : {D : Type 0} → (D → Basis → Type 0) → Rules → Type 0 → State → History
     → Expected → D → Expected → Bool → Type 0
 Goes StandsFor rules Clean old H before desk after true =
     Takes StandsFor rules Clean old H desk before after
-Goes StandsFor rules Clean old H before desk after false = StandsFor desk H × (Clean
+Goes StandsFor rules Clean old H before desk after false = StandsFor desk (basis rules H) × (Clean
     → Reads old (λ db. filter (has_number (length H + 1)) (accepted_in db) ≡ [])) × (after ≡ before)
 
 -- The desk represents a judged history of this length, and the expected rows are the history's. On a clean disk each
 -- entry has its row in our schema's table.
-pub record IsTaken {D : Type 0} (StandsFor : D → History → Type 0) (rules : Rules) (Clean : Type 0)
+pub record IsTaken {D : Type 0} (StandsFor : D → Basis → Type 0) (rules : Rules) (Clean : Type 0)
     (db : Database) (desk : D) (expected : Expected) (count : ℕ) (H : History) : Type 0 where
-  pub stands : StandsFor desk H
+  pub stands : StandsFor desk (basis rules H)
   pub judged : IsJudged rules H
   pub counted : length H ≡ count
   pub rows : Clean → IsOurs db.schema → AreAt (accepted_in db) H
@@ -119,7 +120,7 @@ IsStop rules greatest old n = (H : History) × IsJudged rules H × (length H + 1
 
 -- The rows up to this number were taken, within the greatest number: the desk represents their
 -- history. On a clean disk no row follows.
-pub record TakesAll {D : Type 0} (StandsFor : D → History → Type 0) (rules : Rules) (greatest : ℕ)
+pub record TakesAll {D : Type 0} (StandsFor : D → Basis → Type 0) (rules : Rules) (greatest : ℕ)
     (Clean : Type 0) (old : State) (desk : D) (expected : Expected) (count : ℕ) : Type 0 where
   pub history : History
   pub within : count ≤ greatest

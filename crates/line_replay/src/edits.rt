@@ -3,7 +3,7 @@
 ghost use Rattle.std.specs.Prelude.{◌≡◌, ◌+◌, ℕ, IfOk, length};
 ghost use Rattle.desk_types.specs.declared.rules.Rules.TheVariants.{Two};
 ghost use Rattle.desk_types.specs.Desk.{HasRoom, IsChange};
-ghost use Rattle.desk_types.specs.History.{History, accept};
+ghost use Rattle.desk_types.specs.History.{Basis, accept};
 ghost use Rattle.desk_answers.specs.Texts.{accepted_text};
 ghost use Rattle.desk_types.specs.Edits.{with_edits};
 ghost use Rattle.desk_types.specs.Tables.{tables_of};
@@ -35,23 +35,24 @@ pub fn prepare<D: Desk>(
     change: &Change,
 ) -> Result<Acceptance, NoRow>
     requires room { HasRoom D.Stands desk.now 1 }
-    requires judged { (H : History) → D.Stands desk.now H
-        → IsChange (D.kept_rules desk.now) H change.now.stamped change.now }
+    requires judged { (B : Basis) → D.Stands desk.now B
+        → IsChange B.rules B.history change.now.stamped change.now }
     ensures text { IfOk result
         (λ it. it.text ≡ accepted_text number change.now.stamped.uid change.now.detail) }
-    ensures edits { (greatest : ℕ) (H : History) → D.Stands desk.now H
-        → IsChange Two H change.now.stamped change.now
-        → number ≡ length H + 1
+    ensures edits { (greatest : ℕ) (B : Basis) → D.Stands desk.now B
+        → IsChange Two B.history change.now.stamped change.now
+        → number ≡ length B.history + 1
         → IfOk result
-        (λ it. after_edits (command_edits it.row it.edits) (ledger_tables greatest H)
+        (λ it. after_edits (command_edits it.row it.edits) (ledger_tables greatest B.history)
         ≡ ledger_tables greatest
-        (accept H change.now.stamped)) }
-    ensures new { (greatest : ℕ) (H : History) → D.Stands desk.now H → number ≡ length H + 1
-        → IfOk result (λ it. AreNew (command_edits it.row it.edits) (ledger_tables greatest H)) }
-    ensures lead { (H : History) → D.Stands desk.now H
+        (accept B.history change.now.stamped)) }
+    ensures new { (greatest : ℕ) (B : Basis) → D.Stands desk.now B → number ≡ length B.history + 1
         → IfOk result
-        (λ it. unnumbered (with_edits it.edits (tables_of H)) ≡ unnumbered (tables_of
-        (accept H change.now.stamped))) }
+        (λ it. AreNew (command_edits it.row it.edits) (ledger_tables greatest B.history)) }
+    ensures lead { (B : Basis) → D.Stands desk.now B
+        → IfOk result
+        (λ it. unnumbered (with_edits it.edits (tables_of B.history)) ≡ unnumbered (tables_of
+        (accept B.history change.now.stamped))) }
 {
     let text = accepted_text(
         alloc,

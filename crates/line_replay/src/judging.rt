@@ -2,9 +2,9 @@
 
 ghost use Rattle.std.specs.Prelude.{◌≡◌, ◌+◌, ◌⊎◌, IfOk, IfErr, OnOk, ◌∷◌, length};
 ghost use Rattle.desk_types.specs.declared.command.Entry.{Entry};
+ghost use Rattle.desk_types.specs.History.{Basis};
 ghost use Rattle.desk_types.specs.Desk.{HasRoom};
 ghost use Rattle.desk_types.specs.Edits.{with_edits};
-ghost use Rattle.desk_types.specs.History.{History};
 ghost use Rattle.line_replay.specs.declared.row_fault.RowFault.TheVariants.{NotLawful, NoMemory};
 ghost use Rattle.line_replay.specs.Judging.{GoesOn, Lead};
 ghost use Rattle.state_rows.specs.Kept.{tables_in, but_placements};
@@ -35,14 +35,14 @@ pub fn accept_row<D: KeepsRows>(
     row: &Row,
 ) -> Result<Taken, RowFault>
     requires room { HasRoom D.Stands desk.old 1 }
-    ensures ok { (H : History) → D.Stands desk.old H → length H + 1 ≡ number
-        → IfOk result (λ it. (e : Entry) × (e.stamped.uid ≡ it.uid) × D.Stands desk.new (e ∷ H)
-        × GoesOn (D.kept_rules desk.old) H row.now e × Lead it.edits H e
-        × (IsListed lists.old H → IsListed lists.new (e ∷ H))) }
-    ensures err { (H : History) → D.Stands desk.old H → length H + 1 ≡ number
+    ensures ok { (B : Basis) → D.Stands desk.old B → length B.history + 1 ≡ number
+        → IfOk result (λ it. (e : Entry) × (e.stamped.uid ≡ it.uid)
+        × D.Stands desk.new (record B { history = e ∷ B.history })
+        × GoesOn B.rules B.history row.now e × Lead it.edits B.history e
+        × (IsListed lists.old B.history → IsListed lists.new (e ∷ B.history))) }
+    ensures err { (B : Basis) → D.Stands desk.old B → length B.history + 1 ≡ number
         → IfErr result (λ f. (f ≡ NoMemory)
-        ⊎ ((f ≡ NotLawful) × ((e : Entry) → GoesOn (D.kept_rules desk.old) H row.now e → ⊥))) }
-    ensures rules { OnOk result (D.kept_rules desk.new ≡ D.kept_rules desk.old) }
+        ⊎ ((f ≡ NotLawful) × ((e : Entry) → GoesOn B.rules B.history row.now e → ⊥))) }
     ensures rows { IfOk result (λ it. tables_in (D.kept_rows desk.new)
         ≡ but_placements (with_edits it.edits (tables_in (D.kept_rows desk.old)))
         (tables_in (D.kept_rows desk.old))) }

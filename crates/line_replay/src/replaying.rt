@@ -4,7 +4,7 @@ ghost use Rattle.std.specs.Prelude.{◌≡◌, ◌≤◌, IsTrue, IfOk, IfErr, I
 ghost use Rattle.sqlite.specs.State.{HasCleanDisk};
 ghost use Rattle.sqlite.specs.Held.{state};
 ghost use Rattle.desk_types.specs.declared.limits.TheConstants.{MOST_ENTRIES};
-ghost use Rattle.desk_types.specs.History.{History};
+ghost use Rattle.desk_types.specs.History.{History, basis};
 ghost use Rattle.desk_types.specs.Judged.{IsJudged};
 ghost use Rattle.line_tables.specs.Rows.{Holds};
 ghost use Rattle.line_tables.specs.Frames.{ReadsOnly};
@@ -43,7 +43,6 @@ pub fn replay<S: Alter, D: KeepsRows + Drop>(
         × IsReplayed D.Stands rules greatest (HasCleanDisk (state S.Store conn.new))
         (state S.Store conn.old) r.desk (kept_with (D.kept_rows r.desk) r.placed) r.count H
         × IsListed r.lists H) }
-    ensures rules { IfOk result (λ r. D.kept_rules r.desk ≡ rules) }
     ensures fault { HasCleanDisk (state S.Store conn.new)
         → IfErr result (IsFaultOf rules greatest (state S.Store conn.old)) }
     ensures reads { ReadsOnly S.Store conn.old conn.new }
@@ -82,9 +81,8 @@ pub fn rebuild<S: Alter, D: KeepsRows + Drop>(
         → (IsTrue (state S.Store conn.old).is_open
         → Holds (state S.Store conn.old).committed (ledger_tables greatest G))
         → HasCleanDisk (state S.Store conn.new)
-        → IfSome result (λ r. D.Stands r.desk G × (r.count ≡ length G) × IsListed r.lists G
-        × AreKept (D.kept_rows r.desk) G) }
-    ensures rules { IfSome result (λ r. D.kept_rules r.desk ≡ rules) }
+        → IfSome result (λ r. D.Stands r.desk (basis rules G) × (r.count ≡ length G)
+        × IsListed r.lists G × AreKept (D.kept_rows r.desk) G) }
     ensures reads { ReadsOnly S.Store conn.old conn.new }
 {
     rows_tell_lists_apart();

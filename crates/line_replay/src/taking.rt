@@ -1,14 +1,14 @@
 //! Rows taken one after another, by number.
 
-ghost use Rattle.std.specs.Prelude.{◌≡◌, ◌==◌, ◌+◌, ◌≤◌, ◌⊎◌, ⊤, ℕ, true, IfOk, IfErr, OnOk, length};
+ghost use Rattle.std.specs.Prelude.{◌≡◌, ◌==◌, ◌+◌, ◌≤◌, ◌⊎◌, ⊤, ℕ, [], true, IfOk, IfErr, OnOk, length};
 ghost use Rattle.std.specs.List.{list_any};
 ghost use Rattle.sqlite.specs.State.{HasCleanDisk};
 ghost use Rattle.sqlite.specs.Held.{state};
 ghost use Rattle.desk_types.specs.declared.command.Entry.{Entry};
 ghost use Rattle.desk_types.specs.declared.limits.TheConstants.{MOST_ENTRIES};
 ghost use Rattle.desk_types.specs.declared.rules.Rules.{Rules};
+ghost use Rattle.desk_types.specs.History.{Basis, basis};
 ghost use Rattle.desk_types.specs.Desk.{HasRoom};
-ghost use Rattle.desk_types.specs.History.{History};
 ghost use Rattle.line_tables.specs.Rows.{accepted_in};
 ghost use Rattle.line_tables.specs.Calls.{Reads, is_before};
 ghost use Rattle.line_tables.specs.Frames.{ReadsOnly};
@@ -67,15 +67,15 @@ pub fn take_rows<S: Alter, D: KeepsRows>(
 ) -> Result<(u32, Placed), ReplayFault>
     requires start { IsFresh D.Stands desk.old lists.old (D.kept_rows desk.old) }
     requires bound { greatest ≤ MOST_ENTRIES }
-    ensures taken { IfOk result
-        (λ r. TakesAll (StandsListed D.Stands) (D.kept_rules desk.old) greatest
+    ensures taken { (rules : Rules) → D.Stands desk.old (basis rules []) → IfOk result
+        (λ r. TakesAll (StandsListed D.Stands) rules greatest
         (HasCleanDisk (state S.Store conn.new)) (state S.Store conn.old) (desk.new, lists.new)
         (kept_with (D.kept_rows desk.new) r.1) r.0) }
-    ensures err { HasCleanDisk (state S.Store conn.new)
+    ensures err { (rules : Rules) → D.Stands desk.old (basis rules [])
+        → HasCleanDisk (state S.Store conn.new)
         → IfErr result (λ f. (f ≡ Unavailable)
         ⊎ ((n : ℕ) × (f ≡ NotLawful n)
-        × IsStop (D.kept_rules desk.old) greatest (state S.Store conn.old) n)) }
-    ensures rules { OnOk result (D.kept_rules desk.new ≡ D.kept_rules desk.old) }
+        × IsStop rules greatest (state S.Store conn.old) n)) }
     ensures reads { ReadsOnly S.Store conn.old conn.new }
 {
     let mut placed = Placed {
@@ -101,21 +101,20 @@ fn take_row<S: Alter, D: KeepsRows>(
     number: u32,
 ) -> Result<bool, ReplayFault>
     requires room { HasRoom D.Stands desk.old 1 }
-    ensures ok { (H : History) → StandsListed D.Stands (desk.old, lists.old) H
-        → length H + 1 ≡ number
+    ensures ok { (B : Basis) → StandsListed D.Stands (desk.old, lists.old) B
+        → length B.history + 1 ≡ number
         → IfOk result
-        (Goes (StandsListed D.Stands) (D.kept_rules desk.old)
+        (Goes (StandsListed D.Stands) B.rules
         (HasCleanDisk (state S.Store conn.new))
-        (state S.Store conn.old) H (kept_with (D.kept_rows desk.old) placed.old)
+        (state S.Store conn.old) B.history (kept_with (D.kept_rows desk.old) placed.old)
         (desk.new, lists.new)
         (kept_with (D.kept_rows desk.new) placed.new)) }
-    ensures err { (H : History) → D.Stands desk.old H → length H + 1 ≡ number
+    ensures err { (B : Basis) → D.Stands desk.old B → length B.history + 1 ≡ number
         → HasCleanDisk (state S.Store conn.new)
         → IfErr result (λ f. (f ≡ Unavailable)
         ⊎ ((f ≡ NotLawful number)
         × Reads (state S.Store conn.old)
-        (λ db. IsStuck (D.kept_rules desk.old) H (accepted_in db)))) }
-    ensures rules { OnOk result (D.kept_rules desk.new ≡ D.kept_rules desk.old) }
+        (λ db. IsStuck B.rules B.history (accepted_in db)))) }
     ensures reads { ReadsOnly S.Store conn.old conn.new }
 {
     let found = row_at(conn, number)?;
@@ -139,21 +138,20 @@ fn accept_first<S: Alter, D: KeepsRows>(
     row: &Row,
 ) -> Result<RowEdits, ReplayFault>
     requires room { HasRoom D.Stands desk.old 1 }
-    ensures ok { (H : History) → StandsListed D.Stands (desk.old, lists.old) H
-        → length H + 1 ≡ number
+    ensures ok { (B : Basis) → StandsListed D.Stands (desk.old, lists.old) B
+        → length B.history + 1 ≡ number
         → IfOk result
-        (λ edits. Accepts (StandsListed D.Stands) (D.kept_rules desk.old)
+        (λ edits. Accepts (StandsListed D.Stands) B.rules
         (HasCleanDisk (state S.Store conn.new))
-        (state S.Store conn.old) number row.now H (desk.new, lists.new) edits (D.kept_rows desk.old)
-        (D.kept_rows desk.new)) }
-    ensures err { (H : History) → D.Stands desk.old H → length H + 1 ≡ number
+        (state S.Store conn.old) number row.now B.history (desk.new, lists.new) edits
+        (D.kept_rows desk.old) (D.kept_rows desk.new)) }
+    ensures err { (B : Basis) → D.Stands desk.old B → length B.history + 1 ≡ number
         → HasCleanDisk (state S.Store conn.new)
         → IfErr result (λ f. (f ≡ Unavailable)
         ⊎ ((f ≡ NotLawful number)
-        × ((e : Entry) → GoesOn (D.kept_rules desk.old) H row.now e
+        × ((e : Entry) → GoesOn B.rules B.history row.now e
         → Reads (state S.Store conn.old)
         (λ db. list_any (is_before e.stamped.uid number) (accepted_in db) ≡ true)))) }
-    ensures rules { OnOk result (D.kept_rules desk.new ≡ D.kept_rules desk.old) }
     ensures reads { ReadsOnly S.Store conn.old conn.new }
 {
     match accept_row(alloc, desk, lists, number, row) {

@@ -8,7 +8,7 @@ use Rattle.sqlite.specs.State.{State, KeepsCommit}
 use Rattle.desk_types.specs.declared.rules.Rules.{Rules}
 use Rattle.desk_types.specs.declared.rules.Rules.TheVariants.{One, Two}
 use Rattle.desk_types.specs.declared.limits.TheConstants.{MOST_ENTRIES}
-use Rattle.desk_types.specs.History.{History}
+use Rattle.desk_types.specs.History.{History, Basis, basis}
 use Rattle.desk_types.specs.Id.{Name}
 use Rattle.desk_types.specs.Judged.{IsJudged, IsLawful}
 use Rattle.desk_laws.proofs.RulesOne.{nothing-found}
@@ -88,12 +88,11 @@ none_found : (rules : Rules) (H : History) → IsJudged rules H → rules ≡ On
 none_found rules H judged is reel =
     ap (λ (n : ℕ). if n == 0 then None else Some n) (nothing-found H reel (subst (λ (r : Rules). IsJudged r H) is judged))
 
-pub opened_on : {D : Type 0} (F : D → History → Type 0) (K : D → Rules) (Before After : Type 0) (old mid : State) (rules : Rules) (desk : D) (expected : Expected) (count : ℕ) (opened : Opened D) (H : History) → (After → Before)
-    → IsReplayed F rules opened.greatest Before mid desk expected count H → IsListed opened.working.lists H → K desk ≡ rules → opened.working.desk ≡ desk → opened.count ≡ count → opened.greatest ≤ MOST_ENTRIES → (After → KeepsCommit old mid)
-    → (After → Reads old (λ db. IsVersion db (pos (version_of rules)) opened.greatest)) → (After → Reads old (λ db. IsVerdict (state_tables rules) db (state_of H) None)) → (After → Reads old (λ db. AreAllApartBy rules db)) → IsOpened F K After old rules opened H
-opened_on F K Before After old mid rules desk expected count opened H early r listed kept_by is counted bound kept version state apart = record {
-  working = record { stands = subst (λ d. F d H) (sym is) r.stands; listed = listed };
-  rules = ap K is ∙ kept_by;
+pub opened_on : {D : Type 0} (F : D → Basis → Type 0) (Before After : Type 0) (old mid : State) (rules : Rules) (desk : D) (expected : Expected) (count : ℕ) (opened : Opened D) (H : History) → (After → Before)
+    → IsReplayed F rules opened.greatest Before mid desk expected count H → IsListed opened.working.lists H → opened.working.desk ≡ desk → opened.count ≡ count → opened.greatest ≤ MOST_ENTRIES → (After → KeepsCommit old mid)
+    → (After → Reads old (λ db. IsVersion db (pos (version_of rules)) opened.greatest)) → (After → Reads old (λ db. IsVerdict (state_tables rules) db (state_of H) None)) → (After → Reads old (λ db. AreAllApartBy rules db)) → IsOpened F After old rules opened H
+opened_on F Before After old mid rules desk expected count opened H early r listed is counted bound kept version state apart = record {
+  working = record { stands = subst (λ d. F d (basis rules H)) (sym is) r.stands; listed = listed };
   judged = r.judged;
   count = counted ∙ sym r.counted;
   within = r.within;
@@ -104,15 +103,15 @@ opened_on F K Before After old mid rules desk expected count opened H early r li
   apart = apart;
 }
 
-pub table_fault : {D : Type 0} (F : D → History → Type 0) (rules : Rules) (Before : Type 0) (old mid : State) (desk : D) (expected : Expected) (count greatest : ℕ) (H : History) (table : StateTable) → Before → IsReplayed F rules greatest Before mid desk expected count H → KeepsCommit old mid
+pub table_fault : {D : Type 0} (F : D → Basis → Type 0) (rules : Rules) (Before : Type 0) (old mid : State) (desk : D) (expected : Expected) (count greatest : ℕ) (H : History) (table : StateTable) → Before → IsReplayed F rules greatest Before mid desk expected count H → KeepsCommit old mid
     → Reads old (λ db. IsVersion db (pos (version_of rules)) greatest) → Reads old (λ db. IsVerdict (state_tables rules) db (state_of H) (Some table)) → IsFaultBy rules old (TableDiffers table)
 table_fault F rules Before old mid desk expected count greatest H table clean r kept version first =
     record { greatest = greatest; list = H; version = version; rows = reads_back old mid _ kept (r.rows clean); first = first }
 
 -- The names of the tables show the version.
-pub opened_holds : {D : Type 0} (F : D → History → Type 0) (K : D → Rules) (Clean : Type 0) (old : State) (rules : Rules) (opened : Opened D) (H : History) → IsOpened F K Clean old rules opened H → IsNamedBy rules old
+pub opened_holds : {D : Type 0} (F : D → Basis → Type 0) (Clean : Type 0) (old : State) (rules : Rules) (opened : Opened D) (H : History) → IsOpened F Clean old rules opened H → IsNamedBy rules old
     → (IsTrue old.is_open → old.now ≡ old.committed) → Clean → Reads old (λ db. HoldsBy rules db (ledger_tables opened.greatest H))
-opened_holds F K Clean old rules opened H o named settled clean =
+opened_holds F Clean old rules opened H o named settled clean =
     let version = o.version clean in record {
       was_open = version.was_open;
       are = λ ours.
@@ -127,9 +126,9 @@ opened_holds F K Clean old rules opened H o named settled clean =
           };
     }
 
-pub opened_lawful : {D : Type 0} (F : D → History → Type 0) (K : D → Rules) (Clean : Type 0) (old : State) (opened : Opened D) (H : History) → IsOpened F K Clean old Two opened H → Clean → IsTrue (is_ours old.committed.schema)
+pub opened_lawful : {D : Type 0} (F : D → Basis → Type 0) (Clean : Type 0) (old : State) (opened : Opened D) (H : History) → IsOpened F Clean old Two opened H → Clean → IsTrue (is_ours old.committed.schema)
     → IsLawful Two opened.greatest H
-opened_lawful F K Clean old opened H o clean own = let ours = ours_is old.committed.schema own in ((o.rows clean).are (record { rules = Two; layout = ours.0; same = ours.1 })).lawful
+opened_lawful F Clean old opened H o clean own = let ours = ours_is old.committed.schema own in ((o.rows clean).are (record { rules = Two; layout = ours.0; same = ours.1 })).lawful
 
 pub reads_all : {S : Type 0} (g : Ghosts S) (a b c d e : Held S) → ReadsOnly g a b → ReadsOnly g b c → ReadsOnly g c d → ReadsOnly g d e → ReadsOnly g a e
 reads_all g a b c d e one two three four = reads_then g a b e one (reads_then g b c e two (reads_then g c d e three four))

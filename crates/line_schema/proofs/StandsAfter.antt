@@ -16,7 +16,7 @@ use Rattle.desk_types.specs.declared.rules.Rules.TheVariants.{Two}
 use Rattle.desk_types.specs.Command.{IsStamped}
 use Rattle.desk_types.specs.Number.{IsMinute}
 use Rattle.desk_types.specs.Desk.{IsChange}
-use Rattle.desk_types.specs.History.{History, accept}
+use Rattle.desk_types.specs.History.{History, Basis, basis, accept}
 use Rattle.desk_types.specs.Id.{same}
 use Rattle.desk_types.specs.Judged.{IsJudged, IsLawful}
 use Rattle.desk_types.specs.declared.answer.Reply.TheVariants.{Accepted, Refused}
@@ -44,13 +44,13 @@ use Rattle.state_rows.specs.Lists.{IsListed}
 use Rattle.line_traces.specs.declared.working.Working.{Working}
 use Rattle.line_traces.specs.Working.{IsWorking}
 
-pub judged_for : {D : Type 0} (F : D → History → Type 0) (K : D → Rules) (o : Option (Working D)) (H : History) (change : Change)
-    → IsSomeAnd o (λ w. (G : History) → F w.desk G → IsChange (K w.desk) G change.stamped change) → WorksFor F K o H → IsChange Two H change.stamped change
-judged_for F K None H change h works = absurd h
-judged_for F K (Some w) H change h works = subst (λ (r : Rules). IsChange r H change.stamped change) works.1 (h H works.0.stands)
+pub judged_for : {D : Type 0} (F : D → Basis → Type 0) (o : Option (Working D)) (H : History) (change : Change)
+    → IsSomeAnd o (λ w. (B : Basis) → F w.desk B → IsChange B.rules B.history change.stamped change) → WorksFor F o H → IsChange Two H change.stamped change
+judged_for F None H change h works = absurd h
+judged_for F (Some w) H change h works = h (basis Two H) works.stands
 
-pub works_for : {D : Type 0} (F : D → History → Type 0) (K : D → Rules) (o : Option (Working D)) (w : Working D) (H : History) → o ≡ Some w → WorksFor F K o H → IsWorking F w H × (K w.desk ≡ Two)
-works_for F K o w H is works = subst (λ o. WorksFor F K o H) is works
+pub works_for : {D : Type 0} (F : D → Basis → Type 0) (o : Option (Working D)) (w : Working D) (H : History) → o ≡ Some w → WorksFor F o H → IsWorking F w (basis Two H)
+works_for F o w H is works = subst (λ o. WorksFor F o H) is works
 
 pub none_yet : IsDistinct same []
 unfolding IsDistinct
@@ -95,14 +95,14 @@ unless_shut true holds stays = inl (holds refl)
 unless_shut false holds (inl is_open) = absurd (cc)
 unless_shut false holds (inr failed) = inr (failed, refl)
 
-pub not_committed : {S D : Type 0} (g : Ghosts S) (F : D → History → Type 0) (K : D → Rules) (old new : LineStore S D) (L : Kept) (r : Result Answer Fault) (s : Stamped) (e : Fault)
-    → r ≡ Err e → (IsTrue L.own → Survives (state g old.conn) (state g new.conn) (HoldsAt (ledger_tables L.greatest (accept L.history s)))) → Commits g F K old new L r s
-not_committed g F K old new L r s e is survives =
-    subst (λ (r : Result Answer Fault). Commits g F K old new L r s) (sym is) (record { ok = λ first. tt; survives = survives; alone = λ clean own. tt })
+pub not_committed : {S D : Type 0} (g : Ghosts S) (F : D → Basis → Type 0) (old new : LineStore S D) (L : Kept) (r : Result Answer Fault) (s : Stamped) (e : Fault)
+    → r ≡ Err e → (IsTrue L.own → Survives (state g old.conn) (state g new.conn) (HoldsAt (ledger_tables L.greatest (accept L.history s)))) → Commits g F old new L r s
+not_committed g F old new L r s e is survives =
+    subst (λ (r : Result Answer Fault). Commits g F old new L r s) (sym is) (record { ok = λ first. tt; survives = survives; alone = λ clean own. tt })
 
-module _ {S D : Type 0} (g : Ghosts S) (F : D → History → Type 0) (K : D → Rules) where
+module _ {S D : Type 0} (g : Ghosts S) (F : D → Basis → Type 0) where
   -- If the tables are not its own, the store promises less.
-  pub disowned : (store : LineStore S D) (L : Kept) → Stands g F K store L → Stands g F K store (record L { own = false })
+  pub disowned : (store : LineStore S D) (L : Kept) → Stands g F store L → Stands g F store (record L { own = false })
   disowned store L s = record {
     greatest = s.greatest;
     bound = s.bound;
@@ -117,9 +117,9 @@ module _ {S D : Type 0} (g : Ghosts S) (F : D → History → Type 0) (K : D →
     tables = λ clean own. absurd (true≢false (sym own));
   }
 
-  pub remade : {P : Trees → Type 0} (old new : LineStore S D) (H : History) → new.greatest ≡ old.greatest → new.count ≡ length H → WorksFor F K new.working H → new.conn.in_transaction ≡ false
+  pub remade : {P : Trees → Type 0} (old new : LineStore S D) (H : History) → new.greatest ≡ old.greatest → new.count ≡ length H → WorksFor F new.working H → new.conn.in_transaction ≡ false
       → IsJudged Two H → Survives (state g old.conn) (state g new.conn) P
-      → (L : Kept) → Stands g F K old L → length H ≤ L.greatest → Stands g F K new (record { greatest = L.greatest; history = H; own = false })
+      → (L : Kept) → Stands g F old L → length H ≤ L.greatest → Stands g F new (record { greatest = L.greatest; history = H; own = false })
   remade {P} old new H greatest count working mode judged survives L s within = record {
     greatest = greatest ∙ s.greatest;
     bound = s.bound;
@@ -135,8 +135,8 @@ module _ {S D : Type 0} (g : Ghosts S) (F : D → History → Type 0) (K : D →
   }
 
   -- The committed contents stay, and the working state is of the same history if it is loaded.
-  pub stays : {P : Trees → Type 0} (old new : LineStore S D) (L : Kept) → new.greatest ≡ old.greatest → new.count ≡ length L.history → WorksFor F K new.working L.history → new.conn.in_transaction ≡ false
-      → Survives (state g old.conn) (state g new.conn) P → (HasCleanDisk (state g new.conn) → KeepsCommit (state g old.conn) (state g new.conn)) → Stands g F K old L → Stands g F K new L
+  pub stays : {P : Trees → Type 0} (old new : LineStore S D) (L : Kept) → new.greatest ≡ old.greatest → new.count ≡ length L.history → WorksFor F new.working L.history → new.conn.in_transaction ≡ false
+      → Survives (state g old.conn) (state g new.conn) P → (HasCleanDisk (state g new.conn) → KeepsCommit (state g old.conn) (state g new.conn)) → Stands g F old L → Stands g F new L
   stays {P} old new L greatest count working mode survives kept s = record {
     greatest = greatest ∙ s.greatest;
     bound = s.bound;
@@ -154,24 +154,24 @@ module _ {S D : Type 0} (g : Ghosts S) (F : D → History → Type 0) (K : D →
   -- A call failed: memory was taken for the trace indexes at most, and the committed contents stay.
   pub fails : {P : Trees → Type 0} (R : D → KeptRows) (old new : LineStore S D) (w : Working D) (lists : TraceLists) (L : Kept) (r : Result Answer Fault) (told : Answer) (next : History) (e : Fault) → r ≡ Err e
       → old.working ≡ Some w → new.working ≡ Some (record { desk = w.desk; lists = lists }) → ((H : History) → IsListed w.lists H → IsListed lists H) → new.greatest ≡ old.greatest → new.count ≡ old.count → new.conn.in_transaction ≡ false
-      → Survives (state g old.conn) (state g new.conn) P → (HasCleanDisk (state g new.conn) → KeepsCommit (state g old.conn) (state g new.conn)) → Stands g F K old L → AnswersOrFails g F K R old new L r told next
+      → Survives (state g old.conn) (state g new.conn) P → (HasCleanDisk (state g new.conn) → KeepsCommit (state g old.conn) (state g new.conn)) → Stands g F old L → AnswersOrFails g F R old new L r told next
   fails R old new w lists L r told next e err was is listed greatest count mode survives kept s =
-      let works = works_for F K old.working w L.history was s.working in
-      let same : WorksFor F K new.working L.history = subst (λ o. WorksFor F K o L.history) (sym is) (record { stands = works.0.stands; listed = listed L.history works.0.listed }, works.1) in
-      subst (λ (r : Result Answer Fault). AnswersOrFails g F K R old new L r told next) (sym err) (record {
+      let works = works_for F old.working w L.history was s.working in
+      let same : WorksFor F new.working L.history = subst (λ o. WorksFor F o L.history) (sym is) (record { stands = works.stands; listed = listed L.history works.listed }) in
+      subst (λ (r : Result Answer Fault). AnswersOrFails g F R old new L r told next) (sym err) (record {
         answer = tt;
         err = stays old new L greatest (count ∙ s.count) same mode survives kept s;
         rows = λ rows. tt;
         rows_stay = λ rows. subst (λ o. IfSome o (λ x. AreKept (R x.desk) L.history)) (sym is) (subst (λ o. IfSome o (λ x. AreKept (R x.desk) L.history)) was rows);
       })
 
-  pub stands_on : {P : Trees → Type 0} (old new : LineStore S D) (L : Kept) (change : Change) (edits : List Edit) → Stands g F K old L → old.count < old.greatest
+  pub stands_on : {P : Trees → Type 0} (old new : LineStore S D) (L : Kept) (change : Change) (edits : List Edit) → Stands g F old L → old.count < old.greatest
       → IsChange Two L.history change.stamped change → IsStamped change.stamped → IsMinute change.minute
-      → new.count ≡ old.count + 1 → new.greatest ≡ old.greatest → new.conn.in_transaction ≡ false → WorksFor F K new.working (accept L.history change.stamped)
+      → new.count ≡ old.count + 1 → new.greatest ≡ old.greatest → new.conn.in_transaction ≡ false → WorksFor F new.working (accept L.history change.stamped)
       → after_edits edits (ledger_tables L.greatest L.history) ≡ ledger_tables L.greatest (accept L.history change.stamped) → AreNew edits (ledger_tables L.greatest L.history)
       → Survives (state g old.conn) (state g new.conn) P → (HasCleanDisk (state g new.conn) → Edits edits (state g old.conn).committed (state g new.conn).committed)
       → (HasCleanDisk (state g new.conn) → IsTrue (state g old.conn).is_open) → (HasCleanDisk (state g new.conn) → IsTrue L.own → earlier_answer L.history change.stamped ≡ None)
-      → Stands g F K new (with_command L change.stamped)
+      → Stands g F new (with_command L change.stamped)
   stands_on {P} old new L change edits s room is stamped minute count greatest mode working after fresh survives done was_open first = record {
     greatest = greatest ∙ s.greatest;
     bound = s.bound;
@@ -191,27 +191,27 @@ module _ {S D : Type 0} (g : Ghosts S) (F : D → History → Type 0) (K : D →
       judged = (next_is Two L.history change.stamped change stamped minute is, s.judged)
 
   pub read_on : {P : Trees → Type 0} (old new : LineStore S D) → new.greatest ≡ old.greatest → new.count ≡ old.count → new.working ≡ old.working → (old.conn.in_transaction ≡ false → new.conn.in_transaction ≡ false)
-      → Survives (state g old.conn) (state g new.conn) P → (HasCleanDisk (state g new.conn) → KeepsCommit (state g old.conn) (state g new.conn)) → (L : Kept) → Stands g F K old L → Stands g F K new L
+      → Survives (state g old.conn) (state g new.conn) P → (HasCleanDisk (state g new.conn) → KeepsCommit (state g old.conn) (state g new.conn)) → (L : Kept) → Stands g F old L → Stands g F new L
   read_on old new greatest count working mode survives kept L s =
-      stays old new L greatest (count ∙ s.count) (subst (λ (o : Option (Working D)). WorksFor F K o L.history) (sym working) s.working) (mode s.mode) survives kept s
+      stays old new L greatest (count ∙ s.count) (subst (λ (o : Option (Working D)). WorksFor F o L.history) (sym working) s.working) (mode s.mode) survives kept s
 
-  pub reads_on : (old new : LineStore S D) → new.greatest ≡ old.greatest → new.count ≡ old.count → new.working ≡ old.working → ReadsOnly g old.conn new.conn → ReadsStore g F K old new
+  pub reads_on : (old new : LineStore S D) → new.greatest ≡ old.greatest → new.count ≡ old.count → new.working ≡ old.working → ReadsOnly g old.conn new.conn → ReadsStore g F old new
   reads_on old new greatest count working reads = record { stands = read_on old new greatest count working reads.mode reads.survives reads.kept; working = working; reads = reads }
 
-  pub stands_still : (store : LineStore S D) (L : Kept) (s : Stamped) → (is_some (earlier_answer L.history s) || is_full L.greatest L.history) ≡ true → Stands g F K store L → Stands g F K store (record L { history = command_after Two L.greatest L.history s })
-  stands_still store L s settled stands = subst (λ H. Stands g F K store (record L { history = H })) (sym (ap (λ b. if b then L.history else after_command Two L.history s) settled)) stands
+  pub stands_still : (store : LineStore S D) (L : Kept) (s : Stamped) → (is_some (earlier_answer L.history s) || is_full L.greatest L.history) ≡ true → Stands g F store L → Stands g F store (record L { history = command_after Two L.greatest L.history s })
+  stands_still store L s settled stands = subst (λ H. Stands g F store (record L { history = H })) (sym (ap (λ b. if b then L.history else after_command Two L.history s) settled)) stands
 
   -- Every table is that of the history, unless the connection is shut.
-  pub tables_there : (store : LineStore S D) (L : Kept) → Stands g F K store L → ShowsTables g store L
+  pub tables_there : (store : LineStore S D) (L : Kept) → Stands g F store L → ShowsTables g store L
   tables_there store L s clean own = unless_shut (state g store.conn).is_open (s.tables clean own) (s.stays_open clean)
 
-  pub stands_either : (r : Result Answer Fault) (new : LineStore S D) (L M : Kept) → OnOk r (Stands g F K new M) → OnErr r (Stands g F K new L) → (N : Kept) × Stands g F K new N
+  pub stands_either : (r : Result Answer Fault) (new : LineStore S D) (L M : Kept) → OnOk r (Stands g F new M) → OnErr r (Stands g F new L) → (N : Kept) × Stands g F new N
   stands_either (Ok a) new L M ok err = (M, ok)
   stands_either (Err e) new L M ok err = (L, err)
 
-  pub accepted_as : (r : Result Answer Fault) (new : LineStore S D) (L : Kept) (s : Stamped) (change : Change) → IsChange Two L.history s change → OnOk r (Stands g F K new (with_command L change.stamped))
-      → OnOk r (Stands g F K new (record L { history = after_command Two L.history s }))
-  accepted_as r new L s change is ok = accepted_to (λ H. Stands g F K new (record L { history = H })) r L.history s change is ok
+  pub accepted_as : (r : Result Answer Fault) (new : LineStore S D) (L : Kept) (s : Stamped) (change : Change) → IsChange Two L.history s change → OnOk r (Stands g F new (with_command L change.stamped))
+      → OnOk r (Stands g F new (record L { history = after_command Two L.history s }))
+  accepted_as r new L s change is ok = accepted_to (λ H. Stands g F new (record L { history = H })) r L.history s change is ok
 
 -- The tables that a crash may leave of edits, if the tables were those of the history.
 module _ (old : State) (tables after : Tables) (edits : List Edit) (is : after_edits edits tables ≡ after) (new : AreNew edits tables) (holds : HasCleanDisk old → IsTrue old.is_open → Holds old.committed tables) where

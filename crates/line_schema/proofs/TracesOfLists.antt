@@ -4,9 +4,8 @@ use Rattle.std.specs.List.{AllZip}
 use Rattle.sqlite_trees.specs.declared.store.Store.{Ghosts}
 use Rattle.sqlite.specs.State.{State, HasCleanDisk, Survives}
 use Rattle.sqlite.specs.Held.{state}
-use Rattle.desk_types.specs.declared.rules.Rules.{Rules}
 use Rattle.desk_types.specs.declared.rules.Rules.TheVariants.{Two}
-use Rattle.desk_types.specs.History.{History}
+use Rattle.desk_types.specs.History.{History, Basis, basis}
 use Rattle.line_replay.specs.Rows.{rows_of}
 use Rattle.line_traces.specs.declared.working.Working.{Working}
 use Rattle.line_traces.specs.Working.{FindsOfBoth, IsWorking}
@@ -18,18 +17,14 @@ rows-are : (H : History) → AllZip IsRowOf H (rows_of H)
 rows-are [] = tt
 rows-are (e ∷ H) = ((refl, refl), rows-are H)
 
-works-so : {D : Type 0} (F : D → History → Type 0) (K : D → Rules) (working : Option (Working D)) (H : History) → WorksFor F K working H → IfSome working (λ w. IsWorking F w H)
-works-so F K None H works = works
-works-so F K (Some w) H works = works.0
-
 -- If the tables are the store's own, a result about them and the working state holds for its history.
-pub told-of : {S D X : Type 0} (g : Ghosts S) (F : D → History → Type 0) (K : D → Rules) (old : LineStore S D) (new : State) (working : Option (Working D)) (of : History → X) (found : X) → working ≡ old.working → Survives (state g old.conn) new (λ _. ⊥)
-    → (HasCleanDisk new → FindsOfBoth F working of (state g old.conn) found) → (L : Kept) → Stands g F K old L → HasCleanDisk new → IsTrue L.own → found ≡ of L.history
-told-of g F K old new working of found is survives told L stands clean own =
+pub told-of : {S D X : Type 0} (g : Ghosts S) (F : D → Basis → Type 0) (old : LineStore S D) (new : State) (working : Option (Working D)) (of : History → X) (found : X) → working ≡ old.working → Survives (state g old.conn) new (λ _. ⊥)
+    → (HasCleanDisk new → FindsOfBoth F working of (state g old.conn) found) → (L : Kept) → Stands g F old L → HasCleanDisk new → IsTrue L.own → found ≡ of L.history
+told-of g F old new working of found is survives told L stands clean own =
     let tells = told clean in
     let early : HasCleanDisk (state g old.conn) = omega (arith, survives.clean, clean) in
     let held = stands.tables early own tells.was_open in
     tells.are (record { rules = Two; layout = held.indexed; same = held.schema }) L.history (record {
       held = list-held (state g old.conn).committed L.history (rows_of L.history) stands.judged held.accepted (rows-are L.history) held.state;
-      working = subst (λ w. IfSome w (λ x. IsWorking F x L.history)) (sym is) (works-so F K old.working L.history stands.working);
+      working = subst (λ w. IfSome w (λ x. IsWorking F x (basis Two L.history))) (sym is) stands.working;
     })

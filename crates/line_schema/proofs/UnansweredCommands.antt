@@ -6,9 +6,8 @@ use Rattle.sqlite_trees.specs.Tree.{Trees}
 use Rattle.sqlite.specs.State.{HasCleanDisk}
 use Rattle.desk_types.proofs.Keys.{same-refl}
 use Rattle.desk_types.specs.declared.command.Stamped.{Stamped}
-use Rattle.desk_types.specs.declared.rules.Rules.{Rules}
 use Rattle.desk_types.specs.declared.rules.Rules.TheVariants.{Two}
-use Rattle.desk_types.specs.History.{History, accept, entry_of}
+use Rattle.desk_types.specs.History.{History, Basis, accept, entry_of}
 use Rattle.desk_types.specs.Outcome.{after_command}
 use Rattle.desk_answers.specs.declared.answer.Answer.TheVariants.{Unavailable}
 use Rattle.desk_answers.specs.Commands.{answer_under, command_after, earlier_answer, is_full}
@@ -24,16 +23,16 @@ left : (b : Bool) (P Q : Type 0) → MatchBool b P (P ⊎ Q) → P ⊎ Q
 left true P Q h = inl h
 left false P Q h = h
 
-module _ {S D : Type 0} (g : Ghosts S) (F : D → History → Type 0) (K : D → Rules) where
-  pub clean_before : (sent : List Stamped) (old new : LineStore S D) → GoUnanswered g F K old sent new → HasCleanDisk (state_of g new) → HasCleanDisk (state_of g old)
+module _ {S D : Type 0} (g : Ghosts S) (F : D → Basis → Type 0) where
+  pub clean_before : (sent : List Stamped) (old new : LineStore S D) → GoUnanswered g F old sent new → HasCleanDisk (state_of g new) → HasCleanDisk (state_of g old)
   clean_before [] old new same clean = subst (λ (it : LineStore S D). HasCleanDisk (state_of g it)) same clean
   clean_before (s ∷ sent) old new (mid, one, more) clean = one.clean (clean_before sent mid new more clean)
 
-  pub still_stands : (sent : List Stamped) (old new : LineStore S D) (L : Kept) → Stands g F K old L → IsTrue L.own → GoUnanswered g F K old sent new → HasCleanDisk (state_of g new) → Stands g F K new L
-  still_stands [] old new L stands own same clean = subst (λ (it : LineStore S D). Stands g F K it L) (sym same) stands
+  pub still_stands : (sent : List Stamped) (old new : LineStore S D) (L : Kept) → Stands g F old L → IsTrue L.own → GoUnanswered g F old sent new → HasCleanDisk (state_of g new) → Stands g F new L
+  still_stands [] old new L stands own same clean = subst (λ (it : LineStore S D). Stands g F it L) (sym same) stands
   still_stands (s ∷ sent) old new L stands own (mid, one, more) clean = still_stands sent mid new L (one.stands L stands (clean_before sent mid new more clean) own) own more clean
 
-  pub leaves : (sent : List Stamped) (old new : LineStore S D) (L : Kept) → Stands g F K old L → IsTrue L.own → GoUnanswered g F K old sent new → HasCleanDisk (state_of g new)
+  pub leaves : (sent : List Stamped) (old new : LineStore S D) (L : Kept) → Stands g F old L → IsTrue L.own → GoUnanswered g F old sent new → HasCleanDisk (state_of g new)
       → (trees : Trees) → (state_of g new).may_leave trees → (state_of g old).may_leave trees ⊎ HoldsOneMore L sent trees
   leaves [] old new L stands own same clean trees may = inl (subst (λ (it : LineStore S D). (state_of g it).may_leave trees) same may)
   leaves (s ∷ sent) old new L stands own (mid, one, more) clean trees may =

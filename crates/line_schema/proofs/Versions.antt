@@ -4,9 +4,8 @@ use Rattle.sqlite_trees.specs.Tree.{Trees}
 use Rattle.sqlite.specs.Effect.{Database}
 use Rattle.sqlite.specs.State.{State, HasCleanDisk, KeepsCommit, Survives}
 use Rattle.sqlite.proofs.StateLemmas.{survives_then}
-use Rattle.desk_types.specs.declared.rules.Rules.{Rules}
 use Rattle.desk_types.specs.declared.rules.Rules.TheVariants.{One}
-use Rattle.desk_types.specs.History.{History}
+use Rattle.desk_types.specs.History.{History, Basis}
 use Rattle.desk_types.proofs.BothRules.{judged-by-two}
 use Rattle.line_tables.specs.Line.{IsOurs}
 use Rattle.line_tables.specs.Rows.{HoldsBy, accepted_columns, accepted_in}
@@ -31,10 +30,10 @@ pub survives_migration : (old mid new : State) → (HasCleanDisk new → KeepsCo
 survives_migration old mid new kept read written =
     survives_then old mid new (λ _. ⊥) (LeavesMigrated mid) (LeavesMigrated old) (λ clean trees none. absurd none) (λ clean trees left. left_before old mid trees (kept clean) left) read written
 
-pub migrated_on : {D : Type 0} (F : D → History → Type 0) (K : D → Rules) (Clean : Type 0) (old mid new : State) (opened : Opened D) (H : History) → IsOpened F K Clean old One opened H → Clean → IsNamedBy One old
+pub migrated_on : {D : Type 0} (F : D → Basis → Type 0) (Clean : Type 0) (old mid new : State) (opened : Opened D) (H : History) → IsOpened F Clean old One opened H → Clean → IsNamedBy One old
     → (IsTrue old.is_open → old.now ≡ old.committed) → KeepsCommit old mid → Migrated mid.committed new.committed → IsTrue mid.is_open × IsTrue new.is_open → ((trees : Trees) → new.may_leave trees → LeavesMigrated mid trees)
     → IsMigrated old new opened.greatest H opened.count
-migrated_on F K Clean old mid new opened H o clean named settled kept done is_open left = record {
+migrated_on F Clean old mid new opened H o clean named settled kept done is_open left = record {
   counted = o.count;
   by_one = λ ours. ((o.rows clean).are ours).lawful;
   by_two = λ ours.
@@ -49,7 +48,7 @@ migrated_on F K Clean old mid new opened H o clean named settled kept done is_op
 }
   where
     before : Reads old (λ db. HoldsBy One db (ledger_tables opened.greatest H))
-    before = opened_holds F K Clean old One opened H o named settled clean
+    before = opened_holds F Clean old One opened H o named settled clean
 
     same : mid.committed ≡ old.committed
     same = kept.committed is_open.0

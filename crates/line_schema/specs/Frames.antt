@@ -5,8 +5,7 @@ use Rattle.sqlite_trees.specs.Tree.{Trees}
 use Rattle.sqlite_trees.specs.declared.store.Store.{Ghosts}
 use Rattle.sqlite.specs.State.{State, HasCleanDisk, KeepsCommit, Survives}
 use Rattle.sqlite.specs.Held.{Held, state}
-use Rattle.desk_types.specs.declared.rules.Rules.{Rules}
-use Rattle.desk_types.specs.History.{History}
+use Rattle.desk_types.specs.History.{Basis}
 use Rattle.line_tables.specs.Calls.{LeavesBlank, HasOthers, KeepsOthers}
 use Rattle.line_tables.specs.Frames.{ReadsOnly}
 use Rattle.line_tables.specs.Names.{has_name}
@@ -17,21 +16,21 @@ use Rattle.line_schema.specs.Stands.{ForKept, Kept, Stands, conn_of, state_of, h
 use Rattle.line_schema.specs.Traces.{working_of}
 
 -- A call that only reads: the store represents the same history, and its working state is unchanged.
-pub record ReadsStore {S D : Type 0} (g : Ghosts S) (StandsFor : D → History → Type 0)
-    (kept_rules : D → Rules) (old new : LineStore S D) : Type 0 where
-  pub stands : (L : Kept) → Stands g StandsFor kept_rules old L
-      → Stands g StandsFor kept_rules new L
+pub record ReadsStore {S D : Type 0} (g : Ghosts S) (StandsFor : D → Basis → Type 0)
+    (old new : LineStore S D) : Type 0 where
+  pub stands : (L : Kept) → Stands g StandsFor old L
+      → Stands g StandsFor new L
   pub working : working_of new ≡ working_of old
   pub reads : ReadsOnly g (conn_of old) (conn_of new)
 
 -- A call that loads the desk from the tables if it isn't loaded. The store represents a history:
 -- the same one if the disk is honest and the tables are the store's own. A crash leaves nothing
 -- new.
-pub record MakesDesk {S D : Type 0} (g : Ghosts S) (StandsFor : D → History → Type 0)
-    (kept_rules : D → Rules) (old new : LineStore S D) : Type 0 where
+pub record MakesDesk {S D : Type 0} (g : Ghosts S) (StandsFor : D → Basis → Type 0)
+    (old new : LineStore S D) : Type 0 where
   pub at_hand : IsTrue (has_desk old) → new ≡ old
-  pub kept : (L : Kept) × Stands g StandsFor kept_rules new L
-  pub stands : ForKept g StandsFor kept_rules old new (Stands g StandsFor kept_rules new)
+  pub kept : (L : Kept) × Stands g StandsFor new L
+  pub stands : ForKept g StandsFor old new (Stands g StandsFor new)
   pub survives : Survives (state_of g old) (state_of g new) (λ _. ⊥)
 
 -- No tables were created, and this is the fault. The committed contents stay, and no new

@@ -5,8 +5,7 @@ use Rattle.sqlite_trees.specs.declared.store.Store.{Ghosts}
 use Rattle.sqlite_trees.specs.Tree.{Trees}
 use Rattle.sqlite.specs.Held.{Held, state}
 use Rattle.sqlite.specs.State.{HasCleanDisk, Survives}
-use Rattle.desk_types.specs.declared.rules.Rules.{Rules}
-use Rattle.desk_types.specs.History.{History}
+use Rattle.desk_types.specs.History.{Basis}
 use Rattle.state_rows.specs.Kept.{KeptRows}
 use Rattle.line_tables.specs.Calls.{LeavesBlank, Reads}
 use Rattle.line_tables.specs.Frames.{ReadsOnly}
@@ -18,12 +17,12 @@ use Rattle.line_schema.specs.declared.store.LineStore.{LineStore}
 use Rattle.line_schema.specs.Opening.{IsNamed}
 use Rattle.line_schema.specs.Stands.{HasRows, Kept, Stands, conn_of, has_desk, state_of}
 
-module _ {S D : Type 0} (g : Ghosts S) (StandsFor : D → History → Type 0) (kept_rules : D → Rules)
+module _ {S D : Type 0} (g : Ghosts S) (StandsFor : D → Basis → Type 0)
     (kept_rows : D → KeptRows) (conn : Held S) where
   -- There was no table of our names. The store has an empty history and a loaded desk. Its tables
   -- are its own if there was no table at all, and then a crash leaves only these.
   pub record MakesStore (greatest : ℕ) (store : LineStore S D) : Type 0 where
-    pub stands : Stands g StandsFor kept_rules store
+    pub stands : Stands g StandsFor store
         (record { greatest = greatest; history = []; own = is_blank (state g conn).now.schema })
     pub loaded : IsTrue (has_desk store)
     pub rows : HasRows kept_rows store []
@@ -37,7 +36,7 @@ module _ {S D : Type 0} (g : Ghosts S) (StandsFor : D → History → Type 0) (k
   -- loaded, and the file was only read.
   pub record OpensStore (store : LineStore S D) (L : Kept) : Type 0 where
     pub own : L.own ≡ is_ours (state g conn).committed.schema
-    pub stands : Stands g StandsFor kept_rules store L
+    pub stands : Stands g StandsFor store L
     pub tables : HasCleanDisk (state_of g store)
         → Reads (state g conn) (λ db. Holds db (ledger_tables L.greatest L.history))
     pub rows : HasRows kept_rows store L.history

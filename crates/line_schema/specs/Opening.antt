@@ -8,7 +8,7 @@ use Rattle.sqlite.specs.State.{State, HasCleanDisk}
 use Rattle.desk_types.specs.declared.limits.TheConstants.{MOST_ENTRIES}
 use Rattle.desk_types.specs.declared.rules.Rules.{Rules}
 use Rattle.desk_types.specs.declared.rules.Rules.TheVariants.{Two}
-use Rattle.desk_types.specs.History.{History}
+use Rattle.desk_types.specs.History.{History, Basis, basis}
 use Rattle.desk_types.specs.Judged.{IsJudged}
 use Rattle.desk_types.specs.Tables.{tables_of as state_of}
 use Rattle.line_tables.specs.Names.{is_version, is_accepted, has_state}
@@ -122,10 +122,9 @@ fault_text Unavailable = codes "Unavailable"
 -- number. On a clean disk with our schema: `version` has that greatest
 -- number, the history is lawful, its rows are committed, the other tables are the history's, and
 -- their rowids are distinct.
-pub record IsOpened {D : Type 0} (StandsFor : D → History → Type 0) (kept_rules : D → Rules)
+pub record IsOpened {D : Type 0} (StandsFor : D → Basis → Type 0)
     (Clean : Type 0) (old : State) (by : Rules) (opened : Opened D) (H : History) : Type 0 where
-  pub working : IsWorking StandsFor opened.working H
-  pub rules : kept_rules opened.working.desk ≡ by
+  pub working : IsWorking StandsFor opened.working (basis by H)
   pub judged : IsJudged by H
   pub count : opened.count ≡ length H
   pub within : length H ≤ opened.greatest

@@ -7,9 +7,8 @@ use Rattle.sqlite.specs.State.{State, HasCleanDisk}
 use Rattle.sqlite.specs.Held.{Held, state}
 use Rattle.desk_types.specs.declared.command.Stamped.{Stamped}
 use Rattle.desk_types.specs.declared.limits.TheConstants.{MOST_ENTRIES}
-use Rattle.desk_types.specs.declared.rules.Rules.{Rules}
 use Rattle.desk_types.specs.declared.rules.Rules.TheVariants.{Two}
-use Rattle.desk_types.specs.History.{History, accept}
+use Rattle.desk_types.specs.History.{History, Basis, basis, accept}
 use Rattle.desk_types.specs.Judged.{IsJudged, IsLawful}
 use Rattle.desk_types.specs.Refusals.{refusal_of}
 use Rattle.desk_laws.specs.Consistent.{IsConsistent}
@@ -42,23 +41,22 @@ abbrev pub StaysOpen : State → Type 0
 StaysOpen s = HasCleanDisk s → IsTrue s.is_open ⊎ HasFailed s
 
 -- The working state is one of the history by rules Two, if it is loaded.
-abbrev pub WorksFor : {D : Type 0} → (D → History → Type 0) → (D → Rules) → Option (Working D)
+abbrev pub WorksFor : {D : Type 0} → (D → Basis → Type 0) → Option (Working D)
     → History → Type 0
-WorksFor StandsFor kept_rules working H =
-    IfSome working (λ w. IsWorking StandsFor w H × (kept_rules w.desk ≡ Two))
+WorksFor StandsFor working H = IfSome working (λ w. IsWorking StandsFor w (basis Two H))
 
 -- The store represents the history by rules Two, which is judged and consistent. So does its
 -- working state, if it is loaded. Its connection is open, or the disk has failed. If the tables are
 -- its own and the disk is honest, the history is lawful and the committed tables are its tables.
-pub record Stands {S D : Type 0} (g : Ghosts S) (StandsFor : D → History → Type 0)
-    (kept_rules : D → Rules) (store : LineStore S D) (L : Kept) : Type 0 where
+pub record Stands {S D : Type 0} (g : Ghosts S) (StandsFor : D → Basis → Type 0)
+    (store : LineStore S D) (L : Kept) : Type 0 where
   pub greatest : store.greatest ≡ L.greatest
   pub bound : L.greatest ≤ MOST_ENTRIES
   pub count : store.count ≡ length L.history
   pub within : length L.history ≤ L.greatest
   pub judged : IsJudged Two L.history
   pub consistent : IsConsistent L.history
-  pub working : WorksFor StandsFor kept_rules store.working L.history
+  pub working : WorksFor StandsFor store.working L.history
   pub mode : store.conn.in_transaction ≡ false
   pub stays_open : StaysOpen (state g store.conn)
   pub lawful : HasCleanDisk (state g store.conn) → IsTrue L.own → IsLawful Two L.greatest L.history
@@ -86,9 +84,9 @@ state_of g store = state g store.conn
 
 -- A fact about each history that a store represented, if its disk is still honest and its tables
 -- are its own.
-abbrev pub ForKept : {S D : Type 0} → Ghosts S → (D → History → Type 0) → (D → Rules)
+abbrev pub ForKept : {S D : Type 0} → Ghosts S → (D → Basis → Type 0)
     → LineStore S D → LineStore S D → (Kept → Type 0) → Type 0
-ForKept g StandsFor kept_rules old new Fact = (L : Kept) → Stands g StandsFor kept_rules old L
+ForKept g StandsFor old new Fact = (L : Kept) → Stands g StandsFor old L
     → HasCleanDisk (state_of g new) → IsTrue L.own → Fact L
 
 -- Whether the working state is loaded, or the store must rebuild it from its tables.

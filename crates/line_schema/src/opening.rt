@@ -36,7 +36,7 @@ pub fn read_tables<S: Alter, D: KeepsRows + Drop>(
     rules: Rules,
 ) -> Result<Opened<D>, OpenFault>
     ensures ok { IfOk result (λ r. (H : History)
-        × IsOpened D.Stands D.kept_rules (HasCleanDisk (state S.Store conn.new))
+        × IsOpened D.Stands (HasCleanDisk (state S.Store conn.new))
         (state S.Store conn.old) rules r H
         × AreKept (D.kept_rows r.working.desk) H) }
     ensures named { IfOk result (λ _. IsNamedBy rules (state S.Store conn.old)) }

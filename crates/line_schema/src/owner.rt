@@ -15,10 +15,10 @@ impl<S: Alter, D: KeepsRows + Drop> Owner for LineStore<S, D> {
     ghost use Rattle.line_schema.specs.Stands.{Kept, Stands as StandsFor, state_of};
 
     ghost Stands = { λ store L. (L.rules ≡ Two)
-        × StandsFor S.Store D.Stands D.kept_rules store
+        × StandsFor S.Store D.Stands store
         (record { greatest = L.greatest; history = L.history; own = true }) };
 
-    ghost Ready = { λ store. (L : Kept) × StandsFor S.Store D.Stands D.kept_rules store L };
+    ghost Ready = { λ store. (L : Kept) × StandsFor S.Store D.Stands store L };
 
     ghost Trusts = { λ store. HasCleanDisk (state_of S.Store store) };
 

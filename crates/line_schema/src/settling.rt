@@ -20,10 +20,10 @@ pub fn settle<D: KeepsRows + Drop>(
     edits: &[RowEdit],
 )
     requires ready { IfSome working.old
-        (λ w. CanSettle D.Stands D.kept_rules change edits.now w.desk) }
-    ensures works { (H : History) → WorksFor D.Stands D.kept_rules working.old H
+        (λ w. CanSettle D.Stands change edits.now w.desk) }
+    ensures works { (H : History) → WorksFor D.Stands working.old H
         → number ≡ length H + 1
-        → WorksFor D.Stands D.kept_rules working.new (accept H change.stamped) }
+        → WorksFor D.Stands working.new (accept H change.stamped) }
     ensures rows { IfSome working.old (λ old. IfSome working.new (λ new.
         tables_in (D.kept_rows new.desk)
         ≡ but_placements (with_edits edits.now (tables_in (D.kept_rows old.desk)))

@@ -8,7 +8,7 @@ ghost use Rattle.desk_types.specs.declared.answer.Reply.TheVariants as Reply;
 ghost use Rattle.desk_types.specs.declared.limits.TheConstants.{MOST_ENTRIES};
 ghost use Rattle.desk_types.specs.declared.rules.Rules.TheVariants.{Two};
 ghost use Rattle.desk_types.specs.Desk.{IsChange};
-ghost use Rattle.desk_types.specs.History.{History, accept};
+ghost use Rattle.desk_types.specs.History.{History, Basis, basis, accept};
 ghost use Rattle.desk_types.specs.Outcome.{reply_to, after_command};
 ghost use Rattle.desk_answers.specs.Commands.{earlier_answer, judged_answer, command_answer, command_after};
 ghost use Rattle.line_tables.specs.Frames.{ReadsOnly};
@@ -63,7 +63,7 @@ impl<S: Alter, D: KeepsRows + Drop> LineStore<S, D> {
         requires least { 1 ≤ greatest }
         requires most { greatest ≤ MOST_ENTRIES }
         ensures made { IfOk result
-            (MakesStore S.Store D.Stands D.kept_rules D.kept_rows conn greatest) }
+            (MakesStore S.Store D.Stands D.kept_rows conn greatest) }
         ensures unmade { IfErr result (λ e. LeavesUnmade S.Store greatest conn e.0 e.1) }
         ensures inside { IsTrue conn.in_transaction → result ≡ Err (Fault.Unavailable, conn) }
     {
@@ -98,7 +98,7 @@ impl<S: Alter, D: KeepsRows + Drop> LineStore<S, D> {
         conn: Connection<S>,
     ) -> Result<LineStore<S, D>, (OpenFault, Connection<S>)>
         ensures opened { IfOk result (λ store. (L : Kept)
-            × OpensStore S.Store D.Stands D.kept_rules D.kept_rows conn store L) }
+            × OpensStore S.Store D.Stands D.kept_rows conn store L) }
         ensures fault { IfErr result
             (λ e. IsReported Two (state S.Store conn) (state S.Store e.1) e.0) }
         ensures refused { IfErr result (λ e. ReadsOnly S.Store conn e.1) }
@@ -150,7 +150,7 @@ impl<S: Alter, D: KeepsRows + Drop> LineStore<S, D> {
 
     /// Returns the number of accepted commands. Takes no memory.
     pub fn count(&self) -> u32
-        ensures { (L : Kept) → Stands S.Store D.Stands D.kept_rules self.now L → result
+        ensures { (L : Kept) → Stands S.Store D.Stands self.now L → result
             ≡ length L.history }
     {
         self.count
@@ -159,8 +159,8 @@ impl<S: Alter, D: KeepsRows + Drop> LineStore<S, D> {
     /// Returns the desk if it is loaded, as it is after [`LineStore::ready`].
     pub fn desk(&self) -> Option<&D>
         ensures there { is_some result ≡ has_desk self.now }
-        ensures stands { (L : Kept) → Stands S.Store D.Stands D.kept_rules self.now L
-            → IfSome result (λ desk. D.Stands desk.now L.history × (D.kept_rules desk.now ≡ Two)) }
+        ensures stands { (L : Kept) → Stands S.Store D.Stands self.now L
+            → IfSome result (λ desk. D.Stands desk.now (basis Two L.history)) }
     {
         match &self.working {
             Some(working) => Some(&working.desk),
@@ -171,11 +171,11 @@ impl<S: Alter, D: KeepsRows + Drop> LineStore<S, D> {
     /// Loads the working state from the tables if it isn't loaded.
     #[tactic(auto, using(crate::proofs::Others::let_be))]
     pub fn ready(&mut self) -> Result<(), Unavailable>
-        requires stands { (L : Kept) × Stands S.Store D.Stands D.kept_rules self.old L }
+        requires stands { (L : Kept) × Stands S.Store D.Stands self.old L }
         ensures ok { OnOk result (IsTrue (has_desk self.new)) }
         ensures at_hand { OnErr result (has_desk self.old ≡ false) }
-        ensures makes_desk { MakesDesk S.Store D.Stands D.kept_rules self.old self.new }
-        ensures rows { ForKept S.Store D.Stands D.kept_rules self.old self.new
+        ensures makes_desk { MakesDesk S.Store D.Stands self.old self.new }
+        ensures rows { ForKept S.Store D.Stands self.old self.new
             (λ L. HasRows D.kept_rows self.old L.history → HasRows D.kept_rows self.new L.history) }
         ensures others { LetsOthersBe (state_of S.Store self.old) (state_of S.Store self.new) }
     {
@@ -186,12 +186,12 @@ impl<S: Alter, D: KeepsRows + Drop> LineStore<S, D> {
     }
 
     fn remake(&mut self) -> Result<(), Unavailable>
-        requires stands { (L : Kept) × Stands S.Store D.Stands D.kept_rules self.old L }
+        requires stands { (L : Kept) × Stands S.Store D.Stands self.old L }
         ensures ok { OnOk result (IsTrue (has_desk self.new)) }
-        ensures kept { (L : Kept) × Stands S.Store D.Stands D.kept_rules self.new L }
-        ensures stands { ForKept S.Store D.Stands D.kept_rules self.old self.new
-            (Stands S.Store D.Stands D.kept_rules self.new) }
-        ensures rows { ForKept S.Store D.Stands D.kept_rules self.old self.new
+        ensures kept { (L : Kept) × Stands S.Store D.Stands self.new L }
+        ensures stands { ForKept S.Store D.Stands self.old self.new
+            (Stands S.Store D.Stands self.new) }
+        ensures rows { ForKept S.Store D.Stands self.old self.new
             (λ L. HasRows D.kept_rows self.old L.history
             → HasRows D.kept_rows self.new L.history) }
         ensures file { LeavesFile (state_of S.Store self.old) (state_of S.Store self.new) (λ _. ⊥) }
@@ -217,10 +217,10 @@ impl<S: Alter, D: KeepsRows + Drop> LineStore<S, D> {
     /// Accepted is answered once the command is committed. After Unavailable the message may be
     /// sent again.
     pub fn command(&mut self, stamped: &Stamped) -> Answer
-        requires stands { (L : Kept) × Stands S.Store D.Stands D.kept_rules self.old L }
-        ensures kept { (L : Kept) × Stands S.Store D.Stands D.kept_rules self.new L }
-        ensures answers { ForKept S.Store D.Stands D.kept_rules self.old self.new
-            (λ L. Answers S.Store D.Stands D.kept_rules D.kept_rows self.old self.new L
+        requires stands { (L : Kept) × Stands S.Store D.Stands self.old L }
+        ensures kept { (L : Kept) × Stands S.Store D.Stands self.new L }
+        ensures answers { ForKept S.Store D.Stands self.old self.new
+            (λ L. Answers S.Store D.Stands D.kept_rows self.old self.new L
             stamped.now result) }
         ensures file { LeavesFile (state_of S.Store self.old) (state_of S.Store self.new) (λ _. ⊤) }
     {
@@ -231,17 +231,17 @@ impl<S: Alter, D: KeepsRows + Drop> LineStore<S, D> {
     }
 
     fn answer(&mut self, stamped: &Stamped) -> Result<Answer, Unavailable>
-        requires stands { (L : Kept) × Stands S.Store D.Stands D.kept_rules self.old L }
-        ensures kept { (L : Kept) × Stands S.Store D.Stands D.kept_rules self.new L }
-        ensures answers { ForKept S.Store D.Stands D.kept_rules self.old self.new
-            (λ L. AnswersOrFails S.Store D.Stands D.kept_rules D.kept_rows self.old self.new L
+        requires stands { (L : Kept) × Stands S.Store D.Stands self.old L }
+        ensures kept { (L : Kept) × Stands S.Store D.Stands self.new L }
+        ensures answers { ForKept S.Store D.Stands self.old self.new
+            (λ L. AnswersOrFails S.Store D.Stands D.kept_rows self.old self.new L
             result
             (command_answer Two L.greatest L.history stamped.now)
             (command_after Two L.greatest L.history stamped.now)) }
-        ensures ok { ForKept S.Store D.Stands D.kept_rules self.old self.new
-            (λ L. OnOk result (Stands S.Store D.Stands D.kept_rules self.new
+        ensures ok { ForKept S.Store D.Stands self.old self.new
+            (λ L. OnOk result (Stands S.Store D.Stands self.new
             (record L { history = command_after Two L.greatest L.history stamped.now }))) }
-        ensures crash { ForKept S.Store D.Stands D.kept_rules self.old self.new
+        ensures crash { ForKept S.Store D.Stands self.old self.new
             (λ L. (trees : Trees) → (state_of S.Store self.new).may_leave trees
             → Leaves L stamped.now (answer_in result) ((state_of S.Store self.old).may_leave trees)
             trees) }
@@ -258,12 +258,12 @@ impl<S: Alter, D: KeepsRows + Drop> LineStore<S, D> {
 
     /// Returns the answer by the row with the UniqueID, if there is one.
     fn earlier(&mut self, stamped: &Stamped) -> Result<Option<Answer>, Unavailable>
-        requires stands { (L : Kept) × Stands S.Store D.Stands D.kept_rules self.old L }
-        ensures answer { ForKept S.Store D.Stands D.kept_rules self.old self.new
+        requires stands { (L : Kept) × Stands S.Store D.Stands self.old L }
+        ensures answer { ForKept S.Store D.Stands self.old self.new
             (λ L. IfOk result (λ answer. answer ≡ earlier_answer L.history stamped.now)) }
         ensures working { working_of self.new ≡ working_of self.old }
-        ensures stands { (L : Kept) → Stands S.Store D.Stands D.kept_rules self.old L
-            → Stands S.Store D.Stands D.kept_rules self.new L }
+        ensures stands { (L : Kept) → Stands S.Store D.Stands self.old L
+            → Stands S.Store D.Stands self.new L }
         ensures survives { Survives (state_of S.Store self.old)
             (state_of S.Store self.new) (λ _. ⊥) }
         ensures others { LetsOthersBe (state_of S.Store self.old) (state_of S.Store self.new) }
@@ -277,18 +277,18 @@ impl<S: Alter, D: KeepsRows + Drop> LineStore<S, D> {
     /// Judges the command, which is new and has room, by the desk, which is loaded first if needed.
     /// Accepts it unless it is refused.
     fn answer_new(&mut self, stamped: &Stamped) -> Result<Answer, Unavailable>
-        requires stands { (L : Kept) × Stands S.Store D.Stands D.kept_rules self.old L }
-        ensures kept { (L : Kept) × Stands S.Store D.Stands D.kept_rules self.new L }
-        ensures answers { ForKept S.Store D.Stands D.kept_rules self.old self.new
-            (λ L. AnswersOrFails S.Store D.Stands D.kept_rules D.kept_rows self.old self.new L
+        requires stands { (L : Kept) × Stands S.Store D.Stands self.old L }
+        ensures kept { (L : Kept) × Stands S.Store D.Stands self.new L }
+        ensures answers { ForKept S.Store D.Stands self.old self.new
+            (λ L. AnswersOrFails S.Store D.Stands D.kept_rows self.old self.new L
             result
             (judged_answer L.history stamped.now (reply_to Two L.history stamped.now))
             (after_command Two L.history stamped.now)) }
-        ensures ok { ForKept S.Store D.Stands D.kept_rules self.old self.new
+        ensures ok { ForKept S.Store D.Stands self.old self.new
             (λ L. earlier_answer L.history stamped.now ≡ None
-            → OnOk result (Stands S.Store D.Stands D.kept_rules self.new
+            → OnOk result (Stands S.Store D.Stands self.new
             (record L { history = after_command Two L.history stamped.now }))) }
-        ensures crash { ForKept S.Store D.Stands D.kept_rules self.old self.new
+        ensures crash { ForKept S.Store D.Stands self.old self.new
             (λ L. (trees : Trees) → (state_of S.Store self.new).may_leave trees
             → NewlyLeaves L stamped.now (answer_in result)
             ((state_of S.Store self.old).may_leave trees) trees) }
@@ -301,17 +301,17 @@ impl<S: Alter, D: KeepsRows + Drop> LineStore<S, D> {
     /// Judges the command by the desk, and accepts it unless it is refused.
     #[tactic(auto, using(crate::proofs::Others::file_stays))]
     fn answer_at_hand(&mut self, stamped: &Stamped) -> Result<Answer, Unavailable>
-        requires stands { (L : Kept) × Stands S.Store D.Stands D.kept_rules self.old L }
-        ensures kept { (L : Kept) × Stands S.Store D.Stands D.kept_rules self.new L }
-        ensures answers { (L : Kept) → Stands S.Store D.Stands D.kept_rules self.old L
-            → AnswersOrFails S.Store D.Stands D.kept_rules D.kept_rows self.old self.new L result
+        requires stands { (L : Kept) × Stands S.Store D.Stands self.old L }
+        ensures kept { (L : Kept) × Stands S.Store D.Stands self.new L }
+        ensures answers { (L : Kept) → Stands S.Store D.Stands self.old L
+            → AnswersOrFails S.Store D.Stands D.kept_rows self.old self.new L result
             (judged_answer L.history stamped.now (reply_to Two L.history stamped.now))
             (after_command Two L.history stamped.now) }
-        ensures ok { (L : Kept) → Stands S.Store D.Stands D.kept_rules self.old L
+        ensures ok { (L : Kept) → Stands S.Store D.Stands self.old L
             → IsFirst S.Store self.new L stamped.now
-            → OnOk result (Stands S.Store D.Stands D.kept_rules self.new
+            → OnOk result (Stands S.Store D.Stands self.new
             (record L { history = after_command Two L.history stamped.now })) }
-        ensures crash { ForKept S.Store D.Stands D.kept_rules self.old self.new
+        ensures crash { ForKept S.Store D.Stands self.old self.new
             (λ L. (trees : Trees) → (state_of S.Store self.new).may_leave trees
             → NewlyLeaves L stamped.now (answer_in result)
             ((state_of S.Store self.old).may_leave trees) trees) }
@@ -335,16 +335,16 @@ impl<S: Alter, D: KeepsRows + Drop> LineStore<S, D> {
     /// desk settles by the same edits.
     #[tactic(auto, using(crate::proofs::Others::file_stays))]
     fn commit_change(&mut self, change: Change) -> Result<Answer, Unavailable>
-        requires stands { (L : Kept) × Stands S.Store D.Stands D.kept_rules self.old L }
+        requires stands { (L : Kept) × Stands S.Store D.Stands self.old L }
         requires room { self.old.count < self.old.greatest }
-        requires judged { IsSomeAnd self.old.working (λ w. (H : History) → D.Stands w.desk H
-            → IsChange (D.kept_rules w.desk) H change.stamped change) }
-        ensures answers { (L : Kept) → Stands S.Store D.Stands D.kept_rules self.old L
-            → AnswersOrFails S.Store D.Stands D.kept_rules D.kept_rows self.old self.new L result
+        requires judged { IsSomeAnd self.old.working (λ w. (B : Basis) → D.Stands w.desk B
+            → IsChange B.rules B.history change.stamped change) }
+        ensures answers { (L : Kept) → Stands S.Store D.Stands self.old L
+            → AnswersOrFails S.Store D.Stands D.kept_rows self.old self.new L result
             (judged_answer L.history change.stamped (Reply.Accepted change.detail))
             (accept L.history change.stamped) }
-        ensures commits { (L : Kept) → Stands S.Store D.Stands D.kept_rules self.old L
-            → Commits S.Store D.Stands D.kept_rules self.old self.new L result change.stamped }
+        ensures commits { (L : Kept) → Stands S.Store D.Stands self.old L
+            → Commits S.Store D.Stands self.old self.new L result change.stamped }
         ensures file { LeavesFile (state_of S.Store self.old) (state_of S.Store self.new) (λ _. ⊤) }
     {
         change.stamped.ranges_hold();

@@ -5,7 +5,7 @@ use Rattle.std.proofs.lemmas.List.{map-append}
 use Rattle.sqlite.specs.State.{State}
 use Rattle.desk_types.specs.declared.placement.Placement.{Placement}
 use Rattle.desk_types.specs.Id.{Name}
-use Rattle.desk_types.specs.History.{History}
+use Rattle.desk_types.specs.History.{History, Basis}
 use Rattle.desk_types.specs.Placements.{set_of, boards_of}
 use Rattle.desk_types.proofs.LoopSteps.{take-next}
 use Rattle.state_rows.specs.declared.lists.PieceKey.{PieceKey}
@@ -43,7 +43,7 @@ one-added P before pieces new keys i key piece within is added told so_far =
 
 -- ---- the result
 
-module _ {D : Type 0} (Stands : D → History → Type 0) (working : Working D) (old : State) where
+module _ {D : Type 0} (Stands : D → Basis → Type 0) (working : Working D) (old : State) where
   pub listed-told : (test : Placement → Bool) (keys : List Key) → ((H : History) → IsListed working.lists H → keys ≡ keys_where test H) → (pieces : List Placement)
       → FindsOfBoth Stands (Some working) (λ H. map (piece_at H) keys) old (map Some pieces) → FindsOfBoth Stands (Some working) (pieces_where test) old pieces
   listed-told test keys are pieces told = record {

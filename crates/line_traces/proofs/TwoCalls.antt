@@ -6,7 +6,7 @@ use Rattle.sqlite.specs.Effect.{Database}
 use Rattle.sqlite.specs.State.{State, KeepsCommit}
 use Rattle.desk_types.specs.declared.placement.Placement.{Placement}
 use Rattle.desk_types.specs.Id.{Name}
-use Rattle.desk_types.specs.History.{History}
+use Rattle.desk_types.specs.History.{History, Basis}
 use Rattle.line_tables.specs.Calls.{Reads}
 use Rattle.line_tables.specs.StateRows.{flag}
 use Rattle.line_traces.specs.Committed.{FindsOfList, placed_columns, name_row}
@@ -82,7 +82,7 @@ names-told = placed_columns-told name_row placed_columns-name
 
 -- ---- with a working state
 
-module _ {D X : Type 0} (Stands : D → History → Type 0) (working : Option (Working D)) (of : History → X) (old : State) where
+module _ {D X : Type 0} (Stands : D → Basis → Type 0) (working : Option (Working D)) (of : History → X) (old : State) where
   -- The facts that follow from the tables alone.
   pub told-of-both : (found : X) → FindsOfList of old found → FindsOfBoth Stands working of old found
   told-of-both found told = record { was_open = told.was_open; are = λ schema H both. told.are schema H both.held }

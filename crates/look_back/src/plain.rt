@@ -5,8 +5,8 @@ ghost use Rattle.std.specs.List.{find};
 ghost use Rattle.std.specs.Option.{option_copied};
 ghost use Rattle.desk_types.specs.declared.limits.TheConstants.{MOST_ENTRIES};
 ghost use Rattle.desk_types.specs.declared.rules.Rules.TheVariants.{Two};
+ghost use Rattle.desk_types.specs.History.{basis, basis_after};
 ghost use Rattle.desk_types.specs.Id.{same};
-ghost use Rattle.desk_types.specs.History.{accept};
 ghost use Rattle.desk_types.specs.Desk.{IsChange};
 
 use crate::free::free_reels;
@@ -36,11 +36,11 @@ pub struct PlainDesk {
 impl Model for PlainDesk {
     ghost use Rattle.std.specs.Prelude.{◌≤◌, length, reverse};
     ghost use Rattle.desk_types.specs.declared.limits.TheConstants.{MOST_ENTRIES};
+    ghost use Rattle.desk_types.specs.History.{Basis};
     ghost use Rattle.desk_types.specs.Judged.{IsJudged};
     ghost use Rattle.look_back.specs.Kept.{AreTakes};
-    ghost use Rattle.look_back.specs.Plain.{Plain};
 
-    ghost Value = { Plain };
+    ghost Value = { Basis };
 
     ghost view = { λ a. record { rules = a.rules; history = reverse a.entries.items } };
 
@@ -52,7 +52,7 @@ impl Model for PlainDesk {
 impl PlainDesk {
     /// Returns an empty desk with rules Two. Takes no memory.
     pub fn new(alloc: Global) -> PlainDesk
-        ensures { result ≡ record { rules = Two; history = [] } }
+        ensures { result ≡ basis Two [] }
     {
         PlainDesk::with_rules(alloc, Rules::Two)
     }
@@ -96,8 +96,7 @@ impl PlainDesk {
     pub fn append(&mut self, change: Change) -> Result<(), AllocError>
         requires room { length self.old.history + 1 ≤ MOST_ENTRIES }
         requires judged { IsChange self.old.rules self.old.history change.stamped change }
-        ensures ok { OnOk result
-            (self.new ≡ record self.old { history = accept self.old.history change.stamped }) }
+        ensures ok { OnOk result (self.new ≡ basis_after self.old change.stamped) }
         ensures err { OnErr result (self.new ≡ self.old) }
     {
         let entry = Entry {
@@ -125,9 +124,7 @@ fn earlier<'a>(entries: &'a [Entry], uid: &Id) -> Option<&'a Entry>
 impl Desk for PlainDesk {
     ghost use Rattle.std.specs.Prelude.{◌≡◌};
 
-    ghost Stands = { λ desk H. H ≡ desk.history };
-
-    ghost kept_rules = { λ desk. desk.rules };
+    ghost Stands = { λ desk B. B ≡ desk };
 
     fn fresh(alloc: Global, rules: Rules) -> PlainDesk {
         PlainDesk::with_rules(alloc, rules)

@@ -3,7 +3,7 @@
 ghost use Rattle.std.specs.Prelude.{◌≡◌, ◌++◌, ◌≤◌, IfOk, OnOk, Some};
 ghost use Rattle.std.specs.List.{flat_map};
 ghost use Rattle.desk_types.specs.declared.rules.Rules.TheVariants.{Two};
-ghost use Rattle.desk_types.specs.History.{History};
+ghost use Rattle.desk_types.specs.History.{Basis};
 ghost use Rattle.desk_types.specs.Judged.{IsJudged};
 ghost use Rattle.desk_types.specs.Desk.{HasRoom};
 ghost use Rattle.desk_types.specs.Tables.{columns_of};
@@ -53,9 +53,9 @@ fn note(edits: &mut Vec<RowEdit>, view: &ReelView, pieces: u64) -> Result<(), Al
 
 fn count_row<D: Views>(edits: &mut Vec<RowEdit>, desk: &D, row: &CountRow) -> Result<(), AllocError>
     requires room { HasRoom D.Stands desk.now 1 }
-    requires judged { (H : History) → D.Stands desk.now H → IsJudged Two H }
-    ensures { (H : History) → D.Stands desk.now H
-        → OnOk result (edits.new.items ≡ edits.old.items ++ count_edits H row.now) }
+    requires judged { (B : Basis) → D.Stands desk.now B → IsJudged Two B.history }
+    ensures { (B : Basis) → D.Stands desk.now B
+        → OnOk result (edits.new.items ≡ edits.old.items ++ count_edits B.history row.now) }
 {
     let pieces = row.quantity.get();
     match desk.reel(&row.reel) {
@@ -74,9 +74,9 @@ pub fn count<D: Views>(
     rows: &[CountRow],
 ) -> Result<Vec<RowEdit>, AllocError>
     requires room { HasRoom D.Stands desk.now 1 }
-    requires judged { (H : History) → D.Stands desk.now H → IsJudged Two H }
-    ensures { (H : History) → D.Stands desk.now H
-        → IfOk result (λ edits. edits.items ≡ flat_map (count_edits H) rows.now) }
+    requires judged { (B : Basis) → D.Stands desk.now B → IsJudged Two B.history }
+    ensures { (B : Basis) → D.Stands desk.now B
+        → IfOk result (λ edits. edits.items ≡ flat_map (count_edits B.history) rows.now) }
 {
     let mut edits = Vec::new(alloc);
     for row in rows {

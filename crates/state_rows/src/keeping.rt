@@ -11,7 +11,7 @@ use std::alloc::AllocError;
 /// other numbers than in the database.
 pub trait KeepsRows: Desk {
     ghost use Rattle.std.specs.Prelude.{◌≡◌, OnOk};
-    ghost use Rattle.desk_types.specs.History.{History, accept};
+    ghost use Rattle.desk_types.specs.History.{Basis, basis_after, accept};
     ghost use Rattle.desk_types.specs.Desk.{HasRoom, IsChange};
     ghost use Rattle.desk_types.specs.Tables.{tables_of};
     ghost use Rattle.desk_types.specs.Edits.{with_edits};
@@ -23,21 +23,20 @@ pub trait KeepsRows: Desk {
     /// Returns the rows that the desk keeps. Takes no memory.
     fn rows(&self) -> &RowSet
         ensures kept { result.now ≡ kept_rows self.now }
-        ensures same { (H : History) → Self.Stands self.now H
-            → unnumbered (tables_in result.now) ≡ unnumbered (tables_of H) };
+        ensures same { (B : Basis) → Self.Stands self.now B
+            → unnumbered (tables_in result.now) ≡ unnumbered (tables_of B.history) };
 
     /// Accepts a judged change by its edits, as `rows_of` makes them under any number. After an `Err`
     /// nothing is known of the desk: drop it.
     fn settle_edits(&mut self, change: Change, edits: &[RowEdit]) -> Result<(), AllocError>
         requires room { HasRoom Self.Stands self.old 1 }
-        requires judged { (H : History) → Self.Stands self.old H
-            → IsChange (Self.kept_rules self.old) H change.stamped change }
-        requires lead { (H : History) → Self.Stands self.old H
-            → unnumbered (with_edits edits.now (tables_of H))
-            ≡ unnumbered (tables_of (accept H change.stamped)) }
-        ensures stands { (H : History) → Self.Stands self.old H
-            → OnOk result (Self.Stands self.new (accept H change.stamped)) }
-        ensures rules { OnOk result (Self.kept_rules self.new ≡ Self.kept_rules self.old) }
+        requires judged { (B : Basis) → Self.Stands self.old B
+            → IsChange B.rules B.history change.stamped change }
+        requires lead { (B : Basis) → Self.Stands self.old B
+            → unnumbered (with_edits edits.now (tables_of B.history))
+            ≡ unnumbered (tables_of (accept B.history change.stamped)) }
+        ensures stands { (B : Basis) → Self.Stands self.old B
+            → OnOk result (Self.Stands self.new (basis_after B change.stamped)) }
         ensures rows { OnOk result (tables_in (kept_rows self.new)
             ≡ but_placements (with_edits edits.now (tables_in (kept_rows self.old)))
             (tables_in (kept_rows self.old))) };

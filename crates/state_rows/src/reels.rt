@@ -1,7 +1,7 @@
 //! Rows of reels.
 
 ghost use Rattle.std.specs.Prelude.{◌≡◌, ◌≤◌, ◌∷◌, IfOk};
-ghost use Rattle.desk_types.specs.History.{History, now_of};
+ghost use Rattle.desk_types.specs.History.{Basis, now_of};
 ghost use Rattle.desk_types.specs.Judged.{IsJudged};
 ghost use Rattle.desk_types.specs.declared.rules.Rules.TheVariants.{Two};
 ghost use Rattle.desk_types.specs.Tables.{columns_of, reel_row};
@@ -35,7 +35,7 @@ pub fn columns(view: &ReelView) -> ReelRow
 
 /// The row of a received reel.
 pub fn row<D: Views>(desk: &D, reel: &Id) -> Option<ReelRow>
-    ensures { (H : History) → D.Stands desk.now H → result ≡ reel_row H reel.now }
+    ensures { (B : Basis) → D.Stands desk.now B → result ≡ reel_row B.history reel.now }
 {
     match desk.reel(reel) {
         Some(view) => Some(columns(&view)),
@@ -50,8 +50,9 @@ pub fn open<D: Views>(
     reel: &Id,
     minute: Minute,
 ) -> Result<Vec<RowEdit>, AllocError>
-    ensures { (H : History) → D.Stands desk.now H
-        → IfOk result (λ edits. edits.items ≡ reel_edit (opened_row minute) (reel_row H reel.now)) }
+    ensures { (B : Basis) → D.Stands desk.now B
+        → IfOk result (λ edits. edits.items
+        ≡ reel_edit (opened_row minute) (reel_row B.history reel.now)) }
 {
     let mut edits = Vec::new(alloc);
     match row(desk, reel) {
@@ -70,8 +71,9 @@ pub fn seal<D: Views>(
     reel: &Id,
     minute: Minute,
 ) -> Result<Vec<RowEdit>, AllocError>
-    ensures { (H : History) → IsJudged Two H → D.Stands desk.now H → now_of H ≤ minute
-        → IfOk result (λ edits. edits.items ≡ reel_edit (sealed_row minute) (reel_row H reel.now)) }
+    ensures { (B : Basis) → IsJudged Two B.history → D.Stands desk.now B → now_of B.history ≤ minute
+        → IfOk result (λ edits. edits.items
+        ≡ reel_edit (sealed_row minute) (reel_row B.history reel.now)) }
 {
     let _ = minute.get();
     let mut edits = Vec::new(alloc);
@@ -86,8 +88,8 @@ pub fn seal<D: Views>(
 
 /// The edit of a baked reel.
 pub fn bake<D: Views>(alloc: Global, desk: &D, reel: &Id) -> Result<Vec<RowEdit>, AllocError>
-    ensures { (H : History) → D.Stands desk.now H
-        → IfOk result (λ edits. edits.items ≡ reel_edit baked_row (reel_row H reel.now)) }
+    ensures { (B : Basis) → D.Stands desk.now B
+        → IfOk result (λ edits. edits.items ≡ reel_edit baked_row (reel_row B.history reel.now)) }
 {
     let mut edits = Vec::new(alloc);
     match row(desk, reel) {
@@ -106,9 +108,9 @@ pub fn mount<D: Views>(
     put: MountRow,
     minute: Minute,
 ) -> Result<Vec<RowEdit>, AllocError>
-    ensures { (H : History) → D.Stands desk.now H
+    ensures { (B : Basis) → D.Stands desk.now B
         → IfOk result (λ edits. edits.items
-        ≡ PutMount put ∷ reel_edit (opened_row minute) (reel_row H put.reel)) }
+        ≡ PutMount put ∷ reel_edit (opened_row minute) (reel_row B.history put.reel)) }
 {
     let mut edits = Vec::new(alloc);
     edits.push(RowEdit::PutMount(put))?;

@@ -2,7 +2,7 @@
 
 ghost use Rattle.std.specs.Prelude.{◌≡◌, ◌+◌, ◌≤◌, IfOk, length, map, ◌∷◌, []};
 ghost use Rattle.desk_types.specs.declared.rules.Rules.TheVariants.{Two};
-ghost use Rattle.desk_types.specs.History.{History, now_of, accept};
+ghost use Rattle.desk_types.specs.History.{Basis, now_of, accept};
 ghost use Rattle.desk_types.specs.Judged.{IsJudged};
 ghost use Rattle.desk_types.specs.Desk.{HasRoom, IsChange};
 ghost use Rattle.desk_types.specs.Tables.{tables_of};
@@ -38,12 +38,13 @@ fn edits_of<D: Views>(
     takes: &[Take],
 ) -> Result<Vec<RowEdit>, AllocError>
     requires room { HasRoom D.Stands desk.now 1 }
-    requires judged { (H : History) → D.Stands desk.now H → IsJudged Two H }
-    requires not_before { (H : History) → D.Stands desk.now H → now_of H ≤ minute }
-    requires fits { (H : History) × D.Stands desk.now H
-        × ArePiecesFitting H (map pick_of takes.now) }
-    ensures { (H : History) → D.Stands desk.now H
-        → IfOk result (λ edits. AreEditsOf H number minute takes.now command.now edits.items) }
+    requires judged { (B : Basis) → D.Stands desk.now B → IsJudged Two B.history }
+    requires not_before { (B : Basis) → D.Stands desk.now B → now_of B.history ≤ minute }
+    requires fits { (B : Basis) × D.Stands desk.now B
+        × ArePiecesFitting B.history (map pick_of takes.now) }
+    ensures { (B : Basis) → D.Stands desk.now B
+        → IfOk result
+        (λ edits. AreEditsOf B.history number minute takes.now command.now edits.items) }
 {
     match command {
         Command::PartDefined { part } => one(alloc, RowEdit::PutPart { part: *part }),
@@ -121,17 +122,17 @@ pub fn edits_for<D: Views>(
     number: u64,
 ) -> Result<RowEdits, AllocError>
     requires room { HasRoom D.Stands desk.now 1 }
-    requires judged { (H : History) → D.Stands desk.now H
-        → IsChange (D.kept_rules desk.now) H change.now.stamped change.now }
-    ensures lead { (H : History) → D.Stands desk.now H → number ≡ length H + 1
-        → IfOk result (λ edits. with_edits edits (tables_of H)
-        ≡ tables_of (accept H change.now.stamped)) }
-    ensures new { (H : History) → D.Stands desk.now H → number ≡ length H + 1
-        → IfOk result (λ edits. AreNew edits (tables_of H)) }
-    ensures same { (H : History) → D.Stands desk.now H
+    requires judged { (B : Basis) → D.Stands desk.now B
+        → IsChange B.rules B.history change.now.stamped change.now }
+    ensures lead { (B : Basis) → D.Stands desk.now B → number ≡ length B.history + 1
+        → IfOk result (λ edits. with_edits edits (tables_of B.history)
+        ≡ tables_of (accept B.history change.now.stamped)) }
+    ensures new { (B : Basis) → D.Stands desk.now B → number ≡ length B.history + 1
+        → IfOk result (λ edits. AreNew edits (tables_of B.history)) }
+    ensures same { (B : Basis) → D.Stands desk.now B
         → IfOk result
-        (λ edits. unnumbered (with_edits edits (tables_of H))
-        ≡ unnumbered (tables_of (accept H change.now.stamped))) }
+        (λ edits. unnumbered (with_edits edits (tables_of B.history))
+        ≡ unnumbered (tables_of (accept B.history change.now.stamped))) }
     ensures in_order { IfOk result (λ edits. AreTakesFirst edits × AreBalanced edits) }
 {
     desk.is_judged();
@@ -158,17 +159,17 @@ pub fn rows_of<D: Desk>(
     number: u64,
 ) -> Result<RowEdits, AllocError>
     requires room { HasRoom D.Stands desk.now 1 }
-    requires judged { (H : History) → D.Stands desk.now H
-        → IsChange (D.kept_rules desk.now) H change.now.stamped change.now }
-    ensures lead { (H : History) → D.Stands desk.now H → number ≡ length H + 1
-        → IfOk result (λ edits. with_edits edits (tables_of H)
-        ≡ tables_of (accept H change.now.stamped)) }
-    ensures new { (H : History) → D.Stands desk.now H → number ≡ length H + 1
-        → IfOk result (λ edits. AreNew edits (tables_of H)) }
-    ensures same { (H : History) → D.Stands desk.now H
+    requires judged { (B : Basis) → D.Stands desk.now B
+        → IsChange B.rules B.history change.now.stamped change.now }
+    ensures lead { (B : Basis) → D.Stands desk.now B → number ≡ length B.history + 1
+        → IfOk result (λ edits. with_edits edits (tables_of B.history)
+        ≡ tables_of (accept B.history change.now.stamped)) }
+    ensures new { (B : Basis) → D.Stands desk.now B → number ≡ length B.history + 1
+        → IfOk result (λ edits. AreNew edits (tables_of B.history)) }
+    ensures same { (B : Basis) → D.Stands desk.now B
         → IfOk result
-        (λ edits. unnumbered (with_edits edits (tables_of H))
-        ≡ unnumbered (tables_of (accept H change.now.stamped))) }
+        (λ edits. unnumbered (with_edits edits (tables_of B.history))
+        ≡ unnumbered (tables_of (accept B.history change.now.stamped))) }
     ensures in_order { IfOk result (λ edits. AreTakesFirst edits × AreBalanced edits) }
 {
     let views = DeskViews { desk };

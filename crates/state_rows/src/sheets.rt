@@ -1,7 +1,7 @@
 //! Rows of sheets.
 
 ghost use Rattle.std.specs.Prelude.{◌≡◌, ◌++◌, [], IfOk, OnOk, unwrap_or};
-ghost use Rattle.desk_types.specs.History.{History};
+ghost use Rattle.desk_types.specs.History.{Basis};
 ghost use Rattle.desk_types.specs.Setup.{sheet_of};
 ghost use Rattle.state_rows.specs.EditsOf.{taken_rows, put_rows};
 
@@ -58,10 +58,10 @@ pub fn define<D: Views>(
     machine: &Id,
     rows: &[SheetRow],
 ) -> Result<Vec<RowEdit>, AllocError>
-    ensures { (H : History) → D.Stands desk.now H
+    ensures { (B : Basis) → D.Stands desk.now B
         → IfOk result
         (λ edits. edits.items ≡ taken_rows product.now machine.now 1
-        (unwrap_or (sheet_of H product.now machine.now) [])
+        (unwrap_or (sheet_of B.history product.now machine.now) [])
         ++ put_rows product.now machine.now 1 rows.now) }
 {
     let mut edits = Vec::new(alloc);

@@ -4,7 +4,7 @@ ghost use Rattle.std.specs.Prelude.{◌≡◌, ◌++◌, [], IfOk, OnOk, unwrap_
 ghost use Rattle.std.specs.List.{filter_map};
 ghost use Rattle.std.specs.Option.{option_to_list};
 ghost use Rattle.desk_types.specs.Id.{Name};
-ghost use Rattle.desk_types.specs.History.{History};
+ghost use Rattle.desk_types.specs.History.{Basis};
 ghost use Rattle.desk_types.specs.Setup.{selected_on};
 ghost use Rattle.state_rows.specs.EditsOf.{reel_on_slot, reels_on, board_edit};
 ghost use Rattle.desk_types.specs.declared.edit.RowEdit.TheVariants.{TakeMount};
@@ -51,9 +51,9 @@ pub fn unload<D: Views>(
     machine: &Id,
     slot: &Id,
 ) -> Result<Vec<RowEdit>, AllocError>
-    ensures { (H : History) → D.Stands desk.now H
+    ensures { (B : Basis) → D.Stands desk.now B
         → IfOk result
-        (λ edits. edits.items ≡ map (λ r. TakeMount r) (reels_on H machine.now slot.now)) }
+        (λ edits. edits.items ≡ map (λ r. TakeMount r) (reels_on B.history machine.now slot.now)) }
 {
     let mut edits = Vec::new(alloc);
     match desk.slots_of(machine)? {
@@ -73,8 +73,9 @@ pub fn board<D: Views>(
     board: &Id,
     at: Option<Id>,
 ) -> Result<Vec<RowEdit>, AllocError>
-    ensures { (H : History) → D.Stands desk.now H
-        → IfOk result (λ edits. edits.items ≡ board_edit board.now at (selected_on H machine.now)) }
+    ensures { (B : Basis) → D.Stands desk.now B
+        → IfOk result (λ edits. edits.items
+        ≡ board_edit board.now at (selected_on B.history machine.now)) }
 {
     let mut edits = Vec::new(alloc);
     match desk.selected(machine) {

@@ -6,7 +6,7 @@ ghost use Rattle.std.specs.List.Sorted.{IsStrictlySortedBy};
 ghost use Rattle.std.specs.Option.{option_map, option_or, option_to_list};
 ghost use Rattle.std.specs.BTreeMap.{get, keys, values};
 ghost use Rattle.desk_types.specs.Id.{Name, same, by_name};
-ghost use Rattle.desk_types.specs.History.{History};
+ghost use Rattle.desk_types.specs.History.{Basis};
 ghost use Rattle.desk_types.specs.declared.row.ReelRow.{ReelRow};
 ghost use Rattle.desk_types.specs.declared.row.PlacementRow.{PlacementRow};
 ghost use Rattle.desk_types.specs.declared.edit.RowEdit.TheVariants.{PutReel, PutPlacement};
@@ -35,13 +35,14 @@ fn lessen(row: &mut ReelRow, take: &Take)
 
 /// Takes a take's pieces off the row of its reel: that among the rows, or else the desk's.
 fn note<D: Views>(rows: &mut BTreeMap<Id, ReelRow>, desk: &D, take: &Take) -> Result<(), AllocError>
-    requires fits { (H : History) × D.Stands desk.now H
+    requires fits { (B : Basis) × D.Stands desk.now B
         × ((row : ReelRow)
-        → option_or (get by_name rows.old take.now.reel) (reel_row H take.now.reel) ≡ Some row
+        → option_or (get by_name rows.old take.now.reel) (reel_row B.history take.now.reel)
+        ≡ Some row
         → LessFits (pick_of take.now) row) }
-    ensures { (H : History) → D.Stands desk.now H → (r : Name) → OnOk result (get by_name rows.new r
+    ensures { (B : Basis) → D.Stands desk.now B → (r : Name) → OnOk result (get by_name rows.new r
         ≡ (if same take.now.reel r then option_map (less_by (pick_of take.now))
-        (option_or (get by_name rows.old r) (reel_row H r)) else get by_name rows.old r)) }
+        (option_or (get by_name rows.old r) (reel_row B.history r)) else get by_name rows.old r)) }
 {
     if let Some(row) = rows.get_mut(&take.reel) {
         lessen(row, take);
@@ -61,11 +62,11 @@ fn gather<D: Views>(
     desk: &D,
     takes: &[Take],
 ) -> Result<BTreeMap<Id, ReelRow>, AllocError>
-    requires fits { (H : History) × D.Stands desk.now H
-        × ArePiecesFitting H (map pick_of takes.now) }
-    ensures { (H : History) → D.Stands desk.now H
+    requires fits { (B : Basis) × D.Stands desk.now B
+        × ArePiecesFitting B.history (map pick_of takes.now) }
+    ensures { (B : Basis) → D.Stands desk.now B
         → IfOk result (λ rows. (r : Name)
-        → get by_name rows r ≡ picked_rows (reel_row H) (map pick_of takes.now) r) }
+        → get by_name rows r ≡ picked_rows (reel_row B.history) (map pick_of takes.now) r) }
 {
     let mut rows = BTreeMap::new(alloc);
     for take in takes {
@@ -150,10 +151,10 @@ pub fn take<D: Views>(
     number: u64,
     takes: &[Take],
 ) -> Result<Vec<RowEdit>, AllocError>
-    requires fits { (H : History) × D.Stands desk.now H
-        × ArePiecesFitting H (map pick_of takes.now) }
-    ensures { (H : History) → D.Stands desk.now H
-        → IfOk result (λ edits. AreTakeEdits H number takes.now edits.items) }
+    requires fits { (B : Basis) × D.Stands desk.now B
+        × ArePiecesFitting B.history (map pick_of takes.now) }
+    ensures { (B : Basis) → D.Stands desk.now B
+        → IfOk result (λ edits. AreTakeEdits B.history number takes.now edits.items) }
 {
     let rows = gather(alloc, desk, takes)?;
     let pieces_and_reels = takes.len().saturating_add(rows.len().saturating_mul(2));

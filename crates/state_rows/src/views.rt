@@ -9,39 +9,36 @@ use std::alloc::AllocError;
 /// trait for itself, because `settle` may not call what needs a `Desk`.
 pub trait Views {
     ghost use Rattle.std.specs.Prelude.{◌≡◌, IfOk};
-    ghost use Rattle.desk_types.specs.declared.rules.Rules.{Rules};
-    ghost use Rattle.desk_types.specs.History.{History};
+    ghost use Rattle.desk_types.specs.History.{Basis};
     ghost use Rattle.desk_types.specs.Judged.{IsJudged};
     ghost use Rattle.desk_types.specs.Setup.{selected_on, sheet_of};
     ghost use Rattle.desk_types.specs.View.{reel_view, mounts_on};
 
-    /// The histories for which the views are true.
-    ghost Stands: { Self → History → Type 0 };
+    /// The bases for which the views are true.
+    ghost Stands: { Self → Basis → Type 0 };
 
-    /// The rules that judge these histories.
-    ghost kept_rules: { Self → Rules };
-
-    /// A law, without code: each history for which the views are true is judged by the rules.
+    /// A law, without code: each history for which the views are true is judged by the rules with
+    /// it.
     fn is_judged(&self)
-        ensures { (H : History) → Stands self.now H → IsJudged (kept_rules self.now) H };
+        ensures { (B : Basis) → Stands self.now B → IsJudged B.rules B.history };
 
     /// Returns the product that is selected on the machine.
     fn selected(&self, machine: &Id) -> Option<Id>
-        ensures { (H : History) → Stands self.now H → result ≡ selected_on H machine.now };
+        ensures { (B : Basis) → Stands self.now B → result ≡ selected_on B.history machine.now };
 
     /// Returns the last sheet of the product on the machine.
     fn sheet_of(&self, product: &Id, machine: &Id) -> Result<Option<SheetRows>, AllocError>
-        ensures { (H : History) → Stands self.now H
-            → IfOk result (λ rows. rows ≡ sheet_of H product.now machine.now) };
+        ensures { (B : Basis) → Stands self.now B
+            → IfOk result (λ rows. rows ≡ sheet_of B.history product.now machine.now) };
 
     /// Returns the reel at the desk minute, or none if no such reel was received. Takes no memory.
     fn reel(&self, reel: &Id) -> Option<ReelView>
-        ensures { (H : History) → Stands self.now H → result ≡ reel_view H reel.now };
+        ensures { (B : Basis) → Stands self.now B → result ≡ reel_view B.history reel.now };
 
     /// Returns the live reels of the machine's slots, or none if no sheet names the machine.
     fn slots_of(&self, machine: &Id) -> Result<Option<Mounts>, AllocError>
-        ensures { (H : History) → Stands self.now H
-            → IfOk result (λ mounts. mounts ≡ mounts_on H machine.now) };
+        ensures { (B : Basis) → Stands self.now B
+            → IfOk result (λ mounts. mounts ≡ mounts_on B.history machine.now) };
 }
 
 /// The views of a desk.
@@ -51,9 +48,7 @@ pub struct DeskViews<'a, D> {
 }
 
 impl<'a, D: Desk> Views for DeskViews<'a, D> {
-    ghost Stands = { λ views H. D.Stands views.desk.now H };
-
-    ghost kept_rules = { λ views. D.kept_rules views.desk.now };
+    ghost Stands = { λ views B. D.Stands views.desk.now B };
 
     fn is_judged(&self) {
         self.desk.is_judged();

@@ -1,7 +1,7 @@
 //! The card of a reel.
 
 ghost use Rattle.std.specs.Prelude.{◌≡◌, IfOk};
-ghost use Rattle.desk_types.specs.History.{History};
+ghost use Rattle.desk_types.specs.History.{Basis};
 ghost use Rattle.desk_types.specs.Level.{text_of};
 ghost use Rattle.trace_reports.specs.Card.{state_text, reel_card};
 
@@ -78,8 +78,8 @@ impl CsvReport<ReelView> for ReelCard {
 /// Returns the reel's card at the desk minute: its receipt, pieces and floor life, or none if it
 /// wasn't received.
 pub fn reel_card<D: Desk>(alloc: Global, desk: &D, reel: &Id) -> Result<Option<Text>, AllocError>
-    ensures { (H : History) → D.Stands desk.now H
-        → IfOk result (λ text. text ≡ reel_card H reel.now) }
+    ensures { (B : Basis) → D.Stands desk.now B
+        → IfOk result (λ text. text ≡ reel_card B.history reel.now) }
 {
     match desk.reel(reel) {
         Some(view) => Ok(Some(csv_text(alloc, &ReelCard, &[view])?)),

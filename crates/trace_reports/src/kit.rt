@@ -3,8 +3,8 @@
 ghost use Rattle.std.specs.Prelude.{◌≡◌, ◌++◌, ℕ, not, List, [], map, IfOk, OnOk};
 ghost use Rattle.std.specs.List.{filter};
 ghost use Rattle.desk_types.specs.declared.view.ReelView.{ReelView};
+ghost use Rattle.desk_types.specs.History.{Basis};
 ghost use Rattle.desk_types.specs.Id.{Name};
-ghost use Rattle.desk_types.specs.History.{History};
 ghost use Rattle.setup_sheets.specs.Names.{is_among, HasSeen};
 ghost use Rattle.trace_reports.specs.Kit.{needed_by, enough, rows_for, kit_rows, kit_list};
 
@@ -165,8 +165,8 @@ fn kit_rows<D: Desk>(
     boards: Boards,
     sheet: &[SheetRow],
 ) -> Result<Vec<KitRow>, AllocError>
-    ensures { (H : History) → D.Stands desk.now H
-        → IfOk result (λ rows. rows.items ≡ kit_rows H boards [] sheet.now) }
+    ensures { (B : Basis) → D.Stands desk.now B
+        → IfOk result (λ rows. rows.items ≡ kit_rows B.history boards [] sheet.now) }
 {
     let mut given = BTreeSet::new(alloc);
     let mut kit = Vec::new(alloc);
@@ -187,8 +187,8 @@ pub fn kit_list<D: Desk>(
     machine: &Id,
     boards: Boards,
 ) -> Result<Option<Text>, AllocError>
-    ensures { (H : History) → D.Stands desk.now H
-        → IfOk result (λ text. text ≡ kit_list H product.now machine.now boards) }
+    ensures { (B : Basis) → D.Stands desk.now B
+        → IfOk result (λ text. text ≡ kit_list B.history product.now machine.now boards) }
 {
     match desk.sheet_of(product, machine)? {
         Some(sheet) => {

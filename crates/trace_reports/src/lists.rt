@@ -33,10 +33,10 @@ pub fn reel_card<S: Alter, D: KeepsRows + Drop>(
     store: &mut LineStore<S, D>,
     reel: &Id,
 ) -> Result<Text, ReportFault>
-    requires stands { (L : Kept) × Stands S.Store D.Stands D.kept_rules store.old L }
-    ensures card { ForKept S.Store D.Stands D.kept_rules store.old store.new
+    requires stands { (L : Kept) × Stands S.Store D.Stands store.old L }
+    ensures card { ForKept S.Store D.Stands store.old store.new
         (λ L. Answers Kind.Reel (reel_card L.history reel.now) result) }
-    ensures makes_desk { MakesDesk S.Store D.Stands D.kept_rules store.old store.new }
+    ensures makes_desk { MakesDesk S.Store D.Stands store.old store.new }
 {
     store.ready()?;
     let Some(desk) = store.desk() else {
@@ -52,10 +52,10 @@ pub fn slot_list<S: Alter, D: KeepsRows + Drop>(
     store: &mut LineStore<S, D>,
     machine: &Id,
 ) -> Result<Text, ReportFault>
-    requires stands { (L : Kept) × Stands S.Store D.Stands D.kept_rules store.old L }
-    ensures list { ForKept S.Store D.Stands D.kept_rules store.old store.new
+    requires stands { (L : Kept) × Stands S.Store D.Stands store.old L }
+    ensures list { ForKept S.Store D.Stands store.old store.new
         (λ L. Answers Kind.Machine (slot_list L.history machine.now) result) }
-    ensures makes_desk { MakesDesk S.Store D.Stands D.kept_rules store.old store.new }
+    ensures makes_desk { MakesDesk S.Store D.Stands store.old store.new }
 {
     store.ready()?;
     let Some(desk) = store.desk() else {
@@ -76,10 +76,10 @@ pub fn kit_list<S: Alter, D: KeepsRows + Drop>(
     machine: &Id,
     boards: Boards,
 ) -> Result<Text, ReportFault>
-    requires stands { (L : Kept) × Stands S.Store D.Stands D.kept_rules store.old L }
-    ensures list { ForKept S.Store D.Stands D.kept_rules store.old store.new
+    requires stands { (L : Kept) × Stands S.Store D.Stands store.old L }
+    ensures list { ForKept S.Store D.Stands store.old store.new
         (λ L. Answers Kind.Sheet (kit_list L.history product.now machine.now boards) result) }
-    ensures makes_desk { MakesDesk S.Store D.Stands D.kept_rules store.old store.new }
+    ensures makes_desk { MakesDesk S.Store D.Stands store.old store.new }
 {
     store.ready()?;
     let Some(desk) = store.desk() else {

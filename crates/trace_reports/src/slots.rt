@@ -1,7 +1,7 @@
 //! The slot list of a machine.
 
 ghost use Rattle.std.specs.Prelude.{◌≡◌, IfOk};
-ghost use Rattle.desk_types.specs.History.{History};
+ghost use Rattle.desk_types.specs.History.{Basis};
 ghost use Rattle.trace_reports.specs.Slots.{slot_list};
 
 use crate::report::{CsvReport, TextWriter, csv_text, write_fields};
@@ -53,8 +53,8 @@ impl CsvReport<Mount> for SlotList {
 /// Returns the machine's live reels by slot and position, with the front at position 1, or none if
 /// no sheet is for the machine.
 pub fn slot_list<D: Desk>(alloc: Global, desk: &D, machine: &Id) -> Result<Option<Text>, AllocError>
-    ensures { (H : History) → D.Stands desk.now H
-        → IfOk result (λ text. text ≡ slot_list H machine.now) }
+    ensures { (B : Basis) → D.Stands desk.now B
+        → IfOk result (λ text. text ≡ slot_list B.history machine.now) }
 {
     match desk.slots_of(machine)? {
         Some(mounts) => Ok(Some(csv_text(alloc, &SlotList, mounts.as_slice())?)),

@@ -22,9 +22,9 @@ pub fn board_trace<S: Alter, D: KeepsRows + Drop>(
     board: &Id,
     detail: TraceDetail,
 ) -> Result<Text, ReportFault>
-    ensures trace { ForKept S.Store D.Stands D.kept_rules store.old store.new
+    ensures trace { ForKept S.Store D.Stands store.old store.new
         (λ L. Answers Kind.Board (board_trace detail L.history board.now) result) }
-    ensures reads { ReadsStore S.Store D.Stands D.kept_rules store.old store.new }
+    ensures reads { ReadsStore S.Store D.Stands store.old store.new }
 {
     let Some(pieces) = store.board_rows(board)? else {
         return Err(ReportFault::NotFound(Kind::Board));
@@ -40,9 +40,9 @@ pub fn lot_trace<S: Alter, D: KeepsRows + Drop>(
     lot: &Id,
     detail: TraceDetail,
 ) -> Result<Text, ReportFault>
-    ensures trace { ForKept S.Store D.Stands D.kept_rules store.old store.new
+    ensures trace { ForKept S.Store D.Stands store.old store.new
         (λ L. Answers Kind.Lot (lot_trace detail L.history lot.now) result) }
-    ensures reads { ReadsStore S.Store D.Stands D.kept_rules store.old store.new }
+    ensures reads { ReadsStore S.Store D.Stands store.old store.new }
 {
     let Some(pieces) = store.lot_rows(lot)? else {
         return Err(ReportFault::NotFound(Kind::Lot));
@@ -56,9 +56,9 @@ pub fn overdue_list<S: Alter, D: KeepsRows + Drop>(
     alloc: Global,
     store: &mut LineStore<S, D>,
 ) -> Result<Text, ReportFault>
-    ensures list { ForKept S.Store D.Stands D.kept_rules store.old store.new
+    ensures list { ForKept S.Store D.Stands store.old store.new
         (λ L. AnswersAlways (overdue_list L.history) result) }
-    ensures reads { ReadsStore S.Store D.Stands D.kept_rules store.old store.new }
+    ensures reads { ReadsStore S.Store D.Stands store.old store.new }
 {
     let pieces = store.overdue_rows()?;
     Ok(overdue_text(alloc, pieces.as_slice())?)

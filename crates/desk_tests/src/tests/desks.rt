@@ -1,10 +1,9 @@
 //! Three desks: one that searches its history, one that keeps the current state, and one that is rebuilt from the rows
 //! after each message.
 
-ghost use Rattle.std.specs.Prelude.{◌≡◌, IfOk, OnOk};
-ghost use Rattle.desk_types.specs.declared.rules.Rules.TheVariants.{Two};
+ghost use Rattle.std.specs.Prelude.{IfOk};
 ghost use Rattle.desk_types.specs.Desk.{HasRoom};
-ghost use Rattle.feeder_state.specs.State.{IsState, rules_of};
+ghost use Rattle.feeder_state.specs.State.{Represents};
 ghost use Rattle.desk_tests.specs.Beside.{AreOfOneList};
 
 use super::cases::CASES;
@@ -158,9 +157,7 @@ fn send<D: Desk>(
     message: &Stamped,
 ) -> Result<u64, Fail>
     requires one_list { AreOfOneList D.Stands desk.old rows.old number }
-    requires rules { D.kept_rules desk.old ≡ Two }
     ensures one_list { IfOk result (AreOfOneList D.Stands desk.new rows.new) }
-    ensures rules { OnOk result (D.kept_rules desk.new ≡ Two) }
 {
     if number > 10_100 {
         return Err("too many entries")?;
@@ -187,8 +184,7 @@ struct Listed {
 
 fn list_of(alloc: Global, messages: &[Stamped]) -> Result<Listed, Fail>
     ensures one_list { IfOk result
-        (λ it. AreOfOneList (λ desk H. IsState H desk) it.desk it.rows it.number) }
-    ensures rules { IfOk result (λ it. rules_of it.desk ≡ Two) }
+        (λ it. AreOfOneList Represents it.desk it.rows it.number) }
 {
     let (mut desk, mut rows, mut number) = (StateDesk::new(alloc), RowSet::new(alloc), 1);
     for message in messages {
@@ -204,7 +200,7 @@ struct Again {
 }
 
 fn made_again(alloc: Global, messages: &[Stamped]) -> Result<Again, Fail>
-    ensures { IfOk result (λ both. HasRoom (λ desk H. IsState H desk) both.restored 1000) }
+    ensures { IfOk result (λ both. HasRoom Represents both.restored 1000) }
 {
     let Listed {
         desk,
@@ -225,7 +221,7 @@ fn goes_on(
     restored: &mut StateDesk,
     left: &[Stamped],
 ) -> Result<(), Fail>
-    requires { HasRoom (λ desk H. IsState H desk) restored.old 1000 }
+    requires { HasRoom Represents restored.old 1000 }
 {
     same_views(rt, desk, &*restored, PRODUCTS, NAMES)?;
     let told = replies(alloc, restored, left)?;

@@ -22,7 +22,7 @@ impl<S: Alter, D: KeepsRows + Drop> LineStore<S, D> {
     /// A law: while the connection is open, a crash leaves exactly the tables of the store's
     /// history. That holds between any two calls, even after a refusal, a report or Unavailable.
     pub fn crash_leaves_the_list(&self)
-        ensures list { (L : Kept) → Stands S.Store D.Stands D.kept_rules self.now L
+        ensures list { (L : Kept) → Stands S.Store D.Stands self.now L
             → HasCleanDisk (state_of S.Store self.now) → IsTrue L.own
             → IsTrue (state_of S.Store self.now).is_open
             → (trees : Trees) → (state_of S.Store self.now).may_leave trees
@@ -36,14 +36,14 @@ impl<S: Alter, D: KeepsRows + Drop> LineStore<S, D> {
     /// with one of these commands. Sent once more, an accepted command changes nothing.
     pub fn unanswered_commands_leave_the_list(&self, last: &LineStore<S, D>)
         ensures stands { (L : Kept) (sent : List Stamped)
-            → Stands S.Store D.Stands D.kept_rules self.now L
-            → IsTrue L.own → GoUnanswered S.Store D.Stands D.kept_rules self.now sent last.now
+            → Stands S.Store D.Stands self.now L
+            → IsTrue L.own → GoUnanswered S.Store D.Stands self.now sent last.now
             → HasCleanDisk (state_of S.Store last.now)
-            → Stands S.Store D.Stands D.kept_rules last.now L }
+            → Stands S.Store D.Stands last.now L }
         ensures crash { (L : Kept) (sent : List Stamped)
-            → Stands S.Store D.Stands D.kept_rules self.now L
+            → Stands S.Store D.Stands self.now L
             → IsTrue L.own → IsTrue (state_of S.Store self.now).is_open
-            → GoUnanswered S.Store D.Stands D.kept_rules self.now sent last.now
+            → GoUnanswered S.Store D.Stands self.now sent last.now
             → HasCleanDisk (state_of S.Store last.now) → (trees : Trees)
             → (state_of S.Store last.now).may_leave trees
             → HoldsWithAtMostOne L sent trees }
@@ -55,8 +55,8 @@ impl<S: Alter, D: KeepsRows + Drop> LineStore<S, D> {
 
     /// A law: a call of `command` is a step of `unanswered_commands_leave_the_list`.
     pub fn tried(&mut self, stamped: &Stamped) -> Answer
-        requires stands { (L : Kept) × Stands S.Store D.Stands D.kept_rules self.old L }
-        ensures tries { Tries S.Store D.Stands D.kept_rules self.old stamped.now result self.new }
+        requires stands { (L : Kept) × Stands S.Store D.Stands self.old L }
+        ensures tries { Tries S.Store D.Stands self.old stamped.now result self.new }
     {
         self.command(stamped)
     }

@@ -19,13 +19,13 @@ impl<S: Alter, D: KeepsRows + Drop> LineStore<S, D> {
     /// Returns the pieces on a board by number, then place, or `None` if no accepted command
     /// started the board.
     pub fn board_rows(&mut self, board: &Id) -> Result<Option<PlacedRows>, Unavailable>
-        ensures trace { ForKept S.Store D.Stands D.kept_rules self.old self.new
+        ensures trace { ForKept S.Store D.Stands self.old self.new
             (λ L. IfOk result (λ pieces. pieces ≡ board_trace L.history board.now)) }
-        ensures converse { ForKept S.Store D.Stands D.kept_rules self.old self.new
+        ensures converse { ForKept S.Store D.Stands self.old self.new
             (λ L. IfOk result
             (λ pieces. (lot : Name) → AreConverse board.now pieces lot
             (lot_board_names L.history lot))) }
-        ensures reads { ReadsStore S.Store D.Stands D.kept_rules self.old self.new }
+        ensures reads { ReadsStore S.Store D.Stands self.old self.new }
     {
         let working = self.working.as_ref();
         Ok(line_traces::board_rows(self.alloc, &mut self.conn, working, board)?)
@@ -34,9 +34,9 @@ impl<S: Alter, D: KeepsRows + Drop> LineStore<S, D> {
     /// Returns the pieces of a lot by number, then place, or `None` if no accepted command received
     /// a reel of the lot.
     pub fn lot_rows(&mut self, lot: &Id) -> Result<Option<PlacedRows>, Unavailable>
-        ensures trace { ForKept S.Store D.Stands D.kept_rules self.old self.new
+        ensures trace { ForKept S.Store D.Stands self.old self.new
             (λ L. IfOk result (λ pieces. pieces ≡ lot_trace L.history lot.now)) }
-        ensures reads { ReadsStore S.Store D.Stands D.kept_rules self.old self.new }
+        ensures reads { ReadsStore S.Store D.Stands self.old self.new }
     {
         let working = self.working.as_ref();
         Ok(line_traces::lot_rows(self.alloc, &mut self.conn, working, lot)?)
@@ -45,13 +45,13 @@ impl<S: Alter, D: KeepsRows + Drop> LineStore<S, D> {
     /// Returns the boards that hold a piece of a lot, each once and in byte order, or `None` if no
     /// accepted command received a reel of the lot.
     pub fn lot_boards(&mut self, lot: &Id) -> Result<Option<IdList>, Unavailable>
-        ensures boards { ForKept S.Store D.Stands D.kept_rules self.old self.new
+        ensures boards { ForKept S.Store D.Stands self.old self.new
             (λ L. IfOk result (λ boards. boards ≡ lot_board_names L.history lot.now)) }
-        ensures converse { ForKept S.Store D.Stands D.kept_rules self.old self.new
+        ensures converse { ForKept S.Store D.Stands self.old self.new
             (λ L. IfOk result
             (λ boards. (board : Name) → AreConverse board
             (board_trace L.history board) lot.now boards)) }
-        ensures reads { ReadsStore S.Store D.Stands D.kept_rules self.old self.new }
+        ensures reads { ReadsStore S.Store D.Stands self.old self.new }
     {
         let working = self.working.as_ref();
         Ok(line_traces::lot_boards(self.alloc, &mut self.conn, working, lot)?)
@@ -59,9 +59,9 @@ impl<S: Alter, D: KeepsRows + Drop> LineStore<S, D> {
 
     /// Returns the pieces of reels whose floor life was used up, by number, then place.
     pub fn overdue_rows(&mut self) -> Result<PlacedRows, Unavailable>
-        ensures rows { ForKept S.Store D.Stands D.kept_rules self.old self.new
+        ensures rows { ForKept S.Store D.Stands self.old self.new
             (λ L. IfOk result (λ pieces. pieces ≡ overdue_of L.history)) }
-        ensures reads { ReadsStore S.Store D.Stands D.kept_rules self.old self.new }
+        ensures reads { ReadsStore S.Store D.Stands self.old self.new }
     {
         let working = self.working.as_ref();
         Ok(line_traces::overdue_rows(self.alloc, &mut self.conn, working)?)

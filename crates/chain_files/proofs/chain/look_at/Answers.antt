@@ -31,6 +31,6 @@ returns-in-Ok-looked-clause-takes g c = (
       subst (λ (db : Database). Holds db tables) (sym (kept.committed is_open)) (b.3.tables before refl (kept.was_open is_open)) in (
         b.1,
         (b.0, begins-tables _ b.0 b.1 b.2, c.in-Ok-close_file.ensures.whole tables keeps clean, b.3.lawful before refl, b.3.consistent),
-        subst (λ r. IfOk r (Says state.Stands state.kept_rules b.1 c.args.question.now)) c.in-Ok-looked.is (c.look-conn.ensures.says (record { greatest = b.0; history = b.1; own = _ }) b.3 refl after),
+        subst (λ r. IfOk r (Says state.Stands b.1 c.args.question.now)) c.in-Ok-looked.is (c.look-conn.ensures.says (record { greatest = b.0; history = b.1; own = _ }) b.3 refl after),
       ),
 )

@@ -1,7 +1,7 @@
 use Rattle.std.proofs.Common.{◌∙◌, [], ◌∷◌, refl, sym, subst, append-nil, arith}
 use Rattle.sqlite.specs.State.{HasCleanDisk}
 use Rattle.sqlite.specs.Held.{state}
-use Rattle.desk_types.specs.declared.rules.Rules.{Rules}
+use Rattle.desk_types.specs.History.{basis}
 use Rattle.line_tables.proofs.Frames.{reads_same, reads_then}
 use Rattle.line_replay.proofs.ReadOfCommitted.{reads_back}
 use Rattle.chain_files.specs.First.{TakesNext}
@@ -10,10 +10,9 @@ use Rattle.chain_files.proofs.first.first_desk.Goals as goal
 
 pub loop-number-init : goal.loop-number-init
 loop-number-init g c = record {
-  rules = c.fresh-desk.ensures.rules;
   first = record {
     first = [];
-    stands = c.fresh-desk.ensures.stands;
+    stands = c.fresh-desk.ensures;
     judged = tt;
     counted = refl;
     prefix = λ greatest G holds clean. (G, sym (append-nil G));
@@ -31,7 +30,7 @@ loop-number-preserved g c =
     let P = was.first.first in
     let early : After → HasCleanDisk mid = λ clean. omega (arith, c.take_row.ensures.reads.survives.clean, clean) in
     let told = c.if-not-take_row.false in
-    let next = subst (λ (r : Rules). TakesNext F r After mid P c.take_row.new.desk) was.rules (c.take_row.ensures.takes P was.first.stands (omega (arith, was.first.counted)) told) in
+    let next = c.take_row.ensures.takes (basis c.args.rules P) was.first.stands (omega (arith, was.first.counted)) told in
     let takes : TakesNext F c.args.rules After old P c.take_row.new.desk = record {
       entry = next.entry;
       stands = next.stands;
@@ -39,7 +38,6 @@ loop-number-preserved g c =
       row = λ clean. reads_back old mid _ (was.reads.kept (early clean)) (next.row clean);
     } in
     record {
-      rules = c.take_row.ensures.rules told ∙ was.rules;
       first = record {
         first = takes.entry ∷ P;
         stands = takes.stands;

@@ -1,4 +1,3 @@
-use Rattle.std.proofs.Common.{◌≡◌}
 use Rattle.sqlite.specs.State.{HasCleanDisk}
 use Rattle.sqlite.specs.Held.{state}
 use Rattle.line_tables.specs.Frames.{ReadsOnly}
@@ -7,7 +6,6 @@ use Rattle.chain_files.proofs.first.first_desk.Given as goal
 
 abbrev pub invariant-loop-number : goal.invariant-loop-number
 invariant-loop-number g l = record {
-  rules : g.D.Desk.kept_rules l.desk ≡ l.fn.rules;
   first : IsFirst g.D.Desk.Stands l.fn.rules (HasCleanDisk (state g.S.Store l.conn)) (state g.S.Store l.fn.conn) l.number l.desk;
   reads : ReadsOnly g.S.Store l.fn.conn l.conn;
 }

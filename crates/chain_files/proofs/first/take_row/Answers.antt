@@ -6,9 +6,9 @@ use Rattle.line_tables.specs.Rows.{accepted_in}
 use Rattle.chain_files.proofs.first.take_row.Goals as goal
 
 pub returns-in-Ok-clause-takes : goal.returns-in-Ok-clause-takes
-returns-in-Ok-clause-takes g c H stands numbered told =
+returns-in-Ok-clause-takes g c B stands numbered told =
     let old = state g.S.Store c.args.conn.now in
-    let it = c.in-Ok.ensures.ok H stands numbered in record {
+    let it = c.in-Ok.ensures.ok B stands numbered in record {
       entry = it.0;
       stands = it.2;
       next = it.3.next;

@@ -36,7 +36,6 @@ returns-in-Some-first_desk-clause-says g c L stands own clean =
       begun_with = sym begun.counted;
       begun = begun.stands;
       count = c.count-commands.ensures L stands;
-      whole = works.0.stands;
-      rules = works.1;
+      whole = works.stands;
       pieces = c.in-Ok.ensures.pieces L stands clean0 own;
     }

@@ -32,7 +32,7 @@ both-found {D = D} {E = E} g g' of_old of_new closed after closed' after' first 
         said.1,
         λ clean' ours'.
             let said' = takes'.2 clean' ours' in
-            (said'.0, said'.1, says said.0 said'.0 said.2.whole said'.2.whole),
+            (said'.0, said'.1, says said.0 said'.0 said.2.whole.state said'.2.whole.state),
       ),
 )
 

@@ -20,7 +20,7 @@ returns-in-Ok-clause-begins g c = λ clean alone.
       L.greatest,
       L.history,
       begins.0,
-      subst (λ (own : Bool). Stands over_files g.D.Desk.Stands g.D.Desk.kept_rules c.in-Ok.store (record { greatest = L.greatest; history = L.history; own = own }))
+      subst (λ (own : Bool). Stands over_files g.D.Desk.Stands c.in-Ok.store (record { greatest = L.greatest; history = L.history; own = own }))
           (c.in-Ok.ensures.opened.1.own ∙ begins.1) c.in-Ok.ensures.opened.1.stands,
     )
 

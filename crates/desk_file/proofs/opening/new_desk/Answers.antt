@@ -15,7 +15,7 @@ returns-in-Ok-clause-begins g c = λ clean alone.
     let opened = c.in_ok-conn.ensures.opened before in
     let begins = made_begins (image_at g.T.Start) (file_state conn) (c.in_ok-conn.ensures.found before) opened.0 opened.1 c.args.greatest c.in-Ok.ensures.made.nameless alone in (
       begins.0,
-      subst (λ (own : Bool). Stands over_files g.D.Desk.Stands g.D.Desk.kept_rules c.in-Ok.store (record { greatest = c.args.greatest; history = []; own = own }))
+      subst (λ (own : Bool). Stands over_files g.D.Desk.Stands c.in-Ok.store (record { greatest = c.args.greatest; history = []; own = own }))
           begins.1 c.in-Ok.ensures.made.stands,
     )
 

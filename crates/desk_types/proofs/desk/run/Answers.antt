@@ -28,22 +28,21 @@ length-after_command rules H s = by (refusal_of rules H s)
 
 pub loop-message-preserved : goal.loop-message-preserved
 loop-message-preserved g c =
-    let kept = g.D.Desk.kept_rules c.args.desk.now in
-    let same = c.loop-message.invariant.rules in
     let message = c.message-item.result in
     let i = c.loop-message.message-index in
     let ms = c.args.messages.now in
     let here = drop-next ms i message (omega arith) c.message-item.is in
     record {
-      rules = c.in_ok-reply.ensures.rules ∙ same;
-      told = λ first stands.
-          let now = c.loop-message.invariant.told first stands in (
-            after_command kept now.0 message,
-            rw (← same) (c.in_ok-reply.ensures.stands now.0 now.1),
-            rw c.in_ok-push.ensures.items (told_more kept now.0 first ms i message _ _ here (rw (← same) (c.in_ok-reply.ensures.reply now.0 now.1)) now.2),
-            ap (after_commands kept now.0) (sym here) ∙ now.3,
+      told = λ B stands.
+          let now = c.loop-message.invariant.told B stands in
+          let basis = record B { history = now.0 } in (
+            after_command B.rules now.0 message,
+            c.in_ok-reply.ensures.stands basis now.1,
+            rw c.in_ok-push.ensures.items (told_more B.rules now.0 B.history ms i message _ _ here (c.in_ok-reply.ensures.reply basis now.1) now.2),
+            ap (after_commands B.rules now.0) (sym here) ∙ now.3,
           );
       room =
-          let now = c.loop-message.invariant.room in
-          (after_command kept now.0 message, rw (← same) (c.in_ok-reply.ensures.stands now.0 now.1), omega (arith, length-after_command kept now.0 message));
+          let room = c.loop-message.invariant.room in
+          let B = room.0 in
+          (record B { history = after_command B.rules B.history message }, c.in_ok-reply.ensures.stands B room.1, omega (arith, length-after_command B.rules B.history message));
     }

@@ -1,5 +1,10 @@
+use Rattle.std.proofs.Common.{sym, ap, ◌∙◌}
+use Rattle.desk_types.specs.Outcome.{replies_to}
 use Rattle.feeder_state.proofs.SameStates.{state-replies}
 use Rattle.feeder_state.proofs.same_state.same_state_same_replies.Goals as goal
 
 pub returns : goal.returns
-returns c = λ G H messages of_G of_H all. state-replies G H c.args.desk.now messages all of_G of_H
+returns c = λ A B messages of_A of_B all.
+    ap (λ r. replies_to r A.history messages) (sym of_A.rules)
+    ∙ state-replies A.history B.history c.args.desk.now messages all of_A.state of_B.state
+    ∙ ap (λ r. replies_to r B.history messages) of_B.rules

@@ -11,7 +11,7 @@ pub returns : goal.returns
 returns g c = record {
   list = λ calls greatest G stands on made clean.
       let store = g.S.Store in
-      let after = goes_on no_reports (λ w L. (L.rules ≡ Two) × IsWatched store g.D.Desk.Stands g.D.Desk.kept_rules w.store (own_kept L)) (λ w. HasCleanDisk (state_of store w.store)) calls c.args.first.now c.args.last.now made (by_two greatest G)
+      let after = goes_on no_reports (λ w L. (L.rules ≡ Two) × IsWatched store g.D.Desk.Stands w.store (own_kept L)) (λ w. HasCleanDisk (state_of store w.store)) calls c.args.first.now c.args.last.now made (by_two greatest G)
       (refl, record { stands = stands; crash = λ early trees may. inl (c.crash_leaves_the_list.ensures.list (own_kept (by_two greatest G)) stands early refl on trees may) }) clean in
       (after.0, after.2, after.1.1);
 }

@@ -1,5 +1,5 @@
 use Rattle.std.proofs.Common.{◌∙◌, sym, ap, subst, length}
-use Rattle.desk_types.specs.History.{History}
+use Rattle.desk_types.specs.History.{History, basis}
 use Rattle.line_replay.proofs.Committed.{same_list}
 use Rattle.line_replay.specs.Expected.{AreKept}
 use Rattle.state_rows.specs.Lists.{IsListed}
@@ -9,7 +9,7 @@ pub returns-in-Ok-clause-same : goal.returns-in-Ok-clause-same
 returns-in-Ok-clause-same g c G judged holds clean =
     let list = c.in-Ok.ensures.list in
     let same = same_list g.D.Desk.Stands c.args.rules c.args.greatest _ _ c.in-Ok.replayed.desk _ c.in-Ok.replayed.count list.0 G (c.rows_tell_lists_apart.ensures c.args.rules) list.1 judged holds clean in (
-      subst (λ (H : History). g.D.Desk.Stands c.in-Ok.replayed.desk H) same list.1.stands,
+      subst (λ (H : History). g.D.Desk.Stands c.in-Ok.replayed.desk (basis c.args.rules H)) same list.1.stands,
       sym list.1.counted ∙ ap length same,
       subst (IsListed c.in-Ok.replayed.lists) same list.2,
       subst (AreKept (g.D.KeepsRows.kept_rows c.in-Ok.replayed.desk)) same list.1.others.rows,

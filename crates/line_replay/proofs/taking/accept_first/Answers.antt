@@ -9,9 +9,10 @@ use Rattle.line_replay.proofs.ReadOfCommitted.{reads_as}
 use Rattle.line_replay.proofs.taking.accept_first.Goals as goal
 
 pub returns-then-repeated-clause-err : goal.returns-then-repeated-clause-err
-returns-then-repeated-clause-err g c H stands numbered clean =
+returns-then-repeated-clause-err g c B stands numbered clean =
+    let H = B.history in
     let old = state g.S.Store c.args.conn.now in
-    let it = c.in-Ok.ensures.ok H stands numbered in
+    let it = c.in-Ok.ensures.ok B stands numbered in
     inr (
       refl,
       λ e goes.

@@ -10,7 +10,8 @@ use Rattle.line_replay.proofs.OneRowMore.{row_taken, fault_stuck}
 use Rattle.line_replay.proofs.taking.take_row.Goals as goal
 
 pub returns-in_ok-look_up-in-Some-clause-ok : goal.returns-in_ok-look_up-in-Some-clause-ok
-returns-in_ok-look_up-in-Some-clause-ok g c H stands numbered =
+returns-in_ok-look_up-in-Some-clause-ok g c B stands numbered =
+    let H = B.history in
     let old = state g.S.Store c.args.conn.now in
     let first = state g.S.Store c.row_at.new.conn in
     let mid = state g.S.Store c.accept_first.new.conn in
@@ -18,7 +19,7 @@ returns-in_ok-look_up-in-Some-clause-ok g c H stands numbered =
     let early : After → HasCleanDisk mid = λ clean. omega (arith, c.look_up.ensures.reads.survives.clean, clean) in
     let earlier : After → HasCleanDisk first = λ clean. omega (arith, c.accept_first.ensures.reads.survives.clean, early clean) in
     let kept : After → KeepsCommit old mid = λ clean. keeps_then old first mid (c.row_at.ensures.reads.kept (earlier clean)) (c.accept_first.ensures.reads.kept (early clean)) in
-    let accepts = c.in_ok-edits-in-Some.ensures.ok H stands numbered in record {
+    let accepts = c.in_ok-edits-in-Some.ensures.ok B stands numbered in record {
       entry = accepts.entry;
       stands = accepts.stands;
       next = accepts.goes.next;
@@ -32,10 +33,10 @@ returns-in_ok-look_up-in-Some-clause-ok g c H stands numbered =
     }
 
 pub returns-in_err-edits-in-Some-clause-err : goal.returns-in_err-edits-in-Some-clause-err
-returns-in_err-edits-in-Some-clause-err g c H stands numbered clean =
+returns-in_err-edits-in-Some-clause-err g c B stands numbered clean =
     let old = state g.S.Store c.args.conn.now in
     let first = state g.S.Store c.row_at.new.conn in
     let early : HasCleanDisk first = omega (arith, c.accept_first.ensures.reads.survives.clean, clean) in
     let p = err_from_is_err_and c.from_residual-in_err-edits-in-Some.result c.from_residual-in_err-edits-in-Some.ensures.1 in
-    rw (p.1, p.2) (fault_stuck (g.D.Desk.kept_rules c.args.desk.now) old first c.in_ok-found.found c.in-Some.row H c.args.number (c.row_at.ensures.reads.kept early) c.in-Some.is numbered (c.in_ok-found.ensures.found early)
-    c.in_err-edits-in-Some.field-0.0 (c.in_err-edits-in-Some.ensures.err H stands numbered clean))
+    rw (p.1, p.2) (fault_stuck B.rules old first c.in_ok-found.found c.in-Some.row B.history c.args.number (c.row_at.ensures.reads.kept early) c.in-Some.is numbered (c.in_ok-found.ensures.found early)
+    c.in_err-edits-in-Some.field-0.0 (c.in_err-edits-in-Some.ensures.err B stands numbered clean))

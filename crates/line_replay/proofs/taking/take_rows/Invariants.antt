@@ -1,7 +1,8 @@
-use Rattle.std.proofs.Common.{◌≡◌}
+use Rattle.std.proofs.Common.{◌≡◌, []}
 use Rattle.sqlite.specs.State.{HasCleanDisk}
 use Rattle.sqlite.specs.Held.{state}
-use Rattle.desk_types.specs.History.{History}
+use Rattle.desk_types.specs.declared.rules.Rules.{Rules}
+use Rattle.desk_types.specs.History.{History, basis}
 use Rattle.line_tables.specs.Frames.{ReadsOnly}
 use Rattle.line_replay.specs.Expected.{kept_with}
 use Rattle.line_replay.specs.Replay.{StandsListed, IsTaken}
@@ -9,10 +10,8 @@ use Rattle.line_replay.proofs.taking.take_rows.Given as goal
 
 abbrev pub invariant-loop-number : goal.invariant-loop-number
 invariant-loop-number g l =
-    let kept_rules = g.D.Desk.kept_rules in
     let old = state g.S.Store l.fn.conn in
     let now = state g.S.Store l.conn in record {
-      rules : kept_rules l.desk ≡ kept_rules l.fn.desk;
-      taken : (H : History) × IsTaken (StandsListed g.D.Desk.Stands) (kept_rules l.fn.desk) (HasCleanDisk now) old.committed (l.desk, l.lists) (kept_with (g.D.KeepsRows.kept_rows l.desk) l.placed) l.number H;
+      taken : (rules : Rules) → g.D.Desk.Stands l.fn.desk (basis rules []) → (H : History) × IsTaken (StandsListed g.D.Desk.Stands) rules (HasCleanDisk now) old.committed (l.desk, l.lists) (kept_with (g.D.KeepsRows.kept_rows l.desk) l.placed) l.number H;
       reads : ReadsOnly g.S.Store l.fn.conn l.conn;
     }

@@ -27,7 +27,7 @@ returns-in-None-clause-ok g c =
     let others = subst (λ (rows : KeptRows). AreExpected Before mid.committed (kept_with rows r.placed) list.0) (sym c.rows.ensures.kept) list.1.others in
     let first = audited c.args.rules Before After old mid seen (kept_with c.rows.result.now r.placed) list.0 None early kept kept_on others (λ clean. rw c.in-None.is at (c.in_ok-other.ensures.verdict clean)) in (
       list.0,
-      opened_on g.D.Desk.Stands g.D.Desk.kept_rules Before After old mid c.args.rules r.desk (kept_with (g.D.KeepsRows.kept_rows r.desk) r.placed) r.count _ list.0 early list.1 list.2 c.in_ok-desk.ensures.rules refl refl c.in_ok-greatest.ensures.bound kept
+      opened_on g.D.Desk.Stands Before After old mid c.args.rules r.desk (kept_with (g.D.KeepsRows.kept_rows r.desk) r.placed) r.count _ list.0 early list.1 list.2 refl refl c.in_ok-greatest.ensures.bound kept
           (λ clean. c.in_ok-greatest.ensures.ok (earlier (early clean))) first
           (λ clean. reads_back old last _ (keeps_then old mid last (kept clean) (c.replay.ensures.reads.kept (early clean))) (reads_as last _ _ (λ db apart. apart c.if-not-apart.false) (c.in_ok-apart.ensures.apart (late clean)))),
       list.1.others.rows,

@@ -1,5 +1,7 @@
 use Rattle.std.proofs.Common.{◌≡◌, ◌∙◌, Some, sym, ap, ap₂, subst, rules}
 use Rattle.sqlite_rules.specs.Lists.{Has}
+use Rattle.desk_types.specs.declared.rules.Rules.TheVariants.{Two}
+use Rattle.desk_types.specs.History.{basis}
 use Rattle.line_tables.specs.Line as line
 use Rattle.line_tables.specs.StateRows.{rows_in}
 use Rattle.state_rows.specs.Lists.{Key, key_of, minute_of}
@@ -16,5 +18,5 @@ returns g c db H both here =
     let place : row.place ≡ c.args.key.place = search rules in
     let its : (row.number, row.place) ≡ key_of c.args.key = ap₂ (λ m n. (m, n)) number place in
     subst (λ (key : Key). piece_at H key ≡ Some (piece_with row reel effective)) its (
-    row-tells db H both.held row (subst (Has (rows_in line.placement db)) c.in_ok-placed.ensures.ok here) reel (c.in-Some.ensures H both.working.stands) effective
+    row-tells db H both.held row (subst (Has (rows_in line.placement db)) c.in_ok-placed.ensures.ok here) reel (c.in-Some.ensures (basis Two H) both.working.stands) effective
     (c.in-Some-minute.ensures.listed H both.working.listed ∙ ap (minute_of H) (sym number)))

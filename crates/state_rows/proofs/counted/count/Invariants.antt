@@ -1,8 +1,9 @@
 use Rattle.std.proofs.Common.{◌≡◌, take}
 use Rattle.std.specs.List.{flat_map}
-use Rattle.desk_types.specs.History.{History}
+use Rattle.desk_types.specs.History.{Basis}
 use Rattle.state_rows.specs.EditsOf.{count_edits}
 use Rattle.state_rows.proofs.counted.count.Given as goal
 
 abbrev pub invariant-loop-row : goal.invariant-loop-row
-invariant-loop-row g l = (H : History) → g.D.Views.Stands l.desk H → l.edits.items ≡ flat_map (count_edits H) (take l.row-index l.rows)
+invariant-loop-row g l = (B : Basis) → g.D.Views.Stands l.desk B
+    → l.edits.items ≡ flat_map (count_edits B.history) (take l.row-index l.rows)

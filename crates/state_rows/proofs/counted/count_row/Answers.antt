@@ -6,5 +6,5 @@ pub note-requires : goal.note-requires
 note-requires g c =
     let room = c.requires.room in
     let few = room.2 in
-    count-fits room.0 c.args.row.now.reel c.get-pieces.result c.in-Some.view (c.requires.judged room.0 room.1) (omega (arith, few)) c.get-pieces.ensures.range
+    count-fits room.0.history c.args.row.now.reel c.get-pieces.result c.in-Some.view (c.requires.judged room.0 room.1) (omega (arith, few)) c.get-pieces.ensures.range
     (sym (c.reel.ensures room.0 room.1) ∙ c.in-Some.is)

@@ -1,6 +1,6 @@
 use Rattle.std.proofs.Common.{◌∙◌, sym, ap, subst, map}
 use Rattle.desk_types.specs.Number.{IsMinute}
-use Rattle.desk_types.specs.History.{History}
+use Rattle.desk_types.specs.History.{Basis}
 use Rattle.desk_types.proofs.BothRules.{judged-by-two}
 use Rattle.desk_types.specs.Tables.{tables_of}
 use Rattle.desk_types.specs.Edits.{with_edits, AreNew, AreTakesFirst, AreBalanced}
@@ -10,51 +10,51 @@ use Rattle.state_rows.proofs.RowsLess.{change-fits, rows-lead, rows-same, rows-n
 use Rattle.state_rows.proofs.rows.edits_for.Goals as goal
 
 pub edits_of-requires-clause-judged : goal.edits_of-requires-clause-judged
-edits_of-requires-clause-judged g c = λ H stands. judged-by-two _ H (c.is_judged.ensures H stands)
+edits_of-requires-clause-judged g c = λ B stands. judged-by-two _ B.history (c.is_judged.ensures B stands)
 
 pub edits_of-requires-clause-fits : goal.edits_of-requires-clause-fits
 edits_of-requires-clause-fits g c =
     let change = c.args.change.now in
     let room = c.requires.room in
-    let H : History = room.0 in
+    let B : Basis = room.0 in
     let few = room.2 in
     let range : IsMinute change.minute = subst IsMinute c.get.ensures.value c.get.ensures.range in (
-      H,
+      B,
       room.1,
-      subst (λ takes. ArePiecesFitting H (map pick_of takes)) (sym c.takes.ensures)
-          (change-fits _ H change.stamped change (c.requires.judged H room.1) (c.is_judged.ensures H room.1) c.ranges_hold.ensures range few),
+      subst (λ takes. ArePiecesFitting B.history (map pick_of takes)) (sym c.takes.ensures)
+          (change-fits _ B.history change.stamped change (c.requires.judged B room.1) (c.is_judged.ensures B room.1) c.ranges_hold.ensures range few),
     )
 
 pub returns-clause-lead : goal.returns-clause-lead
-returns-clause-lead g c = λ H stands next.
+returns-clause-lead g c = λ B stands next.
     let change = c.args.change.now in
     let range : IsMinute change.minute = subst IsMinute c.get.ensures.value c.get.ensures.range in
-    ap (λ xs. with_edits xs (tables_of H)) c.new.ensures
-    ∙ rows-lead _ H change.stamped change (c.requires.judged H stands) (c.is_judged.ensures H stands) c.ranges_hold.ensures range c.args.number c.in_ok-edits.edits.items
-    (subst (λ takes. AreEditsOf H c.args.number change.minute takes change.stamped.command c.in_ok-edits.edits.items) c.takes.ensures (c.in_ok-edits.ensures H stands)) next
+    ap (λ xs. with_edits xs (tables_of B.history)) c.new.ensures
+    ∙ rows-lead _ B.history change.stamped change (c.requires.judged B stands) (c.is_judged.ensures B stands) c.ranges_hold.ensures range c.args.number c.in_ok-edits.edits.items
+    (subst (λ takes. AreEditsOf B.history c.args.number change.minute takes change.stamped.command c.in_ok-edits.edits.items) c.takes.ensures (c.in_ok-edits.ensures B stands)) next
 
 pub returns-clause-new : goal.returns-clause-new
-returns-clause-new g c = λ H stands next.
+returns-clause-new g c = λ B stands next.
     let change = c.args.change.now in
     let range : IsMinute change.minute = subst IsMinute c.get.ensures.value c.get.ensures.range in
-    subst (λ xs. AreNew xs (tables_of H)) (sym c.new.ensures)
-    (rows-new _ H change.stamped change (c.requires.judged H stands) (c.is_judged.ensures H stands) c.ranges_hold.ensures range c.args.number c.in_ok-edits.edits.items
-    (subst (λ takes. AreEditsOf H c.args.number change.minute takes change.stamped.command c.in_ok-edits.edits.items) c.takes.ensures (c.in_ok-edits.ensures H stands)) next)
+    subst (λ xs. AreNew xs (tables_of B.history)) (sym c.new.ensures)
+    (rows-new _ B.history change.stamped change (c.requires.judged B stands) (c.is_judged.ensures B stands) c.ranges_hold.ensures range c.args.number c.in_ok-edits.edits.items
+    (subst (λ takes. AreEditsOf B.history c.args.number change.minute takes change.stamped.command c.in_ok-edits.edits.items) c.takes.ensures (c.in_ok-edits.ensures B stands)) next)
 
 pub returns-clause-same : goal.returns-clause-same
-returns-clause-same g c = λ H stands.
+returns-clause-same g c = λ B stands.
     let change = c.args.change.now in
     let range : IsMinute change.minute = subst IsMinute c.get.ensures.value c.get.ensures.range in
-    ap (λ xs. unnumbered (with_edits xs (tables_of H))) c.new.ensures
-    ∙ rows-same _ H change.stamped change (c.requires.judged H stands) (c.is_judged.ensures H stands) c.ranges_hold.ensures range c.args.number c.in_ok-edits.edits.items
-    (subst (λ takes. AreEditsOf H c.args.number change.minute takes change.stamped.command c.in_ok-edits.edits.items) c.takes.ensures (c.in_ok-edits.ensures H stands))
+    ap (λ xs. unnumbered (with_edits xs (tables_of B.history))) c.new.ensures
+    ∙ rows-same _ B.history change.stamped change (c.requires.judged B stands) (c.is_judged.ensures B stands) c.ranges_hold.ensures range c.args.number c.in_ok-edits.edits.items
+    (subst (λ takes. AreEditsOf B.history c.args.number change.minute takes change.stamped.command c.in_ok-edits.edits.items) c.takes.ensures (c.in_ok-edits.ensures B stands))
 
 pub returns-clause-in_order : goal.returns-clause-in_order
 returns-clause-in_order g c =
     let change = c.args.change.now in
-    let H : History = c.requires.room.0 in
+    let B : Basis = c.requires.room.0 in
     let stands = c.requires.room.1 in
     let range : IsMinute change.minute = subst IsMinute c.get.ensures.value c.get.ensures.range in
     subst (λ xs. AreTakesFirst xs × AreBalanced xs) (sym c.new.ensures)
-    (rows-fit _ H change.stamped change (c.requires.judged H stands) (c.is_judged.ensures H stands) c.ranges_hold.ensures range c.args.number c.in_ok-edits.edits.items
-    (subst (λ takes. AreEditsOf H c.args.number change.minute takes change.stamped.command c.in_ok-edits.edits.items) c.takes.ensures (c.in_ok-edits.ensures H stands)))
+    (rows-fit _ B.history change.stamped change (c.requires.judged B stands) (c.is_judged.ensures B stands) c.ranges_hold.ensures range c.args.number c.in_ok-edits.edits.items
+    (subst (λ takes. AreEditsOf B.history c.args.number change.minute takes change.stamped.command c.in_ok-edits.edits.items) c.takes.ensures (c.in_ok-edits.ensures B stands)))

@@ -4,6 +4,6 @@ use Rattle.state_rows.specs.EditsOf.{AreEditsOf}
 use Rattle.state_rows.proofs.rows.edits_of.Goals as goal
 
 pub returns-in-ReelReceived : goal.returns-in-ReelReceived
-returns-in-ReelReceived g c = λ H stands.
-    subst (λ command. IfOk c.one-in-ReelReceived.result (λ edits. AreEditsOf H c.args.number c.args.minute c.args.takes.now command edits.items)) (sym c.in-ReelReceived.is)
+returns-in-ReelReceived g c = λ B stands.
+    subst (λ command. IfOk c.one-in-ReelReceived.result (λ edits. AreEditsOf B.history c.args.number c.args.minute c.args.takes.now command edits.items)) (sym c.in-ReelReceived.is)
     (subst (λ row. IfOk c.one-in-ReelReceived.result (λ edits. edits.items ≡ PutReel row ∷ [])) (c.fresh.ensures c.args.minute) c.one-in-ReelReceived.ensures)

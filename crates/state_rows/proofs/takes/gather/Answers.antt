@@ -10,12 +10,12 @@ note-requires g c =
       fits = (
         fits.0,
         fits.1,
-        next-fits fits.0 c.args.takes.now c.loop-take.take-index c.take-item.result (get by_name c.loop-take.rows) c.loop-take-test.true c.take-item.is fits.2
+        next-fits fits.0.history c.args.takes.now c.loop-take.take-index c.take-item.result (get by_name c.loop-take.rows) c.loop-take-test.true c.take-item.is fits.2
             (c.loop-take.invariant fits.0 fits.1),
       );
     }
 
 pub loop-take-preserved : goal.loop-take-preserved
-loop-take-preserved g c = λ H stands r.
-    gather-next H c.args.takes.now c.loop-take.take-index c.take-item.result (get by_name c.loop-take.rows) (get by_name c.note.new.rows) c.loop-take-test.true c.take-item.is
-    (c.loop-take.invariant H stands) (c.in_ok-note.ensures H stands) r
+loop-take-preserved g c = λ B stands r.
+    gather-next B.history c.args.takes.now c.loop-take.take-index c.take-item.result (get by_name c.loop-take.rows) (get by_name c.note.new.rows) c.loop-take-test.true c.take-item.is
+    (c.loop-take.invariant B stands) (c.in_ok-note.ensures B stands) r

@@ -7,8 +7,8 @@ use Rattle.state_rows.proofs.RowsLess.{taken-all}
 use Rattle.state_rows.proofs.takes.take.Goals as goal
 
 pub returns : goal.returns
-returns g c = λ H stands.
-    taken-all H c.args.number c.args.takes.now c.in_ok-rows.rows.entries c.place_all.new.edits.items c.in_ok-put_all.ensures.ordered (c.in_ok-rows.ensures H stands)
+returns g c = λ B stands.
+    taken-all B.history c.args.number c.args.takes.now c.in_ok-rows.rows.entries c.place_all.new.edits.items c.in_ok-put_all.ensures.ordered (c.in_ok-rows.ensures B stands)
     (c.in_ok-place_all.ensures
     ∙ ap (λ l. l ++ place_rows c.args.number 1 c.args.takes.now)
     (c.in_ok-put_all.ensures.put

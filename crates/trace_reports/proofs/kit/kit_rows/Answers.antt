@@ -11,12 +11,13 @@ use Rattle.trace_reports.proofs.KitRows.{kit-next, kit-end}
 use Rattle.trace_reports.proofs.kit.kit_rows.Goals as goal
 
 pub loop-row-preserved : goal.loop-row-preserved
-loop-row-preserved g c = λ H stands.
-    let inv = c.loop-row.invariant H stands in
+loop-row-preserved g c = λ B stands.
+    let H = B.history in
+    let inv = c.loop-row.invariant B stands in
     let names : List Name = inv.0 in
     let row = c.row-item.result in
     let chosen : List ReelView = c.as_slice-in-loop-row.result.now in
-    let free : c.as_slice.result.now ≡ free_reels H row.part = c.as_slice.ensures ∙ c.in_ok-free.ensures H stands in
+    let free : c.as_slice.result.now ≡ free_reels H row.part = c.as_slice.ensures ∙ c.in_ok-free.ensures B stands in
     let gets : chosen ≡ reels_for H c.args.boards names row =
     c.as_slice-in-loop-row.ensures.value
     ∙ c.in_ok-reels.ensures names inv.1
@@ -29,6 +30,7 @@ loop-row-preserved g c = λ H stands.
     )
 
 pub returns : goal.returns
-returns g c = λ H stands.
-    let inv = c.loop-row.invariant H stands in
+returns g c = λ B stands.
+    let H = B.history in
+    let inv = c.loop-row.invariant B stands in
     kit-end H c.args.boards inv.0 c.args.sheet.now c.loop-row.row-index c.loop-row.kit.items _ (drop_all c.loop-row.row-index c.args.sheet.now (omega (arith, c.loop-row-test.false))) inv.2

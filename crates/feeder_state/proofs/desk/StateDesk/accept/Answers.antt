@@ -5,5 +5,5 @@ use Rattle.state_rows.specs.Kept.{unnumbered}
 use Rattle.feeder_state.proofs.desk.StateDesk.accept.Goals as goal
 
 pub apply-requires-clause-lead : goal.apply-requires-clause-lead
-apply-requires-clause-lead c = λ H state.
-    ap (λ edits. unnumbered (with_edits edits (tables_of H))) c.as_slice.ensures ∙ c.in_ok-edits.ensures.same H state
+apply-requires-clause-lead c = λ B stands.
+    ap (λ edits. unnumbered (with_edits edits (tables_of B.history))) c.as_slice.ensures ∙ c.in_ok-edits.ensures.same B stands

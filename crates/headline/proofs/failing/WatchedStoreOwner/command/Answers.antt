@@ -5,13 +5,13 @@ use Rattle.headline.proofs.failing.WatchedStoreOwner.command.Goals as goal
 
 pub returns-clause-answer : goal.returns-clause-answer
 returns-clause-answer g c = λ G watched clean.
-    answer_so g.S.Store g.D.Desk.Stands g.D.Desk.kept_rules c.args.self.now.store G c.args.stamped.now watched.0 _ (c.command.ensures.answers (own_kept G) watched.1.stands clean refl).is
+    answer_so g.S.Store g.D.Desk.Stands c.args.self.now.store G c.args.stamped.now watched.0 _ (c.command.ensures.answers (own_kept G) watched.1.stands clean refl).is
 
 pub returns-clause-stands : goal.returns-clause-stands
 returns-clause-stands g c = λ G watched clean.
     let L = own_kept G in
     let s = c.args.stamped.now in
-    watched_so g.S.Store g.D.Desk.Stands g.D.Desk.kept_rules _ G s watched.0 _ (record {
+    watched_so g.S.Store g.D.Desk.Stands _ G s watched.0 _ (record {
       stands = (c.command.ensures.answers L watched.1.stands clean refl).stands;
       crash = λ still trees may.
           let told = c.command.ensures.answers L watched.1.stands still refl in

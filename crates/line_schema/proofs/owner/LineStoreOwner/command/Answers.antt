@@ -26,6 +26,6 @@ pub returns-clause-stands : goal.returns-clause-stands
 returns-clause-stands g c L stands clean =
     let s = c.args.stamped.now in
     let a = c.command.result in
-    let Stands = StandsFor g.S.Store g.D.Desk.Stands g.D.Desk.kept_rules c.command.new.self in
+    let Stands = StandsFor g.S.Store g.D.Desk.Stands c.command.new.self in
     subst (λ (G : Ledger). ((ledger_after G s a).rules ≡ Two) × Stands (record { greatest = (ledger_after G s a).greatest; history = (ledger_after G s a).history; own = true })) (by_two L stands.0)
     (after Stands (record { greatest = L.greatest; history = L.history; own = true }) s a (c.command.ensures.answers _ stands.1 clean refl).stands)

@@ -22,7 +22,7 @@ pub returns-in-Some-clause-ok : goal.returns-in-Some-clause-ok
 returns-in-Some-clause-ok g c L stands clean own =
     let s = c.args.stamped.now in
     let there : earlier_answer L.history s ≡ Some c.in-Some.answer = search rules in
-    stands_still g.S.Store g.D.Desk.Stands g.D.Desk.kept_rules c.earlier.new.self L s (ap (λ o. is_some o || is_full L.greatest L.history) there) (c.earlier.ensures.stands L stands)
+    stands_still g.S.Store g.D.Desk.Stands c.earlier.new.self L s (ap (λ o. is_some o || is_full L.greatest L.history) there) (c.earlier.ensures.stands L stands)
 
 pub returns-then-self-clause-ok : goal.returns-then-self-clause-ok
 returns-then-self-clause-ok g c L stands clean own =
@@ -31,4 +31,4 @@ returns-then-self-clause-ok g c L stands clean own =
     let none : c.earlier.new.self.greatest ≤ c.earlier.new.self.count = search rules in
     let less : L.greatest ≤ length L.history = omega (arith, none, mid.count, mid.greatest) in
     let full : is_full L.greatest L.history ≡ true = grind (arith, nat_tests) in
-    stands_still g.S.Store g.D.Desk.Stands g.D.Desk.kept_rules c.earlier.new.self L s (or_right (is_some (earlier_answer L.history s)) (is_full L.greatest L.history) full) mid
+    stands_still g.S.Store g.D.Desk.Stands c.earlier.new.self L s (or_right (is_some (earlier_answer L.history s)) (is_full L.greatest L.history) full) mid

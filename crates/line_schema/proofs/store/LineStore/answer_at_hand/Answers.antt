@@ -8,8 +8,8 @@ use Rattle.line_schema.proofs.store.LineStore.answer_at_hand.Goals as goal
 
 pub returns-in-Ok-clause-kept : goal.returns-in-Ok-clause-kept
 returns-in-Ok-clause-kept g c =
-    let stands = disowned g.S.Store g.D.Desk.Stands g.D.Desk.kept_rules _ c.requires.stands.0 c.requires.stands.1 in
-    stands_either g.S.Store g.D.Desk.Stands g.D.Desk.kept_rules c.commit_change.result c.commit_change.new.self _ _ ((c.commit_change.ensures.commits _ stands).ok (λ clean own. absurd (true≢false (sym own)))) (c.commit_change.ensures.answers _ stands).err
+    let stands = disowned g.S.Store g.D.Desk.Stands _ c.requires.stands.0 c.requires.stands.1 in
+    stands_either g.S.Store g.D.Desk.Stands c.commit_change.result c.commit_change.new.self _ _ ((c.commit_change.ensures.commits _ stands).ok (λ clean own. absurd (true≢false (sym own)))) (c.commit_change.ensures.answers _ stands).err
 
 pub returns-in-Ok-clause-answers : goal.returns-in-Ok-clause-answers
 returns-in-Ok-clause-answers g c L stands =
@@ -27,7 +27,7 @@ pub returns-in-Ok-clause-ok : goal.returns-in-Ok-clause-ok
 returns-in-Ok-clause-ok g c L stands first =
     let s = c.args.stamped.now in
     let is : IsChange Two L.history s c.in-Ok.change = search rules in
-    accepted_as g.S.Store g.D.Desk.Stands g.D.Desk.kept_rules c.commit_change.result c.commit_change.new.self L s c.in-Ok.change is
+    accepted_as g.S.Store g.D.Desk.Stands c.commit_change.result c.commit_change.new.self L s c.in-Ok.change is
     ((c.commit_change.ensures.commits L stands).ok (λ clean own. first_as L s c.in-Ok.change is (first clean own)))
 
 pub returns-in-Ok-clause-crash : goal.returns-in-Ok-clause-crash

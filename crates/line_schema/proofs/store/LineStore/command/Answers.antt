@@ -25,11 +25,11 @@ returns-in-Ok-clause-answers g c L stands clean own =
     let s = c.args.stamped.now in
     let told = c.in-Ok.ensures.answers L stands clean own in
     let same = sym (kept_so L s c.in-Ok.answer told.answer) in
-    let after = subst (λ (M : Kept). Stands g.S.Store g.D.Desk.Stands g.D.Desk.kept_rules c.answer.new.self M) same (c.in-Ok.ensures.ok L stands clean own) in
+    let after = subst (λ (M : Kept). Stands g.S.Store g.D.Desk.Stands c.answer.new.self M) same (c.in-Ok.ensures.ok L stands clean own) in
     record {
       is = answer_so L s c.in-Ok.answer told.answer;
       stands = after;
-      tables = tables_there g.S.Store g.D.Desk.Stands g.D.Desk.kept_rules c.answer.new.self (kept_after L s c.in-Ok.answer) after;
+      tables = tables_there g.S.Store g.D.Desk.Stands c.answer.new.self (kept_after L s c.in-Ok.answer) after;
       rows = λ was. subst (λ (M : Kept). HasRows g.D.KeepsRows.kept_rows c.answer.new.self M.history) same (told.rows was);
       crash = c.in-Ok.ensures.crash L stands clean own;
     }
@@ -46,7 +46,7 @@ returns-in-Err-clause-answers g c L stands clean own =
     record {
       is = tt;
       stands = told.err;
-      tables = tables_there g.S.Store g.D.Desk.Stands g.D.Desk.kept_rules c.answer.new.self L told.err;
+      tables = tables_there g.S.Store g.D.Desk.Stands c.answer.new.self L told.err;
       rows = told.rows_stay;
       crash = c.in-Err.ensures.crash L stands clean own;
     }

@@ -4,7 +4,8 @@ use Rattle.std.proofs.lemmas.Option.{same_Some}
 use Rattle.std.proofs.lemmas.Result.{err_from_is_err_and}
 use Rattle.sqlite.specs.State.{HasCleanDisk}
 use Rattle.sqlite.specs.Held.{state}
-use Rattle.desk_types.specs.History.{accept}
+use Rattle.desk_types.specs.declared.rules.Rules.TheVariants.{Two}
+use Rattle.desk_types.specs.History.{basis, accept}
 use Rattle.desk_types.specs.Number.{IsMinute}
 use Rattle.line_tables.specs.Edit.{command_edits}
 use Rattle.line_tables.proofs.Keeps.{keeps_same}
@@ -18,29 +19,29 @@ use Rattle.line_schema.proofs.store.LineStore.commit_change.Goals as goal
 pub returns-in_err-text-clause-answers : goal.returns-in_err-text-clause-answers
 returns-in_err-text-clause-answers g c L stands =
     let told = err_from_is_err_and c.from_residual.result c.from_residual.ensures.1 in
-    fails g.S.Store g.D.Desk.Stands g.D.Desk.kept_rules g.D.KeepsRows.kept_rows c.args.self.now _ c.in-Some.working c.in-Some.working.lists L _ _ _ _ told.1 c.in-Some.is c.in-Some.is (λ H listed. listed) refl refl stands.mode (survives_still {P = λ _. ⊤} _) (λ _. keeps_same _) stands
+    fails g.S.Store g.D.Desk.Stands g.D.KeepsRows.kept_rows c.args.self.now _ c.in-Some.working c.in-Some.working.lists L _ _ _ _ told.1 c.in-Some.is c.in-Some.is (λ H listed. listed) refl refl stands.mode (survives_still {P = λ _. ⊤} _) (λ _. keeps_same _) stands
 
 pub returns-in_err-reserve-clause-answers : goal.returns-in_err-reserve-clause-answers
 returns-in_err-reserve-clause-answers g c L stands =
     let told = err_from_is_err_and c.from_residual-in_err-reserve.result c.from_residual-in_err-reserve.ensures.1 in
-    fails g.S.Store g.D.Desk.Stands g.D.Desk.kept_rules g.D.KeepsRows.kept_rows c.args.self.now _ _ c.reserve.new.self L _ _ _ _ told.1 c.in-Some-working.is refl c.reserve.ensures.same refl refl stands.mode (survives_still {P = λ _. ⊤} _) (λ _. keeps_same _) stands
+    fails g.S.Store g.D.Desk.Stands g.D.KeepsRows.kept_rows c.args.self.now _ _ c.reserve.new.self L _ _ _ _ told.1 c.in-Some-working.is refl c.reserve.ensures.same refl refl stands.mode (survives_still {P = λ _. ⊤} _) (λ _. keeps_same _) stands
 
 pub returns-in_err-append-clause-answers : goal.returns-in_err-append-clause-answers
 returns-in_err-append-clause-answers g c L stands =
     let told = err_from_is_err_and c.from_residual-in_err-append.result c.from_residual-in_err-append.ensures.1 in
-    fails g.S.Store g.D.Desk.Stands g.D.Desk.kept_rules g.D.KeepsRows.kept_rows c.args.self.now _ _ c.reserve.new.self L _ _ _ _ told.1 c.in-Some-working.is refl c.reserve.ensures.same refl refl (c.append.ensures.inside.mode stands.mode) c.append.ensures.crash c.in_err-append.ensures.neither stands
+    fails g.S.Store g.D.Desk.Stands g.D.KeepsRows.kept_rows c.args.self.now _ _ c.reserve.new.self L _ _ _ _ told.1 c.in-Some-working.is refl c.reserve.ensures.same refl refl (c.append.ensures.inside.mode stands.mode) c.append.ensures.crash c.in_err-append.ensures.neither stands
 
 pub returns-in_err-append-clause-commits : goal.returns-in_err-append-clause-commits
 returns-in_err-append-clause-commits g c L stands =
     let old = c.args.self.now in
     let change = c.args.change in
-    let is = judged_for g.D.Desk.Stands g.D.Desk.kept_rules old.working L.history change c.requires.judged stands.working in
-    let by = works_for g.D.Desk.Stands g.D.Desk.kept_rules old.working c.in-Some.working L.history c.in-Some.is stands.working in
+    let is = judged_for g.D.Desk.Stands old.working L.history change c.requires.judged stands.working in
+    let by = works_for g.D.Desk.Stands old.working c.in-Some.working L.history c.in-Some.is stands.working in
     let next = ap (λ n. n + 1) stands.count in
-    let after = c.in_ok-text.ensures.edits L.greatest L.history by.0.stands is next in
-    let fresh = c.in_ok-text.ensures.new L.greatest L.history by.0.stands next in
+    let after = c.in_ok-text.ensures.edits L.greatest (basis Two L.history) by.stands is next in
+    let fresh = c.in_ok-text.ensures.new L.greatest (basis Two L.history) by.stands next in
     let told = err_from_is_err_and c.from_residual-in_err-append.result c.from_residual-in_err-append.ensures.1 in
-    not_committed g.S.Store g.D.Desk.Stands g.D.Desk.kept_rules old _ L _ change.stamped _ told.1 (λ own. survives_on (state g.S.Store old.conn) _ _ _ after fresh (λ clean. stands.tables clean own) (state g.S.Store c.append.new.conn) (rw c.as_slice.ensures at c.append.ensures.crash))
+    not_committed g.S.Store g.D.Desk.Stands old _ L _ change.stamped _ told.1 (λ own. survives_on (state g.S.Store old.conn) _ _ _ after fresh (λ clean. stands.tables clean own) (state g.S.Store c.append.new.conn) (rw c.as_slice.ensures at c.append.ensures.crash))
 
 pub returns-in_err-append-clause-file : goal.returns-in_err-append-clause-file
 returns-in_err-append-clause-file g c = file_edited _ _ _ c.append.result c.append.ensures.crash (λ clean. others_kept _ _ _ c.append.result (c.append.ensures.done clean)) c.append.ensures.stays_open c.append.ensures.neither
@@ -49,11 +50,11 @@ pub settle-requires : goal.settle-requires
 settle-requires g c =
     let L = c.requires.stands.0 in
     let stands = c.requires.stands.1 in
-    let works = works_for g.D.Desk.Stands g.D.Desk.kept_rules c.args.self.now.working _ L.history c.in-Some-working.is stands.working in
+    let works = works_for g.D.Desk.Stands c.args.self.now.working _ L.history c.in-Some-working.is stands.working in
     let same = same_Some _ _ (sym c.in-Some.is ∙ c.in-Some-working.is) in
     record {
       ready = record {
-        room = (L.history, works.0.stands, omega (arith, stands.count, stands.greatest, stands.bound, c.requires.room));
+        room = (basis Two L.history, works.stands, omega (arith, stands.count, stands.greatest, stands.bound, c.requires.room));
         judged = rw c.in-Some-working.is at c.requires.judged;
         lead = rw (sym c.as_slice-2.ensures) at (rw same at c.in_ok-text.ensures.lead);
       };
@@ -63,10 +64,10 @@ pub returns-clause-answers : goal.returns-clause-answers
 returns-clause-answers g c L stands =
     let old = c.args.self.now in
     let change = c.args.change in
-    let is = judged_for g.D.Desk.Stands g.D.Desk.kept_rules old.working L.history change c.requires.judged stands.working in
-    let by = works_for g.D.Desk.Stands g.D.Desk.kept_rules old.working c.in-Some.working L.history c.in-Some.is stands.working in
+    let is = judged_for g.D.Desk.Stands old.working L.history change c.requires.judged stands.working in
+    let by = works_for g.D.Desk.Stands old.working c.in-Some.working L.history c.in-Some.is stands.working in
     let next = ap (λ n. n + 1) stands.count in
-    let after = c.in_ok-text.ensures.edits L.greatest L.history by.0.stands is next in
+    let after = c.in_ok-text.ensures.edits L.greatest (basis Two L.history) by.stands is next in
     let edits = c.in_ok-text.field-0.edits in
     record {
       answer = search rules;
@@ -79,17 +80,17 @@ pub returns-clause-commits : goal.returns-clause-commits
 returns-clause-commits g c L stands =
     let old = c.args.self.now in
     let change = c.args.change in
-    let is = judged_for g.D.Desk.Stands g.D.Desk.kept_rules old.working L.history change c.requires.judged stands.working in
-    let by = works_for g.D.Desk.Stands g.D.Desk.kept_rules old.working c.in-Some.working L.history c.in-Some.is stands.working in
+    let is = judged_for g.D.Desk.Stands old.working L.history change c.requires.judged stands.working in
+    let by = works_for g.D.Desk.Stands old.working c.in-Some.working L.history c.in-Some.is stands.working in
     let next = ap (λ n. n + 1) stands.count in
-    let after = c.in_ok-text.ensures.edits L.greatest L.history by.0.stands is next in
-    let fresh = c.in_ok-text.ensures.new L.greatest L.history by.0.stands next in
+    let after = c.in_ok-text.ensures.edits L.greatest (basis Two L.history) by.stands is next in
+    let fresh = c.in_ok-text.ensures.new L.greatest (basis Two L.history) by.stands next in
     let minute : IsMinute change.minute = search rules in
-    let held = works_for g.D.Desk.Stands g.D.Desk.kept_rules old.working _ L.history c.in-Some-working.is stands.working in
-    let works : WorksFor g.D.Desk.Stands g.D.Desk.kept_rules c.settle.new.working (accept L.history change.stamped) =
-    c.settle.ensures.works L.history (record { stands = held.0.stands; listed = c.reserve.ensures.same L.history held.0.listed }, held.1) next in
+    let held = works_for g.D.Desk.Stands old.working _ L.history c.in-Some-working.is stands.working in
+    let works : WorksFor g.D.Desk.Stands c.settle.new.working (accept L.history change.stamped) =
+    c.settle.ensures.works L.history (record { stands = held.stands; listed = c.reserve.ensures.same L.history held.listed }) next in
     record {
-      ok = stands_on g.S.Store g.D.Desk.Stands g.D.Desk.kept_rules old _ L change (command_edits c.in_ok-text.field-0.row c.in_ok-text.field-0.edits) stands c.requires.room is c.ranges_hold.ensures minute refl refl (search rules) works after fresh
+      ok = stands_on g.S.Store g.D.Desk.Stands old _ L change (command_edits c.in_ok-text.field-0.row c.in_ok-text.field-0.edits) stands c.requires.room is c.ranges_hold.ensures minute refl refl (search rules) works after fresh
           c.append.ensures.crash (λ clean. (rw c.as_slice.ensures at (c.in_ok-append.ensures.done clean)).tables) (λ clean. (c.in_ok-append.ensures.stays_open clean).0);
       survives = λ own. survives_on (state g.S.Store old.conn) _ _ _ after fresh (λ clean. stands.tables clean own) (state g.S.Store c.append.new.conn) (rw c.as_slice.ensures at c.append.ensures.crash);
       alone = λ clean own trees left.

@@ -1,4 +1,5 @@
 use Rattle.std.proofs.Common.{[], inl, refl, subst, rules, arith}
+use Rattle.desk_types.specs.History.{basis}
 use Rattle.desk_types.specs.declared.rules.Rules.TheVariants.{Two}
 use Rattle.desk_laws.proofs.JudgedLists.{consistent}
 use Rattle.line_tables.proofs.Ours.{blank_is}
@@ -17,14 +18,14 @@ returns-in-Ok-clause-made g c = record {
     within = omega arith;
     judged = tt;
     consistent = consistent Two [] tt;
-    working = (record { stands = c.fresh-desk.ensures.stands; listed = c.new.ensures.listed }, c.fresh-desk.ensures.rules);
+    working = record { stands = c.fresh-desk.ensures; listed = c.new.ensures.listed };
     mode = search rules;
     stays_open = λ clean. inl (c.in-Ok.ensures.stays_open clean).1;
     lawful = λ clean own. record { judged = tt; uids = none_yet; numbers = omega arith };
     tables = λ clean own is_open. (c.in-Ok.ensures.made clean (blank_is _ own)).tables;
   };
   loaded = refl;
-  rows = subst (λ (rows : KeptRows). AreKept rows []) c.rows-empty.ensures.kept (no_rows (tables_in c.rows-empty.result.now) (c.rows-empty.ensures.same [] c.fresh-desk.ensures.stands));
+  rows = subst (λ (rows : KeptRows). AreKept rows []) c.rows-empty.ensures.kept (no_rows (tables_in c.rows-empty.result.now) (c.rows-empty.ensures.same (basis Two []) c.fresh-desk.ensures));
   nameless = search rules;
   stays_open = λ clean. (c.in-Ok.ensures.stays_open clean).1;
   leaves = c.make.ensures.crash;

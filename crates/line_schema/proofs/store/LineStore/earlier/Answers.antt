@@ -34,16 +34,16 @@ pub returns-in-None-clause-others : goal.returns-in-None-clause-others
 returns-in-None-clause-others g c = let_be_reads g.S.Store _ _ c.find.ensures.reads
 
 pub returns-in_err-row-clause-stands : goal.returns-in_err-row-clause-stands
-returns-in_err-row-clause-stands g c = read_on g.S.Store g.D.Desk.Stands g.D.Desk.kept_rules c.args.self.now _ refl refl refl c.find.ensures.reads.mode c.find.ensures.reads.survives c.find.ensures.reads.kept
+returns-in_err-row-clause-stands g c = read_on g.S.Store g.D.Desk.Stands c.args.self.now _ refl refl refl c.find.ensures.reads.mode c.find.ensures.reads.survives c.find.ensures.reads.kept
 
 pub returns-in_err-answer_under-in-Some-clause-stands : goal.returns-in_err-answer_under-in-Some-clause-stands
-returns-in_err-answer_under-in-Some-clause-stands g c = read_on g.S.Store g.D.Desk.Stands g.D.Desk.kept_rules c.args.self.now _ refl refl refl c.find.ensures.reads.mode c.find.ensures.reads.survives c.find.ensures.reads.kept
+returns-in_err-answer_under-in-Some-clause-stands g c = read_on g.S.Store g.D.Desk.Stands c.args.self.now _ refl refl refl c.find.ensures.reads.mode c.find.ensures.reads.survives c.find.ensures.reads.kept
 
 pub returns-in_ok-answer_under-in-Some-clause-stands : goal.returns-in_ok-answer_under-in-Some-clause-stands
-returns-in_ok-answer_under-in-Some-clause-stands g c = read_on g.S.Store g.D.Desk.Stands g.D.Desk.kept_rules c.args.self.now _ refl refl refl c.find.ensures.reads.mode c.find.ensures.reads.survives c.find.ensures.reads.kept
+returns-in_ok-answer_under-in-Some-clause-stands g c = read_on g.S.Store g.D.Desk.Stands c.args.self.now _ refl refl refl c.find.ensures.reads.mode c.find.ensures.reads.survives c.find.ensures.reads.kept
 
 pub returns-in-None-clause-stands : goal.returns-in-None-clause-stands
-returns-in-None-clause-stands g c = read_on g.S.Store g.D.Desk.Stands g.D.Desk.kept_rules c.args.self.now _ refl refl refl c.find.ensures.reads.mode c.find.ensures.reads.survives c.find.ensures.reads.kept
+returns-in-None-clause-stands g c = read_on g.S.Store g.D.Desk.Stands c.args.self.now _ refl refl refl c.find.ensures.reads.mode c.find.ensures.reads.survives c.find.ensures.reads.kept
 
 pub returns-in_err-row-clause-others : goal.returns-in_err-row-clause-others
 returns-in_err-row-clause-others g c = let_be_reads g.S.Store _ _ c.find.ensures.reads

@@ -17,7 +17,7 @@ returns-clause-migrated g c =
       migrated = λ clean. (
         _,
         all.0,
-        migrated_on g.D.Desk.Stands g.D.Desk.kept_rules (HasCleanDisk mid) old mid new _ all.0 all.1 (early clean) c.in_ok-_working.ensures.named (c.is_autocommit.ensures.settled auto) (c.read_tables.ensures.reads.kept (early clean))
+        migrated_on g.D.Desk.Stands (HasCleanDisk mid) old mid new _ all.0 all.1 (early clean) c.in_ok-_working.ensures.named (c.is_autocommit.ensures.settled auto) (c.read_tables.ensures.reads.kept (early clean))
             (c.in_ok-migrate_tables.ensures.done clean) (c.in_ok-migrate_tables.ensures.stays_open clean) (c.in_ok-migrate_tables.ensures.alone clean),
       );
     }

@@ -16,11 +16,10 @@ pub returns-in-Ok-clause-opened : goal.returns-in-Ok-clause-opened
 returns-in-Ok-clause-opened g c =
     let old = state g.S.Store c.args.conn in
     let F = g.D.Desk.Stands in
-    let K = g.D.Desk.kept_rules in
     let all = c.in-Ok.ensures.ok in
     let o = all.1 in
     let auto : IsTrue c.is_autocommit.result = search rules in
-    let holds = opened_holds F K _ old Two c.in-Ok.field-0 all.0 o c.in-Ok.ensures.named (c.is_autocommit.ensures.settled auto) in
+    let holds = opened_holds F _ old Two c.in-Ok.field-0 all.0 o c.in-Ok.ensures.named (c.is_autocommit.ensures.settled auto) in
     let L : Kept = record { greatest = c.in-Ok.field-0.greatest; history = all.0; own = is_ours old.committed.schema } in (
       L,
       record {
@@ -32,10 +31,10 @@ returns-in-Ok-clause-opened g c =
           within = o.within;
           judged = o.judged;
           consistent = consistent Two all.0 o.judged;
-          working = (o.working, o.rules);
+          working = o.working;
           mode = search rules;
           stays_open = λ clean. still_open _ c.read_tables.ensures.reads.survives (λ was. inl (o.apart clean).was_open) clean;
-          lawful = λ clean own. opened_lawful F K _ old c.in-Ok.field-0 all.0 o clean own;
+          lawful = λ clean own. opened_lawful F _ old c.in-Ok.field-0 all.0 o clean own;
           tables = λ clean own is_open. subst (λ (db : Database). Holds db (ledger_tables L.greatest L.history)) (sym ((c.read_tables.ensures.reads.kept clean).committed is_open)) ((holds clean).are (let ours = ours_is old.committed.schema own in record { rules = Two; layout = ours.0; same = ours.1 }));
         };
         tables = holds;

@@ -3,12 +3,12 @@ use Rattle.line_schema.proofs.UnansweredCommands.{again, clean_before, leaves, s
 use Rattle.line_schema.proofs.store.LineStore.unanswered_commands_leave_the_list.Goals as goal
 
 pub returns-clause-stands : goal.returns-clause-stands
-returns-clause-stands g c = λ L sent stands own gone clean. still_stands g.S.Store g.D.Desk.Stands g.D.Desk.kept_rules sent c.args.self.now c.args.last.now L stands own gone clean
+returns-clause-stands g c = λ L sent stands own gone clean. still_stands g.S.Store g.D.Desk.Stands sent c.args.self.now c.args.last.now L stands own gone clean
 
 pub returns-clause-crash : goal.returns-clause-crash
 returns-clause-crash g c = λ L sent stands own on gone clean trees may.
-    elim (leaves g.S.Store g.D.Desk.Stands g.D.Desk.kept_rules sent c.args.self.now c.args.last.now L stands own gone clean trees may) [
-      | inl was ↦ inl (c.crash_leaves_the_list.ensures.list L stands (clean_before g.S.Store g.D.Desk.Stands g.D.Desk.kept_rules sent c.args.self.now c.args.last.now gone clean) own on trees was)
+    elim (leaves g.S.Store g.D.Desk.Stands sent c.args.self.now c.args.last.now L stands own gone clean trees may) [
+      | inl was ↦ inl (c.crash_leaves_the_list.ensures.list L stands (clean_before g.S.Store g.D.Desk.Stands sent c.args.self.now c.args.last.now gone clean) own on trees was)
       | inr made ↦ inr made
     ]
 
