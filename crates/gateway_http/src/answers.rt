@@ -1,4 +1,4 @@
-//! Answers to requests: those of `http_answers`, and reports.
+//! Answers to requests, and reports.
 
 ghost use Rattle.std.specs.Prelude.{◌≡◌, IfOk};
 ghost use Rattle.gateway_http.specs.Asked.{asked_of};
