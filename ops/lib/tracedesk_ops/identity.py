@@ -108,6 +108,16 @@ def chain(path, archives, mark):
     return found, []
 
 
+def gaps(path, archives, marks=()):
+    """Which archives of a catalogue, and desks with these marks, were begun from one that is not in it. An archive that can't be read says nothing here."""
+    there = {it for archive in archives for it in (archive.sha256[:CHECKSUM], f"{archive.last_minute}-{archive.commands}")}
+    begun = [("the desk", it) for it in marks]
+    for it in archives:
+        with contextlib.suppress(OSError, sqlite3.Error):
+            begun.append((it.file, of(catalogue.path_of(path, it)).mark))
+    return [f"{path}: no archive has the checksum {mark}.., from which {name} was begun: take it from a copy" for name, mark in begun if mark and mark not in there]
+
+
 # --- A running desk
 
 
