@@ -451,7 +451,7 @@ def running_files(around, archives, running, held):
 
 def why_not(desk, database, archives, running):
     """Why a file is not the running desk's as it is now, if so; `database` is a copy of it. It may be an older copy, or another desk's."""
-    ends, mark = [it for it in archives if not it.went_on_to], identity.read(database).mark
+    ends, mark = [it for it in archives if not it.went_on_to], identity.begun_from(database)
     if ends and not any(identity.follows(mark, it) for it in ends) and (mark or not running or any(has(identity.BEGUN) for has in running)):
         return f"{desk} is not the running desk's: it didn't go on from the newest archive"
     newest = database.execute("SELECT uid FROM accepted ORDER BY number DESC LIMIT 1").fetchone()
