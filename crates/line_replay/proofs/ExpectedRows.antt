@@ -1,6 +1,5 @@
 -- The expected rows of a history with one more entry.
 use Rattle.std.proofs.Common.{◌≡◌, ◌∙◌, ◌⊎◌, ◌↔◌, ◌+◌, inl, inr, ℕ, ◌<◌, take, get_or, sym, Bool, true, false, Option, Some, None, List, [], ◌∷◌, ◌++◌, length, map, refl, ap, ap₂, subst, if◌then◌else◌, ◌==◌, ◌&&◌, arith}
-use Rattle.std.specs.Bool.{⊤}
 use Rattle.std.specs.Option.{option_to_list, option_map}
 use Rattle.std.specs.List.{AllByRecursion, cons_option}
 use Rattle.std.proofs.lemmas.Bool.{eqb-true, eq-eqb}
@@ -190,9 +189,9 @@ no_rows t is =
     by None p = refl
     by (Some m) p = cc
 
-pub none_expected : (Clean : Type 0) (db : Database) (rows : KeptRows) → unnumbered (tables_in rows) ≡ unnumbered (state_of []) → AreExpected Clean db (record { rows = rows; placed = record { all = true; count = 0; end = Some 0 } }) []
-none_expected Clean db rows is = record {
-  rows = no_rows (tables_in rows) is;
+pub none_expected : (Clean : Type 0) (db : Database) (read rows : KeptRows) → read ≡ rows → unnumbered (tables_in read) ≡ unnumbered (state_of []) → AreExpected Clean db (record { rows = rows; placed = record { all = true; count = 0; end = Some 0 } }) []
+none_expected Clean db read rows same is = record {
+  rows = subst (λ (x : KeptRows). AreKept x []) same (no_rows (tables_in read) is);
   pieces = [];
   listed = record { each = tt; all = λ key r is. let none = sym (none_placed key.0 key.1) ∙ is in cc; distinct = tt };
   named = tt;

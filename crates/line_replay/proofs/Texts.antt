@@ -1,5 +1,5 @@
 -- The meaning and the results of the texts.
-use Rattle.std.proofs.Common.{◌≡◌, ◌&&◌, ◌++◌, ◌<◌, ℕ, Bool, true, false, List, [], ◌∷◌, Result, Ok, Err, IfOk, codes, refl, ap, pos, inl, inr}
+use Rattle.std.proofs.Common.{◌≡◌, ◌&&◌, ◌++◌, ◌<◌, ℕ, Bool, List, [], ◌∷◌, Result, Ok, Err, IfOk, codes, refl, ap, pos, inl, inr}
 use Rattle.sqlite.specs.Term.{Term, col, op2}
 use Rattle.sqlite.specs.Collation.TheVariants.{Binary}
 use Rattle.sqlite_sql.specs.declared.ops.BinaryOp.TheVariants.{Compare}

@@ -10,13 +10,12 @@ use Rattle.line_replay.proofs.taking.accept_first.Goals as goal
 
 pub returns-then-repeated-clause-err : goal.returns-then-repeated-clause-err
 returns-then-repeated-clause-err g c B stands numbered clean =
-    let H = B.history in
     let old = state g.S.Store c.args.conn.now in
     let it = c.in-Ok.ensures.ok B stands numbered in
     inr (
       refl,
       λ e goes.
-          let same : entry_row H it.0 ≡ entry_row H e = sym it.3.same ∙ goes.same in
+          let same : entry_row B.history it.0 ≡ entry_row B.history e = sym it.3.same ∙ goes.same in
           let uid : it.0.stamped.uid ≡ e.stamped.uid = cc in
           let read : c.as_str.result.now ≡ e.stamped.uid = c.as_str.ensures ∙ sym it.1 ∙ uid in
           subst (λ (name : Name). Reads old (λ db. list_any (is_before name c.args.number) (accepted_in db) ≡ true)) read
