@@ -1,6 +1,6 @@
 -- Lists that have the same elements at each index.
-use Rattle.std.proofs.Common.{◌≡◌, ℕ, ◌<◌, Bool, true, false, Some, List, [], ◌∷◌, length, suc, refl, arith}
-use Rattle.std.specs.Prelude.{◌&&◌}
+use Rattle.std.proofs.Common.{◌≡◌, ℕ, ◌<◌, Bool, true, Some, List, [], ◌∷◌, length, suc, refl, arith}
+use Rattle.std.proofs.lemmas.Bool.{and_parts as both, and_from as either-way}
 use Rattle.std.specs.Cmp.Lexicographic.{pointwise}
 use Rattle.std.specs.List.{slice_get}
 
@@ -14,16 +14,6 @@ gets-same (x ∷ xs) (y ∷ ys) len all =
     cc
 
 -- ---- lists that compare equal
-
-pub both : (x y : Bool) → (x && y) ≡ true → (x ≡ true) × (y ≡ true)
-both true true is = (refl, refl)
-both true false is = cc
-both false y is = cc
-
-pub either-way : (x y : Bool) → x ≡ true → y ≡ true → (x && y) ≡ true
-either-way true true a b = refl
-either-way true false a b = cc
-either-way false y a b = cc
 
 pub lists-same : {X : Type 0} (eq : X → X → Bool) → ((a b : X) → eq a b ≡ true → a ≡ b) → (xs ys : List X) → pointwise eq xs ys ≡ true → xs ≡ ys
 lists-same eq told [] [] is = refl

@@ -1,10 +1,6 @@
 -- Concatenated tests and their results.
 use Rattle.std.proofs.Common.{◌≡◌, Bool, true, false, Some, None, refl}
-use Rattle.std.specs.Prelude.{◌&&◌, ◌||◌, if◌then◌else◌}
-
-pub and-both : (a b : Bool) → (a && b) ≡ true → (a ≡ true) × (b ≡ true)
-and-both true b is = (refl, is)
-and-both false b is = cc
+use Rattle.std.specs.Prelude.{◌||◌, if◌then◌else◌}
 
 pub swap-or : (a b c : Bool) → (a || (b || c)) ≡ (b || (a || c))
 swap-or true true c = refl

@@ -11,6 +11,7 @@ use Rattle.std.specs.declared.cmp.Ordering.TheVariants.{Less, Equal, Greater}
 use Rattle.std.proofs.lemmas.Bool.{or_left}
 use Rattle.std.proofs.lemmas.List.Kept.{IsStrictlySortedBy-filter}
 use Rattle.std.proofs.lemmas.Map.Lookups.{CmpEqualImpliesEq}
+use Rattle.std.proofs.Math.Bool.{or_self_left}
 use Rattle.desk_types.specs.Id.{Name, same}
 use Rattle.desk_types.specs.Free.{in_order}
 use Rattle.desk_types.proofs.Keys.{same-refl, same-true}
@@ -30,10 +31,6 @@ all-at P (x ∷ xs) r (first, all) there = by (same r x) refl there (all-at P xs
 all-map : (P Q : Name → Type 0) → ((r : Name) → P r → Q r) → (names : List Name) → AllByRecursion P names → AllByRecursion Q names
 all-map P Q step [] all = tt
 all-map P Q step (x ∷ xs) (first, all) = (step x first, all-map P Q step xs all)
-
-twice-or : (a b : Bool) → (a || (a || b)) ≡ (a || b)
-twice-or true b = refl
-twice-or false b = refl
 
 level : (a b : Ordering) → a ≡ ordering_reverse b → is_gt a ≡ false → is_gt b ≡ false → a ≡ Equal
 level Less Less turned up down = cc
@@ -88,7 +85,7 @@ module _ (R : Name → Name → Ordering) (o : IsTotalOrder R) (exact : CmpEqual
       by : (order : Ordering) → R x y ≡ order → has (insert_key R ys x) r ≡ (same r x || has ys r)
           → has (match_ordering order (x ∷ y ∷ ys) (y ∷ ys) (y ∷ insert_key R ys x)) r ≡ (same r x || (same r y || has ys r))
       by Less is rest = refl
-      by Equal is rest = sym (twice-or (same r y) (has ys r)) ∙ ap (λ z. same r z || (same r y || has ys r)) (sym (exact x y is))
+      by Equal is rest = sym (or_self_left (same r y) (has ys r)) ∙ ap (λ z. same r z || (same r y || has ys r)) (sym (exact x y is))
       by Greater is rest = ap (λ b. same r y || b) rest ∙ swap-or (same r y) (same r x) (has ys r)
 
   all-put : (P : Name → Type 0) (names : List Name) (x : Name) → AllByRecursion P names → P x → AllByRecursion P (insert_key R names x)

@@ -1,6 +1,5 @@
 -- The database's rows for each placed piece: its reel's row, and its entry's minute.
-use Rattle.std.proofs.Common.{◌≡◌, ◌∙◌, ℕ, pos, Bool, true, false, Some, List, [], ◌∷◌, ◌++◌, map, filter, refl, sym, ap, ap₂, subst, arith, Ordering, Less, Equal, Greater, is_eq, nat_cmp}
-use Rattle.std.specs.Prelude.{◌&&◌}
+use Rattle.std.proofs.Common.{◌≡◌, ◌∙◌, ℕ, pos, true, Some, List, [], ◌∷◌, ◌++◌, map, filter, refl, sym, ap, ap₂, subst, arith, Ordering, Less, Equal, Greater, is_eq, nat_cmp}
 use Rattle.std.specs.Option.{option_map, option_to_list}
 use Rattle.std.specs.List.{AllByRecursion}
 use Rattle.std.specs.List.Sorted.{IsPermutation}
@@ -10,6 +9,7 @@ use Rattle.std.proofs.lemmas.Cmp.{nat_cmp_total, tied_itself}
 use Rattle.std.proofs.lemmas.Bool.Decides.{nat_tests}
 use Rattle.std.proofs.lemmas.List.{append_assoc}
 use Rattle.std.proofs.lemmas.List.Elements.{recursion_from_All}
+use Rattle.std.proofs.lemmas.Bool.{and_parts}
 use Rattle.sqlite.specs.declared.types.Value.TheVariants.{Int}
 use Rattle.sqlite_value.specs.Order.{Row, column}
 use Rattle.sqlite.specs.Effect.{Database}
@@ -43,14 +43,10 @@ use Rattle.line_traces.proofs.RowsByKey.{rows-listed}
 abbrev pub piece_row : Placement → Row
 piece_row p = placement_columns (columns_of_piece p)
 
-pub both : (a b : Bool) → (a && b) ≡ true → (a ≡ true) × (b ≡ true)
-both true b is = (refl, is)
-both false b is = cc
-
 one-piece : (k l : ℕ × ℕ) (row : Row) → has_piece k row ≡ true → has_piece l row ≡ true → k ≡ l
 one-piece k l row first second =
-    let a = both (has_int 0 k.0 row) (has_int 1 k.1 row) first in
-    let b = both (has_int 0 l.0 row) (has_int 1 l.1 row) second in
+    let a = and_parts (has_int 0 k.0 row) (has_int 1 k.1 row) first in
+    let b = and_parts (has_int 0 l.0 row) (has_int 1 l.1 row) second in
     let number = one-int (column row 0) k.0 l.0 a.0 b.0 in
     let place = one-int (column row 1) k.1 l.1 a.1 b.1 in
     ap₂ (λ m n. (m, n)) number place

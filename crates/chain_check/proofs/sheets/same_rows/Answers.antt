@@ -1,11 +1,12 @@
 use Rattle.std.proofs.Common.{◌≡◌, true, sym, ap, ◌∙◌}
+use Rattle.std.proofs.lemmas.Bool.{and_parts as both, and_from as either-way}
 use Rattle.std.specs.Prelude.{◌&&◌}
 use Rattle.std.specs.Cmp.Lexicographic.{pointwise}
 use Rattle.desk_types.specs.declared.sheet.SheetRow.{SheetRow}
 use Rattle.desk_types.specs.Id.{same}
 use Rattle.desk_types.specs.contracts.sheet.SheetRowPartialEq.TheImpl.{ghosts as sheet_row}
 use Rattle.desk_types.proofs.Keys.{same-refl, same-true}
-use Rattle.chain_check.proofs.EqualLists.{both, either-way, lists-same, lists-refl}
+use Rattle.chain_check.proofs.EqualLists.{lists-same, lists-refl}
 use Rattle.chain_check.proofs.sheets.same_rows.Goals as goal
 
 row-same : (a b : SheetRow) → sheet_row.eq a b ≡ true → a ≡ b
