@@ -3,6 +3,7 @@ use Rattle.std.proofs.Common.{◌≡◌, ℕ, ◌-◌, ◌<◌, nat_lt, Bool, tr
 use Rattle.std.specs.Prelude.{if◌then◌else◌, ◌&&◌, ◌||◌, ◌==◌, is_some, not}
 use Rattle.std.specs.Option.{option_and_then, option_map, option_map_or, option_or}
 use Rattle.std.specs.List.{list_any}
+use Rattle.std.specs.Cmp.{both_ways}
 use Rattle.std.proofs.lemmas.Bool.{eqb-true, and_parts, or_parts}
 use Rattle.std.proofs.lemmas.Bool.Decides.{nat_tests}
 use Rattle.desk_types.specs.declared.answer.Refusal.TheVariants.{NotInWork}
@@ -25,7 +26,6 @@ use Rattle.desk_laws.proofs.Accepted.{next-accepted}
 use Rattle.desk_laws.proofs.BoardsInWork.{work-selected, work-product}
 use Rattle.desk_laws.proofs.Judgements.{untouched}
 use Rattle.desk_laws.proofs.Lookups.{mounted-live, mounted-there, in_work-somewhere}
-use Rattle.desk_laws.proofs.Mounted.{iff}
 use Rattle.desk_laws.specs.Alike.{IsIdle, IsSameReel, AreAlike}
 use Rattle.desk_laws.specs.Past.{is_started, is_spent}
 use Rattle.desk_laws.proofs.Agreeing.{mark, marked, IsSame, Agree, known, left-new}
@@ -202,7 +202,7 @@ agree-from G H of_G of_H a = record {
 
     mounted : (reel : Name) → is_mounted G reel ≡ is_mounted H reel
     mounted reel =
-        iff (is_mounted G reel) (is_mounted H reel)
+        both_ways (is_mounted G reel) (is_mounted H reel)
         (λ is. let at = mounted-live G reel is in mounted-there H reel (at.0, at.1, subst (λ reels. Contains reels reel) (a.slots at.0 at.1) at.2))
         (λ is. let at = mounted-live H reel is in mounted-there G reel (at.0, at.1, subst (λ reels. Contains reels reel) (sym (a.slots at.0 at.1)) at.2))
 
