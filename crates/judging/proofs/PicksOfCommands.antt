@@ -74,22 +74,16 @@ install-some bench before (d ∷ ds) some =
     install-some bench (before ++ option_to_list (pick_for bench before d)) ds
     (some-append bench.pieces before _ some (pick-some bench before d))
 
-min-le : (n m : ℕ) → min n m ≤ m
-min-le n m = omega arith
-
 scrap-some : (pieces : Name → ℕ) (purpose : Purpose) (tape : List Name) (n : ℕ) → HaveSome pieces (scrap_picks pieces purpose tape n)
 scrap-some pieces purpose [] n = tt
 scrap-some pieces purpose (r ∷ rs) n =
-    some-append pieces (pieces_off r (min n (pieces r)) purpose) _ (off-some pieces r (min n (pieces r)) purpose (min-le n (pieces r))) (scrap-some pieces purpose rs (n - pieces r))
-
-less-le : (m n : ℕ) → m - n ≤ m
-less-le m n = omega arith
+    some-append pieces (pieces_off r (min n (pieces r)) purpose) _ (off-some pieces r (min n (pieces r)) purpose (omega arith)) (scrap-some pieces purpose rs (n - pieces r))
 
 count-some : (pieces : Name → ℕ) (rows : List CountRow) → HaveSome pieces (count_picks pieces rows)
 count-some pieces [] = tt
 count-some pieces (row ∷ rows) =
     some-append pieces (pieces_off row.reel (pieces row.reel - row.quantity) Counted) _
-    (off-some pieces row.reel (pieces row.reel - row.quantity) Counted (less-le (pieces row.reel) row.quantity)) (count-some pieces rows)
+    (off-some pieces row.reel (pieces row.reel - row.quantity) Counted (omega arith)) (count-some pieces rows)
 
 picks-some : (H : History) (command : Command) → HaveSome (left_of H) (picks_of H command)
 picks-some H (MaterialsInstalled machine board ds) = install-some (bench_of H machine board) [] ds tt
