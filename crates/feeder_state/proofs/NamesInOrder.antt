@@ -1,5 +1,5 @@
 -- Names in an order, each once: which names they are says which list it is.
-use Rattle.std.proofs.Common.{◌≡◌, Bool, true, false, cond, List, [], ◌∷◌, refl, sym, ap, subst, ◌∙◌}
+use Rattle.std.proofs.Common.{◌≡◌, Bool, true, false, cond, List, [], ◌∷◌, refl, sym, ap, ◌∙◌}
 use Rattle.std.specs.Prelude.{◌&&◌, ◌||◌}
 use Rattle.std.specs.BTreeSet.{insert_key}
 use Rattle.std.specs.Cmp.{IsTotalOrder, tied_itself}
@@ -16,17 +16,9 @@ use Rattle.desk_types.specs.Id.{Name, same}
 use Rattle.desk_types.specs.Free.{in_order}
 use Rattle.desk_types.proofs.Keys.{same-refl, same-true}
 use Rattle.desk_types.proofs.Tests.{swap-or}
-use Rattle.desk_laws.proofs.Mounts.{has, has-filter}
+use Rattle.desk_laws.proofs.Mounts.{has, has-filter, all-at}
 
 -- ---- facts about all names
-
-all-at : (P : Name → Type 0) (names : List Name) (r : Name) → AllByRecursion P names → has names r ≡ true → P r
-all-at P [] r all there = cc
-all-at P (x ∷ xs) r (first, all) there = by (same r x) refl there (all-at P xs r all)
-  where
-    by : (b : Bool) → same r x ≡ b → (b || has xs r) ≡ true → (has xs r ≡ true → P r) → P r
-    by true here there rest = subst P (sym (same-true r x here)) first
-    by false away there rest = rest there
 
 all-map : (P Q : Name → Type 0) → ((r : Name) → P r → Q r) → (names : List Name) → AllByRecursion P names → AllByRecursion Q names
 all-map P Q step [] all = tt
