@@ -17,12 +17,9 @@ use Rattle.desk_types.specs.Free.{in_order}
 use Rattle.desk_types.proofs.Keys.{same-refl, same-true}
 use Rattle.desk_types.proofs.Tests.{swap-or}
 use Rattle.desk_laws.proofs.Mounts.{has, has-filter, all-at}
+use Rattle.state_rows.proofs.PlacedRows.{all-weaker}
 
 -- ---- facts about all names
-
-all-map : (P Q : Name → Type 0) → ((r : Name) → P r → Q r) → (names : List Name) → AllByRecursion P names → AllByRecursion Q names
-all-map P Q step [] all = tt
-all-map P Q step (x ∷ xs) (first, all) = (step x first, all-map P Q step xs all)
 
 level : (a b : Ordering) → a ≡ ordering_reverse b → is_gt a ≡ false → is_gt b ≡ false → a ≡ Equal
 level Less Less turned up down = cc
@@ -96,7 +93,7 @@ module _ (R : Name → Name → Ordering) (o : IsTotalOrder R) (exact : CmpEqual
     where
       by : (order : Ordering) → R x y ≡ order → IsStrictlySortedBy R (insert_key R ys x)
           → IsStrictlySortedBy R (match_ordering order (x ∷ y ∷ ys) (y ∷ ys) (y ∷ insert_key R ys x))
-      by Less is rest = ((is, all-map (λ z. R y z ≡ Less) (λ z. R x z ≡ Less) (λ z less. o.trans x y z is less) ys first), (first, up))
+      by Less is rest = ((is, all-weaker (λ z. R y z ≡ Less) (λ z. R x z ≡ Less) (λ z less. o.trans x y z is less) ys first), (first, up))
       by Equal is rest = (first, up)
       by Greater is rest = (all-put (λ z. R y z ≡ Less) ys x first (o.antisymm y x ∙ ap ordering_reverse is), rest)
 

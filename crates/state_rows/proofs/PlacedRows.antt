@@ -81,7 +81,7 @@ unfolding IsStrictlySortedBy
 sorted-append [] ys first rest below = rest
 sorted-append (x ∷ xs) ys (above, first) rest (here, below) = (all-append (λ y. by_piece x y ≡ Less) xs ys above here, sorted-append xs ys first rest below)
 
-all-weaker : {X : Type 0} (P Q : X → Type 0) → ((x : X) → P x → Q x) → (xs : List X) → AllByRecursion P xs → AllByRecursion Q xs
+pub all-weaker : {X : Type 0} (P Q : X → Type 0) → ((x : X) → P x → Q x) → (xs : List X) → AllByRecursion P xs → AllByRecursion Q xs
 all-weaker P Q weaker [] all = tt
 all-weaker P Q weaker (x ∷ xs) (first, all) = (weaker x first, all-weaker P Q weaker xs all)
 
