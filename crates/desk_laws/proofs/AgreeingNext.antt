@@ -20,7 +20,7 @@ use Rattle.desk_types.specs.Judged.{IsJudged}
 use Rattle.desk_laws.specs.Place.{mounted_after}
 use Rattle.desk_laws.specs.Working.{in_work_after}
 use Rattle.desk_laws.proofs.Balance.{spent-next}
-use Rattle.desk_laws.proofs.BoardsInWork.{work-next, in_work-next}
+use Rattle.desk_laws.proofs.BoardsInWork.{work-next, in_work-next, or-second}
 use Rattle.desk_laws.proofs.Lives.{live-next}
 use Rattle.desk_laws.proofs.Mounted.{mounted-next}
 use Rattle.desk_laws.proofs.Mounts.{has}
@@ -85,10 +85,6 @@ same-next G H s reel at a of_G of_H = record {
             (λ j. remaining (anew.0 j) (anew.1 j) h.effective (floor_life (h ∷ H) reel) (minutes_left G reel) minute)
             ∙ sym (λ j. remaining (anew.0 j) (anew.1 j) h.effective (floor_life (h ∷ H) reel) (minutes_left H reel) minute)
 
-some-or : {X : Type 0} (said before : Option X) → is_some before ≡ true → is_some (option_or said before) ≡ true
-some-or None before is = is
-some-or (Some x) before is = refl
-
 module _ (past_board past_reel : Name → Bool) where
   left-same : (G H : History) (s : Stamped) → Agree past_board past_reel G H → left_of (accept G s) ≡ left_of (accept H s)
   unfolding left_of
@@ -116,7 +112,7 @@ module _ (past_board past_reel : Name → Bool) where
     started = λ board past. or_right (is_some (start_by board s.command)) (is_started G board) (a.started board past);
     spent = λ reel past.
         let before = a.spent reel past in (
-          some-or (receipt_by reel g.effective s.command) (receipt_of G reel) before.0,
+          or-second (receipt_by reel g.effective s.command) (receipt_of G reel) before.0,
           spent-next G g reel of_G (not-again G g reel of_G before.0) before.1,
         );
     reels = λ reel new. same-next G H s reel at (a.reels reel new) of_G of_H;

@@ -169,7 +169,7 @@ or-first : {X : Type 0} (a b : Option X) → is_some a ≡ true → is_some (opt
 or-first None b is = cc
 or-first (Some x) b is = refl
 
-or-second : {X : Type 0} (a b : Option X) → is_some b ≡ true → is_some (option_or a b) ≡ true
+pub or-second : {X : Type 0} (a b : Option X) → is_some b ≡ true → is_some (option_or a b) ≡ true
 or-second None b is = is
 or-second (Some x) b is = refl
 

@@ -22,7 +22,7 @@ use Rattle.desk_types.specs.Work.{in_work_on, is_in_work, is_in_work_on, start_b
 use Rattle.desk_types.specs.Refusals.{designators_refusal, install_refusal, command_refusal}
 use Rattle.desk_types.specs.Judged.{IsNext, IsJudged}
 use Rattle.desk_types.proofs.Keys.{same-true}
-use Rattle.desk_laws.proofs.Accepted.{next-accepted}
+use Rattle.desk_laws.proofs.Accepted.{next-accepted, not-some}
 use Rattle.desk_laws.proofs.BoardsInWork.{work-selected, work-product}
 use Rattle.desk_laws.proofs.Judgements.{untouched}
 use Rattle.desk_laws.proofs.Lookups.{mounted-live, mounted-there, in_work-somewhere}
@@ -32,17 +32,13 @@ use Rattle.desk_laws.proofs.Agreeing.{mark, marked, IsSame, Agree, known, left-n
 
 -- ---- boards
 
-no-some : {X : Type 0} (o : Option X) → is_some o ≡ false → o ≡ None
-no-some None is = refl
-no-some (Some x) is = cc
-
 -- A board that was not started has no product,
 pub unstarted-product : (H : History) (board : Name) → is_started H board ≡ false → product_of H board ≡ None
 unstarted-product [] board new = refl
 unstarted-product (e ∷ H) board new =
     let neither = or_parts (is_some (start_by board e.stamped.command)) (is_started H board) new in
     ap (λ o. option_or o (option_and_then (selected_on H) (start_by board e.stamped.command))) (unstarted-product H board neither.1)
-    ∙ ap (option_and_then (selected_on H)) (no-some (start_by board e.stamped.command) neither.0)
+    ∙ ap (option_and_then (selected_on H)) (not-some (start_by board e.stamped.command) neither.0)
 
 -- And one that was started has one.
 if-is : {X : Type 0} (b : Bool) (x y : X) → (if b then Some x else None) ≡ Some y → x ≡ y
