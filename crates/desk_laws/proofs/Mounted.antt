@@ -27,13 +27,13 @@ use Rattle.desk_laws.proofs.Places.{placed, live-placed, untouched-unplaced}
 
 -- ---- pieces left
 
-abbrev some_left : History → Name → Bool
+abbrev pub some_left : History → Name → Bool
 some_left H reel = nat_lt 0 (left_of H reel)
 
-abbrev left_after : History → Command → Name → ℕ
+abbrev pub left_after : History → Command → Name → ℕ
 left_after H command reel = unwrap_or (pieces_by reel command) (left_of H reel - pieces_picked (picks_of H command) reel)
 
-less-none : (n : ℕ) → n - 0 ≡ n
+pub less-none : (n : ℕ) → n - 0 ≡ n
 less-none n = omega arith
 
 -- ---- places

@@ -16,7 +16,7 @@ use Rattle.desk_types.specs.FloorLife.{open_by, baked_by, since_after}
 use Rattle.desk_types.specs.Outcome.{take_of}
 use Rattle.desk_types.specs.View.{view_of}
 use Rattle.desk_types.specs.Judged.{IsJudged}
-use Rattle.desk_laws.proofs.Mounted.{mounted-is}
+use Rattle.desk_laws.proofs.Mounted.{mounted-is, left_after}
 use Rattle.desk_types.specs.declared.row.ReelRow.{ReelRow}
 use Rattle.desk_types.specs.declared.row.MountRow.{MountRow}
 use Rattle.desk_types.specs.declared.row.PlacementRow.{PlacementRow}
@@ -24,7 +24,7 @@ use Rattle.desk_types.specs.Tables.{columns_of, reel_row, last_put, mount_row}
 use Rattle.state_rows.specs.After.{placed_in, scrapped_in, used_after, step_row}
 use Rattle.state_rows.specs.EditsOf.{pick_of, is_picked, less_row, picked_rows, is_spent}
 use Rattle.state_rows.proofs.ReelRows.{same-rows}
-use Rattle.state_rows.proofs.MountRows.{left_after, unreceived-unmounted}
+use Rattle.state_rows.proofs.MountRows.{unreceived-unmounted}
 
 pub picks-again : (H : History) (minute : ℕ) (picks : List Pick) → map pick_of (map (take_of H minute) picks) ≡ picks
 picks-again H minute [] = refl
