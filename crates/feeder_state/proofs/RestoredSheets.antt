@@ -120,10 +120,6 @@ sheet-next None None new true row left is was = ap (λ o. option_or o (option_an
     none None = refl
     none (Some r) = refl
 
-pub all-in : (sheet now : Option (List SheetRow)) → option_or now None ≡ sheet → now ≡ sheet
-all-in sheet None is = is
-all-in sheet (Some rows) is = is
-
 -- ---- machines with a sheet
 
 by_sheet_place-total : IsTotalOrder by_sheet_place

@@ -1,6 +1,5 @@
 -- Whether the placements are the expected ones.
-use Rattle.std.proofs.Common.{◌≡◌, ◌∙◌, ◌&&◌, ◌==◌, ℕ, Bool, true, false, Option, List, [], ◌∷◌, ◌++◌, length, refl, sym, ap, ap₂, subst}
-use Rattle.std.specs.List.{AllByRecursion}
+use Rattle.std.proofs.Common.{◌≡◌, ◌∙◌, ◌&&◌, ◌==◌, ℕ, Bool, true, false, Option, [], ◌∷◌, length, refl, sym, ap, ap₂, subst}
 use Rattle.std.proofs.lemmas.Bool.{and_parts, eqb-true, eq-eqb}
 use Rattle.sqlite.specs.Effect.{Database}
 use Rattle.sqlite.specs.State.{State, KeepsCommit}
@@ -59,11 +58,3 @@ expected_after old mid kept looked es f e = record {
       let same = kept.committed open_mid in
       subst (HasBefore looked.end looked.count) (sym same) (e.before (kept.was_open open_mid) (subst (λ (db : Database). IsOurs db.schema) same schema));
 }
-
-left : {X : Type 0} (P : X → Type 0) (xs ys : List X) → AllByRecursion P (xs ++ ys) → AllByRecursion P xs
-left P [] ys h = tt
-left P (x ∷ xs) ys h = (h.0, left P xs ys h.1)
-
-right : {X : Type 0} (P : X → Type 0) (xs ys : List X) → AllByRecursion P (xs ++ ys) → AllByRecursion P ys
-right P [] ys h = h
-right P (x ∷ xs) ys h = right P xs ys h.1
