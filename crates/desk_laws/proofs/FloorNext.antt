@@ -15,7 +15,7 @@ use Rattle.desk_types.specs.FloorLife.{open_by, IsUntouched, last_bake, exposure
 use Rattle.desk_types.specs.Judged.{IsJudged}
 use Rattle.desk_types.proofs.Exposure.{exposure-after, exposure-anew, exposure-untouched}
 use Rattle.desk_types.proofs.ReelCommands.{IsQuiet-open, IsQuiet-untouched, IsQuiet-seal, last_bake-quiet, exposure_starts-quiet}
-use Rattle.desk_types.proofs.Tests.{if-some}
+use Rattle.desk_types.proofs.Tests.{if-some, if-none}
 use Rattle.desk_laws.proofs.Accepted.{received-once}
 use Rattle.desk_laws.proofs.Judgements.{untouched, by-later, by-desk_minute}
 use Rattle.desk_laws.proofs.Openings.{starts-by}
@@ -162,10 +162,6 @@ life-marked H reel = by (receipt_of H reel)
 abbrev pub waiting : Option Bool → Option (Name × (Name × LevelWithLabel)) → Bool → Bool
 waiting None m before = before
 waiting (Some baked) m before = option_map_or (λ (m : Name × (Name × LevelWithLabel)). is_six m.1.1.level) m false && not baked
-
-if-none : {X Y : Type 0} (b : Bool) (x : X) (y : Y) → (if b then Some x else None) ≡ None → (if b then Some y else None) ≡ None
-if-none true x y is = cc
-if-none false x y is = refl
 
 unreceived : (reel : Name) (at : ℕ) (command : Command) → baked_by reel command ≡ None → receipt_by reel at command ≡ None
 unreceived reel at (ReelReceived r part lot moisture quantity) none = if-none (same r reel) false _ none

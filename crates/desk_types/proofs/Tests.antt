@@ -10,3 +10,7 @@ swap-or false b c = refl
 pub if-some : {X : Type 0} (b : Bool) (x y : X) → (if b then Some x else None) ≡ Some y → b ≡ true
 if-some true x y is = refl
 if-some false x y is = cc
+
+pub if-none : {X Y : Type 0} (b : Bool) (x : X) (y : Y) → (if b then Some x else None) ≡ None → (if b then Some y else None) ≡ None
+if-none true x y is = cc
+if-none false x y is = refl
