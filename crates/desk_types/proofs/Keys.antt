@@ -11,6 +11,7 @@ use Rattle.std.specs.declared.cmp.Ordering.{Ordering}
 use Rattle.std.specs.declared.cmp.Ordering.TheVariants.{Less, Equal, Greater}
 use Rattle.desk_types.specs.Id.{Name, same, by_name}
 use Rattle.desk_types.specs.Pair.{same_pair, by_pair}
+use Rattle.desk_types.proofs.Tests.{or-cond}
 
 pub same-refl : (a : Name) → same a a ≡ true
 same-refl a = nat_list_eq_equiv.refl a
@@ -37,10 +38,6 @@ is_at-by_pair k q =
 
 pub list_any-same : {X : Type 0} (s t : X → Bool) → ((x : X) → s x ≡ t x) → (xs : List X) → list_any s xs ≡ list_any t xs
 list_any-same s t agree xs = ap (λ test. list_any test xs) (λ j x. agree x j)
-
-or-cond : (b c : Bool) → cond b true c ≡ (b || c)
-or-cond true c = refl
-or-cond false c = refl
 
 -- The members of a set after inserting k; `at` is the lookup and `is` the test of a key.
 pub has-after : {K : Type 0} (at is : K → K → Bool) → ((k q : K) → at k q ≡ is k q) → (old new : List K) (k : K)

@@ -1,5 +1,5 @@
 -- Concatenated tests and their results.
-use Rattle.std.proofs.Common.{◌≡◌, Bool, true, false, Some, None, refl}
+use Rattle.std.proofs.Common.{◌≡◌, Bool, true, false, Some, None, refl, cond}
 use Rattle.std.specs.Prelude.{◌||◌, if◌then◌else◌}
 
 pub swap-or : (a b c : Bool) → (a || (b || c)) ≡ (b || (a || c))
@@ -14,3 +14,7 @@ if-some false x y is = cc
 pub if-none : {X Y : Type 0} (b : Bool) (x : X) (y : Y) → (if b then Some x else None) ≡ None → (if b then Some y else None) ≡ None
 if-none true x y is = cc
 if-none false x y is = refl
+
+pub or-cond : (b c : Bool) → cond b true c ≡ (b || c)
+or-cond true c = refl
+or-cond false c = refl
