@@ -24,6 +24,14 @@ use Rattle.line_tables.proofs.Altering.{without}
 
 -- ---- values that SQL considers equal
 
+pub truth_told : (b : Bool) → is_true (from_truth (Some b)) ≡ b
+truth_told true = refl
+truth_told false = refl
+
+pub number_test : (a b : ℕ) → equal Binary (Int (pos a)) (Int (pos b)) ≡ is_eq (value_cmp (Int (pos a)) (Int (pos b)))
+unfolding binary
+number_test a b = truth_told _
+
 tied : (v a : Value) → equal Binary v a ≡ true → value_cmp v a ≡ Equal
 unfolding binary
 tied v a e = go (is_null v || is_null a) (value_cmp v a) e
@@ -34,7 +42,7 @@ tied v a e = go (is_null v || is_null a) (value_cmp v a) e
     go false Equal h = refl
     go false Greater h = absurd (true≢false (sym h))
 
-tied_twice : (v a b : Value) → equal Binary v a ≡ true → equal Binary v b ≡ true → value_cmp a b ≡ Equal
+pub tied_twice : (v a b : Value) → equal Binary v a ≡ true → equal Binary v b ≡ true → value_cmp a b ≡ Equal
 tied_twice v a b p q = sym (value_cmp_total.congr v a b (tied v a p)) ∙ tied v b q
 
 equal_itself : (v : Value) → is_null v ≡ false → equal Binary v v ≡ true

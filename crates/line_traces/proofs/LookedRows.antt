@@ -27,9 +27,9 @@ use Rattle.state_rows.specs.Lists.{minute_of}
 use Rattle.line_traces.specs.Pieces.{piece_at}
 use Rattle.line_traces.specs.Committed.{HoldsList}
 use Rattle.line_traces.proofs.ByKey.{has_key}
-use Rattle.line_traces.proofs.Columns.{equal-itself}
 use Rattle.line_traces.proofs.PlacedColumns.{receipt-there}
 use Rattle.line_traces.proofs.TwoCalls.{one-flag}
+use Rattle.line_tables.proofs.Keyed.{own_int}
 
 -- ---- the row of a piece
 
@@ -56,7 +56,7 @@ row-one p q is =
     }
 
 its-key : (p : PlacementRow) → has_piece (p.number, p.place) (placement_columns p) ≡ true
-its-key p = ap₂ (λ a b. a && b) (equal-itself p.number) (equal-itself p.place)
+its-key p = ap₂ (λ a b. a && b) (own_int p.number) (own_int p.place)
 
 one-row : (o : Option PlacementRow) (p : PlacementRow) → Has (option_to_list (option_map placement_columns o)) (placement_columns p) → o ≡ Some p
 one-row None p h = absurd h
