@@ -7,7 +7,7 @@ use Rattle.desk_types.specs.declared.row.PlacementRow.{PlacementRow}
 use Rattle.line_tables.specs.Line as line
 use Rattle.line_tables.specs.Line.{IsOurs}
 use Rattle.line_tables.specs.StateRows.{rows_in, has_piece, placement_columns}
-use Rattle.line_tables.proofs.Keyed.{one_piece, own_int}
+use Rattle.line_tables.proofs.Keyed.{one_piece, own_piece as piece_true}
 use Rattle.line_tables.specs.Calls.{Reads}
 use Rattle.line_replay.specs.declared.auditing.Placed.{Placed}
 use Rattle.line_replay.specs.Alone.{Decides, AreAlone}
@@ -15,9 +15,6 @@ use Rattle.line_replay.specs.Placed.{HasBefore}
 use Rattle.line_replay.specs.Audit.{Pieces, AreByPiece, ArePlaced, HasPlacements, IsExpected}
 use Rattle.line_replay.proofs.SameRows.{same_rows}
 use Rattle.line_replay.proofs.Members.{AreTrue, alone_by_count}
-
-pub piece_true : (p : PlacementRow) → has_piece (p.number, p.place) (placement_columns p) ≡ true
-piece_true p = ap₂ (λ a b. a && b) (own_int p.number) (own_int p.place)
 
 pieces_true : (es : Pieces) → AreByPiece es → AreTrue has_piece (λ _ row. placement_columns row) one_piece es
 pieces_true [] h = tt
