@@ -112,7 +112,7 @@ others_uids rules uid n rows (e ∷ H) none judged at low = (one, others_uids ru
       | inr other ↦ other
     ]
 
-none_yet : IsDistinct same []
+pub none_yet : IsDistinct same []
 unfolding IsDistinct
 none_yet = tt
 
