@@ -108,7 +108,7 @@ mountable H minute machine slot reel slot_test none =
 
 -- ---- handled reels are received reels
 
-not-some : {X : Type 0} (o : Option X) → is_some o ≡ false → o ≡ None
+pub not-some : {X : Type 0} (o : Option X) → is_some o ≡ false → o ≡ None
 not-some None is = refl
 not-some (Some x) is = cc
 

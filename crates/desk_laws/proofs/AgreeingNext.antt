@@ -1,5 +1,6 @@
 -- Two histories that agree except for past boards and reels still agree after a command that both accept.
 use Rattle.std.proofs.Common.{◌≡◌, ℕ, ◌≤◌, ◌-◌, max, nat_lt, Bool, true, false, Option, Some, None, ◌∷◌, refl, sym, ap, ◌∙◌, arith}
+use Rattle.std.proofs.lemmas.Bool.{or_right}
 use Rattle.std.specs.Prelude.{◌||◌, is_some, unwrap_or}
 use Rattle.std.specs.Option.{option_and_then, option_map, option_or}
 use Rattle.std.specs.List.{filter}
@@ -19,7 +20,7 @@ use Rattle.desk_types.specs.Judged.{IsJudged}
 use Rattle.desk_laws.specs.Place.{mounted_after}
 use Rattle.desk_laws.specs.Working.{in_work_after}
 use Rattle.desk_laws.proofs.Balance.{spent-next}
-use Rattle.desk_laws.proofs.BoardsInWork.{work-next, in_work-next}
+use Rattle.desk_laws.proofs.BoardsInWork.{work-next, in_work-next, or-second}
 use Rattle.desk_laws.proofs.Lives.{live-next}
 use Rattle.desk_laws.proofs.Mounted.{mounted-next}
 use Rattle.desk_laws.proofs.Mounts.{has}
@@ -84,14 +85,6 @@ same-next G H s reel at a of_G of_H = record {
             (λ j. remaining (anew.0 j) (anew.1 j) h.effective (floor_life (h ∷ H) reel) (minutes_left G reel) minute)
             ∙ sym (λ j. remaining (anew.0 j) (anew.1 j) h.effective (floor_life (h ∷ H) reel) (minutes_left H reel) minute)
 
-or-true : (said before : Bool) → before ≡ true → (said || before) ≡ true
-or-true true before is = refl
-or-true false before is = is
-
-some-or : {X : Type 0} (said before : Option X) → is_some before ≡ true → is_some (option_or said before) ≡ true
-some-or None before is = is
-some-or (Some x) before is = refl
-
 module _ (past_board past_reel : Name → Bool) where
   left-same : (G H : History) (s : Stamped) → Agree past_board past_reel G H → left_of (accept G s) ≡ left_of (accept H s)
   unfolding left_of
@@ -116,10 +109,10 @@ module _ (past_board past_reel : Name → Bool) where
     mounted = λ j reel. (mounted-next G g reel of_G
         ∙ (λ k. mounted_after (nat_lt 0 (left k reel)) (λ m s. has (a.live k m s) reel) reel s.command (a.mounted k reel))
         ∙ sym (mounted-next H h reel of_H)) j;
-    started = λ board past. or-true (is_some (start_by board s.command)) (is_started G board) (a.started board past);
+    started = λ board past. or_right (is_some (start_by board s.command)) (is_started G board) (a.started board past);
     spent = λ reel past.
         let before = a.spent reel past in (
-          some-or (receipt_by reel g.effective s.command) (receipt_of G reel) before.0,
+          or-second (receipt_by reel g.effective s.command) (receipt_of G reel) before.0,
           spent-next G g reel of_G (not-again G g reel of_G before.0) before.1,
         );
     reels = λ reel new. same-next G H s reel at (a.reels reel new) of_G of_H;

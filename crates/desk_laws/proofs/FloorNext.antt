@@ -14,8 +14,8 @@ use Rattle.desk_types.specs.Setup.{receipt_by, receipt_of}
 use Rattle.desk_types.specs.FloorLife.{open_by, IsUntouched, last_bake, exposure_starts, exposure_of, since_after, out_since, floor_life, minutes_left, baked_by, is_baked, is_six, is_unbaked}
 use Rattle.desk_types.specs.Judged.{IsJudged}
 use Rattle.desk_types.proofs.Exposure.{exposure-after, exposure-anew, exposure-untouched}
-use Rattle.desk_types.proofs.ReelCommands.{IsQuiet-open, IsQuiet-untouched, IsQuiet-seal, last_bake-quiet, exposure_starts-quiet}
-use Rattle.desk_types.proofs.Tests.{if-some}
+use Rattle.desk_types.proofs.ReelCommands.{IsQuiet-open, IsQuiet-untouched, IsQuiet-seal, last_bake-quiet, exposure_starts-quiet, last_bake-untouched}
+use Rattle.desk_types.proofs.Tests.{if-some, if-none}
 use Rattle.desk_laws.proofs.Accepted.{received-once}
 use Rattle.desk_laws.proofs.Judgements.{untouched, by-later, by-desk_minute}
 use Rattle.desk_laws.proofs.Openings.{starts-by}
@@ -26,11 +26,6 @@ use Rattle.desk_laws.proofs.Agreeing.{mark, marks_of, marked}
 opens : {P : Type 0} (b : Bool) → (if b then Some true else None) ≡ Some false → P
 opens true is = cc
 opens false is = cc
-
-last_bake-untouched : (H : History) (name : Name) → IsUntouched H name → last_bake H name ≡ None
-last_bake-untouched [] name none = refl
-last_bake-untouched (e ∷ H) name (none, rest) =
-    last_bake-quiet H e name (IsQuiet-untouched name e.effective e.stamped.command none) ∙ last_bake-untouched H name rest
 
 -- Whether exposure begins anew with the command, where it puts a reel into its bag.
 abbrev pub is_anew : Command → Bool
@@ -162,10 +157,6 @@ life-marked H reel = by (receipt_of H reel)
 abbrev pub waiting : Option Bool → Option (Name × (Name × LevelWithLabel)) → Bool → Bool
 waiting None m before = before
 waiting (Some baked) m before = option_map_or (λ (m : Name × (Name × LevelWithLabel)). is_six m.1.1.level) m false && not baked
-
-if-none : {X Y : Type 0} (b : Bool) (x : X) (y : Y) → (if b then Some x else None) ≡ None → (if b then Some y else None) ≡ None
-if-none true x y is = cc
-if-none false x y is = refl
 
 unreceived : (reel : Name) (at : ℕ) (command : Command) → baked_by reel command ≡ None → receipt_by reel at command ≡ None
 unreceived reel at (ReelReceived r part lot moisture quantity) none = if-none (same r reel) false _ none

@@ -139,7 +139,7 @@ designators-live H placed machine board before seen (d ∷ ds) =
     ∙ ap (λ (o : Option Refusal). option_or (designator_refusal d (slot_on H machine d) (list_any (same d) seen) (placed d) (pick_for (bench_of H machine board) before d)) o)
     (designators-live H placed machine board (before ++ option_to_list (pick_for (bench_of H machine board) before d)) (seen ++ d ∷ []) ds)
 
-scrap-filter : (pieces : Name → ℕ) (purpose : Purpose) (reels : List Name) (n : ℕ)
+pub scrap-filter : (pieces : Name → ℕ) (purpose : Purpose) (reels : List Name) (n : ℕ)
     → scrap_picks pieces purpose (filter (λ r. nat_lt 0 (pieces r)) reels) n ≡ scrap_picks pieces purpose reels n
 scrap-filter pieces purpose [] n = refl
 scrap-filter pieces purpose (r ∷ rs) n = by (nat_lt 0 (pieces r)) refl (scrap-filter pieces purpose rs)

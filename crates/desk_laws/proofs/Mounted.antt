@@ -4,6 +4,7 @@ use Rattle.std.proofs.lemmas.Bool.{and_from, and_parts, not-false}
 use Rattle.std.proofs.Common.{◌≡◌, ℕ, ◌-◌, nat_lt, Bool, true, false, not, Option, Some, None, List, [], ◌∷◌, refl, sym, ap, ◌∙◌, unwrap_or, arith}
 use Rattle.std.specs.Prelude.{if◌then◌else◌, ◌||◌, ◌&&◌, is_none, is_some}
 use Rattle.std.specs.List.{list_any}
+use Rattle.std.specs.Cmp.{both_ways}
 use Rattle.desk_types.specs.declared.command.Command.{Command}
 use Rattle.desk_types.specs.declared.command.Command.TheVariants.{ReelReceived, MaterialsLoaded, MaterialsSpliced, MaterialsUnloaded, MaterialsInstalled, MaterialsScrapped, CountsTaken}
 use Rattle.desk_types.specs.declared.command.Entry.{Entry}
@@ -26,21 +27,16 @@ use Rattle.desk_laws.proofs.Places.{placed, live-placed, untouched-unplaced}
 
 -- ---- pieces left
 
-abbrev some_left : History → Name → Bool
+abbrev pub some_left : History → Name → Bool
 some_left H reel = nat_lt 0 (left_of H reel)
 
-abbrev left_after : History → Command → Name → ℕ
+abbrev pub left_after : History → Command → Name → ℕ
 left_after H command reel = unwrap_or (pieces_by reel command) (left_of H reel - pieces_picked (picks_of H command) reel)
 
-less-none : (n : ℕ) → n - 0 ≡ n
+pub less-none : (n : ℕ) → n - 0 ≡ n
 less-none n = omega arith
 
 -- ---- places
-
-pub iff : (a b : Bool) → (a ≡ true → b ≡ true) → (b ≡ true → a ≡ true) → a ≡ b
-iff true b there back = sym (there refl)
-iff false true there back = back refl
-iff false false there back = refl
 
 at-some : (machine slot : Name) (place : Option (Name × Name)) → is_at machine slot place ≡ true → is_some place ≡ true
 at-some machine slot None is = cc
@@ -73,7 +69,7 @@ placed-mounted H reel (Some q) judged is some =
     ∙ and_from _ _ some (placed H q.0 q.1 reel judged some ∙ ap (is_at q.0 q.1) is ∙ and_from _ _ (same-refl q.0) (same-refl q.1)))
 
 pub mounted-is : (H : History) (reel : Name) → IsJudged Two H → is_mounted H reel ≡ (is_some (place_of H reel) && some_left H reel)
-mounted-is H reel judged = iff _ _ (from-any H reel H judged) (placed-mounted H reel (place_of H reel) judged refl)
+mounted-is H reel judged = both_ways _ _ (from-any H reel H judged) (placed-mounted H reel (place_of H reel) judged refl)
 
 -- ---- one more entry
 

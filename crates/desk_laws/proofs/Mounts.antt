@@ -1,10 +1,11 @@
 -- The reels on slots, and the entries that put them there.
 use Rattle.std.proofs.lemmas.Bool.{and_parts, or_left, or_right}
-use Rattle.std.proofs.Common.{◌≡◌, Bool, true, false, Option, Some, None, List, [], ◌∷◌, refl, sym, ap, ◌∙◌}
+use Rattle.std.proofs.Common.{◌≡◌, Bool, true, false, Option, Some, None, List, [], ◌∷◌, refl, sym, ap, ◌∙◌, Contains, subst}
 use Rattle.std.specs.Prelude.{nat_lt, is_none, is_some, ◌&&◌, ◌||◌, if◌then◌else◌}
-use Rattle.std.specs.List.{list_any, filter}
+use Rattle.std.specs.List.{list_any, filter, AllByRecursion}
+use Rattle.std.specs.Cmp.Lexicographic.{nat_list_eq_equiv}
 use Rattle.std.proofs.lemmas.List.Folds.{list_any-append}
-use Rattle.std.proofs.lemmas.Map.Views.{any-filter_same}
+use Rattle.std.proofs.lemmas.Map.Views.{any-filter_same, Contains-from_any, list_any-from_Contains}
 use Rattle.desk_types.specs.declared.command.Command.{Command}
 use Rattle.desk_types.specs.declared.command.Command.TheVariants.{MaterialsLoaded, MaterialsSpliced, MaterialsUnloaded}
 use Rattle.desk_types.specs.declared.command.Entry.{Entry}
@@ -23,6 +24,20 @@ use Rattle.desk_types.proofs.Keys.{same-refl, same-sym, same-true}
 
 abbrev pub has : List Name → Name → Bool
 has reels reel = list_any (same reel) reels
+
+pub has-from : (names : List Name) (name : Name) → Contains names name → has names name ≡ true
+has-from names name there = list_any-from_Contains nat_list_eq_equiv name names there
+
+pub from-has : (names : List Name) (name : Name) → has names name ≡ true → Contains names name
+from-has names name is = Contains-from_any same-true name names is
+
+pub all-at : (P : Name → Type 0) (names : List Name) (r : Name) → AllByRecursion P names → has names r ≡ true → P r
+all-at P [] r all there = cc
+all-at P (x ∷ xs) r (first, all) there = by (same r x) refl there (all-at P xs r all)
+  where
+    by : (b : Bool) → same r x ≡ b → (b || has xs r) ≡ true → (has xs r ≡ true → P r) → P r
+    by true here there rest = subst P (sym (same-true r x here)) first
+    by false away there rest = rest there
 
 -- ---- live reels
 

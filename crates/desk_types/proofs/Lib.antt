@@ -14,6 +14,7 @@ pub mod PieceCases
 pub mod Readers
 pub mod ReelCommands
 pub mod RowsCommon
+pub mod Sameness
 pub mod SetupCases
 pub mod Splitting
 pub mod StoredCases

@@ -35,19 +35,16 @@ use Rattle.feeder_state.specs.declared.desk.StateDesk.{StateDesk}
 use Rattle.feeder_state.proofs.RowReels.{mounts-row, row-left}
 use Rattle.feeder_state.proofs.TapeSteps.{all-kept, zero-is}
 
-change-minute : (rules : Rules) (H : History) (s : Stamped) (change : Change) → IsChange rules H s change → change.minute ≡ effective_minute H s.minute
-change-minute rules H s change is = ap (λ (x : Change). x.minute) is.value
-
 pub accepted-judged : (rules : Rules) (H : History) (s : Stamped) (change : Change) → IsJudged rules H → IsStamped s → IsMinute change.minute → IsChange rules H s change
     → IsJudged rules (accept H s)
 accepted-judged rules H s change judged in_range minute is =
-    let at = change-minute rules H s change is in
+    let at = ap (λ (x : Change). x.minute) is.value in
     (record { in_range = record { stamped = in_range; effective = omega (arith, at, minute) }; number = refl; effective = refl; accepted = is.accepted }, judged)
 
 pub accepted-noted : (rules : Rules) (H : History) (s : Stamped) (change : Change) → IsJudged rules H → IsStamped s → IsMinute change.minute → IsChange rules H s change
     → IsNoted H (entry_of H s) s.command change.minute change.takes
 accepted-noted rules H s change judged in_range minute is =
-    let at = change-minute rules H s change is in
+    let at = ap (λ (x : Change). x.minute) is.value in
     record {
       judged = judged-by-two rules (accept H s) (accepted-judged rules H s change judged in_range minute is);
       command_is = refl;
@@ -57,7 +54,7 @@ accepted-noted rules H s change judged in_range minute is =
 
 pub accepted-minute : (rules : Rules) (H : History) (s : Stamped) (change : Change) → IsChange rules H s change → Some change.minute ≡ desk_minute (accept H s)
 accepted-minute rules H s change is =
-    let at = change-minute rules H s change is in
+    let at = ap (λ (x : Change). x.minute) is.value in
     let greatest : change.minute ≡ max (effective_minute H s.minute) (now_of H) = omega (arith, at) in
     ap Some greatest
 

@@ -18,10 +18,7 @@ use Rattle.desk_answers.specs.Ledger.{IsAnswer, Ledger, ledger_after}
 use Rattle.line_schema.specs.declared.store.LineStore.{LineStore}
 use Rattle.line_schema.specs.Stands.{Kept, Leaves, NewlyLeaves, kept_after, ledger}
 use Rattle.headline.specs.Failing.{HoldsUpToOneMore, IsWatched, own_kept}
-
-left : (b : Bool) (P Q : Type 0) → MatchBool b P (P ⊎ Q) → P ⊎ Q
-left true P Q h = inl h
-left false P Q h = h
+use Rattle.line_schema.proofs.UnansweredCommands.{left}
 
 module _ (L : Kept) (s : Stamped) (before : Type 0) (trees : Trees) (near : before → HoldsUpToOneMore L trees) where
   answered : (earlier : Option Answer) (full : Bool) (refused : Option Refusal) (a : Answer)

@@ -184,11 +184,6 @@ end_comes None b ps g end = tt
 end_comes (Some xs) None ps g end = absurd g
 end_comes (Some xs) (Some ys) ps g end = cut_end xs ys ps g end
 
-pub gone_first : (a b c : Option (List ℕ)) (ps : List Portion) → PortionsGone a ps b → ReadsInside b c → IfSome a (λ bytes. (left : List ℕ) × Leads bytes ps left × ReadsInside (Some left) c)
-gone_first None b c ps g r = tt
-gone_first (Some xs) None c ps g r = absurd g
-gone_first (Some xs) (Some ys) c ps g r = (ys, g, r)
-
 pub next_first : (a b c : Option (List ℕ)) (ps : List Portion) (p : Portion) → PortionsGone a ps b → TakesPortion b p c
     → IfSome a (λ bytes. (left : List ℕ) × (rest : List ℕ) × Leads bytes ps left × IsPortion left p rest)
 next_first None b c ps p g t = tt

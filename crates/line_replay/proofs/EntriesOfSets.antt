@@ -17,7 +17,7 @@ use Rattle.desk_types.proofs.Keys.{same-true, is_at-by_name, is_at-by_pair}
 use Rattle.desk_types.specs.declared.row.MountRow.{MountRow}
 use Rattle.state_rows.proofs.RowLists.{is_at-by_sheet_place}
 use Rattle.line_replay.specs.Alone.{Listed, IsNew, AreApart, IsNamed}
-use Rattle.line_replay.proofs.SameRows.{some_same}
+use Rattle.line_tables.proofs.Numbers.{some_same}
 
 less_equal : ◌≡◌ {A = Ordering} Less Equal → ⊥
 less_equal e = cc

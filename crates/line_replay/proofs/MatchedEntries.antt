@@ -12,15 +12,10 @@ use Rattle.sqlite_schema.specs.declared.schema.Table.{Table}
 use Rattle.sqlite.specs.Effect.{Database}
 use Rattle.sqlite.specs.State.{State, KeepsCommit}
 use Rattle.line_tables.specs.Line.{IsOurs}
-use Rattle.line_tables.specs.Calls.{Reads}
 use Rattle.line_tables.specs.StateRows.{AreRows, rows_in}
+pub use Rattle.line_tables.proofs.Keeps.{reads_before}
 use Rattle.line_replay.specs.Alone.{FindsAlone, AreAlone, HasOneKey, AreMatched, Decides, Listed}
 use Rattle.line_replay.proofs.SameRows.{same_rows}
-
-pub reads_before : (old mid : State) → KeepsCommit old mid → (Is : Database → Type 0) → Reads mid Is → Reads old Is
-reads_before old mid kept Is r =
-    let same = kept.committed r.was_open in
-    record { was_open = kept.was_open r.was_open; are = λ schema. subst Is same (r.are (subst (λ (db : Database). IsOurs db.schema) (sym same) schema)) }
 
 middle : {X : Type 0} (P : X → Type 0) (xs ys : List X) (x : X) → AllByRecursion P (xs ++ x ∷ ys) → P x
 middle P [] ys x h = h.0

@@ -12,12 +12,9 @@ use Rattle.sqlite_sql.specs.Ops.{binary, is_true, from_truth}
 use Rattle.sqlite_sql.specs.declared.ops.BinaryOp.TheVariants.{Compare}
 use Rattle.sqlite_sql.specs.declared.ops.CompareOp.TheVariants.{Ge, Lt}
 use Rattle.line_replay.specs.Placed.{is_from}
+use Rattle.line_tables.proofs.Keyed.{truth_told as test_is}
 
 -- ---- a comparison in SQL, by the order of values
-
-test_is : (b : Bool) → is_true (from_truth (Some b)) ≡ b
-test_is true = refl
-test_is false = refl
 
 pub from_is : (v : Value) (n : ℕ) → is_true (binary (Compare Ge Binary) v (Int (pos n))) ≡ is_ge (value_cmp v (Int (pos n)))
 unfolding binary

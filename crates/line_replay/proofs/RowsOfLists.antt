@@ -40,7 +40,7 @@ one_least rows m n h k = neither_less m n (least_below _ h.0 m n k.0 h.1 h.2 k.1
 
 -- ---- the rows of the entries, and others
 
-none_numbered : (rules : Rules) (H : History) (n : ℕ) → IsJudged rules H → length H < n → AllByRecursion (λ r. has_number n r ≡ false) (rows_of H)
+pub none_numbered : (rules : Rules) (H : History) (n : ℕ) → IsJudged rules H → length H < n → AllByRecursion (λ r. has_number n r ≡ false) (rows_of H)
 none_numbered rules [] n judged h = tt
 none_numbered rules (e ∷ H) n judged h = (other_number n H e (omega (arith, judged.0.number, h)), none_numbered rules H n judged.1 (omega (arith, h)))
 
@@ -112,7 +112,7 @@ others_uids rules uid n rows (e ∷ H) none judged at low = (one, others_uids ru
       | inr other ↦ other
     ]
 
-none_yet : IsDistinct same []
+pub none_yet : IsDistinct same []
 unfolding IsDistinct
 none_yet = tt
 

@@ -7,9 +7,7 @@ use Rattle.sqlite_value.specs.Order.{Row}
 use Rattle.sqlite_keyed.proofs.ListLemmas.{all_weaker}
 use Rattle.line_tables.specs.StateRows.{AreRows}
 use Rattle.line_replay.specs.Alone.{IsNew, AreApart, IsNamed, Listed, AreAlone}
-
-pub some_same : {X : Type 0} {a b : X} → ◌≡◌ {A = Option X} (Some a) (Some b) → a ≡ b
-some_same e = cc
+use Rattle.line_tables.proofs.Numbers.{some_same}
 
 module _ {K R : Type 0} (has : K → Row → Bool) (columns : K → R → Row) (one_key : (k l : K) (row : Row) → has k row ≡ true → has l row ≡ true → k ≡ l) where
   abbrev pub without : K → List Row → List Row

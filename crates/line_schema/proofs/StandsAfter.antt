@@ -1,6 +1,5 @@
 -- The history that a store represents after a call.
-use Rattle.std.proofs.Common.{◌≡◌, ◌∙◌, ◌+◌, ◌<◌, ◌≤◌, ◌⊎◌, Bool, inl, inr, refl, IsTrue, IfSome, IsSomeAnd, Option, Some, None, is_some, Result, Ok, Err, IfOk, OnOk, OnErr, List, [], map, length, false, true, true≢false, ◌||◌, if◌then◌else◌, sym, ap, subst, arith}
-use Rattle.std.specs.List.{IsDistinct}
+use Rattle.std.proofs.Common.{◌≡◌, ◌∙◌, ◌+◌, ◌<◌, ◌≤◌, ◌⊎◌, Bool, inl, inr, refl, IsTrue, IfSome, IsSomeAnd, Option, Some, None, is_some, Result, Ok, Err, IfOk, OnOk, OnErr, List, map, length, false, true, true≢false, ◌||◌, if◌then◌else◌, sym, ap, subst, arith}
 use Rattle.std.proofs.lemmas.Map.Keys.{IsDistinct-cons}
 use Rattle.sqlite_trees.specs.declared.store.Store.{Ghosts}
 use Rattle.sqlite_trees.specs.Tree.{Trees}
@@ -51,10 +50,6 @@ judged_for F (Some w) H change h works = h (basis Two H) works.stands
 
 pub works_for : {D : Type 0} (F : D → Basis → Type 0) (o : Option (Working D)) (w : Working D) (H : History) → o ≡ Some w → WorksFor F o H → IsWorking F w (basis Two H)
 works_for F o w H is works = subst (λ o. WorksFor F o H) is works
-
-pub none_yet : IsDistinct same []
-unfolding IsDistinct
-none_yet = tt
 
 lawful_on : (greatest : _) (H : History) (s : Stamped) → IsLawful Two greatest H → IsJudged Two (accept H s) → earlier_answer H s ≡ None → length H < greatest → IsLawful Two greatest (accept H s)
 lawful_on greatest H s lawful judged none room = record {

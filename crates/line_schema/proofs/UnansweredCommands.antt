@@ -19,7 +19,7 @@ pub again : (greatest : _) (H : History) (s : Stamped) → command_after Two gre
 again greatest H s =
     ap (λ (b : Bool). if is_some (if b then Some (answer_under H (entry_of H s) s) else earlier_answer H s) || is_full greatest (accept H s) then accept H s else after_command Two (accept H s) s) (same-refl s.uid)
 
-left : (b : Bool) (P Q : Type 0) → MatchBool b P (P ⊎ Q) → P ⊎ Q
+pub left : (b : Bool) (P Q : Type 0) → MatchBool b P (P ⊎ Q) → P ⊎ Q
 left true P Q h = inl h
 left false P Q h = h
 

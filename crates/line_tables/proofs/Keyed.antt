@@ -18,11 +18,20 @@ use Rattle.sqlite_schema.specs.Rules.{equal}
 use Rattle.sqlite_sql.specs.Ops.{binary, is_null, is_true, from_truth}
 use Rattle.sqlite.specs.Collation.TheVariants.{Binary}
 use Rattle.desk_types.specs.Id.{Name, same}
+use Rattle.desk_types.specs.declared.row.PlacementRow.{PlacementRow}
 use Rattle.desk_types.proofs.Keys.{same-true, same-refl}
-use Rattle.line_tables.specs.StateRows.{AreRows, has_text, has_int, has_pair, has_sheet_place, has_piece}
+use Rattle.line_tables.specs.StateRows.{AreRows, has_text, has_int, has_pair, has_sheet_place, has_piece, placement_columns}
 use Rattle.line_tables.proofs.Altering.{without}
 
 -- ---- values that SQL considers equal
+
+pub truth_told : (b : Bool) → is_true (from_truth (Some b)) ≡ b
+truth_told true = refl
+truth_told false = refl
+
+pub number_test : (a b : ℕ) → equal Binary (Int (pos a)) (Int (pos b)) ≡ is_eq (value_cmp (Int (pos a)) (Int (pos b)))
+unfolding binary
+number_test a b = truth_told _
 
 tied : (v a : Value) → equal Binary v a ≡ true → value_cmp v a ≡ Equal
 unfolding binary
@@ -34,7 +43,7 @@ tied v a e = go (is_null v || is_null a) (value_cmp v a) e
     go false Equal h = refl
     go false Greater h = absurd (true≢false (sym h))
 
-tied_twice : (v a b : Value) → equal Binary v a ≡ true → equal Binary v b ≡ true → value_cmp a b ≡ Equal
+pub tied_twice : (v a b : Value) → equal Binary v a ≡ true → equal Binary v b ≡ true → value_cmp a b ≡ Equal
 tied_twice v a b p q = sym (value_cmp_total.congr v a b (tied v a p)) ∙ tied v b q
 
 equal_itself : (v : Value) → is_null v ≡ false → equal Binary v v ≡ true
@@ -81,6 +90,9 @@ one_piece a b row p q =
     let x = and_parts _ _ p in
     let y = and_parts _ _ q in
     ap₂ (λ (m n : ℕ). (m, n)) (one_int 0 a.0 b.0 row x.0 y.0) (one_int 1 a.1 b.1 row x.1 y.1)
+
+pub own_piece : (p : PlacementRow) → has_piece (p.number, p.place) (placement_columns p) ≡ true
+own_piece p = and_from _ _ (own_int p.number) (own_int p.place)
 
 abbrev pub same_pair : Name × Name → Name × Name → Bool
 same_pair a b = same a.0 b.0 && same a.1 b.1

@@ -116,7 +116,7 @@ finds_least g sql tree names means columns first old rows o h is = record {
 abbrev counted : ℕ → Value
 counted n = Int (pos (min n 9223372036854775807))
 
-some_same : {X : Type 0} {a b : X} → ◌≡◌ {A = Option X} (Some a) (Some b) → a ≡ b
+pub some_same : {X : Type 0} {a b : X} → ◌≡◌ {A = Option X} (Some a) (Some b) → a ≡ b
 some_same e = cc
 
 one_value : (order : List Env) (n : ℕ) → length order ≡ n → (values : Row) → AllZip (λ a v. value_over order a ≡ Some v) count_all.aggregates values → values ≡ counted n ∷ []

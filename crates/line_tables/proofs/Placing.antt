@@ -1,8 +1,8 @@
 -- The effect of the statements on `placement`: they insert rows with their own rowids, one or eight at once.
-use Rattle.std.proofs.Common.{◌≡◌, ◌∙◌, ◌&&◌, ◌==◌, ◌<◌, ◌≤◌, ◌+◌, ◌++◌, if◌then◌else◌, ℕ, pos, Bool, List, [], ◌∷◌, map, take, get_or, length, not, true, false, IsTrue, Option, Some, refl, ap, ap₂, subst, sym, arith}
+use Rattle.std.proofs.Common.{◌≡◌, ◌∙◌, ◌&&◌, ◌==◌, ◌<◌, ◌≤◌, ◌+◌, ◌++◌, if◌then◌else◌, ℕ, pos, List, [], ◌∷◌, map, take, get_or, length, true, IsTrue, Option, Some, refl, ap, ap₂, subst, sym, arith}
 use Rattle.std.specs.List.{flat_map}
 use Rattle.std.specs.List.Sorted.{IsPermutation}
-use Rattle.std.proofs.lemmas.Bool.{and_parts, and_from}
+use Rattle.std.proofs.lemmas.Bool.{and_parts, and_from, not-true}
 use Rattle.std.proofs.lemmas.List.{map_more, map-append, flat_map_more, length-map, length-take-le}
 use Rattle.std.proofs.lemmas.List.Sorted.{IsPermutation-map}
 use Rattle.sqlite_value.specs.Order.{Row}
@@ -48,10 +48,6 @@ edits_of : (rows : List PlacementRow) (t : Tables) → after_edits (map placemen
 edits_of [] t = refl
 edits_of (row ∷ rows) t = edits_of rows (with_edit t (placement_edit row))
 
-is_false : (b : Bool) → not b ≡ true → b ≡ false
-is_false false h = refl
-is_false true h = absurd (cc)
-
 abbrev HasPieces : List Row → (ℕ → ℕ → Option PlacementRow) → Type 0
 HasPieces db f = AreRows has_piece (λ _ row. placement_columns row) (map (columns placement) db) (λ piece. f piece.0 piece.1)
 
@@ -60,7 +56,7 @@ pieces_in : (rows : List PlacementRow) (db : List Row) (t : Tables) → HasPiece
 pieces_in [] db t was fresh new = was
 pieces_in (row ∷ rows) db t was fresh new =
     let free = and_parts _ _ fresh in
-    let one = IsPermutation-map (columns placement) _ _ (put_permutes db (placement_kept row) (is_false _ free.0)) in
+    let one = IsPermutation-map (columns placement) _ _ (put_permutes db (placement_kept row) (not-true _ free.0)) in
     pieces_in rows (put_row (placement_kept row) db) (with_edit t (placement_edit row))
     (added has_piece (λ _ row. placement_columns row) one_piece same_piece tells_piece (row.number, row.place) row _ _ (λ piece. t.state.placements piece.0 piece.1) _ new.0 (and_from _ _ (own_int row.number) (own_int row.place)) (λ l. refl) one was) free.1 new.1
 

@@ -21,7 +21,6 @@ use Rattle.sqlite_trees.specs.Tree.{Trees, rowid, IsAscending}
 use Rattle.sqlite_trees.specs.View.{is_int}
 use Rattle.sqlite_trees.specs.declared.store.Store.{Ghosts}
 use Rattle.sqlite_schema.specs.declared.schema.Table.{Table}
-use Rattle.sqlite.specs.Effect.{Database}
 use Rattle.sqlite.specs.Schema.{Schema}
 use Rattle.sqlite.specs.Held.{Held, state}
 use Rattle.sqlite.specs.Query.{IsAnswer, Output, output}
@@ -35,7 +34,7 @@ use Rattle.line_tables.specs.Rowids.{AreApart, AreAllApartBy, changed_tables, ch
 use Rattle.line_tables.specs.Rising.{AreRising, IsBefore, IsPast, Shows, AreApartWhere, IsFoundApartWhere}
 use Rattle.line_tables.proofs.Finds.{answer_by, shown_of, overlay_none}
 use Rattle.line_tables.proofs.FindTexts.{IsSelectBy}
-use Rattle.line_tables.proofs.Keeps.{keeps_same, keeps_then}
+use Rattle.line_tables.proofs.Keeps.{keeps_same, keeps_then, reads_before}
 use Rattle.line_tables.proofs.RowidTexts.{rowids_from, IsRowids, found_is}
 use Rattle.line_tables.specs.Line.Layout.{Indexed}
 
@@ -199,11 +198,6 @@ module _ {S : Type 0} (g : Ghosts S) (old : Held S) where
 
   pub tells_found : (b : Bool) → Shows g (codes "SELECT rowid FROM found ORDER BY rowid") old b → IsFoundApartWhere Two b (state g old)
   tells_found b h = let t = tells_by _ (tree_in found) _ found_is b h in record { was_open = t.was_open; are = λ ours told. (t.are ours told, tt) }
-
-reads_before : (old mid : State) → KeepsCommit old mid → (Is : Database → Type 0) → Reads mid Is → Reads old Is
-reads_before old mid kept Is r =
-    let same = kept.committed r.was_open in
-    record { was_open = kept.was_open r.was_open; are = λ ours. subst Is same (r.are (subst (λ (db : Database). IsOurs db.schema) (sym same) ours)) }
 
 told_more : (old mid : State) → KeepsCommit old mid → (table : Table) (tables : List Table) (a b : Bool) → Reads old (λ db. IsTrue a → AreApart (kept_in table db)) → Reads mid (AreApartWhere b tables) → Reads old (AreApartWhere (a && b) (table ∷ tables))
 told_more old mid kept table tables a b first others = record {

@@ -29,9 +29,10 @@ use Rattle.line_traces.specs.Committed.{HoldsList, FindsOfList, name_row}
 use Rattle.line_traces.proofs.Columns.{equal-text}
 use Rattle.line_traces.proofs.Joins.{paired, pairing, pair-one, map-pair, swapped, found-of}
 use Rattle.line_traces.proofs.PlacedColumns.{piece_row, pieces-listed, IsKnown, pieces-known}
-use Rattle.line_traces.proofs.DistinctNames.{shown_name, by-shown, kept-set, set-sorted}
+use Rattle.line_traces.proofs.DistinctNames.{shown_name, by-shown, kept-set}
 use Rattle.line_traces.proofs.Texts.{select_names, names_query, select_names_is}
 use Rattle.line_traces.proofs.FoundPieces.{is_reel}
+use Rattle.desk_laws.proofs.NameSets.{set-ordered}
 
 in-order : (names : List Name) → IsStrictlySortedBy by_name names → IsAscending (λ a b. by_name a b ≡ Less) names
 unfolding IsStrictlySortedBy
@@ -79,7 +80,7 @@ module _ (lot : Name) where
       let kept : IsPermutation a.kept (map shown_name (boards_of H lot)) =
       kept-set (names_of H) (map (output names_query) a.staged) a.kept (subst (λ l. IsPermutation l (map shown_name (names_of H))) (sym (all-shown db rows a)) (all-listed db H held)) a.distinct in
       let up : IsAscending (λ x y. output_cmp names_query x y ≡ Less) (map shown_name (boards_of H lot)) =
-      ascending-map (λ x y. output_cmp names_query x y ≡ Less) shown_name (boards_of H lot) (ascending_weaker (λ a b. by_name a b ≡ Less) _ (λ a b less. by-shown a b ∙ less) (boards_of H lot) (in-order (boards_of H lot) (set-sorted (names_of H)))) in
+      ascending-map (λ x y. output_cmp names_query x y ≡ Less) shown_name (boards_of H lot) (ascending_weaker (λ a b. by_name a b ≡ Less) _ (λ a b less. by-shown a b ∙ less) (boards_of H lot) (in-order (boards_of H lot) (set-ordered (names_of H)))) in
       let ordered : a.ordered ≡ map shown_name (boards_of H lot) =
       sorted_unique (output_cmp names_query) (output_cmp_total names_query) _ a.ordered up (IsPermutation-trans _ _ _ (IsPermutation-sym _ _ kept) a.same) a.sorted in
       a.shown ∙ ap (map (λ (o : Output). o.1)) ordered ∙ map-map (λ (o : Output). o.1) shown_name (boards_of H lot)

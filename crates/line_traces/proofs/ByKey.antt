@@ -3,7 +3,7 @@ use Rattle.std.proofs.Common.{◌≡◌, ◌∙◌, ◌==◌, ◌&&◌, Bool, tr
 use Rattle.std.specs.List.{AllByRecursion}
 use Rattle.std.specs.List.Sorted.{IsStrictlySortedBy}
 use Rattle.std.specs.Map.{keys_of}
-use Rattle.std.proofs.lemmas.Bool.{eqb-true, eq-eqb}
+use Rattle.std.proofs.lemmas.Bool.{eqb-true, eq-eqb, and_parts}
 use Rattle.sqlite_keyed.proofs.ListLemmas.{all_both, all-filter}
 use Rattle.desk_types.specs.declared.placement.Placement.{Placement}
 use Rattle.desk_types.specs.declared.rules.Rules.TheVariants.{Two}
@@ -14,7 +14,7 @@ use Rattle.state_rows.specs.Kept.{by_piece}
 use Rattle.state_rows.proofs.PlacedRows.{entry_of, pieces-ascend}
 use Rattle.state_rows.specs.Lists.{Key, keys_where}
 use Rattle.line_traces.specs.Pieces.{pieces_where, piece_at}
-use Rattle.line_traces.proofs.PlacedColumns.{both, itself}
+use Rattle.line_traces.proofs.PlacedColumns.{itself}
 use Rattle.line_traces.proofs.FoundPieces.{IsBefore, before-all}
 use Rattle.line_traces.proofs.TwoCalls.{all-placed_columns}
 
@@ -34,7 +34,7 @@ other-key p q less = by (has_key (its_key q) p) refl
   where
     by : (b : Bool) → has_key (its_key q) p ≡ b → has_key (its_key q) p ≡ false
     by true is =
-        let two = both (p.number == q.number) (p.place == q.place) is in
+        let two = and_parts (p.number == q.number) (p.place == q.place) is in
         let one : its_key p ≡ its_key q = ap₂ (λ m n. (m, n)) (eqb-true p.number q.number two.0) (eqb-true p.place q.place two.1) in
         absurd (true≢false (sym (itself (its_key q)) ∙ ap is_eq (ap (λ k. by_piece k (its_key q)) (sym one) ∙ less)))
     by false is = is

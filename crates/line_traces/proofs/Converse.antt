@@ -101,7 +101,7 @@ none-named H judged name knows each n unknown =
         by true is = let one = ap knows (same-true (name p) n is) in let its = each p right in cc
         by false is = is
 
-told-all : {X : Type 0} (b : Bool) (xs : List X) → (b ≡ false → xs ≡ []) → unwrap_or (if b then Some xs else None) [] ≡ xs
+pub told-all : {X : Type 0} (b : Bool) (xs : List X) → (b ≡ false → xs ≡ []) → unwrap_or (if b then Some xs else None) [] ≡ xs
 told-all true xs none = refl
 told-all false xs none = sym (none refl)
 

@@ -1,5 +1,5 @@
 -- The piece that a row of `placement` describes, with its reel's view and its entry's minute.
-use Rattle.std.proofs.Common.{◌≡◌, ◌∙◌, inl, inr, ◌==◌, ◌&&◌, ℕ, ◌+◌, Bool, true, false, Option, Some, None, List, [], ◌∷◌, ◌++◌, length, find, refl, sym, ap, ap₂, subst, arith}
+use Rattle.std.proofs.Common.{◌≡◌, ◌∙◌, inl, inr, ◌==◌, ℕ, ◌+◌, Bool, true, false, Option, Some, None, List, [], ◌∷◌, ◌++◌, length, find, refl, sym, ap, subst, arith}
 use Rattle.std.specs.Prelude.{if◌then◌else◌}
 use Rattle.std.specs.Option.{option_map, option_to_list}
 use Rattle.std.specs.List.{AllByRecursion}
@@ -27,9 +27,9 @@ use Rattle.state_rows.specs.Lists.{minute_of}
 use Rattle.line_traces.specs.Pieces.{piece_at}
 use Rattle.line_traces.specs.Committed.{HoldsList}
 use Rattle.line_traces.proofs.ByKey.{has_key}
-use Rattle.line_traces.proofs.Columns.{equal-itself}
 use Rattle.line_traces.proofs.PlacedColumns.{receipt-there}
 use Rattle.line_traces.proofs.TwoCalls.{one-flag}
+use Rattle.line_tables.proofs.Keyed.{own_piece}
 
 -- ---- the row of a piece
 
@@ -55,9 +55,6 @@ row-one p q is =
       overdue = overdue j;
     }
 
-its-key : (p : PlacementRow) → has_piece (p.number, p.place) (placement_columns p) ≡ true
-its-key p = ap₂ (λ a b. a && b) (equal-itself p.number) (equal-itself p.place)
-
 one-row : (o : Option PlacementRow) (p : PlacementRow) → Has (option_to_list (option_map placement_columns o)) (placement_columns p) → o ≡ Some p
 one-row None p h = absurd h
 one-row (Some q) p (inl same) = ap Some (sym (row-one p q same))
@@ -67,7 +64,7 @@ row-there : (db : Database) (H : History) → HoldsList db H → (p : PlacementR
 row-there db H held p here =
     one-row (placement_row H p.number p.place) p (
     subst (λ rows. Has rows (placement_columns p)) (held.state.placements.found (p.number, p.place)) (
-    has_kept (has_piece (p.number, p.place)) (rows_in line.placement db) (placement_columns p) here (its-key p)))
+    has_kept (has_piece (p.number, p.place)) (rows_in line.placement db) (placement_columns p) here (own_piece p)))
 
 found-all : {A : Type 0} (P : A → Type 0) (test : A → Bool) (xs : List A) (x : A) → AllByRecursion P xs → find test xs ≡ Some x → P x
 found-all P test [] x all is = cc

@@ -21,7 +21,8 @@ use Rattle.line_tables.specs.Rows.{accepted_in}
 use Rattle.line_tables.specs.Calls.{has_number}
 use Rattle.line_tables.specs.StateRows.{HoldsState}
 use Rattle.line_traces.specs.Committed.{TellsMinute, HoldsList}
-use Rattle.line_traces.proofs.Columns.{one-int, equal-itself}
+use Rattle.line_traces.proofs.Columns.{one-int}
+use Rattle.line_tables.proofs.Keyed.{own_int}
 
 -- The row has the entry's number and its effective minute.
 abbrev pub IsRowOf : Entry → Row → Type 0
@@ -35,7 +36,7 @@ other-number : (row : Row) (e : Entry) (n : ℕ) → IsRowOf e row → (e.number
 other-number row e n is other = by (has_number n row) refl
   where
     by : (b : Bool) → has_number n row ≡ b → has_number n row ≡ false
-    by true there = absurd (other (one-int (column row 0) e.number n (ap (λ v. equal Binary v (Int (pos e.number))) is.0 ∙ equal-itself e.number) there))
+    by true there = absurd (other (one-int (column row 0) e.number n (ap (λ v. equal Binary v (Int (pos e.number))) is.0 ∙ own_int e.number) there))
     by false there = there
 
 none-above : (H : History) (rows : List Row) → IsJudged Two H → AllZip IsRowOf H rows → (n : ℕ) → length H < n → filter (has_number n) rows ≡ []
@@ -56,7 +57,7 @@ each-among [] rows judged are = tt
 each-among (e ∷ H) [] judged are = absurd are
 each-among (e ∷ H) (r ∷ rows) (next, judged) (is, are) =
     let at = next.number in
-    let here : has_number e.number r ≡ true = ap (λ v. equal Binary v (Int (pos e.number))) is.0 ∙ equal-itself e.number in (
+    let here : has_number e.number r ≡ true = ap (λ v. equal Binary v (Int (pos e.number))) is.0 ∙ own_int e.number in (
       (r, rw here (ap (λ l. r ∷ l) (none-above H rows judged are e.number (omega (arith, at)))), is.1),
       all_both (λ (x : Entry). x.number ≤ length H) (IsAmong rows) (IsAmong (r ∷ rows))
           (λ x within among. (among.0, rw (other-number r e x.number is (λ same. omega (arith, same, at, within))) among.1, among.2))

@@ -3,6 +3,7 @@ use Rattle.std.proofs.Common.{◌≡◌, ◌∙◌, ℕ, IsTrue, Bool, true, fal
 use Rattle.std.specs.Prelude.{◌==◌, ◌||◌, if◌then◌else◌, is_some, is_none}
 use Rattle.std.specs.Option.{option_or, option_map, option_and_then, option_to_list}
 use Rattle.std.specs.List.{AllByRecursion}
+use Rattle.std.specs.Cmp.{both_ways}
 use Rattle.std.proofs.Math.Dec.{eqb-suc-zero}
 use Rattle.sqlite_value.specs.Order.{Row}
 use Rattle.sqlite.specs.Effect.{Database}
@@ -19,7 +20,6 @@ use Rattle.desk_types.specs.Refusals.{command_refusal}
 use Rattle.desk_types.specs.Judged.{IsJudged}
 use Rattle.desk_types.proofs.Keys.{same-refl}
 use Rattle.desk_laws.proofs.Accepted.{next-accepted}
-use Rattle.desk_laws.proofs.Mounted.{iff}
 use Rattle.desk_laws.proofs.ReelsLater.{receipt-prefix}
 use Rattle.desk_laws.proofs.BoardsInWork.{startable}
 use Rattle.desk_types.specs.declared.row.ReelRow.{ReelRow}
@@ -151,7 +151,7 @@ lot-reel (e ∷ H) lot (next, judged) is = by e.stamped.command refl is (λ befo
     by _ command is before = before is
 
 pub lot-named : (db : Database) (H : History) → HoldsList db H → (lot : Name) → is_any (filter (has_text 2 lot) (rows_in line.reel db)) ≡ is_lot H lot
-lot-named db H held lot = iff _ _ there back
+lot-named db H held lot = both_ways _ _ there back
   where
     rows : List Row
     rows = rows_in line.reel db

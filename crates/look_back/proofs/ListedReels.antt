@@ -1,5 +1,5 @@
 -- The live reels of slots, as mounts.
-use Rattle.std.proofs.Common.{◌≡◌, ℕ, true, Option, Some, None, is_some, All, [], refl, ap, sym, ◌∙◌}
+use Rattle.std.proofs.Common.{◌≡◌, ℕ, Option, Some, None, All, [], refl, ap, sym, ◌∙◌}
 use Rattle.std.specs.Cmp.Lexicographic.{nat_list_eq_equiv}
 use Rattle.std.specs.Option.{option_map, option_map_or}
 use Rattle.std.proofs.lemmas.Map.Views.{All-from_any}
@@ -18,13 +18,6 @@ use Rattle.judging.specs.Facts.{IsKnownReel}
 pub all-known : (H : History) (machine slot : Name) → IsJudged Two H → All (IsKnownReel H) (live_on H machine slot)
 all-known H machine slot judged =
     All-from_any nat_list_eq_equiv (IsKnownReel H) (live_on H machine slot) (λ reel is. live-received H machine slot reel judged is)
-
-pub viewed-unknown : (H : History) (reel : Name) → IsKnownReel H reel → reel_view H reel ≡ None → ⊥
-viewed-unknown H reel known none = by (receipt_of H reel) known none
-  where
-    by : (said : Option Receipt) → is_some said ≡ true → option_map (view_of H reel) said ≡ None → ⊥
-    by None is none = cc
-    by (Some receipt) is none = cc
 
 pub mount-viewed : (H : History) (slot reel : Name) (position : ℕ) (view : ReelView) → reel_view H reel ≡ Some view → record {
   slot = slot;

@@ -17,7 +17,7 @@ use Rattle.desk_types.specs.History.{History}
 use Rattle.desk_types.specs.FloorLife.{open_by, IsUntouched, bake_by, last_bake, since_after, out_since, exposure_of, exposure_starts, is_baked}
 use Rattle.desk_types.proofs.Exposure.{exposure-before, exposure-after, exposure-anew, exposure-untouched}
 use Rattle.desk_types.proofs.Keys.{same-refl}
-use Rattle.desk_types.proofs.ReelCommands.{IsQuiet, IsQuiet-open, IsQuiet-untouched, IsQuiet-seal, last_bake-quiet, is_baked-quiet, exposure_starts-quiet}
+use Rattle.desk_types.proofs.ReelCommands.{IsQuiet, IsQuiet-open, IsQuiet-untouched, IsQuiet-seal, last_bake-quiet, is_baked-quiet, exposure_starts-quiet, last_bake-untouched}
 use Rattle.reels.specs.declared.reel.Reel.{Reel}
 use Rattle.reels.specs.Fitting.{IsFitting}
 use Rattle.reels.specs.Reel.{HasReceipt, RowStandsFor, StandsFor}
@@ -189,11 +189,6 @@ StandsFor-bake H e name row found last at stands command now = anew H e name (ba
 
     starts : exposure_starts (e ∷ H) name ≡ e.effective
     starts = rw (command, same-refl name)
-
-pub last_bake-untouched : (H : History) (name : Name) → IsUntouched H name → last_bake H name ≡ None
-last_bake-untouched [] name untouched = refl
-last_bake-untouched (e ∷ H) name (none, rest) =
-    last_bake-quiet H e name (IsQuiet-untouched name e.effective e.stamped.command none) ∙ last_bake-untouched H name rest
 
 pub StandsFor-receive : (H : History) (e : Entry) (name part lot : Name) (moisture : LevelWithLabel) (quantity at : ℕ) → IsUntouched H name
     → e.stamped.command ≡ ReelReceived name part lot moisture quantity → e.effective ≡ at

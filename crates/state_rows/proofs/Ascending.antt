@@ -16,7 +16,7 @@ use Rattle.desk_types.specs.Judged.{IsJudged}
 use Rattle.desk_types.proofs.Keys.{same-refl, same-sym, same-true}
 use Rattle.desk_laws.proofs.Accepted.{next-accepted, mountable}
 use Rattle.desk_laws.proofs.Lives.{live-next}
-use Rattle.desk_laws.proofs.Mounts.{has, live-mounted}
+use Rattle.desk_laws.proofs.Mounts.{has, live-mounted, all-at}
 use Rattle.desk_types.specs.declared.row.MountRow.{MountRow}
 use Rattle.desk_types.specs.Tables.{put_by, last_put}
 
@@ -161,14 +161,6 @@ since-ascends (e ∷ H) machine slot (next, judged) =
     step H e.effective e.number machine slot e.stamped.command judged (next-accepted H e next) (let at = next.number in omega (arith, at)) (since-ascends H machine slot judged)))
 
 -- ---- uniqueness
-
-all-at : (P : Name → Type 0) (rs : List Name) (r : Name) → AllByRecursion P rs → has rs r ≡ true → P r
-all-at P [] r all there = cc
-all-at P (x ∷ xs) r (first, all) there = by (same r x) refl there (all-at P xs r all)
-  where
-    by : (b : Bool) → same r x ≡ b → (b || has xs r) ≡ true → (has xs r ≡ true → P r) → P r
-    by true here there rest = subst P (sym (same-true r x here)) first
-    by false away there rest = rest there
 
 not-again : (since : Name → ℕ) (r : Name) (rs : List Name) → AllByRecursion (λ x. since r < since x) rs → has rs r ≡ false
 not-again since r rs first = by (has rs r) refl

@@ -24,6 +24,7 @@ use Rattle.desk_laws.proofs.Balance.{unreceived-empty}
 use Rattle.desk_laws.proofs.Picks.{countable, IsCounted, counted, find-passes}
 use Rattle.desk_laws.proofs.InstalledPieces.{AreUnplaced, unplaced-count}
 use Rattle.desk_laws.proofs.Totals.{pieces_picked-split}
+use Rattle.desk_laws.proofs.Mounted.{left_after}
 use Rattle.desk_types.specs.declared.edit.RowEdit.TheVariants.{PutReel, PutFound}
 use Rattle.desk_types.specs.declared.row.ReelRow.{ReelRow}
 use Rattle.desk_types.specs.Tables.{Tables, columns_of, reel_row, found_row, tables_of}
@@ -31,7 +32,6 @@ use Rattle.desk_types.specs.Edits.{with_edits}
 use Rattle.state_rows.specs.After.{placed_in, scrapped_in, step_row, reel_after, found_after}
 use Rattle.state_rows.specs.EditsOf.{is_picked, counted_row, counted_edits, count_edits}
 use Rattle.state_rows.proofs.EditLists.{with_edits-append}
-use Rattle.state_rows.proofs.MountRows.{left_after}
 use Rattle.state_rows.proofs.ReelRows.{same-rows, found-kept}
 use Rattle.state_rows.proofs.TablesLess.{OnlyTakes, none-step, unpicked}
 

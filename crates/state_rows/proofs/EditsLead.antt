@@ -27,7 +27,7 @@ use Rattle.desk_types.specs.Judged.{IsJudged}
 use Rattle.desk_types.proofs.Keys.{same-refl, same-sym, same-true}
 use Rattle.desk_laws.proofs.Accepted.{next-accepted}
 use Rattle.desk_laws.proofs.CountedReels.{unmounted-rows}
-use Rattle.desk_laws.proofs.Mounted.{mounted-is}
+use Rattle.desk_laws.proofs.Mounted.{mounted-is, some_left, left_after}
 use Rattle.desk_laws.proofs.Mounts.{has}
 use Rattle.desk_laws.proofs.InstalledPieces.{AreUnplaced, unplaced-count}
 use Rattle.desk_laws.proofs.BoardsInWork.{startable, completable}
@@ -43,7 +43,7 @@ use Rattle.desk_types.specs.Row.{fresh_row, opened_row, sealed_row, baked_row}
 use Rattle.state_rows.specs.After.{used_after, bakes, step_row, reel_after, mount_after, board_after, placed_row, placement_after, found_after}
 use Rattle.state_rows.specs.EditsOf.{reel_edit, board_edit, taken_rows, put_rows, reels_on, pick_of, picked_rows, after_rows, after_placing, AreEditsOf}
 use Rattle.state_rows.proofs.ReelRows.{same-rows, reel_row-next, found_row-next}
-use Rattle.state_rows.proofs.MountRows.{some_left, left_after, mount_row-next}
+use Rattle.state_rows.proofs.MountRows.{mount_row-next}
 use Rattle.state_rows.proofs.BoardRows.{board_row-next, some-of, working}
 use Rattle.state_rows.proofs.PlacementRows.{unplaced-later, placement_row-next}
 use Rattle.state_rows.proofs.EditLists.{same-tables, with_edits-append, mounts-taken, rows-put, rows-taken}

@@ -12,12 +12,11 @@ use Rattle.desk_types.specs.Pieces.{live_on, is_mounted}
 use Rattle.desk_types.specs.Judged.{IsJudged}
 use Rattle.desk_types.proofs.Keys.{same-refl, same-true}
 use Rattle.desk_laws.specs.Place.{is_at, place_after, place_of}
-use Rattle.desk_laws.proofs.Mounted.{mounted-is}
+use Rattle.desk_laws.proofs.Mounted.{mounted-is, some_left}
 use Rattle.desk_laws.proofs.Mounts.{has, has-live_on, live-mounted}
 use Rattle.desk_laws.proofs.Places.{placed, live-placed}
 use Rattle.desk_types.specs.declared.row.MountRow.{MountRow}
 use Rattle.desk_types.specs.Tables.{put_by, last_put, mount_row}
-use Rattle.state_rows.proofs.MountRows.{some_left}
 
 -- ---- mounts
 

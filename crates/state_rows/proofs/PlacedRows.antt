@@ -22,6 +22,7 @@ use Rattle.desk_types.specs.Judged.{IsJudged}
 use Rattle.desk_types.specs.Placements.{EntryTake, entry_takes, takes_of, placement_of, placements_of}
 use Rattle.desk_types.proofs.Keys.{is_eq-ordering_then}
 use Rattle.desk_laws.proofs.Distinct.{all-append}
+use Rattle.desk_laws.proofs.NameSets.{all-weaker}
 use Rattle.desk_types.specs.declared.row.PlacementRow.{PlacementRow}
 use Rattle.desk_types.specs.Tables.{placement_columns, placement_row}
 use Rattle.state_rows.specs.Kept.{by_piece, row_at, Lists}
@@ -80,10 +81,6 @@ sorted-append : (xs ys : List (ℕ × ℕ)) → IsStrictlySortedBy by_piece xs �
 unfolding IsStrictlySortedBy
 sorted-append [] ys first rest below = rest
 sorted-append (x ∷ xs) ys (above, first) rest (here, below) = (all-append (λ y. by_piece x y ≡ Less) xs ys above here, sorted-append xs ys first rest below)
-
-all-weaker : {X : Type 0} (P Q : X → Type 0) → ((x : X) → P x → Q x) → (xs : List X) → AllByRecursion P xs → AllByRecursion Q xs
-all-weaker P Q weaker [] all = tt
-all-weaker P Q weaker (x ∷ xs) (first, all) = (weaker x first, all-weaker P Q weaker xs all)
 
 -- The keys of an entry's placements, the first of whose takes is in this place.
 module _ (number effective : ℕ) where

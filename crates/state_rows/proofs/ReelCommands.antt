@@ -76,8 +76,3 @@ IsQuiet-said reel minute (ReelBaked r) none is = by (same r reel) refl is
     by true here is = cc
     by false here is = record { receipt = refl; bake = ap (λ c. if c then Some minute else None) here; baked = ap (λ c. if c then Some true else None) here }
 IsQuiet-said reel minute _ none is = record { receipt = refl; bake = refl; baked = refl }
-
-pub unbaked : (H : History) (reel : Name) → IsUntouched H reel → last_bake H reel ≡ None
-unbaked [] reel all = refl
-unbaked (e ∷ H) reel (none, all) =
-    ap (λ o. option_or o (last_bake H reel)) (IsQuiet-untouched reel e.effective e.stamped.command none).bake ∙ unbaked H reel all

@@ -14,7 +14,7 @@ use Rattle.desk_types.specs.FloorLife.{open_by, baked_by, last_bake, exposure_st
 use Rattle.desk_types.specs.View.{used_of, view_of}
 use Rattle.desk_types.specs.Judged.{IsJudged}
 use Rattle.desk_types.proofs.Exposure.{exposure-before, exposure-anew, exposure-untouched}
-use Rattle.desk_types.proofs.ReelCommands.{IsQuiet, exposure_starts-quiet}
+use Rattle.desk_types.proofs.ReelCommands.{IsQuiet, exposure_starts-quiet, last_bake-untouched}
 use Rattle.desk_laws.proofs.Accepted.{received-once}
 use Rattle.desk_laws.proofs.Balance.{left-next, left-received, unreceived-empty, balance}
 use Rattle.desk_laws.proofs.Judgements.{or-none, by-desk_minute, untouched}
@@ -24,7 +24,7 @@ use Rattle.desk_types.specs.Tables.{columns_of, reel_row, found_row}
 use Rattle.desk_types.specs.Row.{fresh_row}
 use Rattle.state_rows.specs.After.{used_after, bakes, step_row, reel_after, found_after}
 use Rattle.state_rows.proofs.Exposed.{now-next, now-before, exposure-in_bag, exposure-out, since-by}
-use Rattle.state_rows.proofs.ReelCommands.{IsReceipt, IsReceipt-said, IsBake-said, IsQuiet-said, unbaked}
+use Rattle.state_rows.proofs.ReelCommands.{IsReceipt, IsReceipt-said, IsBake-said, IsQuiet-said}
 
 -- ---- pieces
 
@@ -157,7 +157,7 @@ row-fresh H e reel receipt (next, judged) is =
     starts : exposure_starts (e ∷ H) reel ≡ e.effective
     starts =
         ap (λ o. unwrap_or (option_or (option_or o (last_bake H reel)) (option_map (λ (r : Receipt). r.effective) (receipt_of (e ∷ H) reel))) 0) said.bake
-        ∙ ap (λ o. unwrap_or (option_or o (option_map (λ (r : Receipt). r.effective) (receipt_of (e ∷ H) reel))) 0) (unbaked H reel (untouched H reel judged none))
+        ∙ ap (λ o. unwrap_or (option_or o (option_map (λ (r : Receipt). r.effective) (receipt_of (e ∷ H) reel))) 0) (last_bake-untouched H reel (untouched H reel judged none))
         ∙ ap (λ o. unwrap_or (option_map (λ (r : Receipt). r.effective) (option_or o (receipt_of H reel))) 0) is
         ∙ said.at
 

@@ -7,6 +7,7 @@ use Rattle.std.specs.List.Sorted.{IsStrictlySortedBy}
 use Rattle.std.specs.Map.{keys_of, lookup}
 use Rattle.std.specs.Ordering.{is_eq, ordering_then}
 use Rattle.std.specs.declared.cmp.Ordering.TheVariants.{Less, Equal, Greater}
+use Rattle.std.specs.Cmp.{both_ways}
 use Rattle.std.proofs.lemmas.Bool.{and_from, and_parts, eqb-true, ltb-true, or_left, or_right}
 use Rattle.std.proofs.lemmas.List.Elements.{All-head, All-tail}
 use Rattle.desk_types.specs.declared.command.Command.{Command}
@@ -17,7 +18,6 @@ use Rattle.desk_types.specs.History.{History}
 use Rattle.desk_types.specs.Pieces.{live_on, is_mounted}
 use Rattle.desk_types.specs.Judged.{IsJudged}
 use Rattle.desk_types.proofs.Keys.{same-refl, same-true, is_at-by_name}
-use Rattle.desk_laws.proofs.Mounted.{iff}
 use Rattle.desk_laws.proofs.Mounts.{has}
 use Rattle.desk_types.specs.declared.row.MountRow.{MountRow}
 use Rattle.desk_types.specs.Tables.{put_by, last_put, mount_row}
@@ -197,7 +197,7 @@ module _ (H : History) (machine slot : Name) (judged : IsJudged Two H) where
   -- The rows of a slot, in the order of their numbers, are its live reels.
   pub slot-reels : (entries : List ((ℕ × Name) × MountRow)) → ListsMounts entries (mount_row H) → slot_reels machine slot entries ≡ live_on H machine slot
   slot-reels entries lists =
-      ascending-same (since_of H) _ (live_on H machine slot) (rows-ascend entries lists.ascending lists.each) (since-ascends H machine slot judged) (λ r. iff _ _ (rows-live r entries lists.each) (back r))
+      ascending-same (since_of H) _ (live_on H machine slot) (rows-ascend entries lists.ascending lists.each) (since-ascends H machine slot judged) (λ r. both_ways _ _ (rows-live r entries lists.each) (back r))
     where
       back : (r : Name) → has (live_on H machine slot) r ≡ true → has (slot_reels machine slot entries) r ≡ true
       back r live =

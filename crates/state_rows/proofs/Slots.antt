@@ -3,7 +3,7 @@ use Rattle.std.proofs.Common.{◌≡◌, ℕ, ◌+◌, Bool, true, false, Option
 use Rattle.std.specs.Prelude.{if◌then◌else◌, ◌&&◌, ◌||◌, is_none}
 use Rattle.std.specs.Option.{option_or, option_and_then}
 use Rattle.std.specs.List.{cons_option, enumerate_from, flat_map}
-use Rattle.std.proofs.lemmas.Bool.{and_parts}
+use Rattle.std.proofs.lemmas.Bool.{and_parts, or_parts}
 use Rattle.std.proofs.lemmas.List.Elements.{filter_map-append}
 use Rattle.std.proofs.lemmas.List.Folds.{list_any-append}
 use Rattle.std.proofs.lemmas.Map.Views.{list_any-from_Contains}
@@ -28,10 +28,6 @@ use Rattle.state_rows.specs.EditsOf.{reel_on_slot, reels_on}
 
 -- ---- machines without a sheet
 
-neither : (a b : Bool) → (a || b) ≡ false → (a ≡ false) × (b ≡ false)
-neither true b is = cc
-neither false b is = (refl, is)
-
 not-defined : (product machine : Name) (command : Command) → defines_on machine command ≡ false → sheet_by product machine command ≡ None
 not-defined product machine (SheetDefined p m rows) is = by (same p product) (same m machine) is
   where
@@ -44,7 +40,7 @@ not-defined product machine _ is = refl
 no-sheet : (H : History) (product machine : Name) → has_sheet H machine ≡ false → sheet_of H product machine ≡ None
 no-sheet [] product machine none = refl
 no-sheet (e ∷ H) product machine none =
-    let both = neither (defines_on machine e.stamped.command) (has_sheet H machine) none in
+    let both = or_parts (defines_on machine e.stamped.command) (has_sheet H machine) none in
     ap (λ o. option_or o (sheet_of H product machine)) (not-defined product machine e.stamped.command both.0) ∙ no-sheet H product machine both.1
 
 no-row : (H : History) (machine slot : Name) → has_sheet H machine ≡ false → is_none (row_on H machine slot) ≡ true
@@ -81,7 +77,7 @@ pub no-tape : (H : History) (machine slot : Name) → IsJudged Two H → has_she
 unfolding tape_of
 no-tape [] machine slot judged none = refl
 no-tape (e ∷ H) machine slot (next, judged) none =
-    let both = neither (defines_on machine e.stamped.command) (has_sheet H machine) none in
+    let both = or_parts (defines_on machine e.stamped.command) (has_sheet H machine) none in
     ap (tape_after machine slot e.stamped.command) (no-tape H machine slot judged both.1)
     ∙ bare-step H e.effective machine slot e.stamped.command (next-accepted H e next) both.1
 

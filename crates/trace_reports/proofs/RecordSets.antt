@@ -9,6 +9,7 @@ use Rattle.std.specs.Ordering.{match_ordering, is_eq}
 use Rattle.std.specs.declared.cmp.Ordering.{Ordering}
 use Rattle.std.specs.declared.cmp.Ordering.TheVariants.{Less, Equal, Greater}
 use Rattle.std.proofs.lemmas.Map.Views.{Contains-from_any, list_any-from_Contains}
+use Rattle.std.proofs.lemmas.Bool.{or_right as or-later}
 use Rattle.desk_types.specs.declared.placement.Placement.{Placement}
 use Rattle.desk_types.specs.Id.{Name, same, by_name}
 use Rattle.desk_types.proofs.Keys.{same-refl, same-sym, is_at-by_name, list_any-same}
@@ -134,10 +135,6 @@ lot-listed board lot part (p ∷ ps) there =
     by true true false false c e f is rest = rest is
     by true false false false c e f is rest = rest is
     by true b false true c e f is rest = cc
-
-or-later : (a b : Bool) → b ≡ true → (a || b) ≡ true
-or-later true b is = refl
-or-later false b is = is
 
 part-listed : (board lot : Name) (pieces : List Placement)
     → list_any (λ (p : Placement). same p.lot lot && (same board p.board && true)) pieces ≡ true

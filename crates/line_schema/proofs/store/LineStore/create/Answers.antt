@@ -6,7 +6,7 @@ use Rattle.line_tables.proofs.Ours.{blank_is}
 use Rattle.state_rows.specs.Kept.{KeptRows, tables_in}
 use Rattle.line_replay.specs.Expected.{AreKept}
 use Rattle.line_replay.proofs.ExpectedRows.{no_rows}
-use Rattle.line_schema.proofs.StandsAfter.{none_yet}
+use Rattle.line_replay.proofs.RowsOfLists.{none_yet}
 use Rattle.line_schema.proofs.store.LineStore.create.Goals as goal
 
 pub returns-in-Ok-clause-made : goal.returns-in-Ok-clause-made
