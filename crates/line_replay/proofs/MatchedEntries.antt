@@ -13,7 +13,7 @@ use Rattle.sqlite.specs.Effect.{Database}
 use Rattle.sqlite.specs.State.{State, KeepsCommit}
 use Rattle.line_tables.specs.Line.{IsOurs}
 use Rattle.line_tables.specs.StateRows.{AreRows, rows_in}
-pub use Rattle.line_tables.proofs.Keeps.{reads_before}
+use Rattle.line_tables.proofs.Keeps.{reads_before}
 use Rattle.line_replay.specs.Alone.{FindsAlone, AreAlone, HasOneKey, AreMatched, Decides, Listed}
 use Rattle.line_replay.proofs.SameRows.{same_rows}
 

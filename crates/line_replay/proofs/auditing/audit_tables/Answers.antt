@@ -7,7 +7,7 @@ use Rattle.desk_types.specs.declared.row.PlacementRow.{PlacementRow}
 use Rattle.state_rows.specs.Kept.{tables_in}
 use Rattle.line_tables.proofs.Frames.{reads_then}
 use Rattle.line_replay.specs.Audit.{Pieces, IsExpected, HoldsTable, with_placements}
-use Rattle.line_replay.proofs.MatchedEntries.{reads_before}
+use Rattle.line_tables.proofs.Keeps.{reads_before}
 use Rattle.line_replay.proofs.PlacementsAsExpected.{expected_after}
 use Rattle.line_replay.proofs.Verdicts.{split_at, right_more}
 use Rattle.line_replay.proofs.auditing.audit_tables.Goals as goal

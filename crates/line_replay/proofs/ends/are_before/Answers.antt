@@ -1,7 +1,7 @@
 use Rattle.std.proofs.Common.{◌≡◌, false, rules, arith}
 use Rattle.sqlite.specs.State.{HasCleanDisk}
 use Rattle.sqlite.specs.Held.{state}
-use Rattle.line_replay.proofs.MatchedEntries.{reads_before}
+use Rattle.line_tables.proofs.Keeps.{reads_before}
 use Rattle.line_replay.proofs.PlacementEnds.{all_before}
 use Rattle.line_replay.proofs.ends.are_before.Goals as goal
 

@@ -9,7 +9,7 @@ use Rattle.line_tables.specs.StateRows.{rows_in, placement_columns}
 use Rattle.line_tables.proofs.Frames.{reads_then}
 use Rattle.line_replay.specs.Placed.{has_placement, AreHere}
 use Rattle.line_replay.proofs.PlacementsFound.{looked_here, one_missing, all_here}
-use Rattle.line_replay.proofs.MatchedEntries.{reads_before}
+use Rattle.line_tables.proofs.Keeps.{reads_before}
 use Rattle.line_replay.proofs.Verdicts.{right_more}
 use Rattle.line_replay.proofs.placements.has_each.Goals as goal
 
