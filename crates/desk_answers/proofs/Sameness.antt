@@ -1,25 +1,20 @@
 -- Messages that compare equal by `==` are equal.
-use Rattle.std.proofs.Common.{◌≡◌, ◌∙◌, ◌==◌, true, false, refl, ap, sym}
-use Rattle.std.specs.Prelude.{◌&&◌}
-use Rattle.std.specs.Cmp.Lexicographic.{pointwise}
-use Rattle.std.proofs.lemmas.Bool.{false≢true, eqb-true, and_parts}
-use Rattle.desk_types.proofs.Keys.{same-true}
+use Rattle.desk_types.proofs.Common.{◌&&◌, ◌==◌, ◌∙◌, ◌≡◌, AlternateAllowed, and_parts, ap, ClockSet, Command}
+use Rattle.desk_types.proofs.Common.{CountRow, CountsTaken, eqb-true, false, Five, FiveA, Four, Level, LevelWithLabel}
+use Rattle.desk_types.proofs.Common.{MaterialsInstalled, MaterialsLoaded, MaterialsScrapped, MaterialsSpliced}
+use Rattle.desk_types.proofs.Common.{MaterialsUnloaded, PartDefined, pointwise, ProductSelected, ReelBaked}
+use Rattle.desk_types.proofs.Common.{ReelOpened, ReelReceived, ReelSealed, refl, same, same-true, SheetDefined, Six}
+use Rattle.desk_types.proofs.Common.{Stamped, sym, Three, true, TwoA, WorkCompleted, WorkStarted}
+use Rattle.desk_answers.specs.Repeats.{is_same}
 use Rattle.desk_types.proofs.Sameness.{lists-same, sheet_rows-same}
 use Rattle.desk_types.specs.contracts.command.CommandPartialEq.TheImpl.{ghosts as command}
 use Rattle.desk_types.specs.contracts.command.StampedEq.TheImpl.Laws.{laws-law}
 use Rattle.desk_types.specs.contracts.count.CountRowPartialEq.TheImpl.{ghosts as count_row}
-use Rattle.desk_types.specs.contracts.sheet.SheetRowPartialEq.TheImpl.{ghosts as sheet_row}
 use Rattle.desk_types.specs.contracts.level.LevelPartialEq.TheImpl.{ghosts as levels}
 use Rattle.desk_types.specs.contracts.level.MoisturePartialEq.TheImpl.{ghosts as moisture}
-use Rattle.desk_types.specs.Level.{LevelWithLabel}
-use Rattle.desk_types.specs.declared.level.Level.TheVariants.{One, Two, TwoA, Three, Four, Five, FiveA, Six}
-use Rattle.desk_types.specs.declared.command.Command.{Command}
-use Rattle.desk_types.specs.declared.command.Command.TheVariants.{PartDefined, AlternateAllowed, SheetDefined, ProductSelected, ReelReceived, ReelOpened, ReelSealed, ReelBaked, MaterialsLoaded, MaterialsSpliced, MaterialsUnloaded, WorkStarted, WorkCompleted, MaterialsInstalled, MaterialsScrapped, CountsTaken, ClockSet}
-use Rattle.desk_types.specs.declared.command.Stamped.{Stamped}
-use Rattle.desk_types.specs.declared.count.CountRow.{CountRow}
-use Rattle.desk_types.specs.declared.level.Level.{Level}
-use Rattle.desk_types.specs.Id.{same}
-use Rattle.desk_answers.specs.Repeats.{is_same}
+use Rattle.desk_types.specs.contracts.sheet.SheetRowPartialEq.TheImpl.{ghosts as sheet_row}
+use Rattle.desk_types.specs.declared.level.Level.TheVariants.{One, Two}
+use Rattle.std.proofs.lemmas.Bool.{false≢true}
 
 count_rows_same : (a b : CountRow) → count_row.eq a b ≡ true → a ≡ b
 count_rows_same a b e =

@@ -1,15 +1,12 @@
 -- The history after connections, with one more connection, and whether one was faulty.
-use Rattle.std.proofs.Common.{◌≡◌, ◌∙◌, ◌++◌, ◌∷◌, [], ℕ, List, Option, Ok, Err, Bool, ◌||◌, refl, sym, ap, subst}
-use Rattle.std.specs.List.{list_any}
-use Rattle.std.proofs.lemmas.List.{map-append}
-use Rattle.std.proofs.lemmas.List.Folds.{list_any-append}
-use Rattle.std.proofs.Math.Bool.{or-false as or_false}
-use Rattle.desk_answers.specs.Ledger.{Ledger, ForLists}
-use Rattle.desk_types.specs.History.{History}
-use Rattle.desk_answers.specs.declared.serving.ServeFault.TheVariants.{Read, Write, TooManyReads}
-use Rattle.http_stream.specs.Stream.{Rule, RuleBy, AnswersConnection}
-use Rattle.desk_commands.specs.Clients.{Ended, Exchange, ends_of}
+use Rattle.desk_types.proofs.Common.{[], ◌++◌, ◌||◌, ◌∙◌, ◌∷◌, ◌≡◌, ap, Bool, Err, History, List, list_any}
+use Rattle.desk_types.proofs.Common.{list_any-append, map-append, Ok, Option, refl, subst, sym, ℕ}
+use Rattle.desk_answers.specs.Ledger.{ForLists, Ledger}
+use Rattle.desk_answers.specs.declared.serving.ServeFault.TheVariants.{Read, TooManyReads, Write}
+use Rattle.desk_commands.specs.Clients.{Ended, ends_of, Exchange}
 use Rattle.desk_commands.specs.Connections.{Connected, ConnectedEach, is_faulty}
+use Rattle.http_stream.specs.Stream.{AnswersConnection, Rule, RuleBy}
+use Rattle.std.proofs.Math.Bool.{or-false as or_false}
 
 each_more : (rule : Rule) (H : History) (es : List Exchange) (e : Exchange) (H₁ H₂ : History) → ConnectedEach rule H es H₁ → Connected rule H₁ e H₂ → ConnectedEach rule H (es ++ e ∷ []) H₂
 each_more rule H [] e H₁ H₂ same last = (H₂, subst (λ (G : History). Connected rule G e H₂) same last, refl)

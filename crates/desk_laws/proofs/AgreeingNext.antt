@@ -1,33 +1,20 @@
 -- Two histories that agree except for past boards and reels still agree after a command that both accept.
-use Rattle.std.proofs.Common.{◌≡◌, ℕ, ◌≤◌, ◌-◌, max, nat_lt, Bool, true, false, Option, Some, None, ◌∷◌, refl, sym, ap, ◌∙◌, arith}
-use Rattle.std.proofs.lemmas.Bool.{or_right}
-use Rattle.std.specs.Prelude.{◌||◌, is_some, unwrap_or}
-use Rattle.std.specs.Option.{option_and_then, option_map, option_or}
+use Rattle.desk_types.proofs.Common.{◌-◌, ◌||◌, ◌∙◌, ◌∷◌, ◌≡◌, ◌≤◌, accept, ap, arith, baked_by, Bool}
+use Rattle.desk_types.proofs.Common.{effective_minute, Entry, entry_of, false, floor_life, History, is_some}
+use Rattle.desk_types.proofs.Common.{is_unbaked, IsJudged, left_of, LevelWithLabel, limit_of, max, minutes_left, Name}
+use Rattle.desk_types.proofs.Common.{nat_lt, None, open_by, Option, option_and_then, option_map, option_or, or_right}
+use Rattle.desk_types.proofs.Common.{pieces_by, pieces_picked, places, Receipt, receipt_by, receipt_of, refl}
+use Rattle.desk_types.proofs.Common.{selection_by, sheet_by, Some, Stamped, start_by, sym, tape_after, true, Two}
+use Rattle.desk_types.proofs.Common.{unwrap_or, work_by, ℕ}
+use Rattle.desk_laws.proofs.{Agreeing.Agree, Agreeing.effective-same, Agreeing.IsSame, Agreeing.mark}
+use Rattle.desk_laws.proofs.{Agreeing.marks_of, Agreeing.picks-same, Balance.spent-next, BoardsInWork.in_work-next}
+use Rattle.desk_laws.proofs.{BoardsInWork.or-second, BoardsInWork.work-next, FloorNext.baked-anew, FloorNext.is_anew}
+use Rattle.desk_laws.proofs.{FloorNext.life-marked, FloorNext.minutes-next, FloorNext.out-next, FloorNext.out_after}
+use Rattle.desk_laws.proofs.{FloorNext.remaining, FloorNext.remaining-same, FloorNext.unbaked-next, FloorNext.waiting}
+use Rattle.desk_laws.proofs.{Lives.live-next, Mounted.mounted-next, Mounts.has, ReelsLater.not-again}
+use Rattle.desk_laws.specs.{Past.is_started, Place.mounted_after, Working.in_work_after}
+use Rattle.desk_types.specs.Setup.{allows, defines}
 use Rattle.std.specs.List.{filter}
-use Rattle.desk_types.specs.declared.command.Entry.{Entry}
-use Rattle.desk_types.specs.declared.command.Receipt.{Receipt}
-use Rattle.desk_types.specs.declared.command.Stamped.{Stamped}
-use Rattle.desk_types.specs.declared.rules.Rules.TheVariants.{Two}
-use Rattle.desk_types.specs.Id.{Name}
-use Rattle.desk_types.specs.Level.{LevelWithLabel, limit_of}
-use Rattle.desk_types.specs.History.{History, effective_minute, entry_of, accept}
-use Rattle.desk_types.specs.Setup.{defines, allows, sheet_by, selection_by, receipt_by, receipt_of}
-use Rattle.desk_types.specs.Tape.{tape_after}
-use Rattle.desk_types.specs.Pieces.{pieces_picked, pieces_by, left_of}
-use Rattle.desk_types.specs.FloorLife.{open_by, baked_by, floor_life, minutes_left, is_unbaked}
-use Rattle.desk_types.specs.Work.{work_by, start_by, places}
-use Rattle.desk_types.specs.Judged.{IsJudged}
-use Rattle.desk_laws.specs.Place.{mounted_after}
-use Rattle.desk_laws.specs.Working.{in_work_after}
-use Rattle.desk_laws.proofs.Balance.{spent-next}
-use Rattle.desk_laws.proofs.BoardsInWork.{work-next, in_work-next, or-second}
-use Rattle.desk_laws.proofs.Lives.{live-next}
-use Rattle.desk_laws.proofs.Mounted.{mounted-next}
-use Rattle.desk_laws.proofs.Mounts.{has}
-use Rattle.desk_laws.proofs.ReelsLater.{not-again}
-use Rattle.desk_laws.specs.Past.{is_started}
-use Rattle.desk_laws.proofs.Agreeing.{mark, marks_of, IsSame, Agree, effective-same, picks-same}
-use Rattle.desk_laws.proofs.FloorNext.{is_anew, baked-anew, minutes-next, remaining, remaining-same, life-marked, waiting, unbaked-next, out_after, out-next}
 
 map-or : (said before : Option Receipt) → option_map mark (option_or said before) ≡ option_or (option_map mark said) (option_map mark before)
 map-or None before = refl

@@ -1,26 +1,14 @@
 -- Boards in work after one more entry.
-use Rattle.std.proofs.lemmas.Bool.{not-false}
-use Rattle.std.proofs.Common.{◌≡◌, ℕ, Bool, true, false, not, Option, Some, None, List, [], ◌∷◌, refl, sym, ap, ◌∙◌, unwrap_or}
-use Rattle.std.specs.Prelude.{if◌then◌else◌, is_none, is_some}
-use Rattle.std.specs.Option.{option_and_then, option_map_or, option_or}
-use Rattle.std.specs.Cmp.{both_ways}
-use Rattle.desk_types.specs.declared.answer.Refusal.{Refusal}
-use Rattle.desk_types.specs.declared.answer.Refusal.TheVariants.{NoProduct, MachineBusy, BoardBusy, OtherProduct, NotInWork}
-use Rattle.desk_types.specs.declared.command.Command.{Command}
-use Rattle.desk_types.specs.declared.command.Command.TheVariants.{WorkStarted, WorkCompleted}
-use Rattle.desk_types.specs.declared.command.Entry.{Entry}
-use Rattle.desk_types.specs.declared.rules.Rules.TheVariants.{Two}
-use Rattle.desk_types.specs.Id.{Name, same}
-use Rattle.desk_types.specs.History.{History, latest}
-use Rattle.desk_types.specs.Setup.{selected_on}
-use Rattle.desk_types.specs.Work.{work_by, in_work_on, is_in_work_on, is_in_work, start_by, product_of}
-use Rattle.desk_types.specs.Refusals.{first_refusal, differ, start_refusal, completion_refusal, command_refusal}
-use Rattle.desk_types.specs.Judged.{IsNext, IsJudged}
-use Rattle.desk_types.proofs.Keys.{same-refl, same-true}
-use Rattle.desk_laws.specs.Working.{in_work_after}
-use Rattle.desk_laws.proofs.Accepted.{none-holds, next-accepted}
-use Rattle.desk_laws.proofs.Judgements.{or-none}
-use Rattle.desk_laws.proofs.Lookups.{in_work-somewhere, somewhere-in_work}
+use Rattle.desk_types.proofs.Common.{[], ◌∙◌, ◌∷◌, ◌≡◌, ap, Bool, both_ways, Command, command_refusal}
+use Rattle.desk_types.proofs.Common.{completion_refusal, differ, Entry, false, first_refusal, History, if◌then◌else◌}
+use Rattle.desk_types.proofs.Common.{in_work_on, is_in_work, is_in_work_on, is_none, is_some, IsJudged, IsNext}
+use Rattle.desk_types.proofs.Common.{latest, List, MachineBusy, Name, None, NoProduct, not, not-false, NotInWork}
+use Rattle.desk_types.proofs.Common.{Option, option_and_then, option_map_or, option_or, OtherProduct, product_of}
+use Rattle.desk_types.proofs.Common.{refl, Refusal, same, same-refl, same-true, selected_on, Some, start_by}
+use Rattle.desk_types.proofs.Common.{start_refusal, sym, true, Two, unwrap_or, work_by, WorkCompleted, WorkStarted, ℕ}
+use Rattle.desk_laws.{proofs.Accepted.next-accepted, proofs.Accepted.none-holds, proofs.Judgements.or-none}
+use Rattle.desk_laws.{proofs.Lookups.in_work-somewhere, proofs.Lookups.somewhere-in_work, specs.Working.in_work_after}
+use Rattle.desk_types.specs.declared.answer.Refusal.TheVariants.{BoardBusy}
 
 -- ---- tests
 

@@ -1,25 +1,17 @@
 -- The floor life of a reel after one entry more, as far as answers depend on it.
-use Rattle.std.proofs.Common.{◌≡◌, ℕ, ◌+◌, ◌-◌, ◌≤◌, Bool, true, false, not, Option, Some, None, ◌∷◌, refl, ap, ◌∙◌, arith}
-use Rattle.std.specs.Prelude.{[], if◌then◌else◌, ◌&&◌, is_some, unwrap_or}
-use Rattle.std.specs.Option.{option_and_then, option_map, option_map_or, option_or}
-use Rattle.desk_types.specs.declared.command.Command.{Command}
-use Rattle.desk_types.specs.declared.command.Command.TheVariants.{ReelReceived, ReelOpened, ReelSealed, ReelBaked, MaterialsLoaded, MaterialsSpliced}
-use Rattle.desk_types.specs.declared.command.Entry.{Entry}
-use Rattle.desk_types.specs.declared.command.Receipt.{Receipt}
-use Rattle.desk_types.specs.declared.rules.Rules.TheVariants.{Two}
-use Rattle.desk_types.specs.Id.{Name, same}
-use Rattle.desk_types.specs.Level.{LevelWithLabel, limit_of}
-use Rattle.desk_types.specs.History.{History, latest, now_of}
-use Rattle.desk_types.specs.Setup.{receipt_by, receipt_of}
-use Rattle.desk_types.specs.FloorLife.{open_by, IsUntouched, last_bake, exposure_starts, exposure_of, since_after, out_since, floor_life, minutes_left, baked_by, is_baked, is_six, is_unbaked}
-use Rattle.desk_types.specs.Judged.{IsJudged}
-use Rattle.desk_types.proofs.Exposure.{exposure-after, exposure-anew, exposure-untouched}
-use Rattle.desk_types.proofs.ReelCommands.{IsQuiet-open, IsQuiet-untouched, IsQuiet-seal, last_bake-quiet, exposure_starts-quiet, last_bake-untouched}
-use Rattle.desk_types.proofs.Tests.{if-some, if-none}
-use Rattle.desk_laws.proofs.Accepted.{received-once}
-use Rattle.desk_laws.proofs.Judgements.{untouched, by-later, by-desk_minute}
-use Rattle.desk_laws.proofs.Openings.{starts-by}
-use Rattle.desk_laws.proofs.Agreeing.{mark, marks_of, marked}
+use Rattle.desk_types.proofs.Common.{[], ◌&&◌, ◌+◌, ◌-◌, ◌∙◌, ◌∷◌, ◌≡◌, ◌≤◌, ap, arith, baked_by, Bool, Command}
+use Rattle.desk_types.proofs.Common.{Entry, exposure_of, exposure_starts, false, floor_life, History, if◌then◌else◌}
+use Rattle.desk_types.proofs.Common.{is_baked, is_six, is_some, is_unbaked, IsJudged, IsUntouched, last_bake, latest}
+use Rattle.desk_types.proofs.Common.{LevelWithLabel, limit_of, MaterialsLoaded, MaterialsSpliced, minutes_left, Name}
+use Rattle.desk_types.proofs.Common.{None, not, now_of, open_by, Option, option_and_then, option_map, option_map_or}
+use Rattle.desk_types.proofs.Common.{option_or, out_since, Receipt, receipt_by, receipt_of, ReelBaked, ReelOpened}
+use Rattle.desk_types.proofs.Common.{ReelReceived, ReelSealed, refl, same, since_after, Some, true, Two, unwrap_or, ℕ}
+use Rattle.desk_laws.proofs.{Accepted.received-once, Agreeing.mark, Agreeing.marked, Agreeing.marks_of}
+use Rattle.desk_laws.proofs.{Judgements.by-desk_minute, Judgements.by-later, Judgements.untouched, Openings.starts-by}
+use Rattle.desk_types.proofs.{Exposure.exposure-after, Exposure.exposure-anew, Exposure.exposure-untouched}
+use Rattle.desk_types.proofs.{ReelCommands.exposure_starts-quiet, ReelCommands.IsQuiet-open}
+use Rattle.desk_types.proofs.{ReelCommands.IsQuiet-seal, ReelCommands.IsQuiet-untouched, ReelCommands.last_bake-quiet}
+use Rattle.desk_types.proofs.{ReelCommands.last_bake-untouched, Tests.if-none, Tests.if-some}
 
 -- ---- exposure
 

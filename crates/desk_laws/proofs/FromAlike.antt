@@ -1,34 +1,19 @@
 -- Alike histories agree except for past boards and reels. Histories that agree so are alike if no board is in work.
-use Rattle.std.proofs.Common.{◌≡◌, ℕ, ◌-◌, ◌<◌, nat_lt, Bool, true, false, Contains, Option, Some, None, List, [], ◌∷◌, refl, sym, ap, ◌∙◌, subst, arith}
-use Rattle.std.specs.Prelude.{if◌then◌else◌, ◌&&◌, ◌||◌, ◌==◌, is_some, not}
-use Rattle.std.specs.Option.{option_and_then, option_map, option_map_or, option_or}
-use Rattle.std.specs.List.{list_any}
-use Rattle.std.specs.Cmp.{both_ways}
-use Rattle.std.proofs.lemmas.Bool.{eqb-true, and_parts, or_parts}
-use Rattle.std.proofs.lemmas.Bool.Decides.{nat_tests}
-use Rattle.desk_types.specs.declared.answer.Refusal.TheVariants.{NotInWork}
-use Rattle.desk_types.specs.declared.command.Command.{Command}
-use Rattle.desk_types.specs.declared.command.Command.TheVariants.{WorkStarted, MaterialsInstalled}
-use Rattle.desk_types.specs.declared.command.Entry.{Entry}
-use Rattle.desk_types.specs.declared.command.Receipt.{Receipt}
-use Rattle.desk_types.specs.declared.rules.Rules.TheVariants.{Two}
-use Rattle.desk_types.specs.Id.{Name, same}
-use Rattle.desk_types.specs.Level.{LevelWithLabel, limit_of}
-use Rattle.desk_types.specs.History.{History}
-use Rattle.desk_types.specs.Setup.{receipt_of, selected_on}
-use Rattle.desk_types.specs.Pieces.{bench_of, left_of, is_mounted}
-use Rattle.desk_types.specs.FloorLife.{IsUntouched, out_since, since_after, exposure_of, is_six, is_baked}
-use Rattle.desk_types.specs.Work.{in_work_on, is_in_work, is_in_work_on, start_by, product_of, places, is_placed_on}
-use Rattle.desk_types.specs.Refusals.{designators_refusal, install_refusal, command_refusal}
-use Rattle.desk_types.specs.Judged.{IsNext, IsJudged}
-use Rattle.desk_types.proofs.Keys.{same-true}
-use Rattle.desk_laws.proofs.Accepted.{next-accepted, not-some}
-use Rattle.desk_laws.proofs.BoardsInWork.{work-selected, work-product}
-use Rattle.desk_laws.proofs.Judgements.{untouched}
-use Rattle.desk_laws.proofs.Lookups.{mounted-live, mounted-there, in_work-somewhere}
-use Rattle.desk_laws.specs.Alike.{IsIdle, IsSameReel, AreAlike}
-use Rattle.desk_laws.specs.Past.{is_started, is_spent}
-use Rattle.desk_laws.proofs.Agreeing.{mark, marked, IsSame, Agree, known, left-new}
+use Rattle.desk_types.proofs.Common.{[], ◌&&◌, ◌-◌, ◌<◌, ◌==◌, ◌||◌, ◌∙◌, ◌∷◌, ◌≡◌, and_parts, ap, arith, bench_of}
+use Rattle.desk_types.proofs.Common.{Bool, both_ways, Command, command_refusal, Contains, designators_refusal, Entry}
+use Rattle.desk_types.proofs.Common.{eqb-true, exposure_of, false, History, if◌then◌else◌, in_work_on}
+use Rattle.desk_types.proofs.Common.{install_refusal, is_baked, is_in_work, is_in_work_on, is_mounted, is_placed_on}
+use Rattle.desk_types.proofs.Common.{is_six, is_some, IsJudged, IsNext, IsUntouched, left_of, LevelWithLabel}
+use Rattle.desk_types.proofs.Common.{limit_of, List, list_any, MaterialsInstalled, Name, nat_lt, nat_tests, None, not}
+use Rattle.desk_types.proofs.Common.{NotInWork, Option, option_and_then, option_map, option_map_or, option_or}
+use Rattle.desk_types.proofs.Common.{or_parts, out_since, places, product_of, Receipt, receipt_of, refl, same}
+use Rattle.desk_types.proofs.Common.{same-true, selected_on, since_after, Some, start_by, subst, sym, true, Two}
+use Rattle.desk_types.proofs.Common.{WorkStarted, ℕ}
+use Rattle.desk_laws.proofs.{Accepted.next-accepted, Accepted.not-some, Agreeing.Agree, Agreeing.IsSame}
+use Rattle.desk_laws.proofs.{Agreeing.known, Agreeing.left-new, Agreeing.mark, Agreeing.marked}
+use Rattle.desk_laws.proofs.{BoardsInWork.work-product, BoardsInWork.work-selected, Judgements.untouched}
+use Rattle.desk_laws.proofs.{Lookups.in_work-somewhere, Lookups.mounted-live, Lookups.mounted-there}
+use Rattle.desk_laws.specs.{Alike.AreAlike, Alike.IsIdle, Alike.IsSameReel, Past.is_spent, Past.is_started}
 
 -- ---- boards
 

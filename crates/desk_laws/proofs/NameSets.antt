@@ -1,25 +1,14 @@
 -- Sets of names, and traces.
-use Rattle.std.proofs.Math.Bool.{and_comm, or_self_left}
-use Rattle.std.proofs.Common.{◌≡◌, ◌↔◌, Bool, true, false, Contains, List, [], ◌∷◌, filter, map, refl, sym, ap, ◌∙◌}
-use Rattle.std.specs.Prelude.{if◌then◌else◌, ◌||◌, ◌&&◌}
-use Rattle.std.specs.BTreeSet.{insert_key}
-use Rattle.std.specs.Cmp.Lexicographic.{nat_list_eq_equiv}
-use Rattle.std.specs.List.{list_any, AllByRecursion}
-use Rattle.std.specs.List.Sorted.{IsStrictlySortedBy}
-use Rattle.std.specs.Ordering.{match_ordering, ordering_reverse}
-use Rattle.std.specs.declared.cmp.Ordering.{Ordering}
-use Rattle.std.specs.declared.cmp.Ordering.TheVariants.{Less, Equal, Greater}
-use Rattle.std.specs.Cmp.{IsTotalOrder}
-use Rattle.std.proofs.lemmas.Map.Views.{Contains-from_any, list_any-from_Contains}
-use Rattle.std.proofs.lemmas.Map.Lookups.{CmpEqualImpliesEq, exact_bytes}
-use Rattle.std.proofs.lemmas.Cmp.{nat_list_cmp_total}
-use Rattle.desk_types.specs.declared.placement.Placement.{Placement}
-use Rattle.desk_types.specs.Id.{Name, same, by_name}
-use Rattle.desk_types.specs.History.{History}
-use Rattle.desk_types.specs.Placements.{placements_of, set_of, lots_of, boards_of}
-use Rattle.desk_types.proofs.Keys.{same-sym, same-true, list_any-same}
-use Rattle.desk_types.proofs.Tests.{swap-or}
+use Rattle.desk_types.proofs.Common.{[], ◌&&◌, ◌||◌, ◌↔◌, ◌∙◌, ◌∷◌, ◌≡◌, AllByRecursion, and_comm, ap, boards_of}
+use Rattle.desk_types.proofs.Common.{Bool, by_name, CmpEqualImpliesEq, Contains, Contains-from_any, Equal}
+use Rattle.desk_types.proofs.Common.{exact_bytes, false, filter, Greater, History, if◌then◌else◌, insert_key}
+use Rattle.desk_types.proofs.Common.{IsStrictlySortedBy, IsTotalOrder, Less, List, list_any, list_any-from_Contains}
+use Rattle.desk_types.proofs.Common.{list_any-same, lots_of, map, match_ordering, Name, nat_list_cmp_total}
+use Rattle.desk_types.proofs.Common.{nat_list_eq_equiv, Ordering, ordering_reverse, Placement, placements_of, refl}
+use Rattle.desk_types.proofs.Common.{same, same-sym, same-true, set_of, sym, true}
 use Rattle.desk_laws.proofs.Mounts.{has}
+use Rattle.desk_types.proofs.Tests.{swap-or}
+use Rattle.std.proofs.Math.Bool.{or_self_left}
 
 pub all-weaker : {X : Type 0} (P Q : X → Type 0) → ((x : X) → P x → Q x) → (xs : List X) → AllByRecursion P xs → AllByRecursion Q xs
 all-weaker P Q weaker [] all = tt

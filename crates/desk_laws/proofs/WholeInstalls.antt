@@ -1,32 +1,17 @@
 -- Accepted installs and scraps are whole.
-use Rattle.std.proofs.Common.{◌≡◌, ℕ, ◌+◌, ◌-◌, ◌≤◌, min, nat_lt, Bool, true, false, None, List, [], ◌∷◌, ◌++◌, map, filter_map, refl, sym, ap, ◌∙◌, arith, zero-add}
-use Rattle.std.specs.Prelude.{if◌then◌else◌}
-use Rattle.std.specs.List.{cons_option, enumerate_from, sum_by}
-use Rattle.std.proofs.lemmas.Bool.{ltb-false}
-use Rattle.std.proofs.lemmas.List.{append_cancel_left}
-use Rattle.std.proofs.lemmas.List.Elements.{filter_map-append}
-use Rattle.std.proofs.lemmas.List.Sums.{sum_by-append}
-use Rattle.desk_types.specs.declared.answer.Detail.TheVariants.{Reels}
-use Rattle.desk_types.specs.declared.answer.Refusal.{Refusal}
-use Rattle.desk_types.specs.declared.answer.Refusal.TheVariants.{SlotEmpty, ReelShort}
-use Rattle.desk_types.specs.declared.command.Command.TheVariants.{MaterialsInstalled, MaterialsScrapped}
-use Rattle.desk_types.specs.declared.command.Entry.{Entry}
-use Rattle.desk_types.specs.declared.command.Stamped.{Stamped}
-use Rattle.desk_types.specs.declared.placement.Placement.{Placement}
-use Rattle.desk_types.specs.declared.rules.Rules.TheVariants.{Two}
-use Rattle.desk_types.specs.declared.take.Pick.{Pick}
-use Rattle.desk_types.specs.declared.take.Purpose.{Purpose}
-use Rattle.desk_types.specs.declared.take.Purpose.TheVariants.{Rejected}
-use Rattle.desk_types.specs.Id.{Name}
-use Rattle.desk_types.specs.History.{History, effective_minute, entry_of, accept}
-use Rattle.desk_types.specs.Pieces.{pieces_off, scrap_picks, left_of, live_on, picks_of}
-use Rattle.desk_types.specs.Outcome.{reels_of, pieces_of, take_of, detail_of}
-use Rattle.desk_types.specs.Placements.{entry_takes, takes_of, placement_of, placements_of}
-use Rattle.desk_types.specs.Refusals.{is_vacant, scrap_refusal, command_refusal, refusal_of}
+use Rattle.desk_types.proofs.Common.{[], ◌++◌, ◌+◌, ◌-◌, ◌∙◌, ◌∷◌, ◌≡◌, ◌≤◌, accept, ap, arith, Bool, command_refusal}
+use Rattle.desk_types.proofs.Common.{cons_option, detail_of, effective_minute, Entry, entry_of, entry_takes}
+use Rattle.desk_types.proofs.Common.{enumerate_from, false, filter_map, filter_map-append, History, if◌then◌else◌}
+use Rattle.desk_types.proofs.Common.{is_vacant, left_of, List, live_on, ltb-false, map, MaterialsInstalled}
+use Rattle.desk_types.proofs.Common.{MaterialsScrapped, min, Name, nat_lt, None, Pick, picks_of, pieces_of}
+use Rattle.desk_types.proofs.Common.{pieces_off, Placement, placement_of, placements_of, Purpose, Reels, reels_of}
+use Rattle.desk_types.proofs.Common.{ReelShort, refl, Refusal, refusal_of, Rejected, scrap_picks, scrap_refusal}
+use Rattle.desk_types.proofs.Common.{SlotEmpty, Stamped, sum_by, sum_by-append, sym, take_of, takes_of, true, Two}
+use Rattle.desk_types.proofs.Common.{zero-add, ℕ}
+use Rattle.desk_laws.proofs.{Accepted.command-accepted, Accepted.none-holds, Installs.ArePlacedFor}
+use Rattle.desk_laws.proofs.{Installs.each-placed, Lives.scrap-live}
 use Rattle.desk_laws.specs.Whole.{spot_of, spots_from, spots_named}
-use Rattle.desk_laws.proofs.Accepted.{none-holds, command-accepted}
-use Rattle.desk_laws.proofs.Installs.{ArePlacedFor, each-placed}
-use Rattle.desk_laws.proofs.Lives.{scrap-live}
+use Rattle.std.proofs.lemmas.List.{append_cancel_left}
 
 -- ---- installs
 

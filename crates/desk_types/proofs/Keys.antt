@@ -1,17 +1,13 @@
 -- Names and pairs of names as the keys of ordered sets and maps.
-use Rattle.std.proofs.Common.{◌≡◌, Bool, true, false, cond, Option, List, refl, sym, ap, ◌∙◌}
-use Rattle.std.proofs.lemmas.Bool.{and_parts}
-use Rattle.std.specs.Prelude.{◌&&◌, ◌||◌}
-use Rattle.std.specs.BTreeMap.{is_at}
-use Rattle.std.specs.Cmp.{partial_equiv_from_equiv}
-use Rattle.std.specs.Cmp.Lexicographic.{texts_ties, nat_list_eq_equiv, bytes_decides}
-use Rattle.std.specs.List.{list_any}
-use Rattle.std.specs.Ordering.{is_eq, ordering_then}
-use Rattle.std.specs.declared.cmp.Ordering.{Ordering}
-use Rattle.std.specs.declared.cmp.Ordering.TheVariants.{Less, Equal, Greater}
-use Rattle.desk_types.specs.Id.{Name, same, by_name}
-use Rattle.desk_types.specs.Pair.{same_pair, by_pair}
 use Rattle.desk_types.proofs.Tests.{or-cond}
+use Rattle.desk_types.specs.{Id.by_name, Id.Name, Id.same, Pair.by_pair, Pair.same_pair}
+use Rattle.std.proofs.{Common.◌∙◌, Common.◌≡◌, Common.ap, Common.Bool, Common.cond, Common.false, Common.List}
+use Rattle.std.proofs.{Common.Option, Common.refl, Common.sym, Common.true, lemmas.Bool.and_parts}
+use Rattle.std.specs.{BTreeMap.is_at, Cmp.partial_equiv_from_equiv, Cmp.Lexicographic.bytes_decides}
+use Rattle.std.specs.{Cmp.Lexicographic.nat_list_eq_equiv, Cmp.Lexicographic.texts_ties, List.list_any}
+use Rattle.std.specs.{Ordering.is_eq, Ordering.ordering_then, Prelude.◌&&◌, Prelude.◌||◌}
+use Rattle.std.specs.{declared.cmp.Ordering.Ordering, declared.cmp.Ordering.TheVariants.Equal}
+use Rattle.std.specs.{declared.cmp.Ordering.TheVariants.Greater, declared.cmp.Ordering.TheVariants.Less}
 
 pub same-refl : (a : Name) → same a a ≡ true
 same-refl a = nat_list_eq_equiv.refl a

@@ -1,5 +1,6 @@
 pub mod Ascii
 pub mod BothRules
+pub mod Common
 pub mod CountCases
 pub mod EightBytes
 pub mod Exposure

@@ -1,15 +1,8 @@
 -- The effects of commands on a reel.
-use Rattle.std.proofs.Common.{◌≡◌, ℕ, Bool, true, false, Some, None, ◌∷◌, refl, ap, ◌∙◌, []}
-use Rattle.std.specs.Prelude.{unwrap_or, if◌then◌else◌}
-use Rattle.std.specs.Option.{option_or, option_map}
-use Rattle.desk_types.specs.declared.command.Command.{Command}
-use Rattle.desk_types.specs.declared.command.Command.TheVariants.{ReelReceived, ReelSealed, ReelBaked}
-use Rattle.desk_types.specs.declared.command.Entry.{Entry}
-use Rattle.desk_types.specs.declared.command.Receipt.{Receipt}
-use Rattle.desk_types.specs.Id.{Name, same}
-use Rattle.desk_types.specs.History.{History, latest}
-use Rattle.desk_types.specs.Setup.{receipt_by, receipt_of}
-use Rattle.desk_types.specs.FloorLife.{open_by, bake_by, baked_by, last_bake, exposure_starts, is_baked, IsUntouched}
+use Rattle.desk_types.proofs.Common.{[], ◌∙◌, ◌∷◌, ◌≡◌, ap, bake_by, baked_by, Bool, Command, Entry, exposure_starts}
+use Rattle.desk_types.proofs.Common.{false, History, if◌then◌else◌, is_baked, IsUntouched, last_bake, latest, Name}
+use Rattle.desk_types.proofs.Common.{None, open_by, option_map, option_or, Receipt, receipt_by, receipt_of, ReelBaked}
+use Rattle.desk_types.proofs.Common.{ReelReceived, ReelSealed, refl, same, Some, true, unwrap_or, ℕ}
 use Rattle.desk_types.proofs.Tests.{if-none}
 
 -- The command neither receives nor bakes the reel.

@@ -1,5 +1,5 @@
 -- Concatenated tests and their results.
-use Rattle.std.proofs.Common.{◌≡◌, Bool, true, false, Some, None, refl, cond}
+use Rattle.std.proofs.Common.{◌≡◌, Bool, cond, false, None, refl, Some, true}
 use Rattle.std.specs.Prelude.{◌||◌, if◌then◌else◌}
 
 pub swap-or : (a b c : Bool) → (a || (b || c)) ≡ (b || (a || c))

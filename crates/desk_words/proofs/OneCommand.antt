@@ -1,14 +1,12 @@
 -- Arguments name one command: if they mean `feed`, they mean nothing else.
-use Rattle.std.proofs.Common.{◌≡◌, ◌∙◌, ℕ, Bool, true, false, true≢false, sym, ap, subst, codes, List, [], ◌∷◌, Option, Some, None, IsSomeAnd, Result, Ok, inl, inr, refl}
-use Rattle.std.specs.Option.{option_map_or}
-use Rattle.std.specs.Str.{bytes_eq}
-use Rattle.std.proofs.lemmas.Slice.Eq.{bytes_eq-Decides}
-use Rattle.clap.specs.Kinds.{Kinds, IsAmong}
-use Rattle.clap.specs.Walk.{Row, first_of}
-use Rattle.clap.specs.declared.error.kind.ErrorKind.{ErrorKind}
+use Rattle.desk_types.proofs.Common.{[], ◌∙◌, ◌∷◌, ◌≡◌, ap, Bool, bytes_eq-Decides, codes, false, inl, inr, IsSomeAnd}
+use Rattle.desk_types.proofs.Common.{List, None, Ok, Option, option_map_or, refl, Result, Some, subst, sym, true}
+use Rattle.desk_types.proofs.Common.{true≢false, ℕ}
+use Rattle.clap.specs.{Kinds.IsAmong, Kinds.Kinds, Walk.first_of, Walk.Row, declared.error.kind.ErrorKind.ErrorKind}
 use Rattle.desk_feed.specs.declared.options.BadOption.{BadOption}
+use Rattle.desk_words.specs.CommandLine.{AsksForNothing, GoesUpTo, IsGreatest, named_by, Names, NamesImport, told_of}
 use Rattle.imports.specs.declared.import.Import.{Import}
-use Rattle.desk_words.specs.CommandLine.{AsksForNothing, GoesUpTo, IsGreatest, Names, NamesImport, named_by, told_of}
+use Rattle.std.specs.Str.{bytes_eq}
 
 abbrev name_in : Option (List ℕ × List Row) → List ℕ
 name_in found = option_map_or (λ (p : List ℕ × List Row). p.0) found []

@@ -1,9 +1,6 @@
 -- Sets and maps by names after one name is put in or taken out.
-use Rattle.std.proofs.Common.{◌≡◌, Bool, true, false, cond, Some, None, unwrap_or, refl, ap, ◌∙◌}
-use Rattle.std.specs.Prelude.{◌||◌, ◌&&◌}
-use Rattle.std.specs.BTreeMap.{is_at}
-use Rattle.desk_types.specs.Id.{Name, same, by_name}
-use Rattle.desk_types.proofs.Keys.{is_at-by_name, same-true}
+use Rattle.desk_types.proofs.Common.{◌&&◌, ◌||◌, ◌∙◌, ◌≡◌, ap, Bool, by_name, cond, false, is_at, is_at-by_name, Name}
+use Rattle.desk_types.proofs.Common.{None, refl, same, same-true, Some, true, unwrap_or}
 use Rattle.desk_types.proofs.Tests.{or-cond}
 
 pub put : (x q : Name) (new old : Bool) → new ≡ cond (is_at (by_name x) q) true old → new ≡ (same x q || old)

@@ -1,20 +1,11 @@
 -- Names in an order, each once: which names they are says which list it is.
-use Rattle.std.proofs.Common.{◌≡◌, Bool, true, false, cond, List, [], ◌∷◌, refl, sym, ap, ◌∙◌}
-use Rattle.std.specs.Prelude.{◌&&◌, ◌||◌}
-use Rattle.std.specs.Cmp.{IsTotalOrder, tied_itself}
-use Rattle.std.specs.List.{filter, flat_map, AllByRecursion}
-use Rattle.std.specs.List.Sorted.{IsStrictlySortedBy}
-use Rattle.std.specs.Ordering.{is_gt, ordering_reverse}
-use Rattle.std.specs.declared.cmp.Ordering.{Ordering}
-use Rattle.std.specs.declared.cmp.Ordering.TheVariants.{Less, Equal, Greater}
-use Rattle.std.proofs.lemmas.Bool.{or_left}
+use Rattle.desk_types.proofs.Common.{[], ◌&&◌, ◌||◌, ◌∙◌, ◌∷◌, ◌≡◌, AllByRecursion, ap, Bool, CmpEqualImpliesEq, cond}
+use Rattle.desk_types.proofs.Common.{Equal, false, flat_map, Greater, in_order, IsStrictlySortedBy, IsTotalOrder}
+use Rattle.desk_types.proofs.Common.{Less, List, Name, or_left, Ordering, ordering_reverse, refl, same, same-refl}
+use Rattle.desk_types.proofs.Common.{same-true, sym, true}
+use Rattle.desk_laws.proofs.{Mounts.all-at, Mounts.has, Mounts.has-filter, NameSets.has-put, NameSets.ordered-put}
 use Rattle.std.proofs.lemmas.List.Kept.{IsStrictlySortedBy-filter}
-use Rattle.std.proofs.lemmas.Map.Lookups.{CmpEqualImpliesEq}
-use Rattle.desk_types.specs.Id.{Name, same}
-use Rattle.desk_types.specs.Free.{in_order}
-use Rattle.desk_types.proofs.Keys.{same-refl, same-true}
-use Rattle.desk_laws.proofs.Mounts.{has, has-filter, all-at}
-use Rattle.desk_laws.proofs.NameSets.{has-put, ordered-put}
+use Rattle.std.specs.{Cmp.tied_itself, List.filter, Ordering.is_gt}
 
 -- ---- facts about all names
 

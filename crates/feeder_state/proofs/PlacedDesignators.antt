@@ -1,26 +1,13 @@
 -- The designators that the rows of placed pieces name.
-use Rattle.std.proofs.Common.{◌≡◌, ℕ, Bool, true, false, cond, Option, Some, None, List, [], ◌∷◌, map, refl, sym, ap, ◌∙◌}
-use Rattle.std.specs.Prelude.{◌&&◌, ◌||◌}
-use Rattle.std.specs.BTreeMap.{is_at}
-use Rattle.std.specs.Cmp.{IsTotalOrder, both_ways}
-use Rattle.std.specs.List.{list_any}
-use Rattle.std.proofs.lemmas.Bool.{or_left, or_right}
-use Rattle.std.proofs.lemmas.Cmp.{nat_cmp_total, on_total, then_total}
-use Rattle.std.specs.declared.cmp.Ordering.{Ordering}
-use Rattle.desk_types.specs.declared.placement.Placement.{Placement}
-use Rattle.desk_types.specs.declared.rules.Rules.TheVariants.{Two}
-use Rattle.desk_types.specs.Id.{Name, same}
-use Rattle.desk_types.specs.Pair.{same_pair}
-use Rattle.desk_types.specs.History.{History}
-use Rattle.desk_types.specs.Judged.{IsJudged}
-use Rattle.desk_types.specs.Placements.{placements_of}
-use Rattle.desk_types.specs.Work.{is_placed_on}
-use Rattle.desk_laws.proofs.Designators.{spots_of, spot-placed}
-use Rattle.desk_types.specs.declared.row.PlacementRow.{PlacementRow}
-use Rattle.state_rows.specs.Kept.{by_piece, row_at, Lists}
-use Rattle.desk_types.specs.Tables.{placement_row}
-use Rattle.state_rows.proofs.PlacedRows.{entry_of, piece_entries, pieces-listed}
+use Rattle.desk_types.proofs.Common.{[], ◌&&◌, ◌||◌, ◌∙◌, ◌∷◌, ◌≡◌, ap, Bool, both_ways, cond, false, History, is_at}
+use Rattle.desk_types.proofs.Common.{is_placed_on, IsJudged, IsTotalOrder, List, list_any, map, Name, nat_cmp_total}
+use Rattle.desk_types.proofs.Common.{None, on_total, Option, or_left, or_right, Ordering, Placement, placement_row}
+use Rattle.desk_types.proofs.Common.{PlacementRow, placements_of, refl, same, same_pair, Some, sym, then_total, true}
+use Rattle.desk_types.proofs.Common.{Two, ℕ}
+use Rattle.desk_laws.proofs.Designators.{spot-placed, spots_of}
 use Rattle.feeder_state.proofs.FilledMaps.{AreOf, each-of}
+use Rattle.state_rows.proofs.PlacedRows.{entry_of, piece_entries, pieces-listed}
+use Rattle.state_rows.specs.Kept.{by_piece, Lists, row_at}
 
 -- ---- lists of one table
 

@@ -1,31 +1,15 @@
 -- The picks of commands: their reels and their number.
-use Rattle.std.proofs.Common.{◌≡◌, ℕ, ◌+◌, ◌-◌, ◌*◌, ◌^◌, ◌≤◌, min, nat_lt, Bool, true, false, Option, Some, None, List, [], ◌∷◌, ◌++◌, length, refl, ap, arith}
-use Rattle.std.specs.Prelude.{is_some, if◌then◌else◌}
-use Rattle.std.specs.Option.{option_and_then, option_map, option_to_list}
-use Rattle.std.specs.List.{AllByRecursion, find}
-use Rattle.std.proofs.lemmas.Bool.{lt-ltb, ltb-true}
-use Rattle.std.proofs.lemmas.List.Sums.{sum_by-append}
-use Rattle.desk_types.specs.declared.command.Command.{Command}
-use Rattle.desk_types.specs.declared.command.Command.TheVariants.{MaterialsInstalled, MaterialsScrapped, CountsTaken}
-use Rattle.desk_types.specs.declared.command.Receipt.{Receipt}
-use Rattle.desk_types.specs.declared.count.CountRow.{CountRow}
-use Rattle.desk_types.specs.declared.limits.TheConstants.{GREATEST_QUANTITY}
-use Rattle.desk_types.specs.declared.rules.Rules.TheVariants.{Two}
-use Rattle.desk_types.specs.declared.take.Pick.{Pick}
-use Rattle.desk_types.specs.declared.take.Purpose.{Purpose}
-use Rattle.desk_types.specs.declared.take.Purpose.TheVariants.{Placed, Rejected, Counted}
-use Rattle.desk_types.specs.Id.{Name}
-use Rattle.desk_types.specs.History.{History}
-use Rattle.desk_types.specs.Setup.{receipt_of}
-use Rattle.desk_types.specs.Tape.{tape_of}
-use Rattle.desk_types.specs.Pieces.{Bench, bench_of, left_of, pieces_picked, pieces_off, pick_for, install_picks, scrap_picks, count_picks, picks_of}
-use Rattle.desk_types.specs.Outcome.{pieces_of}
-use Rattle.desk_types.specs.Judged.{IsJudged}
-use Rattle.desk_laws.proofs.Balance.{unreceived-empty}
-use Rattle.desk_laws.proofs.Picks.{find-passes}
+use Rattle.desk_types.proofs.Common.{[], ◌*◌, ◌++◌, ◌+◌, ◌-◌, ◌^◌, ◌∷◌, ◌≡◌, ◌≤◌, AllByRecursion, ap, arith, Bench}
+use Rattle.desk_types.proofs.Common.{bench_of, Bool, Command, count_picks, Counted, CountRow, CountsTaken, false}
+use Rattle.desk_types.proofs.Common.{GREATEST_QUANTITY, History, if◌then◌else◌, install_picks, is_some, IsJudged}
+use Rattle.desk_types.proofs.Common.{left_of, length, List, lt-ltb, ltb-true, MaterialsInstalled, MaterialsScrapped}
+use Rattle.desk_types.proofs.Common.{min, Name, nat_lt, None, Option, option_and_then, option_map, option_to_list}
+use Rattle.desk_types.proofs.Common.{Pick, pick_for, picks_of, pieces_of, pieces_off, pieces_picked, Placed, Purpose}
+use Rattle.desk_types.proofs.Common.{Receipt, receipt_of, refl, Rejected, scrap_picks, Some, sum_by-append, tape_of}
+use Rattle.desk_types.proofs.Common.{true, Two, ℕ}
+use Rattle.desk_laws.proofs.{Balance.unreceived-empty, Picks.find-passes, Ranges.left-range, WholeInstalls.pieces-off}
 use Rattle.judging.specs.Facts.{IsKnownReel}
-use Rattle.desk_laws.proofs.Ranges.{left-range}
-use Rattle.desk_laws.proofs.WholeInstalls.{pieces-off}
+use Rattle.std.specs.List.{find}
 
 -- ---- reels
 

@@ -1,19 +1,12 @@
 -- Searching a slot's reels in order, including spent ones.
-use Rattle.std.proofs.Common.{◌≡◌, ℕ, ◌+◌, ◌-◌, ◌<◌, ◌≤◌, min, nat_lt, Bool, true, false, cond, Some, None, List, [], ◌∷◌, ◌++◌, length, drop, get_or, ◌⊎◌, inl, inr, refl, sym, ap, ◌∙◌, arith}
-use Rattle.std.specs.Prelude.{slice_get}
-use Rattle.std.specs.List.{find, filter, sum_by}
-use Rattle.std.proofs.lemmas.Bool.{lt-ltb, ltb-true, ltb-false}
-use Rattle.std.proofs.lemmas.List.{drop_all}
-use Rattle.std.proofs.lemmas.List.Sums.{sum_by-cons}
-use Rattle.std.proofs.lemmas.Option.{slice_get_cases, slice_get_within, get_or_from_slice_get}
-use Rattle.desk_types.specs.declared.take.Pick.{Pick}
-use Rattle.desk_types.specs.declared.take.Purpose.{Purpose}
-use Rattle.desk_types.specs.Id.{Name}
-use Rattle.desk_types.specs.History.{History}
-use Rattle.desk_types.specs.Tape.{tape_of}
-use Rattle.desk_types.specs.Pieces.{left_of, live_on, pieces_picked, pieces_off, scrap_picks}
-use Rattle.desk_types.proofs.LoopSteps.{drop-next}
+use Rattle.desk_types.proofs.Common.{[], ◌++◌, ◌+◌, ◌-◌, ◌<◌, ◌∙◌, ◌∷◌, ◌≡◌, ◌≤◌, ◌⊎◌, ap, arith, Bool, cond, drop}
+use Rattle.desk_types.proofs.Common.{drop-next, drop_all, false, get_or, History, inl, inr, left_of, length, List}
+use Rattle.desk_types.proofs.Common.{live_on, lt-ltb, ltb-false, ltb-true, min, Name, nat_lt, None, Pick, pieces_off}
+use Rattle.desk_types.proofs.Common.{pieces_picked, Purpose, refl, scrap_picks, slice_get, Some, sum_by, sum_by-cons}
+use Rattle.desk_types.proofs.Common.{sym, tape_of, true, ℕ}
 use Rattle.desk_laws.proofs.Lives.{scrap-filter}
+use Rattle.std.proofs.lemmas.Option.{get_or_from_slice_get, slice_get_cases, slice_get_within}
+use Rattle.std.specs.List.{filter, find}
 
 -- ---- one place further
 

@@ -1,13 +1,11 @@
 -- A statement inside a transaction leaves the last commit unchanged.
-use Rattle.std.proofs.Common.{◌≡◌, ◌⊎◌, ◌∙◌, inl, inr, ℕ, List, Option, None, Some, Result, Ok, Err, Bool, true, if◌then◌else◌, IsTrue, IfOk, IfErr, Vec, Global, refl, subst, sym}
-use Rattle.sqlite.specs.declared.error.Error.{Error}
-use Rattle.sqlite_value.specs.Order.{Row}
-use Rattle.sqlite_schema.specs.declared.command.Returning.{Returning}
+use Rattle.desk_types.proofs.Common.{◌∙◌, ◌≡◌, ◌⊎◌, Bool, Err, Global, IfErr, IfOk, if◌then◌else◌, inl, inr, IsTrue}
+use Rattle.desk_types.proofs.Common.{List, None, Ok, Option, refl, Result, Some, subst, sym, true, Vec, ℕ}
+use Rattle.line_tables.proofs.Common.{Database, Error, IsOurs, KeepsCommit, Reads, Row, State}
 use Rattle.sqlite.specs.Clock.{timed}
-use Rattle.sqlite.specs.Effect.{Database}
-use Rattle.sqlite.specs.State.{State, Shows, Shown, ShowsRows, IsTooLate, IsUnchanged, KeepsCommit, IsRolledBack, FailsToQuery, IsNotRun, FailsToShow, ExecutesInside}
-use Rattle.line_tables.specs.Line.{IsOurs}
-use Rattle.line_tables.specs.Calls.{Reads}
+use Rattle.sqlite.specs.State.{ExecutesInside, FailsToQuery, FailsToShow, IsNotRun, IsRolledBack, IsTooLate}
+use Rattle.sqlite.specs.State.{IsUnchanged, Shown, Shows, ShowsRows}
+use Rattle.sqlite_schema.specs.declared.command.Returning.{Returning}
 
 pub keeps_same : (s : State) → KeepsCommit s s
 keeps_same s = record { was_open = λ is. is; committed = λ _. refl }

@@ -1,27 +1,17 @@
 -- Rows of a table by key: each key has at most one row, and a change at one key changes the map at that key.
-use Rattle.std.proofs.Common.{◌≡◌, ◌∙◌, ◌||◌, ◌&&◌, ◌==◌, ℕ, ℤ, pos, Bool, true, false, not, if◌then◌else◌, Ordering, Less, Equal, Greater, is_eq, Option, Some, None, List, [], ◌∷◌, ◌++◌, filter, refl, sym, ap, ap₂, subst, arith, true≢false}
-use Rattle.std.specs.Option.{option_map, option_to_list}
-use Rattle.std.specs.List.{AllByRecursion}
-use Rattle.std.specs.List.Sorted.{IsPermutation}
-use Rattle.std.specs.Cmp.Lexicographic.{texts_ties}
-use Rattle.std.proofs.lemmas.Bool.{and_parts, and_from, eqb-true, eq-eqb}
-use Rattle.std.proofs.lemmas.Cmp.{int_ranked, tied_itself}
-use Rattle.std.proofs.lemmas.List.Elements.{All-from_recursion, recursion_from_All}
-use Rattle.std.proofs.lemmas.List.Sorted.{IsPermutation-sym, length_permutation, All-permutation}
-use Rattle.sqlite_trees.proofs.ListLemmas.{IsPermutation-filter}
-use Rattle.sqlite.proofs.Callers.{one_permutation}
-use Rattle.sqlite.specs.declared.types.Value.{Value}
-use Rattle.sqlite.specs.declared.types.Value.TheVariants.{Null, Int, Text}
-use Rattle.sqlite_value.specs.Order.{Row, column, value_cmp}
-use Rattle.sqlite_value.proofs.OrderLemmas.{value_cmp_total, value_cmp-Int, value_cmp-Text}
-use Rattle.sqlite_schema.specs.Rules.{equal}
-use Rattle.sqlite_sql.specs.Ops.{binary, is_null, is_true, from_truth}
-use Rattle.sqlite.specs.Collation.TheVariants.{Binary}
-use Rattle.desk_types.specs.Id.{Name, same}
-use Rattle.desk_types.specs.declared.row.PlacementRow.{PlacementRow}
-use Rattle.desk_types.proofs.Keys.{same-true, same-refl}
-use Rattle.line_tables.specs.StateRows.{AreRows, has_text, has_int, has_pair, has_sheet_place, has_piece, placement_columns}
-use Rattle.line_tables.proofs.Altering.{without}
+use Rattle.desk_types.proofs.Common.{[], ◌&&◌, ◌++◌, ◌==◌, ◌||◌, ◌∙◌, ◌∷◌, ◌≡◌, All-from_recursion, All-permutation}
+use Rattle.desk_types.proofs.Common.{AllByRecursion, and_from, and_parts, ap, ap₂, arith, Bool, eq-eqb, eqb-true}
+use Rattle.desk_types.proofs.Common.{false, filter, if◌then◌else◌, int_ranked, IsPermutation, IsPermutation-sym}
+use Rattle.desk_types.proofs.Common.{length_permutation, List, Name, None, not, Option, option_map, option_to_list}
+use Rattle.desk_types.proofs.Common.{PlacementRow, pos, recursion_from_All, refl, same, same-refl, same-true, Some}
+use Rattle.desk_types.proofs.Common.{subst, sym, texts_ties, tied_itself, true, true≢false, ℕ, ℤ}
+use Rattle.line_tables.proofs.Common.{AreRows, Binary, binary, column, equal, has_pair, has_piece, has_sheet_place}
+use Rattle.line_tables.proofs.Common.{has_text, Int, is_true, IsPermutation-filter, Null, one_permutation}
+use Rattle.line_tables.proofs.Common.{placement_columns, Row, Text, Value, value_cmp, value_cmp-Int, value_cmp-Text}
+use Rattle.line_tables.proofs.Common.{value_cmp_total}
+use Rattle.line_tables.{proofs.Altering.without, specs.StateRows.has_int}
+use Rattle.sqlite_sql.specs.Ops.{from_truth, is_null}
+use Rattle.std.proofs.Common.{Equal, Greater, is_eq, Less, Ordering}
 
 -- ---- values that SQL considers equal
 

@@ -1,16 +1,14 @@
 -- The test of a schema, and facts about our schema.
-use Rattle.std.proofs.Common.{◌≡◌, ◌∙◌, ◌++◌, [], inl, inr, true, false, ◌&&◌, length, take, drop, refl, sym, ap, ap₂, subst, true≢false}
-use Rattle.std.proofs.lemmas.Bool.{eqb-true, eq-eqb, or_cases, or_left, or_right, and_from, and_parts}
-use Rattle.std.proofs.lemmas.List.{take-append-drop}
-use base.Stored.{Gv, gnil, gnum, gcons}
-use Rattle.sqlite.specs.Schema.{Schema}
-use Rattle.sqlite_schema.specs.Names.{same_name}
+use Rattle.desk_types.proofs.Common.{[], ◌&&◌, ◌++◌, ◌∙◌, ◌≡◌, and_from, and_parts, ap, ap₂, drop, eq-eqb, eqb-true}
+use Rattle.desk_types.proofs.Common.{false, inl, inr, length, One, or_left, or_right, refl, Rules, subst, sym, take}
+use Rattle.desk_types.proofs.Common.{take-append-drop, true, true≢false, Two}
+use Rattle.line_tables.proofs.Common.{are_quiet, has_state, Indexed, is_ours, IsOurs, Layout, no_schema, Plain}
+use Rattle.line_tables.proofs.Common.{same_name, Schema, schema_of}
+use Rattle.line_tables.specs.Line.{begins_with, first_behind, is_blank, is_same_code, is_same_schema}
+use Rattle.line_tables.specs.Line.{nothing as no_others}
 use Rattle.sqlite_schema.specs.contracts.schema.Schema.{the_row}
-use Rattle.desk_types.specs.declared.rules.Rules.{Rules}
-use Rattle.desk_types.specs.declared.rules.Rules.TheVariants.{One, Two}
-use Rattle.line_tables.specs.Line.{schema_of, IsOurs, no_schema, is_ours, is_blank, is_same_schema, is_same_code, Layout, begins_with, are_quiet, first_behind, nothing as no_others}
-use Rattle.line_tables.specs.Names.{has_state}
-use Rattle.line_tables.specs.Line.Layout.{Indexed, Plain}
+use Rattle.std.proofs.lemmas.Bool.{or_cases}
+use base.Stored.{gcons, gnil, gnum, Gv}
 
 same_is : (a b : Gv) → is_same_code a b ≡ true → a ≡ b
 same_is gnil gnil h = refl

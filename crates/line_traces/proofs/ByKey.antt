@@ -1,22 +1,13 @@
 -- The pieces of a list by their keys.
-use Rattle.std.proofs.Common.{◌≡◌, ◌∙◌, ◌==◌, ◌&&◌, Bool, true, false, Some, List, [], ◌∷◌, map, filter, find, refl, sym, ap, ap₂, true≢false, is_eq}
-use Rattle.std.specs.List.{AllByRecursion}
-use Rattle.std.specs.List.Sorted.{IsStrictlySortedBy}
-use Rattle.std.specs.Map.{keys_of}
-use Rattle.std.proofs.lemmas.Bool.{eqb-true, eq-eqb, and_parts}
-use Rattle.sqlite_keyed.proofs.ListLemmas.{all_both, all-filter}
-use Rattle.desk_types.specs.declared.placement.Placement.{Placement}
-use Rattle.desk_types.specs.declared.rules.Rules.TheVariants.{Two}
-use Rattle.desk_types.specs.History.{History}
-use Rattle.desk_types.specs.Judged.{IsJudged}
-use Rattle.desk_types.specs.Placements.{placements_of}
-use Rattle.state_rows.specs.Kept.{by_piece}
-use Rattle.state_rows.proofs.PlacedRows.{entry_of, pieces-ascend}
-use Rattle.state_rows.specs.Lists.{Key, keys_where}
-use Rattle.line_traces.specs.Pieces.{pieces_where, piece_at}
-use Rattle.line_traces.proofs.PlacedColumns.{itself}
-use Rattle.line_traces.proofs.FoundPieces.{IsBefore, before-all}
-use Rattle.line_traces.proofs.TwoCalls.{all-placed_columns}
+use Rattle.desk_types.proofs.Common.{[], ◌&&◌, ◌==◌, ◌∙◌, ◌∷◌, ◌≡◌, AllByRecursion, and_parts, ap, ap₂, Bool, eq-eqb}
+use Rattle.desk_types.proofs.Common.{eqb-true, false, filter, find, History, IsJudged, IsStrictlySortedBy, keys_of}
+use Rattle.desk_types.proofs.Common.{List, map, Placement, placements_of, refl, Some, sym, true, true≢false, Two}
+use Rattle.line_traces.{proofs.FoundPieces.before-all, proofs.FoundPieces.IsBefore, proofs.PlacedColumns.itself}
+use Rattle.line_traces.{proofs.TwoCalls.all-placed_columns, specs.Pieces.piece_at, specs.Pieces.pieces_where}
+use Rattle.sqlite_keyed.proofs.ListLemmas.{all-filter, all_both}
+use Rattle.state_rows.{proofs.PlacedRows.entry_of, proofs.PlacedRows.pieces-ascend, specs.Kept.by_piece}
+use Rattle.state_rows.{specs.Lists.Key, specs.Lists.keys_where}
+use Rattle.std.proofs.Common.{is_eq}
 
 -- ---- look-ups
 

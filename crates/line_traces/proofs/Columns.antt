@@ -1,24 +1,13 @@
 -- Values of rows, and their equality.
-use Rattle.std.proofs.Common.{◌≡◌, ◌≢◌, ◌∙◌, ℕ, pos, Bool, true, false, length, map, sym, ap, subst, arith, Equal, is_eq, int_cmp}
-use Rattle.std.specs.Prelude.{◌<◌}
-use Rattle.std.specs.List.{range_with_len}
-use Rattle.std.proofs.lemmas.List.{same_lists, get_or_default}
-use Rattle.std.proofs.lemmas.List.FromFn.{get_or-map-range_with_len, length-map-range_with_len}
-use Rattle.std.proofs.lemmas.Bool.Decides.{nat_tests}
-use Rattle.sqlite.specs.declared.types.Value.{Value}
-use Rattle.sqlite.specs.declared.types.Value.TheVariants.{Null, Int, Text}
-use Rattle.sqlite.specs.Collation.TheVariants.{Binary}
-use Rattle.sqlite_value.specs.Order.{Row, column}
-use Rattle.sqlite_value.proofs.OrderLemmas.{value_cmp-Int, value_cmp-Text}
-use Rattle.sqlite_schema.specs.Rules.{equal}
-use Rattle.sqlite_sql.specs.Ops.{binary}
-use Rattle.desk_types.specs.Id.{Name, same}
-use Rattle.desk_types.proofs.Keys.{same-true, is_at-by_name}
-use Rattle.desk_types.specs.declared.placement.Placement.{Placement}
-use Rattle.desk_types.specs.declared.row.PlacementRow.{PlacementRow}
-use Rattle.line_tables.specs.StateRows.{flag, placement_columns}
+use Rattle.desk_types.proofs.Common.{◌<◌, ◌∙◌, ◌≡◌, ◌≢◌, ap, arith, Bool, false, int_cmp, is_at-by_name, length, map}
+use Rattle.desk_types.proofs.Common.{Name, nat_tests, Placement, PlacementRow, pos, range_with_len, same, same-true}
+use Rattle.desk_types.proofs.Common.{subst, sym, true, ℕ}
+use Rattle.line_tables.proofs.Common.{Binary, binary, column, equal, flag, Int, Null, placement_columns, Row, Text}
+use Rattle.line_tables.proofs.Common.{Value, value_cmp-Int, value_cmp-Text}
+use Rattle.line_tables.proofs.Keyed.{tied_twice, truth_told}
 use Rattle.line_traces.specs.Committed.{placed_columns}
-use Rattle.line_tables.proofs.Keyed.{truth_told, tied_twice}
+use Rattle.std.proofs.{Common.Equal, Common.is_eq, lemmas.List.get_or_default, lemmas.List.same_lists}
+use Rattle.std.proofs.{lemmas.List.FromFn.get_or-map-range_with_len, lemmas.List.FromFn.length-map-range_with_len}
 
 -- ---- rows
 

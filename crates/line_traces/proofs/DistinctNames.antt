@@ -1,33 +1,20 @@
 -- The names that DISTINCT keeps are a set.
-use Rattle.std.proofs.Common.{◌≡◌, ◌∙◌, ◌≢◌, Bool, true, false, Some, List, [], ◌∷◌, ◌++◌, map, filter, cond, refl, sym, ap, ap₂, subst, Ordering, Equal, is_eq, IsTrue}
-use Rattle.std.specs.Prelude.{◌||◌, if◌then◌else◌}
-use Rattle.std.specs.Option.{option_map, option_to_list}
-use Rattle.std.specs.List.{list_any, flat_map, AllByRecursion}
-use Rattle.std.specs.List.Sorted.{IsPermutation, IsStrictlySortedBy}
-use Rattle.std.specs.Map.{keys_of}
-use Rattle.std.specs.Ordering.{on}
-use Rattle.std.proofs.lemmas.Cmp.{nat_list_cmp_total, tied_itself}
-use Rattle.std.proofs.lemmas.List.Elements.{All-from_recursion, recursion_from_All}
-use Rattle.std.proofs.lemmas.List.Folds.{list_any-append}
-use Rattle.std.proofs.lemmas.List.Sorted.{All-permutation, list_any-IsPermutation, IsPermutation-sym}
-use Rattle.sqlite_trees.specs.Tree.{IsAscending}
-use Rattle.sqlite_keyed.proofs.ListLemmas.{all_weaker, all-map, map-map}
-use Rattle.sqlite.specs.declared.types.Value.TheVariants.{Text}
-use Rattle.sqlite.specs.Collation.TheVariants.{Binary}
-use Rattle.sqlite_value.specs.Order.{column, value_cmp}
-use Rattle.sqlite_value.specs.Keys.{collated_cmp}
-use Rattle.sqlite_value.proofs.OrderLemmas.{value_cmp-Text, then-Equal}
-use Rattle.sqlite_sql.specs.Group.{members, IsDistinctOf}
-use Rattle.sqlite.specs.Query.{Output}
-use Rattle.desk_types.specs.Id.{Name, same, by_name}
-use Rattle.desk_types.specs.Placements.{set_of}
-use Rattle.desk_types.proofs.Keys.{same-refl, same-sym, same-true, is_at-by_name}
-use Rattle.desk_laws.proofs.Mounts.{has}
-use Rattle.desk_laws.proofs.NameSets.{has-set, set-ordered}
+use Rattle.desk_types.proofs.Common.{[], ◌++◌, ◌||◌, ◌∙◌, ◌∷◌, ◌≡◌, ◌≢◌, All-from_recursion, All-permutation}
+use Rattle.desk_types.proofs.Common.{AllByRecursion, ap, ap₂, Bool, by_name, cond, false, filter, flat_map}
+use Rattle.desk_types.proofs.Common.{if◌then◌else◌, is_at-by_name, IsPermutation, IsPermutation-sym}
+use Rattle.desk_types.proofs.Common.{IsStrictlySortedBy, IsTrue, keys_of, List, list_any, list_any-append}
+use Rattle.desk_types.proofs.Common.{list_any-IsPermutation, map, Name, nat_list_cmp_total, option_map}
+use Rattle.desk_types.proofs.Common.{option_to_list, recursion_from_All, refl, same, same-refl, same-sym, same-true}
+use Rattle.desk_types.proofs.Common.{set_of, Some, subst, sym, tied_itself, true}
+use Rattle.line_tables.proofs.Common.{all_weaker, Binary, column, has_text, IsAscending, map-map, Output, Text}
+use Rattle.line_tables.proofs.Common.{value_cmp, value_cmp-Text}
+use Rattle.desk_laws.{proofs.Mounts.has, proofs.NameSets.has-set, proofs.NameSets.set-ordered}
+use Rattle.line_traces.{proofs.Columns.equal-text, proofs.Columns.one-text, proofs.RowsByKey.rows-listed}
+use Rattle.sqlite_keyed.proofs.ListLemmas.{all-map}
+use Rattle.sqlite_sql.specs.Group.{IsDistinctOf, members}
+use Rattle.sqlite_value.{proofs.OrderLemmas.then-Equal, specs.Keys.collated_cmp}
 use Rattle.state_rows.specs.Kept.{row_at}
-use Rattle.line_tables.specs.StateRows.{has_text}
-use Rattle.line_traces.proofs.Columns.{equal-text, one-text}
-use Rattle.line_traces.proofs.RowsByKey.{rows-listed}
+use Rattle.std.{proofs.Common.Equal, proofs.Common.is_eq, proofs.Common.Ordering, specs.Ordering.on}
 
 -- ---- a set is in ascending order
 

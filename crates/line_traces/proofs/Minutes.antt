@@ -1,28 +1,12 @@
 -- The rows of `accepted` give the minutes of the entries. This meets the premise of the calls.
-use Rattle.std.proofs.Common.{◌≡◌, ◌∙◌, ℕ, ◌<◌, ◌≤◌, pos, Bool, true, false, List, [], ◌∷◌, filter, length, refl, ap, subst, arith}
-use Rattle.std.specs.List.{AllByRecursion, AllZip}
-use Rattle.std.specs.List.Sorted.{IsPermutation}
-use Rattle.std.proofs.lemmas.List.Elements.{All-from_recursion}
-use Rattle.std.proofs.lemmas.List.Sorted.{IsPermutation-sym}
-use Rattle.sqlite.specs.declared.types.Value.TheVariants.{Int}
-use Rattle.sqlite.specs.Collation.TheVariants.{Binary}
-use Rattle.sqlite_value.specs.Order.{Row, column}
-use Rattle.sqlite_schema.specs.Rules.{equal}
-use Rattle.sqlite_trees.proofs.ListLemmas.{IsPermutation-filter}
-use Rattle.sqlite_keyed.proofs.ListLemmas.{all_both, all_weaker}
-use Rattle.sqlite.specs.Effect.{Database}
-use Rattle.sqlite.proofs.Callers.{one_permutation}
-use Rattle.desk_types.specs.declared.command.Entry.{Entry}
-use Rattle.desk_types.specs.declared.rules.Rules.TheVariants.{Two}
-use Rattle.desk_types.specs.History.{History}
-use Rattle.desk_types.specs.Judged.{IsJudged}
-use Rattle.desk_types.specs.Tables.{tables_of}
-use Rattle.line_tables.specs.Rows.{accepted_in}
-use Rattle.line_tables.specs.Calls.{has_number}
-use Rattle.line_tables.specs.StateRows.{HoldsState}
-use Rattle.line_traces.specs.Committed.{TellsMinute, HoldsList}
-use Rattle.line_traces.proofs.Columns.{one-int}
-use Rattle.line_tables.proofs.Keyed.{own_int}
+use Rattle.desk_types.proofs.Common.{[], ◌<◌, ◌∙◌, ◌∷◌, ◌≡◌, ◌≤◌, All-from_recursion, AllByRecursion, AllZip, ap}
+use Rattle.desk_types.proofs.Common.{arith, Bool, Entry, false, filter, History, IsJudged, IsPermutation}
+use Rattle.desk_types.proofs.Common.{IsPermutation-sym, length, List, pos, refl, subst, tables_of, true, Two, ℕ}
+use Rattle.line_tables.proofs.Common.{accepted_in, all_weaker, Binary, column, Database, equal, has_number, Int}
+use Rattle.line_tables.proofs.Common.{IsPermutation-filter, one_permutation, Row}
+use Rattle.line_tables.{proofs.Keyed.own_int, specs.StateRows.HoldsState}
+use Rattle.line_traces.{proofs.Columns.one-int, specs.Committed.HoldsList, specs.Committed.TellsMinute}
+use Rattle.sqlite_keyed.proofs.ListLemmas.{all_both}
 
 -- The row has the entry's number and its effective minute.
 abbrev pub IsRowOf : Entry → Row → Type 0

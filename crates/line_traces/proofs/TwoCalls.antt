@@ -1,15 +1,9 @@
 -- The combined results of two calls.
-use Rattle.std.proofs.Common.{◌≡◌, ◌∙◌, Bool, true, false, Option, Some, None, List, [], ◌∷◌, map, refl, sym, ap, ap₂}
-use Rattle.std.specs.Prelude.{if◌then◌else◌}
-use Rattle.sqlite_value.specs.Order.{Row}
-use Rattle.sqlite.specs.State.{State}
-use Rattle.desk_types.specs.declared.placement.Placement.{Placement}
-use Rattle.desk_types.specs.Id.{Name}
-use Rattle.desk_types.specs.History.{History, Basis}
-use Rattle.line_tables.specs.StateRows.{flag}
-use Rattle.line_traces.specs.Committed.{FindsOfList, placed_columns, name_row}
-use Rattle.line_traces.specs.declared.working.Working.{Working}
-use Rattle.line_traces.specs.Working.{FindsOfBoth}
+use Rattle.desk_types.proofs.Common.{[], ◌∙◌, ◌∷◌, ◌≡◌, ap, ap₂, Basis, Bool, false, History, if◌then◌else◌, List}
+use Rattle.desk_types.proofs.Common.{map, Name, None, Option, Placement, refl, Some, sym, true}
+use Rattle.line_tables.proofs.Common.{flag, Row, State}
+use Rattle.line_traces.specs.{Committed.FindsOfList, Committed.name_row, Committed.placed_columns}
+use Rattle.line_traces.specs.{Working.FindsOfBoth, declared.working.Working.Working}
 
 -- ---- rows
 

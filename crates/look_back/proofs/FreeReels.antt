@@ -1,19 +1,11 @@
 -- Free reels and their turns.
-use Rattle.std.proofs.Common.{◌≡◌, ℕ, false, Option, Some, None, List, [], ◌∷◌, map, filter, filter_map, length, take, get_or, ◌++◌, ◌+◌, ◌<◌, refl, sym, ap, ◌∙◌}
-use Rattle.std.specs.Prelude.{if◌then◌else◌}
-use Rattle.std.specs.BTreeSet.{insert_key}
-use Rattle.std.specs.List.{cons_option}
-use Rattle.std.specs.Option.{option_and_then, option_map, option_map_or, option_to_list}
-use Rattle.desk_types.specs.declared.command.Command.{Command}
-use Rattle.desk_types.specs.declared.command.Entry.{Entry}
-use Rattle.desk_types.specs.declared.view.Left.{Left}
-use Rattle.desk_types.specs.Id.{Name}
-use Rattle.desk_types.specs.History.{History}
-use Rattle.desk_types.specs.Free.{received_by, reels_received, is_free, by_turn, in_order}
-use Rattle.std.proofs.lemmas.List.Elements.{filter_map-append}
-use Rattle.desk_types.proofs.LoopSteps.{take-next}
+use Rattle.desk_types.proofs.Common.{[], ◌++◌, ◌+◌, ◌<◌, ◌∙◌, ◌∷◌, ◌≡◌, ap, by_turn, Command, cons_option, Entry}
+use Rattle.desk_types.proofs.Common.{false, filter, filter_map, filter_map-append, get_or, History, if◌then◌else◌}
+use Rattle.desk_types.proofs.Common.{in_order, insert_key, is_free, Left, length, List, map, Name, None, Option}
+use Rattle.desk_types.proofs.Common.{option_and_then, option_map, option_map_or, option_to_list, received_by}
+use Rattle.desk_types.proofs.Common.{reels_received, refl, Some, sym, take, take-next, ℕ}
 use Rattle.judging.proofs.FreeReels.{free_among, turn-put}
-use Rattle.judging.specs.Turns.{turn_of, by_life, if_free, turn_by}
+use Rattle.judging.specs.Turns.{by_life, if_free, turn_by, turn_of}
 
 pub not-free : (H : History) (part reel : Name) (command : Command) → received_by command ≡ Some reel → is_free H part reel ≡ false → turn_by H part command ≡ None
 not-free H part reel command is not_free =

@@ -1,18 +1,10 @@
 -- The rows of boards, for the desk that has these rows.
-use Rattle.std.proofs.Common.{◌≡◌, ◌↔◌, Bool, true, false, Option, Some, None, [], refl, sym, ap, ◌∙◌, unwrap_or}
-use Rattle.std.specs.Prelude.{if◌then◌else◌, is_some}
-use Rattle.std.specs.Option.{option_map, option_map_or, option_and_then}
-use Rattle.std.specs.Cmp.{both_ways}
-use Rattle.desk_types.specs.declared.rules.Rules.TheVariants.{Two}
-use Rattle.desk_types.specs.Id.{Name, same}
-use Rattle.desk_types.specs.History.{History}
-use Rattle.desk_types.specs.Work.{in_work_on, is_in_work_on, is_in_work, product_of}
-use Rattle.desk_types.specs.Judged.{IsJudged}
-use Rattle.desk_types.proofs.Keys.{same-refl}
+use Rattle.desk_types.proofs.Common.{[], ◌↔◌, ◌∙◌, ◌≡◌, ap, board_row, BoardRow, Bool, both_ways, false, History}
+use Rattle.desk_types.proofs.Common.{if◌then◌else◌, in_work_on, is_in_work, is_in_work_on, is_some, IsJudged, Name}
+use Rattle.desk_types.proofs.Common.{None, Option, option_and_then, option_map, option_map_or, product_of, refl, same}
+use Rattle.desk_types.proofs.Common.{same-refl, Some, sym, true, Two, unwrap_or, work_machine}
 use Rattle.desk_laws.proofs.Lookups.{in_work-somewhere, somewhere-in_work}
-use Rattle.desk_types.specs.declared.row.BoardRow.{BoardRow}
-use Rattle.desk_types.specs.Tables.{work_machine, board_row}
-use Rattle.state_rows.proofs.BoardRows.{last_start, IsWorking, on-is, working}
+use Rattle.state_rows.proofs.BoardRows.{IsWorking, last_start, on-is, working}
 
 -- ---- boards in work
 

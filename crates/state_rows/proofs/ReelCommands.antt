@@ -1,15 +1,8 @@
 -- Commands that receive, bake or only handle a reel.
-use Rattle.std.proofs.Common.{◌≡◌, ℕ, Bool, true, false, Option, Some, None, [], ◌∷◌, refl, sym, ap, ◌∙◌, unwrap_or}
-use Rattle.std.specs.Prelude.{if◌then◌else◌}
-use Rattle.std.specs.Option.{option_or, option_map_or}
-use Rattle.desk_types.specs.declared.command.Command.{Command}
-use Rattle.desk_types.specs.declared.command.Command.TheVariants.{ReelReceived, ReelBaked}
-use Rattle.desk_types.specs.declared.command.Receipt.{Receipt}
-use Rattle.desk_types.specs.Id.{Name, same}
-use Rattle.desk_types.specs.History.{History}
-use Rattle.desk_types.specs.Setup.{receipt_by}
-use Rattle.desk_types.specs.Pieces.{found_by}
-use Rattle.desk_types.specs.FloorLife.{open_by, IsUntouched, bake_by, baked_by, last_bake}
+use Rattle.desk_types.proofs.Common.{[], ◌∙◌, ◌∷◌, ◌≡◌, ap, bake_by, baked_by, Bool, Command, false, found_by}
+use Rattle.desk_types.proofs.Common.{History, if◌then◌else◌, IsUntouched, last_bake, Name, None, open_by, Option}
+use Rattle.desk_types.proofs.Common.{option_map_or, option_or, Receipt, receipt_by, ReelBaked, ReelReceived, refl}
+use Rattle.desk_types.proofs.Common.{same, Some, sym, true, unwrap_or, ℕ}
 use Rattle.desk_types.proofs.ReelCommands.{IsQuiet, IsQuiet-untouched}
 use Rattle.state_rows.specs.After.{bakes}
 

@@ -1,30 +1,15 @@
 -- The tables after a command that takes pieces.
-use Rattle.std.proofs.Common.{◌≡◌, ℕ, ◌+◌, ◌-◌, nat_lt, Bool, true, false, not, Option, Some, None, List, [], ◌∷◌, map, filter, refl, sym, ap, ◌∙◌, unwrap_or, arith, zero-add}
-use Rattle.std.specs.Prelude.{if◌then◌else◌, ◌==◌, ◌||◌}
-use Rattle.std.specs.Option.{option_or, option_map}
-use Rattle.std.proofs.lemmas.Bool.{and_parts, ltb-false, ne_eqb, ltb-true, or_parts}
-use Rattle.std.proofs.lemmas.List.Sums.{sum_by-cons}
-use Rattle.desk_types.specs.declared.command.Command.{Command}
-use Rattle.desk_types.specs.declared.command.Receipt.{Receipt}
-use Rattle.desk_types.specs.declared.rules.Rules.TheVariants.{Two}
-use Rattle.desk_types.specs.declared.take.Pick.{Pick}
-use Rattle.desk_types.specs.Id.{Name, same}
-use Rattle.desk_types.specs.History.{History}
-use Rattle.desk_types.specs.Setup.{receipt_of}
-use Rattle.desk_types.specs.Pieces.{pieces_picked, picks_of, pieces_by, left_of, found_by, is_placed, is_mounted}
-use Rattle.desk_types.specs.FloorLife.{open_by, baked_by, since_after}
-use Rattle.desk_types.specs.Outcome.{take_of}
-use Rattle.desk_types.specs.View.{view_of}
-use Rattle.desk_types.specs.Judged.{IsJudged}
-use Rattle.desk_laws.proofs.Mounted.{mounted-is, left_after}
-use Rattle.desk_types.specs.declared.row.ReelRow.{ReelRow}
-use Rattle.desk_types.specs.declared.row.MountRow.{MountRow}
-use Rattle.desk_types.specs.declared.row.PlacementRow.{PlacementRow}
-use Rattle.desk_types.specs.Tables.{columns_of, reel_row, last_put, mount_row}
-use Rattle.state_rows.specs.After.{placed_in, scrapped_in, used_after, step_row}
-use Rattle.state_rows.specs.EditsOf.{pick_of, is_picked, less_row, picked_rows, is_spent}
-use Rattle.state_rows.proofs.ReelRows.{same-rows}
-use Rattle.state_rows.proofs.MountRows.{unreceived-unmounted}
+use Rattle.desk_types.proofs.Common.{[], ◌+◌, ◌-◌, ◌==◌, ◌||◌, ◌∙◌, ◌∷◌, ◌≡◌, and_parts, ap, arith, baked_by, Bool}
+use Rattle.desk_types.proofs.Common.{columns_of, Command, false, filter, found_by, History, if◌then◌else◌, is_mounted}
+use Rattle.desk_types.proofs.Common.{is_placed, IsJudged, last_put, left_of, List, ltb-false, ltb-true, map}
+use Rattle.desk_types.proofs.Common.{mount_row, MountRow, Name, nat_lt, ne_eqb, None, not, open_by, Option}
+use Rattle.desk_types.proofs.Common.{option_map, option_or, or_parts, Pick, picks_of, pieces_by, pieces_picked}
+use Rattle.desk_types.proofs.Common.{PlacementRow, Receipt, receipt_of, reel_row, ReelRow, refl, same, since_after}
+use Rattle.desk_types.proofs.Common.{Some, sum_by-cons, sym, take_of, true, Two, unwrap_or, view_of, zero-add, ℕ}
+use Rattle.desk_laws.proofs.Mounted.{left_after, mounted-is}
+use Rattle.state_rows.proofs.{MountRows.unreceived-unmounted, ReelRows.same-rows}
+use Rattle.state_rows.specs.{After.placed_in, After.scrapped_in, After.step_row, After.used_after, EditsOf.is_picked}
+use Rattle.state_rows.specs.{EditsOf.is_spent, EditsOf.less_row, EditsOf.pick_of, EditsOf.picked_rows}
 
 pub picks-again : (H : History) (minute : ℕ) (picks : List Pick) → map pick_of (map (take_of H minute) picks) ≡ picks
 picks-again H minute [] = refl

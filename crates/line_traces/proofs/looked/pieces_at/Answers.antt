@@ -1,10 +1,7 @@
-use Rattle.std.proofs.Common.{Some, map, arith}
-use Rattle.sqlite.specs.State.{HasCleanDisk}
-use Rattle.sqlite.specs.Held.{state}
-use Rattle.line_tables.proofs.Frames.{reads_then}
-use Rattle.line_tables.proofs.Keeps.{reads_before}
-use Rattle.line_traces.specs.Pieces.{piece_at}
-use Rattle.line_traces.proofs.LookedPieces.{run-added}
+use Rattle.desk_types.proofs.Common.{arith, map, Some}
+use Rattle.line_tables.proofs.Common.{HasCleanDisk, state}
+use Rattle.line_tables.{proofs.Frames.reads_then, proofs.Keeps.reads_before}
+use Rattle.line_traces.{proofs.LookedPieces.run-added, specs.Pieces.piece_at}
 use Rattle.line_traces.proofs.looked.pieces_at.Goals as goal
 
 pub loop-left-preserved : goal.loop-left-preserved

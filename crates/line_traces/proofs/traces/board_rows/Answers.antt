@@ -1,10 +1,8 @@
-use Rattle.std.proofs.Common.{◌≡◌, true, arith, rules, subst, option_copied}
-use Rattle.sqlite.specs.State.{HasCleanDisk}
-use Rattle.sqlite.specs.Held.{state}
-use Rattle.line_traces.specs.Pieces.{is_board, pieces_on}
-use Rattle.line_traces.specs.Committed.{FindsOfList}
-use Rattle.line_traces.proofs.TwoCalls.{there-told}
+use Rattle.desk_types.proofs.Common.{◌≡◌, arith, option_copied, rules, subst, true}
+use Rattle.line_tables.proofs.Common.{HasCleanDisk, state}
 use Rattle.line_tables.proofs.Keeps.{reads_before}
+use Rattle.line_traces.proofs.TwoCalls.{there-told}
+use Rattle.line_traces.specs.{Committed.FindsOfList, Pieces.is_board, Pieces.pieces_on}
 use Rattle.line_traces.proofs.traces.board_rows.Goals as goal
 
 pub returns-clause-trace : goal.returns-clause-trace

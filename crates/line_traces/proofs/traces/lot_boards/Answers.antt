@@ -1,11 +1,7 @@
-use Rattle.std.proofs.Common.{◌≡◌, true, arith, rules, subst, option_copied}
-use Rattle.sqlite.specs.State.{HasCleanDisk}
-use Rattle.sqlite.specs.Held.{state}
-use Rattle.desk_types.specs.Placements.{boards_of}
-use Rattle.line_traces.specs.Pieces.{is_lot}
-use Rattle.line_traces.specs.Committed.{FindsOfList}
-use Rattle.line_traces.proofs.TwoCalls.{there-told}
+use Rattle.desk_types.proofs.Common.{◌≡◌, arith, boards_of, option_copied, rules, subst, true}
+use Rattle.line_tables.proofs.Common.{HasCleanDisk, state}
 use Rattle.line_tables.proofs.Keeps.{reads_before}
+use Rattle.line_traces.{proofs.TwoCalls.there-told, specs.Committed.FindsOfList, specs.Pieces.is_lot}
 use Rattle.line_traces.proofs.traces.lot_boards.Goals as goal
 
 pub returns-clause-boards : goal.returns-clause-boards

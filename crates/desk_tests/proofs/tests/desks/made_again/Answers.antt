@@ -1,6 +1,4 @@
-use Rattle.std.proofs.Common.{arith}
-use Rattle.desk_types.specs.declared.rules.Rules.TheVariants.{Two}
-use Rattle.desk_types.specs.History.{basis}
+use Rattle.desk_types.proofs.Common.{arith, basis, Two}
 use Rattle.desk_tests.proofs.tests.desks.made_again.Goals as goal
 
 pub restore-requires : goal.restore-requires

@@ -1,7 +1,4 @@
-use Rattle.std.proofs.Common.{◌∙◌, ap, arith}
-use Rattle.desk_types.specs.declared.rules.Rules.TheVariants.{Two}
-use Rattle.desk_types.specs.History.{basis, accept}
-use Rattle.desk_types.specs.Edits.{with_edits}
+use Rattle.desk_types.proofs.Common.{◌∙◌, accept, ap, arith, basis, Two, with_edits}
 use Rattle.desk_tests.proofs.tests.desks.send.Goals as goal
 
 pub returns-in_ok-settle-in-Ok : goal.returns-in_ok-settle-in-Ok
