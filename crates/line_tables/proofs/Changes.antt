@@ -5,7 +5,7 @@ use Rattle.desk_types.proofs.Common.{Ok, refl, slice_get, Some, subst, sym, true
 use Rattle.line_tables.proofs.Common.{cast_row, command_of, Database, Enforced, holds, ids_of, IsAnswer, IsDatabase}
 use Rattle.line_tables.proofs.Common.{IsPlain, Null, output, overlay, runs_as, Schema, State, statement_of, Tally}
 use Rattle.line_tables.proofs.Common.{Term, understood, Update, works}
-use Rattle.line_tables.proofs.{FindTexts.rows_from, Finds.rows_answer, Finds.shown_is, Finds.whole}
+use Rattle.line_tables.proofs.{FindTexts.rows_from, Finds.overlay_none, Finds.rows_answer, Finds.shown_is, Finds.whole}
 use Rattle.line_tables.proofs.{Inserts.concludes_as, Inserts.same_value, Inserts.went}
 use Rattle.sqlite.proofs.Callers.{one_step, through}
 use Rattle.sqlite.specs.{Command.TheVariants.Delete, Does.AtPlace, Does.Concludes, Does.Does, Does.OnRows}
@@ -21,14 +21,11 @@ passing tests params r = list_all (holds (params ∷ r ∷ [])) tests
 abbrev pub shows_of : ℕ → List Term → List Term → Row → Row → Row
 shows_of tree tests project params r = (output (rows_from tree tests project) (params ∷ r ∷ [])).1
 
-overlaid : (db : Trees) (tree : ℕ) → overlay db [] tree ≡ db tree
-overlaid db tree = elim (cases_Bool (nat_le (2 ^ 31) tree)) [ inl high ↦ rw high refl | inr low ↦ rw low refl ]
-
 found_rows : (tree : ℕ) (tests project : List Term) (db : Trees) (params : Row) (rows : List Row) → IsAnswer (rows_from tree tests project) (overlay db []) params rows
     → IsPermutation (map (shows_of tree tests project params) (filter (passing tests params) (db tree))) rows
 found_rows tree tests project db params rows a =
     let show = shows_of tree tests project params in
-    let is = shown_is (rows_from tree tests project) params (λ r. r) show (passing tests params) (λ r. refl) (λ r. refl) (overlay db [] tree) ∙ ap (λ l. map show (filter (passing tests params) l)) (whole (overlay db [] tree) ∙ overlaid db tree) in
+    let is = shown_is (rows_from tree tests project) params (λ r. r) show (passing tests params) (λ r. refl) (λ r. refl) (overlay db [] tree) ∙ ap (λ l. map show (filter (passing tests params) l)) (whole (overlay db [] tree) ∙ overlay_none db tree) in
     subst (λ l. IsPermutation l rows) is (rows_answer tree tests project (overlay db []) params rows a)
 
 -- The rows found, and the table after the statement.
