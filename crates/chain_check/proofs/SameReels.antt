@@ -17,6 +17,7 @@ use Rattle.chain_check.specs.declared.difference.Difference.TheVariants.{Selecti
 use Rattle.desk_laws.proofs.Balance.{unreceived-empty}
 use Rattle.desk_types.specs.View.{lot_of}
 use Rattle.desk_types.specs.declared.level.Level.TheVariants.{One}
+use Rattle.judging.proofs.FreeReels.{untold as unreceived}
 
 -- The reel was received, and this is its view.
 record IsReceived (H : History) (reel : Name) (view : ReelView) : Type 0 where
@@ -38,13 +39,6 @@ quantity-by : (H : History) (reel : Name) (view : ReelView) → reel_view H reel
 quantity-by H reel view is =
     let it = received H reel view is in
     without-found (quantity_of H reel) (found_of H reel) (quantity_in view) (ap quantity_in it.view_is)
-
-unreceived : (H : History) (reel : Name) → reel_view H reel ≡ None → receipt_of H reel ≡ None
-unreceived H reel is = by (receipt_of H reel) is
-  where
-    by : (said : Option Receipt) → option_map (view_of H reel) said ≡ None → said ≡ None
-    by None is = refl
-    by (Some receipt) is = cc
 
 same-moisture : (a b : LevelWithLabel) → a.level ≡ b.level → a.label ≡ b.label → a ≡ b
 same-moisture a b level label = λ j. record { level = level j; label = label j }
