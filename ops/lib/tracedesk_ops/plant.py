@@ -349,9 +349,6 @@ class Program:
         if os.getppid() != self.parent:
             os._exit(1)
 
-    def begun(self, *words, **how):
-        return subprocess.Popen([self.program, *map(str, words)], preexec_fn=self.end_with_the_tool, **self.how, **how)
-
     def run(self, *words, **how):
         return subprocess.run([self.program, *map(str, words)], preexec_fn=self.end_with_the_tool, **self.how, **how)
 
@@ -363,7 +360,6 @@ class Program:
             said = " ".join((done.stdout + done.stderr).split())
             raise Fault(f"the audit of {file} ended with status {done.returncode}: {said}; docs/operations.md, 'What is said, and what to do'")
         return int(lawful[1])
-
 
     def named(self, db, desk, name=""):
         """Gives a desk that no run has open a name, where it has none; whether it got one."""
