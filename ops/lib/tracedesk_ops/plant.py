@@ -119,6 +119,8 @@ def set_ups():
 
 def set_up(reader, **names):
     """Takes the words of a tool from the line's set-up file, as far as the command line doesn't say them. `names` are those of words that the tool calls otherwise."""
+    if not any(action.dest == "line" for action in reader._actions):
+        reader.add_argument("--line", type=line_name, metavar="NAME", help="which line's, where several are set up")
     given = argparse.ArgumentParser(add_help=False, allow_abbrev=False)
     given.add_argument("--line")
     given.add_argument("--db")
