@@ -34,6 +34,7 @@ LONGEST_OTHER = 3600  # seconds that another roll-over or backup may take
 PLAN = "plan.json"  # of a roll-over
 PATIENCE = 120  # seconds that a start may take beside what the pieces ask for
 LIBC, PR_SET_PDEATHSIG = ctypes.CDLL(None), 1
+TEXT = {"encoding": sys.getfilesystemencoding(), "errors": "surrogateescape"}  # of what a program prints: it may name files
 KILL_AFTER = "TRACEDESK_KILL_AFTER"  # a step of a tool, for its test
 keep = catalogue.keep
 
@@ -356,7 +357,7 @@ class Program:
 
     def audit(self, file):
         """How many commands a lawful desk has; a Fault says what else the audit found."""
-        done = self.run("audit", "--db", file, stdin=subprocess.DEVNULL, capture_output=True, text=True)
+        done = self.run("audit", "--db", file, stdin=subprocess.DEVNULL, capture_output=True, **TEXT)
         lawful = re.fullmatch(r"lawful (\d+)\n", done.stdout)
         if done.returncode or not lawful:
             said = " ".join((done.stdout + done.stderr).split())
@@ -367,7 +368,7 @@ class Program:
         """Gives a desk that no run has open a name, where it has none; whether it got one."""
         if not desk.commands or not (lines := identity.naming(desk, name)):  # without a command it has no minute, and nothing that could be lost
             return False
-        done = self.run("feed", "--db", db, input="".join(f"{it}\n" for it in lines), capture_output=True, text=True)
+        done = self.run("feed", "--db", db, input="".join(f"{it}\n" for it in lines), capture_output=True, **TEXT)
         if done.stdout.count('"Answer":"Accepted"') != len(lines):
             raise Fault(f"{db} gets no name: {' '.join((done.stdout + done.stderr).split())}")
         return True
