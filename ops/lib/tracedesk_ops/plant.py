@@ -34,7 +34,7 @@ LONGEST_OTHER = 3600  # seconds that another roll-over or backup may take
 PLAN = "plan.json"  # of a roll-over
 PATIENCE = 120  # seconds that a start may take beside what the pieces ask for
 LIBC, PR_SET_PDEATHSIG = ctypes.CDLL(None), 1
-TEXT = {"encoding": sys.getfilesystemencoding(), "errors": "surrogateescape"}  # of what a program prints: it may name files
+TEXT: dict = {"encoding": sys.getfilesystemencoding(), "errors": "surrogateescape"}  # of what a program prints: it may name files
 KILL_AFTER = "TRACEDESK_KILL_AFTER"  # a step of a tool, for its test
 keep = catalogue.keep
 
