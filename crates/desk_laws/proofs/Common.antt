@@ -39,7 +39,6 @@ pub use Rattle.desk_types.specs.declared.command.Command.TheVariants.{MaterialsU
 pub use Rattle.desk_types.specs.declared.command.Command.TheVariants.{ProductSelected, ReelBaked, ReelOpened}
 pub use Rattle.desk_types.specs.declared.command.Command.TheVariants.{ReelReceived, ReelSealed, SheetDefined}
 pub use Rattle.desk_types.specs.declared.command.Command.TheVariants.{WorkCompleted, WorkStarted}
-
 -- What `desk_laws` defines and proves.
 pub use Rattle.desk_laws.specs.{Alike.AreAlike, Alike.IsIdle, Alike.IsSameReel, Past.is_started}
 pub use Rattle.desk_laws.specs.{Place.mounted_after, Place.place_after, Verified.IsRightlyPlaced}

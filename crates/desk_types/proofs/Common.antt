@@ -25,7 +25,6 @@ pub use Rattle.std.specs.List.{join_with_byte, list_all, list_any, range_with_le
 pub use Rattle.std.specs.Option.{option_and_then, option_map, option_map_or, option_or, option_to_list}
 pub use Rattle.std.specs.Ordering.{is_eq, match_ordering, nat_cmp, ordering_reverse, ordering_then}
 unfoldable pub use Rattle.std.specs.{List.IsDistinct, List.Sorted.IsStrictlySortedBy, Str.is_utf8}
-
 -- What the kit proves of them.
 pub use Rattle.std.proofs.{KnownBytes.Appends-nil, KnownBytes.Appends-trans, KnownBytes.Consumes-trans}
 pub use Rattle.std.proofs.{Math.Logic.∥∥₁_map, Math.Nat.le-max_right, Math.Seq.take-append-add}
@@ -54,7 +53,6 @@ pub use Rattle.std.proofs.lemmas.List.Sorted.{All-permutation, IsPermutation-con
 pub use Rattle.std.proofs.lemmas.List.Sorted.{IsPermutation-refl, IsPermutation-sym, IsPermutation-trans}
 pub use Rattle.std.proofs.lemmas.List.Sorted.{length_permutation, list_any-IsPermutation}
 pub use Rattle.std.proofs.lemmas.Result.{err_from_is_err_and, IfOk-weaker, on_err_weaker, on_ok_weaker}
-
 -- What `desk_types` defines and proves.
 pub use Rattle.desk_types.proofs.Keys.{is_at-by_name, is_at-by_pair, list_any-same, name-written}
 pub use Rattle.desk_types.proofs.Keys.{pair-changed, pair-written, same-refl, same-sym, same-true}

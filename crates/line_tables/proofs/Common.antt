@@ -36,7 +36,6 @@ unfoldable pub use Rattle.sqlite_schema.specs.Names.{same_name}
 unfoldable pub use Rattle.sqlite_sql.specs.Ops.{binary}
 unfoldable pub use Rattle.sqlite_tied.specs.Compute.{everything}
 unfoldable pub use Rattle.sqlite_value.specs.Order.{value_cmp}
-
 -- What `line_tables` defines and proves.
 pub use Rattle.line_tables.specs.{Edit.command_edits, Edit.Edit, Edit.row_edits, Frames.ReadsOnly}
 pub use Rattle.line_tables.specs.{Line.Layout.Indexed, Line.Layout.Plain, Names.has_state, Placing.ArePlacing}
