@@ -1,31 +1,25 @@
 -- One more file of a chain, or one that ends it.
-use Rattle.std.proofs.Common.{◌≡◌, ◌∙◌, ◌+◌, ℕ, All, Option, Some, List, [], ◌∷◌, ◌++◌, get_or, length, length-append, sym, ap, subst, inl, arith}
-use Rattle.std.specs.List.{AllByRecursion}
-use Rattle.std.proofs.lemmas.List.Elements.{All-from_recursion, recursion_from_All}
-use Rattle.sqlite_disk.specs.declared.Disk as disk
-use Rattle.sqlite_disk.specs.declared.Files.{Files}
-use Rattle.sqlite_wal.specs.Reads.{AreClean}
-use Rattle.sqlite_wal.specs.Recovery.{Image}
-use Rattle.desk_types.specs.declared.rules.Rules.TheVariants.{Two}
-use Rattle.desk_types.specs.History.{History, IsPrefix}
-use Rattle.feeder_state.specs.declared.desk.StateDesk.{StateDesk}
-use Rattle.feeder_state.specs.State.{IsState}
-use Rattle.feeder_state.specs.contracts.desk.StateDeskDesk.TheImpl.{ghosts as state}
-use Rattle.chain_files.specs.declared.looking.Looked.{Looked}
-use Rattle.chain_files.specs.Look.{Says}
-use Rattle.desk_file.specs.Files.{HasOursFirst}
-use Rattle.desk_laws.specs.Chain.{DeskFile}
-use Rattle.chain_check.specs.declared.difference.Difference.{Difference}
-use Rattle.trace_reports.specs.Csv.{HasWritten}
-use Rattle.chain_check.specs.declared.chain.Chain.{Chain}
-use Rattle.chain_check.specs.declared.question.Question.{Question}
-use Rattle.chain_check.specs.Chained.{IsReason, IsSoFar}
-use Rattle.chain_check.specs.Rows.{answer_over}
+use Rattle.desk_types.proofs.Common.{[], ◌++◌, ◌+◌, ◌∙◌, ◌∷◌, ◌≡◌, All, All-from_recursion, AllByRecursion}
+use Rattle.desk_types.proofs.Common.{ap, arith, get_or, History, inl, IsPrefix, length, length-append, List}
+use Rattle.desk_types.proofs.Common.{Option, recursion_from_All, Some, subst, sym, ℕ}
+use Rattle.desk_laws.proofs.Common.{DeskFile, Two}
 use Rattle.chain_check.proofs.WrittenRows.{answer-next}
-use Rattle.chain_files.specs.declared.chain.Fault.{Fault}
-use Rattle.chain_files.specs.declared.chain.Fault.TheVariants.{Refused, BegunFrom, Differs}
-use Rattle.chain_files.specs.Files.{Adds, Answer, AreHonest, BreaksChain, Continues, HoldHistory, HoldsSaid, IsStop, Reaches, SoFar, Stops}
+use Rattle.chain_check.specs.{Chained.IsReason, Chained.IsSoFar, Rows.answer_over, declared.chain.Chain.Chain}
+use Rattle.chain_check.specs.{declared.difference.Difference.Difference, declared.question.Question.Question}
 use Rattle.chain_files.proofs.Answered.{are-chain}
+use Rattle.chain_files.specs.{Files.Adds, Files.Answer, Files.AreHonest, Files.BreaksChain, Files.Continues}
+use Rattle.chain_files.specs.{Files.HoldHistory, Files.HoldsSaid, Files.IsStop, Files.Reaches, Files.SoFar}
+use Rattle.chain_files.specs.{Files.Stops, Look.Says, declared.chain.Fault.Fault}
+use Rattle.chain_files.specs.{declared.chain.Fault.TheVariants.BegunFrom}
+use Rattle.chain_files.specs.{declared.chain.Fault.TheVariants.Differs}
+use Rattle.chain_files.specs.{declared.chain.Fault.TheVariants.Refused, declared.looking.Looked.Looked}
+use Rattle.desk_file.specs.Files.{HasOursFirst}
+use Rattle.feeder_state.specs.{State.IsState, contracts.desk.StateDeskDesk.TheImpl.ghosts as state}
+use Rattle.feeder_state.specs.{declared.desk.StateDesk.StateDesk}
+use Rattle.sqlite_disk.specs.declared.Files.{Files}
+use Rattle.sqlite_wal.specs.{Reads.AreClean, Recovery.Image}
+use Rattle.trace_reports.specs.Csv.{HasWritten}
+use Rattle.sqlite_disk.specs.declared.Disk as disk
 
 front : {X : Type 0} (P : X → Type 0) (xs : List X) (x : X) → AllByRecursion P (xs ++ x ∷ []) → AllByRecursion P xs × P x
 front P [] x all = (tt, all.0)

@@ -1,22 +1,18 @@
 -- A file that was refused, once it is closed.
-use Rattle.std.proofs.Common.{◌≡◌, ◌∙◌, All, Option, Some, None, List, [], ◌∷◌, ◌++◌, refl, sym, subst, append-nil, inl, inr}
-use Rattle.std.specs.Prelude.{IsSomeAnd, MatchOption}
-use Rattle.sqlite_disk.specs.declared.Disk as disk
-use Rattle.sqlite_disk.specs.declared.Files.{Files}
-use Rattle.sqlite_disk.specs.declared.start.Start as start
-use Rattle.sqlite_store.specs.declared.store.FileStore.{FileStore}
-use Rattle.sqlite_wal.specs.Files.{image_at}
-use Rattle.sqlite_wal.specs.Reads.{AreClean}
-use Rattle.sqlite_wal.proofs.LogLemmas.{SeenMayStay}
-use Rattle.sqlite.specs.Held.{Held}
+use Rattle.desk_types.proofs.Common.{[], ◌++◌, ◌∙◌, ◌∷◌, ◌≡◌, All, append-nil, inl, inr, IsSomeAnd, List}
+use Rattle.desk_types.proofs.Common.{None, Option, refl, Some, subst, sym}
+use Rattle.line_tables.proofs.Common.{Held}
+use Rattle.chain_files.{proofs.OneFileMore.last-clean, specs.Files.IsFaultOf, specs.Files.IsRefused}
+use Rattle.desk_commands.{proofs.ClosedFiles.refuses_to, specs.Closed.Close, specs.Closed.ClosesConn}
+use Rattle.desk_commands.{specs.Closed.whole, specs.declared.left.ToClose.TheVariants.Refused}
+use Rattle.desk_file.{specs.Refused.RefusesRun, specs.declared.refusal.RefusedFile.RefusedFile}
 use Rattle.line_schema.specs.declared.fault.OpenFault.{OpenFault}
-use Rattle.desk_file.specs.declared.refusal.RefusedFile.{RefusedFile}
-use Rattle.desk_file.specs.Refused.{RefusesRun}
-use Rattle.desk_commands.specs.declared.left.ToClose.TheVariants.{Refused}
-use Rattle.desk_commands.specs.Closed.{Close, whole, ClosesConn}
-use Rattle.desk_commands.proofs.ClosedFiles.{refuses_to}
-use Rattle.chain_files.specs.Files.{IsFaultOf, IsRefused}
-use Rattle.chain_files.proofs.OneFileMore.{last-clean}
+use Rattle.sqlite_disk.specs.declared.Files.{Files}
+use Rattle.sqlite_store.specs.declared.store.FileStore.{FileStore}
+use Rattle.sqlite_wal.{proofs.LogLemmas.SeenMayStay, specs.Files.image_at, specs.Reads.AreClean}
+use Rattle.std.specs.Prelude.{MatchOption}
+use Rattle.sqlite_disk.specs.declared.Disk as disk
+use Rattle.sqlite_disk.specs.declared.start.Start as start
 
 module _ {T D : Type 0} {g : disk.Ghosts D} (stays : SeenMayStay g) (first : start.Ghosts T) (r : RefusedFile D g) (refuses : RefusesRun (image_at first) None r) (closed closed' : List (Files D)) where
   -- It was not opened.

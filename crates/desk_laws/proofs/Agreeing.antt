@@ -1,36 +1,39 @@
 -- Two histories that agree except for past boards and reels give the same answer to a command that names nothing past.
-use Rattle.std.proofs.Common.{◌≡◌, ℕ, ◌+◌, ◌-◌, ◌≤◌, max, nat_lt, All, Bool, true, false, not, Option, Some, None, List, [], ◌∷◌, ◌++◌, refl, sym, ap, ◌∙◌, arith}
-use Rattle.std.specs.Prelude.{if◌then◌else◌, ◌&&◌, ◌||◌, ◌==◌, is_some, is_none, nat_le, unwrap_or}
-use Rattle.std.specs.Option.{option_and_then, option_map, option_map_or, option_or}
-use Rattle.std.specs.List.{filter, list_any, sum_by}
-use Rattle.std.proofs.lemmas.Bool.Decides.{nat_tests}
-use Rattle.std.proofs.lemmas.List.Elements.{All-head, All-tail}
-use Rattle.desk_types.specs.declared.answer.Detail.TheVariants.{MinutesLeft, Reels, Taken}
-use Rattle.desk_types.specs.declared.answer.Refusal.{Refusal}
-use Rattle.desk_types.specs.declared.answer.Refusal.TheVariants.{TooFarAhead, PartExists, UnknownPart, ReelExists, UnknownReel, UnknownSheet, MachineBusy, NoProduct, SlotNotOnSheet, SlotTaken, SlotEmpty, ReelMounted, ReelEmpty, WrongPart, NotBaked, Expired, BoardBusy, OtherProduct, NotInWork, ReelShort, ReelTwice, CountAbove}
-use Rattle.desk_types.specs.declared.command.Command.{Command}
-use Rattle.desk_types.specs.declared.command.Command.TheVariants.{PartDefined, AlternateAllowed, SheetDefined, ProductSelected, ReelReceived, ReelOpened, ReelSealed, ReelBaked, MaterialsLoaded, MaterialsSpliced, MaterialsUnloaded, WorkStarted, WorkCompleted, MaterialsInstalled, MaterialsScrapped, CountsTaken, ClockSet}
-use Rattle.desk_types.specs.declared.command.Receipt.{Receipt}
-use Rattle.desk_types.specs.declared.command.Stamped.{Stamped}
-use Rattle.desk_types.specs.declared.limits.TheConstants.{FURTHEST_AHEAD}
-use Rattle.desk_types.specs.declared.count.CountRow.{CountRow}
-use Rattle.desk_types.specs.declared.rules.Rules.{Rules}
-use Rattle.desk_types.specs.declared.rules.Rules.TheVariants.{Two}
-use Rattle.desk_types.specs.declared.sheet.SheetRow.{SheetRow}
-use Rattle.desk_types.specs.declared.take.Purpose.TheVariants.{Rejected}
-use Rattle.desk_types.specs.Id.{Name, same}
-use Rattle.desk_types.specs.Level.{LevelWithLabel}
-use Rattle.desk_types.specs.History.{History, desk_minute, now_of, effective_minute}
-use Rattle.desk_types.specs.Setup.{is_part, is_alternate, sheet_of, selected_on, sheet_on, row_in, row_on, slot_in, slot_on, receipt_of}
-use Rattle.desk_types.specs.Tape.{tape_of}
-use Rattle.desk_types.specs.Pieces.{bench_of, install_picks, scrap_picks, count_picks, picks_of, left_of, live_on, first, front_of, is_mounted}
-use Rattle.desk_types.specs.FloorLife.{exposure_of, floor_life, is_expired, minutes_left, is_unbaked, out_since}
-use Rattle.desk_types.specs.Work.{in_work_on, is_in_work, product_of, is_placed_on}
-use Rattle.desk_types.specs.Refusals.{first_refusal, part_refusal, alternate_refusal, sheet_refusal, definition_refusal, selection_refusal, receipt_refusal, opening_refusal, closing_refusal, is_wrong_for, is_wrong_part, mounting_refusal, unload_refusal, scrap_refusal, front_refusal, slots_refusal, differ, start_refusal, completion_refusal, designators_refusal, install_refusal, is_above, counts_refusal, command_refusal, is_clock, refusal_of}
-use Rattle.desk_types.specs.Outcome.{reels_of, pieces_of, detail_of}
+use Rattle.desk_types.proofs.Common.{[], ◌&&◌, ◌++◌, ◌+◌, ◌-◌, ◌==◌, ◌||◌, ◌∙◌, ◌∷◌, ◌≡◌, ◌≤◌, All, All-head}
+use Rattle.desk_types.proofs.Common.{All-tail, alternate_refusal, ap, arith, bench_of, Bool, closing_refusal}
+use Rattle.desk_types.proofs.Common.{command_refusal, completion_refusal, count_picks, counts_refusal}
+use Rattle.desk_types.proofs.Common.{definition_refusal, designators_refusal, desk_minute, detail_of, differ}
+use Rattle.desk_types.proofs.Common.{effective_minute, exposure_of, false, first, first_refusal, floor_life}
+use Rattle.desk_types.proofs.Common.{front_of, History, if◌then◌else◌, in_work_on, install_picks}
+use Rattle.desk_types.proofs.Common.{install_refusal, is_above, is_alternate, is_expired, is_in_work}
+use Rattle.desk_types.proofs.Common.{is_mounted, is_none, is_part, is_placed_on, is_some, is_unbaked}
+use Rattle.desk_types.proofs.Common.{is_wrong_for, left_of, LevelWithLabel, List, list_any, live_on, max}
+use Rattle.desk_types.proofs.Common.{minutes_left, mounting_refusal, Name, nat_le, nat_lt, nat_tests, None}
+use Rattle.desk_types.proofs.Common.{not, now_of, opening_refusal, Option, option_and_then, option_map}
+use Rattle.desk_types.proofs.Common.{option_map_or, option_or, out_since, part_refusal, picks_of, pieces_of}
+use Rattle.desk_types.proofs.Common.{product_of, receipt_of, receipt_refusal, reels_of, refl, refusal_of}
+use Rattle.desk_types.proofs.Common.{row_in, row_on, same, scrap_picks, scrap_refusal, selected_on}
+use Rattle.desk_types.proofs.Common.{selection_refusal, sheet_of, sheet_refusal, slot_in, slot_on, Some}
+use Rattle.desk_types.proofs.Common.{start_refusal, sum_by, sym, tape_of, true, unload_refusal, unwrap_or, ℕ}
+use Rattle.desk_laws.proofs.Common.{AlternateAllowed, ClockSet, Command, CountAbove, CountRow, CountsTaken}
+use Rattle.desk_laws.proofs.Common.{Expired, is_started, MachineBusy, MaterialsInstalled, MaterialsLoaded}
+use Rattle.desk_laws.proofs.Common.{MaterialsScrapped, MaterialsSpliced, MaterialsUnloaded, NoProduct}
+use Rattle.desk_laws.proofs.Common.{NotBaked, NotInWork, PartDefined, ProductSelected, Receipt, ReelBaked}
+use Rattle.desk_laws.proofs.Common.{ReelExists, ReelMounted, ReelOpened, ReelReceived, Reels, ReelSealed}
+use Rattle.desk_laws.proofs.Common.{ReelShort, ReelTwice, Refusal, Rejected, Rules, SheetDefined, SheetRow}
+use Rattle.desk_laws.proofs.Common.{SlotEmpty, Stamped, Taken, TooFarAhead, Two, UnknownReel, WorkCompleted}
+use Rattle.desk_laws.proofs.Common.{WorkStarted, WrongPart}
 use Rattle.desk_laws.proofs.Accepted.{mountable}
-use Rattle.desk_laws.proofs.Lives.{live_bench, picks-live, designators-live, scrap-live}
-use Rattle.desk_laws.specs.Past.{is_started, boards_named, reels_named}
+use Rattle.desk_laws.proofs.Lives.{designators-live, live_bench, picks-live, scrap-live}
+use Rattle.desk_laws.specs.Past.{boards_named, reels_named}
+use Rattle.desk_types.specs.Refusals.{front_refusal, is_clock, is_wrong_part, slots_refusal}
+use Rattle.desk_types.specs.Setup.{sheet_on}
+use Rattle.desk_types.specs.declared.answer.Detail.TheVariants.{MinutesLeft}
+use Rattle.desk_types.specs.declared.answer.Refusal.TheVariants.{BoardBusy, OtherProduct, PartExists}
+use Rattle.desk_types.specs.declared.answer.Refusal.TheVariants.{ReelEmpty, SlotNotOnSheet, SlotTaken}
+use Rattle.desk_types.specs.declared.answer.Refusal.TheVariants.{UnknownPart, UnknownSheet}
+use Rattle.desk_types.specs.declared.limits.TheConstants.{FURTHEST_AHEAD}
+use Rattle.std.specs.List.{filter}
 
 -- What stays of a receipt: the part, the lot, and the moisture level with its label.
 abbrev pub mark : Receipt → Name × (Name × LevelWithLabel)

@@ -1,35 +1,18 @@
 -- No designator of a board is placed twice.
-use Rattle.std.proofs.Math.Bool.{and-false, or_comm}
+use Rattle.desk_types.proofs.Common.{[], ◌&&◌, ◌++◌, ◌+◌, ◌||◌, ◌∙◌, ◌∷◌, ◌≡◌, AllByRecursion, and-false, ap}
+use Rattle.desk_types.proofs.Common.{bench_of, Bool, command_refusal, cons_option, entry_takes}
+use Rattle.desk_types.proofs.Common.{enumerate_from, false, filter_map, filter_map-append, History, is_placed}
+use Rattle.desk_types.proofs.Common.{is_placed_on, IsDistinct, IsJudged, left_of, List, list_any}
+use Rattle.desk_types.proofs.Common.{list_any-append, map, map-append, Name, None, Option, or_comm, picks_of}
+use Rattle.desk_types.proofs.Common.{placement_of, placements_of, places, refl, same, same-sym, same_pair}
+use Rattle.desk_types.proofs.Common.{Some, subst, sym, take_of, takes_of, tape_of, true, ℕ}
+use Rattle.desk_laws.proofs.Common.{Command, Counted, CountsTaken, Entry, MaterialsInstalled}
+use Rattle.desk_laws.proofs.Common.{MaterialsScrapped, Pick, Placed, Placement, Purpose, Rejected, Two}
+use Rattle.desk_laws.proofs.{Accepted.next-accepted, Distinct.distinct-join, InstalledPieces.AreUnplaced}
+use Rattle.desk_laws.proofs.{InstalledPieces.unplaced-count, InstalledPieces.unplaced-scrap}
+use Rattle.desk_laws.proofs.{Installs.ArePlacedFor, Installs.designators-differ, Installs.designators-new}
+use Rattle.desk_laws.proofs.{Installs.each-placed, Installs.installable}
 use Rattle.std.proofs.lemmas.Bool.{and_right}
-use Rattle.std.proofs.Common.{◌≡◌, ℕ, ◌+◌, Bool, true, false, Option, Some, None, List, [], ◌∷◌, ◌++◌, filter_map, map, refl, sym, ap, ◌∙◌, subst}
-use Rattle.std.specs.Prelude.{◌&&◌, ◌||◌}
-use Rattle.std.specs.List.{cons_option, enumerate_from, list_any, AllByRecursion, IsDistinct}
-use Rattle.std.proofs.lemmas.List.{map-append}
-use Rattle.std.proofs.lemmas.List.Elements.{filter_map-append}
-use Rattle.std.proofs.lemmas.List.Folds.{list_any-append}
-use Rattle.desk_types.specs.declared.command.Command.{Command}
-use Rattle.desk_types.specs.declared.command.Command.TheVariants.{MaterialsInstalled, MaterialsScrapped, CountsTaken}
-use Rattle.desk_types.specs.declared.command.Entry.{Entry}
-use Rattle.desk_types.specs.declared.placement.Placement.{Placement}
-use Rattle.desk_types.specs.declared.rules.Rules.TheVariants.{Two}
-use Rattle.desk_types.specs.declared.take.Pick.{Pick}
-use Rattle.desk_types.specs.declared.take.Purpose.{Purpose}
-use Rattle.desk_types.specs.declared.take.Purpose.TheVariants.{Placed, Rejected, Counted}
-use Rattle.desk_types.specs.Id.{Name, same}
-use Rattle.desk_types.specs.Pair.{same_pair}
-use Rattle.desk_types.specs.History.{History}
-use Rattle.desk_types.specs.Tape.{tape_of}
-use Rattle.desk_types.specs.Pieces.{bench_of, left_of, is_placed, picks_of}
-use Rattle.desk_types.specs.Work.{places, is_placed_on}
-use Rattle.desk_types.specs.Refusals.{command_refusal}
-use Rattle.desk_types.specs.Outcome.{take_of}
-use Rattle.desk_types.specs.Judged.{IsJudged}
-use Rattle.desk_types.specs.Placements.{entry_takes, takes_of, placement_of, placements_of}
-use Rattle.desk_types.proofs.Keys.{same-sym}
-use Rattle.desk_laws.proofs.Accepted.{next-accepted}
-use Rattle.desk_laws.proofs.Distinct.{distinct-join}
-use Rattle.desk_laws.proofs.Installs.{ArePlacedFor, each-placed, installable, designators-differ, designators-new}
-use Rattle.desk_laws.proofs.InstalledPieces.{AreUnplaced, unplaced-scrap, unplaced-count}
 
 -- ---- spots: a board and one of its designators
 

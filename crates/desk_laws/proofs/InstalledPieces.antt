@@ -1,36 +1,21 @@
 -- The pieces that an accepted install places.
-use Rattle.std.proofs.Common.{◌≡◌, ℕ, ◌+◌, ◌-◌, Bool, true, false, Option, Some, None, List, [], ◌∷◌, ◌++◌, find, filter_map, length, take, map, min, All, refl, sym, ap, ◌∙◌, subst, arith}
-use Rattle.std.specs.Prelude.{if◌then◌else◌, ⊤, ◌||◌, slice_get}
-use Rattle.std.specs.Option.{option_and_then, option_map, option_map_or, option_to_list}
-use Rattle.std.specs.List.{cons_option, enumerate_from, AllByRecursion}
-use Rattle.std.proofs.lemmas.List.{append_assoc, append-nil, length-append, take_at}
-use Rattle.std.proofs.lemmas.List.Elements.{All-nil, All-cons, All-append, filter_map-append}
-use Rattle.desk_types.specs.declared.command.Command.{Command}
-use Rattle.desk_types.specs.declared.command.Command.TheVariants.{MaterialsInstalled, MaterialsScrapped, CountsTaken}
-use Rattle.desk_types.specs.declared.command.Entry.{Entry}
-use Rattle.desk_types.specs.declared.command.Receipt.{Receipt}
-use Rattle.desk_types.specs.declared.count.CountRow.{CountRow}
-use Rattle.desk_types.specs.declared.placement.Placement.{Placement}
-use Rattle.desk_types.specs.declared.rules.Rules.TheVariants.{Two}
-use Rattle.desk_types.specs.declared.take.Pick.{Pick}
-use Rattle.desk_types.specs.declared.take.Purpose.{Purpose}
-use Rattle.desk_types.specs.declared.take.Purpose.TheVariants.{Placed, Rejected, Counted}
-use Rattle.desk_types.specs.Id.{Name, same}
-use Rattle.desk_types.specs.History.{History}
-use Rattle.desk_types.specs.Setup.{slot_on, receipt_of}
-use Rattle.desk_types.specs.Tape.{tape_of}
-use Rattle.desk_types.specs.Pieces.{bench_of, pieces_off, pick_for, install_picks, scrap_picks, count_picks, left_of, is_placed, picks_of}
-use Rattle.desk_types.specs.Outcome.{take_of}
-use Rattle.desk_types.specs.Judged.{IsJudged}
-use Rattle.desk_types.specs.Placements.{entry_takes, takes_of, placement_of, placements_of}
-use Rattle.desk_types.proofs.Keys.{same-refl}
-use Rattle.desk_laws.specs.Verified.{next_reel, IsRightlyPlaced}
-use Rattle.desk_laws.proofs.Accepted.{next-accepted}
-use Rattle.desk_laws.proofs.Distinct.{all-append}
-use Rattle.desk_laws.proofs.Installs.{ArePlacedFor, placed-at, each-placed}
-use Rattle.desk_laws.proofs.Mounts.{has, unreceived-nowhere}
-use Rattle.desk_laws.proofs.Picks.{all-off}
-use Rattle.desk_laws.proofs.VerifiedReels.{tape-verified}
+use Rattle.desk_types.proofs.Common.{[], ⊤, ◌++◌, ◌+◌, ◌-◌, ◌||◌, ◌∙◌, ◌∷◌, ◌≡◌, All, All-append, All-cons}
+use Rattle.desk_types.proofs.Common.{All-nil, AllByRecursion, ap, append-nil, append_assoc, arith, bench_of}
+use Rattle.desk_types.proofs.Common.{Bool, cons_option, count_picks, entry_takes, enumerate_from, false}
+use Rattle.desk_types.proofs.Common.{filter_map, filter_map-append, find, History, if◌then◌else◌}
+use Rattle.desk_types.proofs.Common.{install_picks, is_placed, IsJudged, left_of, length, length-append, List}
+use Rattle.desk_types.proofs.Common.{map, min, Name, None, Option, option_and_then, option_map, option_map_or}
+use Rattle.desk_types.proofs.Common.{option_to_list, pick_for, picks_of, pieces_off, placement_of}
+use Rattle.desk_types.proofs.Common.{placements_of, receipt_of, refl, same, same-refl, scrap_picks, slice_get}
+use Rattle.desk_types.proofs.Common.{slot_on, Some, subst, sym, take, take_of, takes_of, tape_of, true, ℕ}
+use Rattle.desk_laws.proofs.Common.{Command, Counted, CountRow, CountsTaken, Entry, IsRightlyPlaced}
+use Rattle.desk_laws.proofs.Common.{MaterialsInstalled, MaterialsScrapped, Pick, Placed, Placement, Purpose}
+use Rattle.desk_laws.proofs.Common.{Receipt, Rejected, Two}
+use Rattle.desk_laws.proofs.{Accepted.next-accepted, Distinct.all-append, Installs.ArePlacedFor}
+use Rattle.desk_laws.proofs.{Installs.each-placed, Installs.placed-at, Mounts.has, Mounts.unreceived-nowhere}
+use Rattle.desk_laws.proofs.{Picks.all-off, VerifiedReels.tape-verified}
+use Rattle.desk_laws.specs.Verified.{next_reel}
+use Rattle.std.proofs.lemmas.List.{take_at}
 
 -- ---- picks in turn
 

@@ -1,24 +1,16 @@
 -- The designators of an accepted install, and its one pick for each.
-use Rattle.std.proofs.Common.{◌≡◌, ℕ, nat_lt, Bool, true, false, Option, Some, None, List, [], ◌∷◌, ◌++◌, find, length, refl, sym, ap, ◌∙◌, subst}
-use Rattle.std.specs.Prelude.{is_none, if◌then◌else◌, ⊤, slice_get}
-use Rattle.std.specs.Option.{option_and_then, option_map, option_to_list}
-use Rattle.std.specs.List.{list_any, AllByRecursion, IsDistinct}
-use Rattle.std.proofs.lemmas.List.{append_assoc, append-nil}
-use Rattle.desk_types.specs.declared.answer.Refusal.{Refusal}
-use Rattle.desk_types.specs.declared.answer.Refusal.TheVariants.{DesignatorNotOnSheet, DesignatorTwice, AlreadyPlaced, NotInWork, ReelShort}
-use Rattle.desk_types.specs.declared.command.Command.{Command}
-use Rattle.desk_types.specs.declared.command.Command.TheVariants.{MaterialsInstalled}
-use Rattle.desk_types.specs.declared.rules.Rules.TheVariants.{Two}
-use Rattle.desk_types.specs.declared.take.Pick.{Pick}
-use Rattle.desk_types.specs.declared.take.Purpose.TheVariants.{Placed}
-use Rattle.desk_types.specs.Id.{Name, same}
-use Rattle.desk_types.specs.History.{History}
-use Rattle.desk_types.specs.Pieces.{Bench, bench_of, pieces_picked, pick_for, install_picks, picks_of}
-use Rattle.desk_types.specs.Work.{is_placed_on, is_in_work_on}
-use Rattle.desk_types.specs.Refusals.{first_refusal, designators_refusal, install_refusal, command_refusal}
-use Rattle.desk_laws.proofs.Accepted.{none-holds}
-use Rattle.desk_laws.proofs.Judgements.{or-none}
-use Rattle.desk_laws.proofs.Tapes.{one-more}
+use Rattle.desk_types.proofs.Common.{[], ⊤, ◌++◌, ◌∙◌, ◌∷◌, ◌≡◌, AllByRecursion, ap, append-nil, append_assoc}
+use Rattle.desk_types.proofs.Common.{Bench, bench_of, Bool, command_refusal, designators_refusal, false, find}
+use Rattle.desk_types.proofs.Common.{first_refusal, History, if◌then◌else◌, install_picks, install_refusal}
+use Rattle.desk_types.proofs.Common.{is_in_work_on, is_none, is_placed_on, IsDistinct, length, List, list_any}
+use Rattle.desk_types.proofs.Common.{Name, nat_lt, None, Option, option_and_then, option_map, option_to_list}
+use Rattle.desk_types.proofs.Common.{pick_for, picks_of, pieces_picked, refl, same, slice_get, Some, subst}
+use Rattle.desk_types.proofs.Common.{sym, true, ℕ}
+use Rattle.desk_laws.proofs.Common.{Command, MaterialsInstalled, NotInWork, Pick, Placed, ReelShort, Refusal}
+use Rattle.desk_laws.proofs.Common.{Two}
+use Rattle.desk_laws.proofs.{Accepted.none-holds, Judgements.or-none, Tapes.one-more}
+use Rattle.desk_types.specs.declared.answer.Refusal.TheVariants.{AlreadyPlaced, DesignatorNotOnSheet}
+use Rattle.desk_types.specs.declared.answer.Refusal.TheVariants.{DesignatorTwice}
 
 -- ---- picks in the order of designators
 

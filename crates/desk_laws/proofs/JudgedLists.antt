@@ -1,13 +1,8 @@
 -- Accepted histories are consistent.
-use Rattle.desk_types.specs.declared.rules.Rules.{Rules}
-use Rattle.desk_types.specs.History.{History}
-use Rattle.desk_types.specs.Judged.{IsJudged}
-use Rattle.desk_types.proofs.BothRules.{judged-by-two}
-use Rattle.desk_laws.proofs.Balance.{balance}
-use Rattle.desk_laws.proofs.NameSets.{traces-converse}
-use Rattle.desk_laws.proofs.Places.{one-slot}
-use Rattle.desk_laws.proofs.InstalledPieces.{rightly-placed}
-use Rattle.desk_laws.proofs.Tapes.{live-distinct}
+use Rattle.desk_types.proofs.Common.{History, IsJudged}
+use Rattle.desk_laws.proofs.Common.{judged-by-two, Rules}
+use Rattle.desk_laws.proofs.{Balance.balance, InstalledPieces.rightly-placed, NameSets.traces-converse}
+use Rattle.desk_laws.proofs.{Places.one-slot, Tapes.live-distinct}
 use Rattle.desk_laws.specs.Consistent.{IsConsistent}
 
 pub consistent : (rules : Rules) (H : History) → IsJudged rules H → IsConsistent H

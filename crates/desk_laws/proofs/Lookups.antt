@@ -1,30 +1,18 @@
 -- Searches in the definitions agree with the plain rules.
-use Rattle.std.proofs.lemmas.Bool.{and_parts, or_left, or_right}
-use Rattle.std.proofs.Common.{◌≡◌, ◌≢◌, Bool, true, false, Any, Contains, Option, Some, None, List, [], ◌∷◌, filter_map, unwrap_or, refl, sym, ap, ◌∙◌}
-use Rattle.std.specs.Prelude.{◌&&◌, ◌||◌, if◌then◌else◌, is_none}
-use Rattle.std.specs.Option.{option_map_or, option_or}
-use Rattle.std.specs.List.{list_any, cons_option}
-use Rattle.std.specs.Cmp.Lexicographic.{nat_list_eq_equiv}
-use Rattle.std.proofs.lemmas.List.Folds.{Any-from_list_any, list_any-from_Any}
-use Rattle.std.proofs.lemmas.Map.Views.{Contains-from_any, list_any-from_Contains}
-use Rattle.desk_types.specs.declared.command.Command.{Command}
-use Rattle.desk_types.specs.declared.command.Command.TheVariants.{MaterialsLoaded, WorkStarted, WorkCompleted}
-use Rattle.desk_types.specs.declared.command.Entry.{Entry}
-use Rattle.desk_types.specs.declared.placement.Placement.{Placement}
-use Rattle.desk_types.specs.declared.rules.Rules.TheVariants.{Two}
-use Rattle.desk_types.specs.Id.{Name, same}
-use Rattle.desk_types.specs.Pair.{same_pair}
-use Rattle.desk_types.specs.History.{History, latest}
-use Rattle.desk_types.specs.Tape.{tape_of}
-use Rattle.desk_types.specs.Pieces.{live_on, first, is_live_where_loaded, is_mounted}
-use Rattle.desk_types.specs.Work.{work_by, in_work_on, is_in_work_on, is_in_work_where_started, is_in_work, is_placed_on}
-use Rattle.desk_types.specs.Judged.{IsJudged}
-use Rattle.desk_types.specs.Placements.{placements_of}
-use Rattle.desk_types.specs.View.{slot_by, loaded_slots}
-use Rattle.desk_types.proofs.Keys.{same-refl, same-true}
-use Rattle.desk_laws.proofs.Designators.{spots_of, spot-placed}
-use Rattle.desk_laws.proofs.Mounts.{has, loaded-by, live-mounted}
-use Rattle.desk_laws.proofs.NameSets.{has-set}
+use Rattle.desk_types.proofs.Common.{[], ◌&&◌, ◌||◌, ◌∙◌, ◌∷◌, ◌≡◌, ◌≢◌, and_parts, Any, Any-from_list_any}
+use Rattle.desk_types.proofs.Common.{ap, Bool, cons_option, Contains, Contains-from_any, false, filter_map}
+use Rattle.desk_types.proofs.Common.{first, History, if◌then◌else◌, in_work_on, is_in_work, is_in_work_on}
+use Rattle.desk_types.proofs.Common.{is_live_where_loaded, is_mounted, is_none, is_placed_on, IsJudged}
+use Rattle.desk_types.proofs.Common.{latest, List, list_any, list_any-from_Any, list_any-from_Contains}
+use Rattle.desk_types.proofs.Common.{live_on, loaded_slots, Name, nat_list_eq_equiv, None, Option}
+use Rattle.desk_types.proofs.Common.{option_map_or, option_or, or_left, or_right, placements_of, refl, same}
+use Rattle.desk_types.proofs.Common.{same-refl, same-true, same_pair, Some, sym, tape_of, true, unwrap_or}
+use Rattle.desk_types.proofs.Common.{work_by}
+use Rattle.desk_laws.proofs.Common.{Command, Entry, MaterialsLoaded, Placement, Two, WorkCompleted}
+use Rattle.desk_laws.proofs.Common.{WorkStarted}
+use Rattle.desk_laws.proofs.{Designators.spot-placed, Designators.spots_of, Mounts.has, Mounts.live-mounted}
+use Rattle.desk_laws.proofs.{Mounts.loaded-by, NameSets.has-set}
+use Rattle.desk_types.specs.{View.slot_by, Work.is_in_work_where_started}
 
 -- ---- mounted reels
 

@@ -1,26 +1,17 @@
 -- Mounted reels are out of their bags, so their exposure grows.
-use Rattle.std.proofs.Common.{◌≡◌, ℕ, ◌+◌, ◌-◌, ◌≤◌, Bool, true, false, Option, Some, None, [], ◌∷◌, refl, sym, ap, ◌∙◌, unwrap_or, arith}
-use Rattle.std.specs.Prelude.{is_some, if◌then◌else◌}
-use Rattle.std.specs.Option.{option_map, option_or}
-use Rattle.std.proofs.lemmas.Bool.{and_parts}
-use Rattle.desk_types.specs.declared.command.Command.{Command}
-use Rattle.desk_types.specs.declared.command.Command.TheVariants.{ReelReceived, ReelOpened, ReelSealed, ReelBaked, MaterialsLoaded, MaterialsSpliced, MaterialsUnloaded, MaterialsInstalled, MaterialsScrapped, CountsTaken}
-use Rattle.desk_types.specs.declared.command.Receipt.{Receipt}
-use Rattle.desk_types.specs.declared.rules.Rules.TheVariants.{Two}
-use Rattle.desk_types.specs.Id.{Name, same}
-use Rattle.desk_types.specs.History.{History, now_of}
-use Rattle.desk_types.specs.Setup.{receipt_by, receipt_of}
-use Rattle.desk_types.specs.Pieces.{is_mounted}
-use Rattle.desk_types.specs.FloorLife.{open_by, is_out_at, bake_by, last_bake, exposure_starts, exposure_of, since_after, out_since}
-use Rattle.desk_types.specs.Refusals.{command_refusal}
-use Rattle.desk_types.specs.Judged.{IsJudged}
-use Rattle.desk_types.proofs.Exposure.{is_out-after, is_out-untouched}
-use Rattle.desk_types.proofs.Keys.{same-true}
-use Rattle.desk_types.proofs.Minutes.{count-split, count-one}
-use Rattle.desk_laws.specs.Place.{mounted_after}
-use Rattle.desk_laws.proofs.Accepted.{next-accepted, at-rest}
-use Rattle.desk_laws.proofs.Judgements.{AreBy, by-later, by-desk_minute}
-use Rattle.desk_laws.proofs.Mounted.{mounted-next}
+use Rattle.desk_types.proofs.Common.{[], ◌+◌, ◌-◌, ◌∙◌, ◌∷◌, ◌≡◌, ◌≤◌, and_parts, ap, arith, bake_by, Bool}
+use Rattle.desk_types.proofs.Common.{command_refusal, exposure_of, exposure_starts, false, History}
+use Rattle.desk_types.proofs.Common.{if◌then◌else◌, is_mounted, is_out_at, is_some, IsJudged, last_bake, Name}
+use Rattle.desk_types.proofs.Common.{None, now_of, open_by, Option, option_map, option_or, out_since}
+use Rattle.desk_types.proofs.Common.{receipt_by, receipt_of, refl, same, same-true, since_after, Some, sym}
+use Rattle.desk_types.proofs.Common.{true, unwrap_or, ℕ}
+use Rattle.desk_laws.proofs.Common.{Command, count-one, count-split, CountsTaken, is_out-untouched}
+use Rattle.desk_laws.proofs.Common.{MaterialsInstalled, MaterialsLoaded, MaterialsScrapped, MaterialsSpliced}
+use Rattle.desk_laws.proofs.Common.{MaterialsUnloaded, mounted_after, Receipt, ReelBaked, ReelOpened}
+use Rattle.desk_laws.proofs.Common.{ReelReceived, ReelSealed, Two}
+use Rattle.desk_laws.proofs.{Accepted.at-rest, Accepted.next-accepted, Judgements.AreBy}
+use Rattle.desk_laws.proofs.{Judgements.by-desk_minute, Judgements.by-later, Mounted.mounted-next}
+use Rattle.desk_types.proofs.Exposure.{is_out-after}
 
 -- ---- out of its bag
 

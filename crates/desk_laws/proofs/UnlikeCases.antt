@@ -1,26 +1,24 @@
 -- Faults of a roll-over: for each an old desk and a new one that are not alike. In two of them the new desk knows a name that the old one
 -- doesn't. Each but the case of the lot has a command that the two desks answer differently.
-use Rattle.std.proofs.Common.{◌≡◌, ℕ, Bool, true, false, Option, Some, None, List, [], ◌∷◌, ◌++◌, refl, ap, arith}
-use Rattle.std.specs.Prelude.{◌==◌, is_some}
-use Rattle.std.specs.Option.{option_map_or, option_and_then}
-use Rattle.desk_types.specs.declared.answer.Detail.TheVariants.{Plain, MinutesLeft, Reels, Taken}
-use Rattle.desk_types.specs.declared.answer.Refusal.TheVariants.{PartExists, ReelExists, SlotEmpty, WrongPart, NotBaked, Expired, AlreadyPlaced, ReelShort, MachineBusy}
+use Rattle.desk_types.proofs.Common.{[], ◌++◌, ◌==◌, ◌∷◌, ◌≡◌, after_commands, alternate_refusal, ap, arith}
+use Rattle.desk_types.proofs.Common.{Bool, closing_refusal, command_refusal, completion_refusal}
+use Rattle.desk_types.proofs.Common.{definition_refusal, exposure_of, false, first, History, install_picks}
+use Rattle.desk_types.proofs.Common.{install_refusal, is_out_at, is_some, left_of, List, live_on}
+use Rattle.desk_types.proofs.Common.{mounting_refusal, Name, None, opening_refusal, Option, option_and_then}
+use Rattle.desk_types.proofs.Common.{option_map_or, part_refusal, receipt_refusal, refl, refusal_of}
+use Rattle.desk_types.proofs.Common.{replies_to, same, scrap_refusal, selection_refusal, sheet_refusal, Some}
+use Rattle.desk_types.proofs.Common.{start_refusal, tape_of, true, ℕ}
+use Rattle.desk_laws.proofs.Common.{Accepted, AlternateAllowed, AreAlike, at, B1, base, ClockSet, Expired, K1}
+use Rattle.desk_laws.proofs.Common.{K2, L2, M, MachineBusy, MaterialsInstalled, MaterialsLoaded}
+use Rattle.desk_laws.proofs.Common.{MaterialsScrapped, MaterialsSpliced, NotBaked, P, PartDefined}
+use Rattle.desk_laws.proofs.Common.{ProductSelected, R1, R2, received, ReelBaked, ReelExists, ReelOpened}
+use Rattle.desk_laws.proofs.Common.{Reels, ReelShort, Refused, S1, SheetDefined, SheetRow, SlotEmpty, Stamped}
+use Rattle.desk_laws.proofs.Common.{Taken, Two, WorkCompleted, WorkStarted, WrongPart}
+use Rattle.desk_types.proofs.RowsCommon.{L1, PR, Q, received_at, received_at_six, S2, said, sheet_row}
+use Rattle.desk_types.specs.declared.answer.Detail.TheVariants.{MinutesLeft, Plain}
+use Rattle.desk_types.specs.declared.answer.Refusal.TheVariants.{AlreadyPlaced, PartExists}
 use Rattle.desk_types.specs.declared.answer.Reply.{Reply}
-use Rattle.desk_types.specs.declared.answer.Reply.TheVariants.{Accepted, Refused}
-use Rattle.desk_types.specs.declared.command.Command.TheVariants.{PartDefined, AlternateAllowed, SheetDefined, ProductSelected, ReelOpened, ReelBaked, MaterialsLoaded, MaterialsSpliced, WorkStarted, WorkCompleted, MaterialsInstalled, MaterialsScrapped, ClockSet}
-use Rattle.desk_types.specs.declared.command.Stamped.{Stamped}
 use Rattle.desk_types.specs.declared.level.Level.TheVariants.{FiveA}
-use Rattle.desk_types.specs.declared.rules.Rules.TheVariants.{Two}
-use Rattle.desk_types.specs.declared.sheet.SheetRow.{SheetRow}
-use Rattle.desk_types.specs.Id.{Name, same}
-use Rattle.desk_types.specs.History.{History}
-use Rattle.desk_types.specs.Tape.{tape_of}
-use Rattle.desk_types.specs.Pieces.{install_picks, left_of, live_on, first}
-use Rattle.desk_types.specs.FloorLife.{is_out_at, exposure_of}
-use Rattle.desk_types.specs.Refusals.{part_refusal, alternate_refusal, sheet_refusal, definition_refusal, selection_refusal, receipt_refusal, opening_refusal, closing_refusal, mounting_refusal, start_refusal, completion_refusal, install_refusal, scrap_refusal, command_refusal, refusal_of}
-use Rattle.desk_types.specs.Outcome.{replies_to, after_commands}
-use Rattle.desk_types.proofs.RowsCommon.{P, Q, L1, L2, PR, M, S1, S2, K1, K2, B1, R1, R2, at, said, sheet_row, received_at, received, received_at_six, base}
-use Rattle.desk_laws.specs.Alike.{AreAlike}
 
 -- The history of a desk that got these commands.
 abbrev after : List Stamped → History

@@ -1,23 +1,25 @@
 -- Rules Two accept every command that rules One accept.
-use Rattle.std.proofs.Common.{◌≡◌, ℕ, nat_lt, Bool, true, false, Option, Some, None, List, [], ◌∷◌, ◌++◌, refl, sym, ap, ◌∙◌}
-use Rattle.std.specs.Prelude.{if◌then◌else◌, is_none, ◌&&◌, ◌==◌}
-use Rattle.std.specs.Option.{option_or}
-use Rattle.std.proofs.lemmas.Bool.{eqb-true}
-use Rattle.std.specs.List.{list_any}
+use Rattle.desk_types.proofs.Common.{[], ◌&&◌, ◌++◌, ◌==◌, ◌∙◌, ◌∷◌, ◌≡◌, ap, Bool, command_refusal}
+use Rattle.desk_types.proofs.Common.{counts_refusal, effective_minute, eqb-true, false, first_refusal}
+use Rattle.desk_types.proofs.Common.{History, if◌then◌else◌, is_above, is_mounted, is_none, is_too_far_ahead}
+use Rattle.desk_types.proofs.Common.{IsJudged, left_of, List, list_any, Name, nat_lt, None, Option, option_or}
+use Rattle.desk_types.proofs.Common.{receipt_of, refl, refusal_of, same, Some, sym, true, ℕ}
+use Rattle.desk_types.specs.Refusals.{count_refusal}
 use Rattle.desk_types.specs.declared.answer.Refusal.{Refusal}
-use Rattle.desk_types.specs.declared.answer.Refusal.TheVariants.{TooFarAhead, UnknownReel, ReelMounted, ReelTwice, CountAbove}
+use Rattle.desk_types.specs.declared.answer.Refusal.TheVariants.{CountAbove, ReelMounted, ReelTwice}
+use Rattle.desk_types.specs.declared.answer.Refusal.TheVariants.{TooFarAhead, UnknownReel}
 use Rattle.desk_types.specs.declared.command.Command.{Command}
-use Rattle.desk_types.specs.declared.command.Command.TheVariants.{PartDefined, AlternateAllowed, SheetDefined, ProductSelected, ReelReceived, ReelOpened, ReelSealed, ReelBaked, MaterialsLoaded, MaterialsSpliced, MaterialsUnloaded, WorkStarted, WorkCompleted, MaterialsInstalled, MaterialsScrapped, CountsTaken, ClockSet}
+use Rattle.desk_types.specs.declared.command.Command.TheVariants.{AlternateAllowed, ClockSet, CountsTaken}
+use Rattle.desk_types.specs.declared.command.Command.TheVariants.{MaterialsInstalled, MaterialsLoaded}
+use Rattle.desk_types.specs.declared.command.Command.TheVariants.{MaterialsScrapped, MaterialsSpliced}
+use Rattle.desk_types.specs.declared.command.Command.TheVariants.{MaterialsUnloaded, PartDefined}
+use Rattle.desk_types.specs.declared.command.Command.TheVariants.{ProductSelected, ReelBaked, ReelOpened}
+use Rattle.desk_types.specs.declared.command.Command.TheVariants.{ReelReceived, ReelSealed, SheetDefined}
+use Rattle.desk_types.specs.declared.command.Command.TheVariants.{WorkCompleted, WorkStarted}
 use Rattle.desk_types.specs.declared.command.Stamped.{Stamped}
 use Rattle.desk_types.specs.declared.count.CountRow.{CountRow}
 use Rattle.desk_types.specs.declared.rules.Rules.{Rules}
 use Rattle.desk_types.specs.declared.rules.Rules.TheVariants.{One, Two}
-use Rattle.desk_types.specs.Id.{Name, same}
-use Rattle.desk_types.specs.History.{History, effective_minute}
-use Rattle.desk_types.specs.Setup.{receipt_of}
-use Rattle.desk_types.specs.Pieces.{left_of, is_mounted}
-use Rattle.desk_types.specs.Judged.{IsJudged}
-use Rattle.desk_types.specs.Refusals.{first_refusal, is_above, is_too_far_ahead, count_refusal, counts_refusal, command_refusal, refusal_of}
 
 above-by-two : (left counted : ℕ) → nat_lt left counted ≡ false → is_above Two left counted ≡ false
 above-by-two left counted low = by (left == 0) refl

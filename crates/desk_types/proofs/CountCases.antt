@@ -1,17 +1,16 @@
 -- Worked cases of counts under both sets of rules.
-use Rattle.std.specs.Prelude.{◌≡◌, None, List, [], ◌∷◌, ◌++◌, refl}
-use Rattle.desk_types.specs.declared.answer.Detail.TheVariants.{Plain, MinutesLeft, Taken}
-use Rattle.desk_types.specs.declared.answer.Refusal.TheVariants.{ReelMounted, CountAbove}
+use Rattle.desk_types.proofs.Common.{[], ◌++◌, ◌∷◌, ◌≡◌, after_commands, all_picks, command_refusal}
+use Rattle.desk_types.proofs.Common.{definition_refusal, found_of, History, left_of, List, live_on}
+use Rattle.desk_types.proofs.Common.{mounting_refusal, None, part_refusal, receipt_refusal, received_of, refl}
+use Rattle.desk_types.proofs.Common.{refusal_of, replies_to, scrapped_of, selection_refusal, sheet_refusal}
+use Rattle.desk_types.proofs.Common.{tape_of}
+use Rattle.desk_types.proofs.RowsCommon.{base, base_replies, counted, K1, L1, M, P, received, S1, said}
+use Rattle.desk_types.specs.declared.answer.Detail.TheVariants.{MinutesLeft, Plain, Taken}
+use Rattle.desk_types.specs.declared.answer.Refusal.TheVariants.{CountAbove, ReelMounted}
 use Rattle.desk_types.specs.declared.answer.Reply.TheVariants.{Accepted, Refused}
-use Rattle.desk_types.specs.declared.command.Command.TheVariants.{MaterialsLoaded, CountsTaken}
+use Rattle.desk_types.specs.declared.command.Command.TheVariants.{CountsTaken, MaterialsLoaded}
 use Rattle.desk_types.specs.declared.command.Stamped.{Stamped}
 use Rattle.desk_types.specs.declared.rules.Rules.TheVariants.{One, Two}
-use Rattle.desk_types.specs.History.{History}
-use Rattle.desk_types.specs.Tape.{tape_of}
-use Rattle.desk_types.specs.Pieces.{left_of, all_picks, received_of, found_of, scrapped_of, live_on}
-use Rattle.desk_types.specs.Refusals.{part_refusal, sheet_refusal, definition_refusal, selection_refusal, receipt_refusal, mounting_refusal, command_refusal, refusal_of}
-use Rattle.desk_types.specs.Outcome.{replies_to, after_commands}
-use Rattle.desk_types.proofs.RowsCommon.{P, L1, M, S1, K1, said, counted, received, base, base_replies}
 
 -- A reel of ten pieces is counted at fifteen, then twelve, none and one.
 abbrev counts : List Stamped

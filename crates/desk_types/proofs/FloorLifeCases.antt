@@ -1,18 +1,18 @@
 -- Worked cases of floor life.
-use Rattle.std.specs.Prelude.{◌≡◌, ℕ, Some, List, [], ◌∷◌, ◌++◌, refl}
-use Rattle.desk_types.specs.declared.answer.Detail.TheVariants.{Plain, MinutesLeft}
-use Rattle.desk_types.specs.declared.answer.Refusal.TheVariants.{NotBaked, Expired}
+use Rattle.desk_types.proofs.Common.{[], ◌++◌, ◌∷◌, ◌≡◌, closing_refusal, command_refusal, definition_refusal}
+use Rattle.desk_types.proofs.Common.{exposure_of, is_out_at, left_of, List, live_on, mounting_refusal}
+use Rattle.desk_types.proofs.Common.{opening_refusal, part_refusal, receipt_refusal, refl, refusal_of}
+use Rattle.desk_types.proofs.Common.{replies_to, selection_refusal, sheet_refusal, Some, tape_of}
+use Rattle.desk_types.proofs.Common.{unload_refusal, ℕ}
+use Rattle.desk_types.proofs.RowsCommon.{at, base, base_replies, K1, K2, M, received_at, received_at_six, S1}
+use Rattle.desk_types.specs.declared.answer.Detail.TheVariants.{MinutesLeft, Plain}
+use Rattle.desk_types.specs.declared.answer.Refusal.TheVariants.{Expired, NotBaked}
 use Rattle.desk_types.specs.declared.answer.Reply.TheVariants.{Accepted, Refused}
-use Rattle.desk_types.specs.declared.command.Command.TheVariants.{ReelOpened, ReelSealed, ReelBaked, MaterialsLoaded, MaterialsUnloaded}
+use Rattle.desk_types.specs.declared.command.Command.TheVariants.{MaterialsLoaded, MaterialsUnloaded}
+use Rattle.desk_types.specs.declared.command.Command.TheVariants.{ReelBaked, ReelOpened, ReelSealed}
 use Rattle.desk_types.specs.declared.command.Stamped.{Stamped}
-use Rattle.desk_types.specs.declared.level.Level.TheVariants.{Three, FiveA}
-use Rattle.desk_types.specs.Tape.{tape_of}
-use Rattle.desk_types.specs.Pieces.{left_of, live_on}
-use Rattle.desk_types.specs.FloorLife.{is_out_at, exposure_of}
-use Rattle.desk_types.specs.Refusals.{part_refusal, sheet_refusal, definition_refusal, selection_refusal, receipt_refusal, opening_refusal, closing_refusal, mounting_refusal, unload_refusal, command_refusal, refusal_of}
+use Rattle.desk_types.specs.declared.level.Level.TheVariants.{FiveA, Three}
 use Rattle.desk_types.specs.declared.rules.Rules.TheVariants.{Two}
-use Rattle.desk_types.specs.Outcome.{replies_to}
-use Rattle.desk_types.proofs.RowsCommon.{M, S1, K1, K2, at, received_at, received_at_six, base, base_replies}
 
 -- A reel of level 3 is loaded with one minute left of its 10,080. One minute later another reel,
 -- opened with it, is refused.

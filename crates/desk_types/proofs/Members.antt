@@ -1,26 +1,30 @@
 -- A command consists of its kind and its members.
-use Rattle.std.proofs.Common.{◌≡◌, ℕ, Result, Ok, Err, List, [], ◌∷◌, ◌++◌, refl, sym, ap, subst, ◌∙◌, arith}
-use Rattle.std.specs.Prelude.{⊤}
-use Rattle.std.specs.Result.{IsErrAnd}
-use Rattle.desk_types.specs.Apart.{names_apart, numbers_apart, levels_apart, quantities_fit, pairs_apart, triples_apart, lists_apart, rows_apart, counts_apart}
-use Rattle.desk_types.specs.Command.{IsCommand, IsListOf, IsSheetRow, IsCountRow}
-use Rattle.desk_types.specs.Designator.{IsDesignator}
-use Rattle.desk_types.specs.Fields.{Reads, IsPrefixFree, TripleInRange, triple_fields, number_fields, level_fields, IsNumber, members_of, IsSaidBy}
-use Rattle.desk_types.specs.Id.{Name, IsId}
-use Rattle.desk_types.specs.Level.{IsLabel}
-use Rattle.desk_types.specs.Number.{IsQuantity}
-use Rattle.desk_types.specs.StoredText.{Field, word_text, name_fields, list_fields, row_fields, count_fields, fields_of}
+use Rattle.desk_types.proofs.Common.{[], ⊤, ◌++◌, ◌∙◌, ◌∷◌, ◌≡◌, ap, arith, count_fields, Err, Field}
+use Rattle.desk_types.proofs.Common.{fields_of, IsCommand, IsCountRow, IsDesignator, IsErrAnd, IsId, IsLabel}
+use Rattle.desk_types.proofs.Common.{IsListOf, IsNumber, IsQuantity, IsSheetRow, List, list_fields}
+use Rattle.desk_types.proofs.Common.{members_of, Name, name_fields, number_fields, numbers_apart, Ok}
+use Rattle.desk_types.proofs.Common.{quantities_fit, refl, Result, row_fields, subst, sym, triple_fields}
+use Rattle.desk_types.proofs.Common.{TripleInRange, word_text, ℕ}
+use Rattle.desk_types.proofs.Words.{word_text-apart}
+use Rattle.desk_types.specs.Apart.{counts_apart, levels_apart, lists_apart, names_apart, pairs_apart}
+use Rattle.desk_types.specs.Apart.{rows_apart, triples_apart}
+use Rattle.desk_types.specs.Fields.{IsPrefixFree, IsSaidBy, level_fields, Reads}
 use Rattle.desk_types.specs.declared.command.Command.{Command}
-use Rattle.desk_types.specs.declared.command.Command.TheVariants as command
 use Rattle.desk_types.specs.declared.count.CountRow.{CountRow}
 use Rattle.desk_types.specs.declared.level.Level.{Level}
-use Rattle.desk_types.specs.declared.level.Level.TheVariants.{One, Two, TwoA, Three, Four, Five, FiveA, Six}
+use Rattle.desk_types.specs.declared.level.Level.TheVariants.{Five, FiveA, Four, One, Six, Three, Two, TwoA}
 use Rattle.desk_types.specs.declared.sheet.SheetRow.{SheetRow}
 use Rattle.desk_types.specs.declared.stored_fields.Unread.{Unread}
 use Rattle.desk_types.specs.declared.stored_fields.Unread.TheVariants.{NoMemory, NotStored}
 use Rattle.desk_types.specs.declared.stored_word.Word.{Word}
-use Rattle.desk_types.specs.declared.stored_word.Word.TheVariants.{PartDefined, AlternateAllowed, SheetDefined, ProductSelected, ReelReceived, ReelOpened, ReelSealed, ReelBaked, MaterialsLoaded, MaterialsSpliced, MaterialsUnloaded, WorkStarted, WorkCompleted, MaterialsInstalled, MaterialsScrapped, CountsTaken, ClockSet}
-use Rattle.desk_types.proofs.Words.{word_text-apart}
+use Rattle.desk_types.specs.declared.stored_word.Word.TheVariants.{AlternateAllowed, ClockSet, CountsTaken}
+use Rattle.desk_types.specs.declared.stored_word.Word.TheVariants.{MaterialsInstalled, MaterialsLoaded}
+use Rattle.desk_types.specs.declared.stored_word.Word.TheVariants.{MaterialsScrapped, MaterialsSpliced}
+use Rattle.desk_types.specs.declared.stored_word.Word.TheVariants.{MaterialsUnloaded, PartDefined}
+use Rattle.desk_types.specs.declared.stored_word.Word.TheVariants.{ProductSelected, ReelBaked, ReelOpened}
+use Rattle.desk_types.specs.declared.stored_word.Word.TheVariants.{ReelReceived, ReelSealed, SheetDefined}
+use Rattle.desk_types.specs.declared.stored_word.Word.TheVariants.{WorkCompleted, WorkStarted}
+use Rattle.desk_types.specs.declared.command.Command.TheVariants as command
 
 abbrev pub word_of : Command → Word
 word_of (command.PartDefined _) = PartDefined

@@ -1,19 +1,24 @@
 -- Worked cases of tapes, pieces and counts.
-use Rattle.std.specs.Prelude.{◌≡◌, ℕ, None, List, [], ◌∷◌, ◌++◌, map, refl}
-use Rattle.desk_types.specs.declared.answer.Detail.TheVariants.{Plain, MinutesLeft, Reels, Taken}
-use Rattle.desk_types.specs.declared.answer.Refusal.TheVariants.{SlotTaken, SlotEmpty, ReelMounted, AlreadyPlaced, CountAbove}
+use Rattle.desk_types.proofs.Common.{[], ◌++◌, ◌∷◌, ◌≡◌, after_commands, all_picks, command_refusal}
+use Rattle.desk_types.proofs.Common.{definition_refusal, found_of, History, install_picks, install_refusal}
+use Rattle.desk_types.proofs.Common.{left_of, List, live_on, map, mounting_refusal, None, part_refusal}
+use Rattle.desk_types.proofs.Common.{placed_of, receipt_refusal, received_of, refl, refusal_of, replies_to}
+use Rattle.desk_types.proofs.Common.{scrap_refusal, scrapped_of, selection_refusal, sheet_refusal}
+use Rattle.desk_types.proofs.Common.{start_refusal, tape_of, unload_refusal, ℕ}
+use Rattle.desk_types.proofs.RowsCommon.{B1, base, base_replies, counted, K1, K2, K3, K4, L1, M, P, R1, R2}
+use Rattle.desk_types.proofs.RowsCommon.{R3, R4, R5, received, S1, said}
+use Rattle.desk_types.specs.declared.answer.Detail.TheVariants.{MinutesLeft, Plain, Reels, Taken}
+use Rattle.desk_types.specs.declared.answer.Refusal.TheVariants.{AlreadyPlaced, CountAbove, ReelMounted}
+use Rattle.desk_types.specs.declared.answer.Refusal.TheVariants.{SlotEmpty, SlotTaken}
 use Rattle.desk_types.specs.declared.answer.Reply.{Reply}
 use Rattle.desk_types.specs.declared.answer.Reply.TheVariants.{Accepted, Refused}
-use Rattle.desk_types.specs.declared.command.Command.TheVariants.{MaterialsLoaded, MaterialsSpliced, MaterialsUnloaded, WorkStarted, MaterialsInstalled, MaterialsScrapped, CountsTaken}
+use Rattle.desk_types.specs.declared.command.Command.TheVariants.{CountsTaken, MaterialsInstalled}
+use Rattle.desk_types.specs.declared.command.Command.TheVariants.{MaterialsLoaded, MaterialsScrapped}
+use Rattle.desk_types.specs.declared.command.Command.TheVariants.{MaterialsSpliced, MaterialsUnloaded}
+use Rattle.desk_types.specs.declared.command.Command.TheVariants.{WorkStarted}
 use Rattle.desk_types.specs.declared.command.Stamped.{Stamped}
 use Rattle.desk_types.specs.declared.count.CountRow.{CountRow}
 use Rattle.desk_types.specs.declared.rules.Rules.TheVariants.{Two}
-use Rattle.desk_types.specs.History.{History}
-use Rattle.desk_types.specs.Tape.{tape_of}
-use Rattle.desk_types.specs.Pieces.{install_picks, left_of, all_picks, received_of, found_of, placed_of, scrapped_of, live_on}
-use Rattle.desk_types.specs.Refusals.{part_refusal, sheet_refusal, definition_refusal, selection_refusal, receipt_refusal, mounting_refusal, unload_refusal, scrap_refusal, start_refusal, install_refusal, command_refusal, refusal_of}
-use Rattle.desk_types.specs.Outcome.{replies_to, after_commands}
-use Rattle.desk_types.proofs.RowsCommon.{P, L1, M, S1, K1, K2, K3, K4, B1, R1, R2, R3, R4, R5, said, counted, received, base, base_replies}
 
 -- A reel of fifty pieces is spliced to one of two pieces, and a board takes five.
 abbrev spliced_board : List Stamped

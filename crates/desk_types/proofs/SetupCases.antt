@@ -1,17 +1,18 @@
 -- Worked cases of parts, alternates and the clock.
-use Rattle.std.specs.Prelude.{◌≡◌, None, List, [], ◌∷◌, ◌++◌, map, codes, refl}
-use Rattle.desk_types.specs.declared.answer.Detail.TheVariants.{Plain, MinutesLeft}
+use Rattle.desk_types.proofs.Common.{[], ◌++◌, ◌∷◌, ◌≡◌, after_commands, alternate_refusal, codes}
+use Rattle.desk_types.proofs.Common.{command_refusal, definition_refusal, left_of, List, live_on, map}
+use Rattle.desk_types.proofs.Common.{mounting_refusal, None, part_refusal, receipt_refusal, refl, refusal_of}
+use Rattle.desk_types.proofs.Common.{replies_to, selection_refusal, sheet_refusal, tape_of}
+use Rattle.desk_types.proofs.RowsCommon.{at, base, base_replies, K1, K2, L1, M, N, P, PS, Q, R1, received, S1}
+use Rattle.desk_types.proofs.RowsCommon.{said, sheet_row}
+use Rattle.desk_types.specs.declared.answer.Detail.TheVariants.{MinutesLeft, Plain}
 use Rattle.desk_types.specs.declared.answer.Refusal.TheVariants.{TooFarAhead, WrongPart}
 use Rattle.desk_types.specs.declared.answer.Reply.TheVariants.{Accepted, Refused}
-use Rattle.desk_types.specs.declared.command.Command.TheVariants.{PartDefined, AlternateAllowed, SheetDefined, ProductSelected, MaterialsLoaded, ClockSet}
+use Rattle.desk_types.specs.declared.command.Command.TheVariants.{AlternateAllowed, ClockSet, MaterialsLoaded}
+use Rattle.desk_types.specs.declared.command.Command.TheVariants.{PartDefined, ProductSelected, SheetDefined}
 use Rattle.desk_types.specs.declared.command.Entry.{Entry}
 use Rattle.desk_types.specs.declared.command.Stamped.{Stamped}
-use Rattle.desk_types.specs.Tape.{tape_of}
-use Rattle.desk_types.specs.Pieces.{left_of, live_on}
-use Rattle.desk_types.specs.Refusals.{part_refusal, alternate_refusal, sheet_refusal, definition_refusal, selection_refusal, receipt_refusal, mounting_refusal, command_refusal, refusal_of}
 use Rattle.desk_types.specs.declared.rules.Rules.TheVariants.{Two}
-use Rattle.desk_types.specs.Outcome.{replies_to, after_commands}
-use Rattle.desk_types.proofs.RowsCommon.{P, Q, L1, PS, M, N, S1, K1, K2, R1, at, said, sheet_row, received, base, base_replies}
 
 pub another_part_is_refused_at_its_slot : replies_to Two [] (base ++ said (
     received K1 Q L1 100

@@ -1,29 +1,35 @@
 -- A command's fields have no tabs, so splitting its text gives them back.
-use Rattle.std.proofs.Common.{◌≡◌, ◌==◌, ℕ, ◌<◌, ◌≤◌, ◌^◌, true, false, not, List, [], ◌∷◌, ◌++◌, All, length, flat_map, decimal, refl, sym, ap, ◌∙◌, append-nil, drop, arith}
-use Rattle.std.specs.List.{AllByRecursion, join_with_byte, list_all}
-use Rattle.std.proofs.lemmas.Bool.Decides.{nat_tests}
-use Rattle.std.proofs.lemmas.Fmt.{decimal_is_IsNumeral}
-use Rattle.std.proofs.lemmas.List.Elements.{All-from_get_or, recursion_from_All}
-use Rattle.std.proofs.lemmas.List.Splits.{join_with_byte-slice_split, slice_split_at, slice_split_none}
-use Rattle.std.proofs.lemmas.List.Sums.{AllPass-from_list_all}
-use Rattle.std.proofs.lemmas.Str.Parse.{digit_at}
-use Rattle.desk_types.specs.Apart.{lengths_fit, quantities_fit, counted_quantities_fit}
-use Rattle.desk_types.specs.Command.{IsCommand, IsListOf, IsSheetRow, IsCountRow}
-use Rattle.desk_types.specs.Designator.{IsDesignator}
-use Rattle.desk_types.specs.Fields.{fields_in, after_tabs, fields_text, members_of}
-use Rattle.desk_types.specs.Id.{IsId}
+use Rattle.desk_types.proofs.Common.{[], ◌++◌, ◌<◌, ◌==◌, ◌^◌, ◌∙◌, ◌∷◌, ◌≡◌, ◌≤◌, All, AllByRecursion}
+use Rattle.desk_types.proofs.Common.{AllPass-from_list_all, ap, append-nil, arith, count_fields, decimal}
+use Rattle.desk_types.proofs.Common.{drop, false, Field, fields_in, fields_of, IsCommand, IsCountRow}
+use Rattle.desk_types.proofs.Common.{IsDesignator, IsId, IsListOf, IsSheetRow, join_with_byte, length, List}
+use Rattle.desk_types.proofs.Common.{list_all, list_fields, members_of, name_fields, nat_tests, not}
+use Rattle.desk_types.proofs.Common.{quantities_fit, recursion_from_All, refl, row_fields, slice_split_at}
+use Rattle.desk_types.proofs.Common.{slice_split_none, stored_text, sym, true, word_text, ℕ}
+use Rattle.desk_types.proofs.Ascii.{printable-marks}
+use Rattle.desk_types.proofs.Members.{commands_apart, fields_are, label_fits, word_of}
+use Rattle.desk_types.specs.Apart.{counted_quantities_fit, lengths_fit}
+use Rattle.desk_types.specs.Fields.{after_tabs, fields_text}
 use Rattle.desk_types.specs.Level.{text_of}
-use Rattle.desk_types.specs.StoredText.{Field, word_text, name_fields, list_fields, row_fields, count_fields, fields_of, stored_text}
 use Rattle.desk_types.specs.declared.command.Command.{Command}
-use Rattle.desk_types.specs.declared.command.Command.TheVariants.{PartDefined, AlternateAllowed, SheetDefined, ProductSelected, ReelReceived, ReelOpened, ReelSealed, ReelBaked, MaterialsLoaded, MaterialsSpliced, MaterialsUnloaded, WorkStarted, WorkCompleted, MaterialsInstalled, MaterialsScrapped, CountsTaken, ClockSet}
+use Rattle.desk_types.specs.declared.command.Command.TheVariants.{AlternateAllowed, ClockSet, CountsTaken}
+use Rattle.desk_types.specs.declared.command.Command.TheVariants.{MaterialsInstalled, MaterialsLoaded}
+use Rattle.desk_types.specs.declared.command.Command.TheVariants.{MaterialsScrapped, MaterialsSpliced}
+use Rattle.desk_types.specs.declared.command.Command.TheVariants.{MaterialsUnloaded, PartDefined}
+use Rattle.desk_types.specs.declared.command.Command.TheVariants.{ProductSelected, ReelBaked, ReelOpened}
+use Rattle.desk_types.specs.declared.command.Command.TheVariants.{ReelReceived, ReelSealed, SheetDefined}
+use Rattle.desk_types.specs.declared.command.Command.TheVariants.{WorkCompleted, WorkStarted}
 use Rattle.desk_types.specs.declared.count.CountRow.{CountRow}
 use Rattle.desk_types.specs.declared.level.Level.{Level}
-use Rattle.desk_types.specs.declared.level.Level.TheVariants.{One, Two, TwoA, Three, Four, Five, FiveA, Six}
+use Rattle.desk_types.specs.declared.level.Level.TheVariants.{Five, FiveA, Four, One, Six, Three, Two, TwoA}
 use Rattle.desk_types.specs.declared.sheet.SheetRow.{SheetRow}
 use Rattle.desk_types.specs.declared.stored_word.Word.{Word}
+use Rattle.std.proofs.Common.{flat_map}
+use Rattle.std.proofs.lemmas.Fmt.{decimal_is_IsNumeral}
+use Rattle.std.proofs.lemmas.List.Elements.{All-from_get_or}
+use Rattle.std.proofs.lemmas.List.Splits.{join_with_byte-slice_split}
+use Rattle.std.proofs.lemmas.Str.Parse.{digit_at}
 use Rattle.desk_types.specs.declared.stored_word.Word.TheVariants as word
-use Rattle.desk_types.proofs.Ascii.{printable-marks}
-use Rattle.desk_types.proofs.Members.{word_of, fields_are, commands_apart, label_fits}
 
 abbrev HasNoTab : Field → Type 0
 HasNoTab field = All (λ byte. (byte == 0x09) ≡ false) field

@@ -1,23 +1,24 @@
 -- A GET leaves the history unchanged.
-use Rattle.std.proofs.Common.{◌≡◌, ◌∙◌, ℕ, List, [], Option, Some, None, Result, Ok, Err, ok_or, refl, codes, Bool, true, false, inl, inr}
-use Rattle.std.specs.Prelude.{⊤}
+use Rattle.desk_types.proofs.Common.{[], ⊤, ◌∙◌, ◌≡◌, Bool, codes, Err, false, History, inl, inr, List, None}
+use Rattle.desk_types.proofs.Common.{Ok, ok_or, Option, refl, Result, Some, true, ℕ}
 use Rattle.cfx_profile.specs.Fault.{◌>>=◌}
 use Rattle.desk_answers.specs.Ledger.{Ledger}
-use Rattle.gateway_http.specs.Asked.{asked_of, asked_at, by_method, path_of, query_of, id_in, detail_in, boards_in}
-use Rattle.gateway_http.specs.Routes.{route_of}
-use Rattle.gateway_http.specs.declared.asked.Asked.{Asked}
-use Rattle.gateway_http.specs.declared.asked.Asked.TheVariants as asks
-use Rattle.gateway_http.specs.declared.fault.AskFault.{AskFault}
-use Rattle.gateway_http.specs.declared.fault.AskFault.TheVariants.{NoPath}
-use Rattle.gateway_http.specs.declared.parameter.Parameter.TheVariants as parameter
-use Rattle.gateway_http.specs.declared.routes.Route.{Route}
-use Rattle.gateway_http.specs.declared.routes.Route.TheVariants.{Messages, ImportSetup, ImportCounts, TraceBoard, TraceLot, Reel, Slots, Kit, Overdue}
-use Rattle.http_stream.specs.Answers.{Told}
-use Rattle.http_stream.specs.Stream.{AnswersRequest, request_outcome}
-use Rattle.desk_types.specs.History.{History}
+use Rattle.gateway_http.specs.Asked.{asked_at, asked_of, boards_in, by_method, detail_in, id_in, path_of}
+use Rattle.gateway_http.specs.Asked.{query_of}
 use Rattle.gateway_http.specs.Gateways.{AnswersGet}
 use Rattle.gateway_http.specs.Repeats.{get_of}
-use Rattle.gateway_http.specs.Requests.{Reports, asked_outcome, outcome_of, request_rule}
+use Rattle.gateway_http.specs.Requests.{asked_outcome, outcome_of, Reports, request_rule}
+use Rattle.gateway_http.specs.Routes.{route_of}
+use Rattle.gateway_http.specs.declared.asked.Asked.{Asked}
+use Rattle.gateway_http.specs.declared.fault.AskFault.{AskFault}
+use Rattle.gateway_http.specs.declared.fault.AskFault.TheVariants.{NoPath}
+use Rattle.gateway_http.specs.declared.routes.Route.{Route}
+use Rattle.gateway_http.specs.declared.routes.Route.TheVariants.{ImportCounts, ImportSetup, Kit, Messages}
+use Rattle.gateway_http.specs.declared.routes.Route.TheVariants.{Overdue, Reel, Slots, TraceBoard, TraceLot}
+use Rattle.http_stream.specs.Answers.{Told}
+use Rattle.http_stream.specs.Stream.{AnswersRequest, request_outcome}
+use Rattle.gateway_http.specs.declared.asked.Asked.TheVariants as asks
+use Rattle.gateway_http.specs.declared.parameter.Parameter.TheVariants as parameter
 
 -- The request is for a report, or has a fault.
 abbrev Asks : Result Asked AskFault → Type 0

@@ -1,9 +1,9 @@
 -- Bytes taken as a body.
-use Rattle.std.proofs.Common.{◌≡◌, ◌∙◌, ◌<◌, ◌≤◌, ◌+◌, ℕ, List, [], ◌∷◌, ◌++◌, sym, ap, take, drop, length, length-append, Option, Some, None, arith, append_assoc, append-nil}
-use Rattle.std.proofs.lemmas.List.{length-take, take-append-drop, take-append-le}
-use Rattle.std.specs.Io.KnownBytes.{prepend_known, Consumes}
-use borrow.Rule.Slice.PartMut.{put_mid, post_of}
-use Rattle.std.proofs.Math.Seq.{take-append-add}
+use Rattle.desk_types.proofs.Common.{[], ◌++◌, ◌+◌, ◌<◌, ◌∙◌, ◌∷◌, ◌≡◌, ◌≤◌, ap, append-nil, append_assoc}
+use Rattle.desk_types.proofs.Common.{arith, Consumes, drop, length, length-append, length-take, List, None}
+use Rattle.desk_types.proofs.Common.{Option, prepend_known, Some, sym, take, take-append-add}
+use Rattle.desk_types.proofs.Common.{take-append-drop, take-append-le, ℕ}
+use borrow.Rule.Slice.PartMut.{post_of, put_mid}
 
 pub split_front : (bytes pend front rest : List ℕ) (n : ℕ) → bytes ≡ pend → front ≡ take n bytes → rest ≡ drop n pend → pend ≡ front ++ rest
 split_front bytes pend front rest n same first left =

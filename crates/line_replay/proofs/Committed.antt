@@ -1,34 +1,21 @@
 -- The result of a replay, in terms of the committed rows.
-use Rattle.std.proofs.Common.{◌≡◌, ◌∙◌, ◌==◌, ◌+◌, ◌≤◌, ◌⊎◌, inl, inr, IsTrue, ℕ, Bool, true, false, [], length, filter, sym, subst, arith}
-use Rattle.std.proofs.lemmas.Bool.{eqb-true, eq-eqb, true≢false}
-use Rattle.std.specs.List.Sorted.{IsPermutation}
-use Rattle.std.proofs.lemmas.List.Sorted.{IsPermutation-sym, IsPermutation-trans}
-use Rattle.sqlite.specs.Effect.{Database}
-use Rattle.sqlite_trees.specs.declared.store.Store.{Ghosts}
-use Rattle.sqlite.specs.Held.{Held, state}
-use Rattle.sqlite.specs.State.{State, HasCleanDisk, KeepsCommit}
-use Rattle.desk_types.specs.declared.rules.Rules.{Rules}
-use Rattle.desk_types.specs.History.{History, Basis}
-use Rattle.desk_types.specs.Judged.{IsJudged}
-use Rattle.line_tables.specs.Line.{IsOurs}
-use Rattle.line_tables.specs.Rows.{Holds, accepted_in}
-use Rattle.line_tables.specs.Calls.{Reads, has_number}
-use Rattle.line_tables.specs.Frames.{ReadsOnly}
+use Rattle.desk_types.proofs.Common.{[], ◌+◌, ◌==◌, ◌∙◌, ◌≡◌, ◌≤◌, ◌⊎◌, arith, Basis, Bool, eq-eqb, eqb-true}
+use Rattle.desk_types.proofs.Common.{false, filter, History, inl, inr, IsJudged, IsPermutation}
+use Rattle.desk_types.proofs.Common.{IsPermutation-sym, IsPermutation-trans, IsTrue, length, subst, sym, true}
+use Rattle.desk_types.proofs.Common.{true≢false, ℕ}
+use Rattle.line_tables.proofs.Common.{accepted_in, Database, Ghosts, has_number, HasCleanDisk, Held, Holds}
+use Rattle.line_tables.proofs.Common.{IsOurs, KeepsCommit, Reads, ReadsOnly, Rules, State, state, Two}
+use Rattle.line_replay.proofs.{ReadOfCommitted.reads_back, ReadOfCommitted.reads_two, RowsOfLists.are_rows}
+use Rattle.line_replay.proofs.{StopsOfRows.stops_short, StopsOfRows.stops_stuck}
+use Rattle.line_replay.specs.{Audit.ArePlaced, Expected.Expected, Listed.AreAt, Listed.StopsAt}
+use Rattle.line_replay.specs.{Placed.HasBefore, Replay.IsEnd, Replay.IsFaultOf, Replay.IsNumbered}
+use Rattle.line_replay.specs.{Replay.IsReplayed, Replay.IsStop, Replay.IsStuck, Replay.StandsListed}
+use Rattle.line_replay.specs.{Replay.TakesAll, Rows.ledger_tables, Rows.rows_of}
+use Rattle.line_replay.specs.{declared.fault.ReplayFault.ReplayFault}
+use Rattle.line_replay.specs.{declared.fault.ReplayFault.TheVariants.NotLawful}
+use Rattle.line_replay.specs.{declared.fault.ReplayFault.TheVariants.Unavailable}
 use Rattle.line_tables.proofs.Keeps.{keeps_then}
-use Rattle.line_replay.specs.Audit.{ArePlaced}
-use Rattle.line_replay.specs.Placed.{HasBefore}
-use Rattle.line_replay.specs.Rows.{rows_of, ledger_tables}
-use Rattle.line_replay.specs.declared.fault.ReplayFault.{ReplayFault}
-use Rattle.line_replay.specs.declared.fault.ReplayFault.TheVariants.{NotLawful, Unavailable}
-use Rattle.line_replay.specs.Expected.{Expected}
-use Rattle.line_replay.specs.Listed.{AreAt, StopsAt}
-use Rattle.line_replay.specs.Replay.{IsReplayed, IsFaultOf, StandsListed, IsNumbered, IsStuck, TakesAll, IsEnd, IsStop}
-use Rattle.state_rows.specs.declared.lists.TraceLists.{TraceLists}
-use Rattle.state_rows.specs.Lists.{IsListed}
-use Rattle.line_replay.proofs.ReadOfCommitted.{reads_two, reads_back}
-use Rattle.line_replay.proofs.RowsOfLists.{are_rows}
-use Rattle.line_replay.proofs.StopsOfRows.{stops_stuck, stops_short}
-use Rattle.desk_types.specs.declared.rules.Rules.TheVariants.{Two}
+use Rattle.state_rows.specs.{Lists.IsListed, declared.lists.TraceLists.TraceLists}
 
 pub stops_before : (rules : Rules) (greatest : ℕ) (old mid : State) (n : ℕ) → KeepsCommit old mid → Reads old (λ db. IsNumbered (accepted_in db)) → IsStop rules greatest mid n → IsFaultOf rules greatest old (NotLawful n)
 stops_before rules greatest old mid n kept numbered stop =

@@ -1,33 +1,30 @@
 -- The expected rows of a history with one more entry.
-use Rattle.std.proofs.Common.{◌≡◌, ◌∙◌, ◌⊎◌, ◌↔◌, ◌+◌, inl, inr, ℕ, ◌<◌, take, get_or, sym, Bool, true, false, Option, Some, None, List, [], ◌∷◌, ◌++◌, length, map, refl, ap, ap₂, subst, if◌then◌else◌, ◌==◌, ◌&&◌, arith}
-use Rattle.std.specs.Option.{option_to_list, option_map}
-use Rattle.std.specs.List.{AllByRecursion, cons_option}
-use Rattle.std.proofs.lemmas.Bool.{eqb-true, eq-eqb}
-use Rattle.std.proofs.lemmas.List.Elements.{filter_map-append}
-use Rattle.sqlite.specs.Effect.{Database}
-use Rattle.sqlite.specs.State.{State, KeepsCommit}
+use Rattle.desk_types.proofs.Common.{[], ◌&&◌, ◌++◌, ◌+◌, ◌<◌, ◌==◌, ◌↔◌, ◌∙◌, ◌∷◌, ◌≡◌, ◌⊎◌, AllByRecursion}
+use Rattle.desk_types.proofs.Common.{ap, ap₂, arith, Bool, cons_option, eq-eqb, eqb-true, false}
+use Rattle.desk_types.proofs.Common.{filter_map-append, get_or, History, if◌then◌else◌, inl, inr, length}
+use Rattle.desk_types.proofs.Common.{List, map, Name, None, Option, option_map, option_to_list, placement_row}
+use Rattle.desk_types.proofs.Common.{refl, Some, subst, sym, Tables, take, take-next, takes_of, true}
+use Rattle.desk_types.proofs.Common.{with_edit, with_edits, ℕ}
+use Rattle.line_tables.proofs.Common.{Database, has_piece, IsOurs, KeepsCommit, placement_columns, RowEdit}
+use Rattle.line_tables.proofs.Common.{rows_in, State}
+use Rattle.desk_types.specs.Edits.{AreNew, IsNew}
+use Rattle.desk_types.specs.Tables.{tables_of as state_of}
 use Rattle.desk_types.specs.declared.command.Entry.{Entry}
-use Rattle.desk_types.specs.History.{History}
-use Rattle.desk_types.specs.Placements.{takes_of}
-use Rattle.desk_types.proofs.LoopSteps.{take-next}
-use Rattle.desk_types.specs.declared.edit.RowEdit.{RowEdit}
-use Rattle.desk_types.specs.declared.edit.RowEdit.TheVariants.{TakeSheetRow, TakeMount, PutPart, PutAlternate, PutSheetRow, PutSelected, PutReel, PutMount, PutBoard, PutPlacement, PutFound}
-use Rattle.desk_types.specs.declared.row.PlacementRow.{PlacementRow}
-use Rattle.desk_types.specs.Tables.{Tables, tables_of as state_of, placement_row}
-use Rattle.desk_types.specs.Edits.{with_edit, with_edits, IsNew, AreNew}
-use Rattle.state_rows.specs.Kept.{KeptRows, tables_in, but_placements, without_number, unnumbered}
-use Rattle.desk_types.specs.Id.{Name}
+use Rattle.desk_types.specs.declared.edit.RowEdit.TheVariants.{PutAlternate, PutBoard, PutFound, PutMount}
+use Rattle.desk_types.specs.declared.edit.RowEdit.TheVariants.{PutPart, PutPlacement, PutReel, PutSelected}
+use Rattle.desk_types.specs.declared.edit.RowEdit.TheVariants.{PutSheetRow, TakeMount, TakeSheetRow}
 use Rattle.desk_types.specs.declared.row.MountRow.{MountRow}
-use Rattle.line_replay.specs.declared.auditing.Placed.{Placed}
-use Rattle.line_tables.specs.Line.{IsOurs}
-use Rattle.line_tables.specs.Line as line
-use Rattle.line_tables.specs.StateRows.{has_piece, rows_in, placement_columns}
-use Rattle.line_replay.specs.Alone.{Listed, IsNamed, AreAlone, IsNew as IsNewPiece}
-use Rattle.line_replay.specs.Audit.{Pieces, AreByPiece, ArePlaced, piece_of}
-use Rattle.line_replay.specs.Placed.{HasBefore, HasMoreBefore}
-use Rattle.line_replay.specs.Judging.{Lead}
-use Rattle.line_replay.specs.Expected.{Expected, placement_by, placements_by, AreKept, AreExpected, HoldsAsRead, ArePlacedToo, LooksUp, Adds}
+use Rattle.desk_types.specs.declared.row.PlacementRow.{PlacementRow}
 use Rattle.line_replay.proofs.ReadOfCommitted.{reads_back}
+use Rattle.line_replay.specs.Alone.{AreAlone, IsNamed, IsNew as IsNewPiece, Listed}
+use Rattle.line_replay.specs.Audit.{AreByPiece, ArePlaced, piece_of, Pieces}
+use Rattle.line_replay.specs.Expected.{Adds, AreExpected, AreKept, ArePlacedToo, Expected, HoldsAsRead}
+use Rattle.line_replay.specs.Expected.{LooksUp, placement_by, placements_by}
+use Rattle.line_replay.specs.Judging.{Lead}
+use Rattle.line_replay.specs.Placed.{HasBefore, HasMoreBefore}
+use Rattle.line_replay.specs.declared.auditing.Placed.{Placed}
+use Rattle.state_rows.specs.Kept.{but_placements, KeptRows, tables_in, unnumbered, without_number}
+use Rattle.line_tables.specs.Line as line
 
 -- ---- the rows of the other tables
 

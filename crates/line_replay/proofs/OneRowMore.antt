@@ -1,23 +1,17 @@
 -- One more row is taken.
-use Rattle.std.proofs.Common.{◌≡◌, ◌∙◌, ◌⊎◌, ◌+◌, ◌≤◌, inl, inr, ℕ, true, false, true≢false, Option, Some, [], ◌∷◌, length, filter, sym, ap, arith}
-use Rattle.std.specs.List.{list_any}
-use Rattle.sqlite_value.specs.Order.{Row}
-use Rattle.sqlite.specs.Effect.{Database}
-use Rattle.sqlite.specs.State.{State, KeepsCommit}
-use Rattle.desk_types.specs.declared.rules.Rules.{Rules}
-use Rattle.desk_types.specs.History.{History, Basis}
+use Rattle.desk_types.proofs.Common.{[], ◌+◌, ◌∙◌, ◌∷◌, ◌≡◌, ◌≤◌, ◌⊎◌, ap, arith, Basis, false, filter}
+use Rattle.desk_types.proofs.Common.{History, inl, inr, length, list_any, Option, Some, sym, true, true≢false}
+use Rattle.desk_types.proofs.Common.{ℕ}
+use Rattle.line_tables.proofs.Common.{accepted_in, Database, has_number, is_before, KeepsCommit, only, Reads}
+use Rattle.line_tables.proofs.Common.{Row, Rules, State}
 use Rattle.desk_types.specs.declared.command.Entry.{Entry}
-use Rattle.line_tables.specs.Rows.{accepted_in}
-use Rattle.line_tables.specs.Calls.{Reads, has_number, is_before, only}
-use Rattle.line_replay.specs.Judging.{GoesOn}
-use Rattle.line_replay.specs.Rows.{entry_row}
-use Rattle.line_replay.specs.Listed.{IsAt}
-use Rattle.line_replay.specs.Expected.{Expected}
-use Rattle.line_replay.specs.declared.fault.ReplayFault.{ReplayFault}
-use Rattle.line_replay.specs.declared.fault.ReplayFault.TheVariants.{NotLawful, Unavailable}
-use Rattle.line_replay.specs.Replay.{Goes, IsStuck, IsStop, IsTaken}
-use Rattle.line_replay.proofs.ExpectedRows.{expected_more}
-use Rattle.line_replay.proofs.ReadOfCommitted.{reads_back, reads_two}
+use Rattle.line_replay.proofs.{ExpectedRows.expected_more, ReadOfCommitted.reads_back}
+use Rattle.line_replay.proofs.{ReadOfCommitted.reads_two}
+use Rattle.line_replay.specs.{Expected.Expected, Judging.GoesOn, Listed.IsAt, Replay.Goes, Replay.IsStop}
+use Rattle.line_replay.specs.{Replay.IsStuck, Replay.IsTaken, Rows.entry_row}
+use Rattle.line_replay.specs.{declared.fault.ReplayFault.ReplayFault}
+use Rattle.line_replay.specs.{declared.fault.ReplayFault.TheVariants.NotLawful}
+use Rattle.line_replay.specs.{declared.fault.ReplayFault.TheVariants.Unavailable}
 
 module _ {D : Type 0} (F : D → Basis → Type 0) (B : Basis) (old mid : State) (Before After : Type 0) (early : After → Before) (kept : Before → KeepsCommit old mid)
     (desk new : D) (before after : Expected) (count : ℕ) (taken : IsTaken F B Before old.committed desk before count) where

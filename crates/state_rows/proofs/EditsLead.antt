@@ -1,55 +1,43 @@
 -- The edits of an accepted command turn the tables of a history into those of the history with it.
-use Rattle.std.proofs.Common.{◌≡◌, ℕ, ◌+◌, ◌-◌, nat_lt, Bool, true, false, Option, Some, None, List, [], ◌∷◌, map, refl, sym, ap, ◌∙◌, unwrap_or, add-zero, arith}
-use Rattle.std.specs.Prelude.{if◌then◌else◌, ◌==◌, ◌&&◌, ◌||◌, is_some}
-use Rattle.std.specs.Option.{option_or, option_map, option_map_or, option_and_then}
-use Rattle.std.proofs.lemmas.Bool.{eqb-true, and_parts}
-use Rattle.desk_types.specs.declared.command.Command.{Command}
-use Rattle.desk_types.specs.declared.command.Command.TheVariants.{PartDefined, AlternateAllowed, SheetDefined, ProductSelected, ReelReceived, ReelOpened, ReelSealed, ReelBaked, MaterialsLoaded, MaterialsSpliced, MaterialsUnloaded, WorkStarted, WorkCompleted, MaterialsInstalled, MaterialsScrapped, CountsTaken, ClockSet}
-use Rattle.desk_types.specs.declared.command.Entry.{Entry}
-use Rattle.desk_types.specs.declared.command.Receipt.{Receipt}
-use Rattle.desk_types.specs.declared.sheet.SheetRow.{SheetRow}
-use Rattle.desk_types.specs.Level.{LevelWithLabel}
-use Rattle.desk_types.specs.declared.count.CountRow.{CountRow}
-use Rattle.desk_types.specs.declared.rules.Rules.TheVariants.{Two}
-use Rattle.desk_types.specs.Id.{Name, same}
-use Rattle.desk_types.specs.History.{History}
-use Rattle.desk_types.specs.Setup.{defines, is_part, allows, is_alternate, sheet_by, sheet_of, selection_by, selected_on, receipt_by, receipt_of}
-use Rattle.desk_types.specs.declared.take.Pick.{Pick}
-use Rattle.desk_types.specs.declared.take.Take.{Take}
-use Rattle.desk_types.specs.declared.take.Purpose.{Purpose}
-use Rattle.desk_types.specs.declared.take.Purpose.TheVariants.{Placed, Rejected, Counted}
-use Rattle.desk_types.specs.Pieces.{pieces_picked, picks_of, pieces_by, is_placed, found_by, found_of, left_of, live_on, is_mounted}
-use Rattle.desk_types.specs.FloorLife.{open_by, baked_by, since_after}
-use Rattle.desk_types.specs.Outcome.{take_of, takes_by}
-use Rattle.desk_types.specs.View.{view_of}
-use Rattle.desk_types.specs.Refusals.{command_refusal}
-use Rattle.desk_types.specs.Judged.{IsJudged}
-use Rattle.desk_types.proofs.Keys.{same-refl, same-sym, same-true}
-use Rattle.desk_laws.proofs.Accepted.{next-accepted}
-use Rattle.desk_laws.proofs.CountedReels.{unmounted-rows}
-use Rattle.desk_laws.proofs.Mounted.{mounted-is}
-use Rattle.desk_laws.proofs.Mounts.{has}
-use Rattle.desk_laws.proofs.InstalledPieces.{AreUnplaced, unplaced-count}
-use Rattle.desk_laws.proofs.BoardsInWork.{startable, completable}
-use Rattle.desk_types.specs.declared.row.ReelRow.{ReelRow}
-use Rattle.desk_types.specs.declared.row.MountRow.{MountRow}
-use Rattle.desk_types.specs.declared.row.BoardRow.{BoardRow}
-use Rattle.desk_types.specs.declared.row.PlacementRow.{PlacementRow}
-use Rattle.desk_types.specs.declared.edit.RowEdit.{RowEdit}
-use Rattle.desk_types.specs.Tables.{at_place, columns_of, sheet_row, reel_row, last_put, mount_row, board_row, placement_row, found_row, Tables, tables_of}
-use Rattle.desk_types.specs.Edits.{with_edits}
-use Rattle.state_rows.specs.Kept.{without_number, unnumbered}
-use Rattle.desk_types.specs.Row.{fresh_row, opened_row, sealed_row, baked_row}
-use Rattle.state_rows.specs.After.{used_after, bakes, step_row, reel_after, mount_after, board_after, placed_row, placement_after, found_after}
-use Rattle.state_rows.specs.EditsOf.{reel_edit, board_edit, taken_rows, put_rows, reels_on, pick_of, picked_rows, after_rows, after_placing, AreEditsOf}
-use Rattle.state_rows.proofs.ReelRows.{same-rows, reel_row-next, found_row-next}
-use Rattle.state_rows.proofs.MountRows.{some_left, left_after, mount_row-next}
-use Rattle.state_rows.proofs.BoardRows.{board_row-next, some-of, working}
-use Rattle.state_rows.proofs.PlacementRows.{unplaced-later, placement_row-next}
-use Rattle.state_rows.proofs.EditLists.{same-tables, with_edits-append, mounts-taken, rows-put, rows-taken}
-use Rattle.state_rows.proofs.Slots.{reels_on-live}
-use Rattle.state_rows.proofs.Counts.{counts-lead, uncounted-left}
-use Rattle.state_rows.proofs.TablesLess.{OnlyTakes, picks-again, reels-took, mounts-took, placements-took}
+use Rattle.desk_types.proofs.Common.{[], ◌&&◌, ◌+◌, ◌-◌, ◌==◌, ◌||◌, ◌∙◌, ◌∷◌, ◌≡◌, and_parts, ap, arith}
+use Rattle.desk_types.proofs.Common.{at_place, baked_by, baked_row, board_row, Bool, columns_of}
+use Rattle.desk_types.proofs.Common.{command_refusal, eqb-true, false, found_by, found_of, found_row}
+use Rattle.desk_types.proofs.Common.{fresh_row, History, if◌then◌else◌, is_alternate, is_mounted, is_part}
+use Rattle.desk_types.proofs.Common.{is_placed, is_some, IsJudged, last_put, left_of, LevelWithLabel, List}
+use Rattle.desk_types.proofs.Common.{live_on, map, mount_row, Name, nat_lt, None, open_by, opened_row, Option}
+use Rattle.desk_types.proofs.Common.{option_and_then, option_map, option_map_or, option_or, picks_of}
+use Rattle.desk_types.proofs.Common.{pieces_by, pieces_picked, placement_row, receipt_by, receipt_of}
+use Rattle.desk_types.proofs.Common.{reel_row, refl, same, same-refl, same-sym, same-true, sealed_row}
+use Rattle.desk_types.proofs.Common.{selected_on, selection_by, sheet_by, sheet_of, since_after, Some, sym}
+use Rattle.desk_types.proofs.Common.{Tables, tables_of, take_of, takes_by, true, unwrap_or, view_of}
+use Rattle.desk_types.proofs.Common.{with_edits, ℕ}
+use Rattle.desk_laws.proofs.Common.{AlternateAllowed, BoardRow, ClockSet, Command, Counted, CountRow}
+use Rattle.desk_laws.proofs.Common.{CountsTaken, Entry, MaterialsInstalled, MaterialsLoaded}
+use Rattle.desk_laws.proofs.Common.{MaterialsScrapped, MaterialsSpliced, MaterialsUnloaded, PartDefined, Pick}
+use Rattle.desk_laws.proofs.Common.{Placed, ProductSelected, Purpose, Receipt, ReelBaked, ReelOpened}
+use Rattle.desk_laws.proofs.Common.{ReelReceived, ReelRow, ReelSealed, Rejected, SheetDefined, SheetRow, Take}
+use Rattle.desk_laws.proofs.Common.{Two, WorkCompleted, WorkStarted}
+use Rattle.desk_laws.proofs.{Accepted.next-accepted, BoardsInWork.completable, BoardsInWork.startable}
+use Rattle.desk_laws.proofs.{CountedReels.unmounted-rows, InstalledPieces.AreUnplaced}
+use Rattle.desk_laws.proofs.{InstalledPieces.unplaced-count, Mounted.left_after, Mounted.mounted-is}
+use Rattle.desk_laws.proofs.{Mounted.some_left, Mounts.has}
+use Rattle.desk_types.specs.{Setup.allows, Setup.defines, Tables.sheet_row, declared.edit.RowEdit.RowEdit}
+use Rattle.desk_types.specs.{declared.row.MountRow.MountRow, declared.row.PlacementRow.PlacementRow}
+use Rattle.state_rows.proofs.{BoardRows.board_row-next, BoardRows.some-of, BoardRows.working}
+use Rattle.state_rows.proofs.{Counts.counts-lead, Counts.uncounted-left, EditLists.mounts-taken}
+use Rattle.state_rows.proofs.{EditLists.rows-put, EditLists.rows-taken, EditLists.same-tables}
+use Rattle.state_rows.proofs.{EditLists.with_edits-append, MountRows.mount_row-next}
+use Rattle.state_rows.proofs.{PlacementRows.placement_row-next, PlacementRows.unplaced-later}
+use Rattle.state_rows.proofs.{ReelRows.found_row-next, ReelRows.reel_row-next, ReelRows.same-rows}
+use Rattle.state_rows.proofs.{Slots.reels_on-live, TablesLess.mounts-took, TablesLess.OnlyTakes}
+use Rattle.state_rows.proofs.{TablesLess.picks-again, TablesLess.placements-took, TablesLess.reels-took}
+use Rattle.state_rows.specs.{After.bakes, After.board_after, After.found_after, After.mount_after}
+use Rattle.state_rows.specs.{After.placed_row, After.placement_after, After.reel_after, After.step_row}
+use Rattle.state_rows.specs.{After.used_after, EditsOf.after_placing, EditsOf.after_rows, EditsOf.AreEditsOf}
+use Rattle.state_rows.specs.{EditsOf.board_edit, EditsOf.pick_of, EditsOf.picked_rows, EditsOf.put_rows}
+use Rattle.state_rows.specs.{EditsOf.reel_edit, EditsOf.reels_on, EditsOf.taken_rows, Kept.unnumbered}
+use Rattle.state_rows.specs.{Kept.without_number}
+use Rattle.std.proofs.Common.{add-zero}
 
 -- ---- one entry more
 

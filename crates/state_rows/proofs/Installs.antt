@@ -1,23 +1,15 @@
 -- An install places its pieces on its own board; no other command places any.
-use Rattle.std.proofs.Common.{◌≡◌, ℕ, ◌+◌, ◌-◌, min, nat_lt, Bool, true, false, Option, Some, None, List, [], ◌∷◌, ◌++◌, map, filter, filter_map, find, length, refl, ap, sym, ◌∙◌, option_map, option_and_then, option_to_list}
-use Rattle.std.specs.Prelude.{⊤, if◌then◌else◌}
-use Rattle.std.specs.List.{cons_option, enumerate_from, range_with_len}
-use Rattle.std.proofs.lemmas.List.{length-map}
-use Rattle.desk_types.specs.declared.command.Command.{Command}
-use Rattle.desk_types.specs.declared.command.Command.TheVariants.{MaterialsInstalled, MaterialsScrapped, CountsTaken}
-use Rattle.desk_types.specs.declared.count.CountRow.{CountRow}
-use Rattle.desk_types.specs.declared.placement.Placement.{Placement}
-use Rattle.desk_types.specs.declared.take.Pick.{Pick}
-use Rattle.desk_types.specs.declared.take.Purpose.TheVariants.{Placed, Rejected, Counted}
-use Rattle.desk_types.specs.Id.{Name, same}
-use Rattle.desk_types.specs.History.{History}
-use Rattle.desk_types.specs.Tape.{tape_of}
-use Rattle.desk_types.specs.Pieces.{Bench, bench_of, pieces_picked, pick_for, install_picks, scrap_picks, count_picks, left_of, picks_of}
-use Rattle.desk_types.specs.Outcome.{take_of, takes_by}
-use Rattle.desk_types.specs.Placements.{placement_of}
-use Rattle.state_rows.specs.Lists.{Key}
-use Rattle.state_rows.specs.Noting.{keys_in, install_keys}
+use Rattle.desk_types.proofs.Common.{[], ⊤, ◌++◌, ◌+◌, ◌-◌, ◌∙◌, ◌∷◌, ◌≡◌, ap, Bench, bench_of, Bool}
+use Rattle.desk_types.proofs.Common.{cons_option, count_picks, enumerate_from, false, filter, filter_map}
+use Rattle.desk_types.proofs.Common.{find, History, if◌then◌else◌, install_picks, left_of, length, length-map}
+use Rattle.desk_types.proofs.Common.{List, map, min, Name, nat_lt, None, Option, pick_for, picks_of}
+use Rattle.desk_types.proofs.Common.{pieces_picked, placement_of, range_with_len, refl, same, scrap_picks}
+use Rattle.desk_types.proofs.Common.{Some, sym, take_of, takes_by, tape_of, true, ℕ}
+use Rattle.desk_laws.proofs.Common.{Command, Counted, CountRow, CountsTaken, MaterialsInstalled}
+use Rattle.desk_laws.proofs.Common.{MaterialsScrapped, Pick, Placed, Placement, Rejected}
 use Rattle.state_rows.proofs.Keys.{placed_key}
+use Rattle.state_rows.specs.{Lists.Key, Noting.install_keys, Noting.keys_in}
+use Rattle.std.proofs.Common.{option_and_then, option_map, option_to_list}
 
 -- ---- installs
 

@@ -1,44 +1,34 @@
 -- The tables take the edits of an accepted command one after the other, with their keys and their checks.
-use Rattle.std.proofs.Common.{◌≡◌, ℕ, ◌+◌, ◌≤◌, Bool, true, false, Option, Some, None, List, [], ◌∷◌, ◌++◌, map, refl, sym, ap, ◌∙◌, subst, unwrap_or, arith, append_assoc}
-use Rattle.std.specs.Prelude.{if◌then◌else◌, ◌==◌, ◌&&◌, is_some, nat_lt, ◌-◌, ◌<◌, ◌||◌, ⊤}
-use Rattle.std.specs.Option.{option_map, option_map_or, option_or, option_to_list, option_and_then}
-use Rattle.std.specs.List.{AllByRecursion, flat_map, list_any}
-use Rattle.std.proofs.lemmas.Bool.{ne_eqb, ltb-true}
-use Rattle.std.proofs.lemmas.List.{append-nil}
-use Rattle.desk_types.specs.declared.command.Command.{Command}
-use Rattle.desk_types.specs.declared.command.Command.TheVariants.{PartDefined, AlternateAllowed, SheetDefined, ProductSelected, ReelReceived, ReelOpened, ReelSealed, ReelBaked, MaterialsLoaded, MaterialsSpliced, MaterialsUnloaded, WorkStarted, WorkCompleted, MaterialsInstalled, MaterialsScrapped, CountsTaken, ClockSet}
-use Rattle.desk_types.specs.declared.command.Entry.{Entry}
-use Rattle.desk_types.specs.declared.command.Receipt.{Receipt}
-use Rattle.desk_types.specs.declared.count.CountRow.{CountRow}
-use Rattle.desk_types.specs.declared.rules.Rules.TheVariants.{Two}
-use Rattle.desk_types.specs.declared.sheet.SheetRow.{SheetRow}
-use Rattle.desk_types.specs.declared.take.Purpose.{Purpose}
-use Rattle.desk_types.specs.declared.take.Purpose.TheVariants.{Placed, Rejected, Counted}
-use Rattle.desk_types.specs.declared.take.Take.{Take}
-use Rattle.desk_types.specs.declared.view.ReelView.{ReelView}
-use Rattle.desk_types.specs.Id.{Name, same}
-use Rattle.desk_types.specs.History.{History}
-use Rattle.desk_types.specs.Setup.{sheet_of, selected_on, receipt_by, receipt_of}
-use Rattle.desk_types.specs.Pieces.{is_mounted, picks_of}
-use Rattle.desk_types.specs.Outcome.{takes_by}
-use Rattle.desk_types.specs.View.{view_of, reel_view}
-use Rattle.desk_types.specs.Refusals.{command_refusal}
-use Rattle.desk_types.specs.Judged.{IsJudged}
-use Rattle.desk_types.proofs.Keys.{same-refl}
-use Rattle.desk_laws.proofs.Accepted.{next-accepted, mountable}
+use Rattle.desk_types.proofs.Common.{[], ⊤, ◌&&◌, ◌++◌, ◌+◌, ◌-◌, ◌<◌, ◌==◌, ◌||◌, ◌∙◌, ◌∷◌, ◌≡◌, ◌≤◌}
+use Rattle.desk_types.proofs.Common.{AllByRecursion, ap, append-nil, append_assoc, AreBalanced, AreTakesFirst}
+use Rattle.desk_types.proofs.Common.{arith, at_place, baked_row, Bool, columns_of, command_refusal, false}
+use Rattle.desk_types.proofs.Common.{flat_map, fresh_row, History, if◌then◌else◌, is_mounted, is_some}
+use Rattle.desk_types.proofs.Common.{IsJudged, last_put, List, list_any, ltb-true, map, Name, nat_lt, ne_eqb}
+use Rattle.desk_types.proofs.Common.{None, opened_row, Option, option_and_then, option_map, option_map_or}
+use Rattle.desk_types.proofs.Common.{option_or, option_to_list, picks_of, receipt_by, receipt_of, reel_row}
+use Rattle.desk_types.proofs.Common.{reel_view, refl, same, same-refl, sealed_row, selected_on, sheet_of}
+use Rattle.desk_types.proofs.Common.{Some, subst, sym, Tables, tables_of, takes_by, true, unwrap_or, view_of}
+use Rattle.desk_types.proofs.Common.{with_edit, with_edits, ℕ}
+use Rattle.desk_laws.proofs.Common.{AlternateAllowed, ClockSet, Command, Counted, CountRow, CountsTaken}
+use Rattle.desk_laws.proofs.Common.{Entry, MaterialsInstalled, MaterialsLoaded, MaterialsScrapped}
+use Rattle.desk_laws.proofs.Common.{MaterialsSpliced, MaterialsUnloaded, PartDefined, Placed, ProductSelected}
+use Rattle.desk_laws.proofs.Common.{Purpose, Receipt, ReelBaked, ReelOpened, ReelReceived, ReelRow}
+use Rattle.desk_laws.proofs.Common.{ReelSealed, ReelView, Rejected, SheetDefined, SheetRow, Take, Two}
+use Rattle.desk_laws.proofs.Common.{WorkCompleted, WorkStarted}
+use Rattle.desk_laws.proofs.Accepted.{mountable, next-accepted}
 use Rattle.desk_laws.proofs.Balance.{balance}
-use Rattle.desk_types.specs.declared.row.ReelRow.{ReelRow}
-use Rattle.desk_types.specs.declared.row.PlacementRow.{PlacementRow}
+use Rattle.desk_types.specs.Edits.{AreNew, IsBalanced, IsNew, takes_out}
 use Rattle.desk_types.specs.declared.edit.RowEdit.{RowEdit}
-use Rattle.desk_types.specs.declared.edit.RowEdit.TheVariants.{TakeSheetRow, TakeMount, PutSheetRow, PutReel, PutMount, PutPlacement, PutFound}
-use Rattle.desk_types.specs.Tables.{at_place, columns_of, Tables, tables_of, last_put, reel_row}
-use Rattle.desk_types.specs.Edits.{with_edit, with_edits, IsNew, AreNew, takes_out, AreTakesFirst, IsBalanced, AreBalanced}
-use Rattle.desk_types.specs.Row.{fresh_row, opened_row, sealed_row, baked_row}
-use Rattle.state_rows.specs.After.{step_row, placed_row}
-use Rattle.state_rows.specs.EditsOf.{taken_rows, put_rows, reel_edit, board_edit, reels_on, pick_of, picked_rows, take_spent, counted_row, counted_edits, count_edits, place_rows, AreTakeEdits, AreEditsOf}
+use Rattle.desk_types.specs.declared.edit.RowEdit.TheVariants.{PutFound, PutMount, PutPlacement, PutReel}
+use Rattle.desk_types.specs.declared.edit.RowEdit.TheVariants.{PutSheetRow, TakeMount, TakeSheetRow}
+use Rattle.desk_types.specs.declared.row.PlacementRow.{PlacementRow}
 use Rattle.state_rows.proofs.EditLists.{rows-taken}
 use Rattle.state_rows.proofs.ReelRows.{reel_row-next}
 use Rattle.state_rows.proofs.TablesLess.{OnlyTakes, picks-again, reels-took}
+use Rattle.state_rows.specs.After.{placed_row, step_row}
+use Rattle.state_rows.specs.EditsOf.{AreEditsOf, AreTakeEdits, board_edit, count_edits, counted_edits}
+use Rattle.state_rows.specs.EditsOf.{counted_row, pick_of, picked_rows, place_rows, put_rows, reel_edit}
+use Rattle.state_rows.specs.EditsOf.{reels_on, take_spent, taken_rows}
 
 -- ---- lists of edits
 

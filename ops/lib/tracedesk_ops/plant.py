@@ -25,6 +25,7 @@ PROXY_PORT = 8081  # packaging/nginx.conf
 COPIES = pathlib.Path("/var/backups/tracedesk")
 SET_UP = pathlib.Path(os.environ.get("TRACEDESK_SET_UP", "/etc/tracedesk"))  # a file LINE.conf for each line that this machine serves
 WORDS = ("line", "db", "archive", "copies", "port", "url", "stop", "start")  # of such a file
+PROXYS = "certificates.conf"  # which lies there too: packaging/nginx.conf
 DRAINED = pathlib.Path("/run/tracedesk-drained")  # packaging/nginx.conf looks for it
 SECONDS_A_MILLION = 19  # of a start, for a million placed pieces: docs/figures.md, "A file's start"
 QUIET = float(os.environ.get("TRACEDESK_QUIET", 1))  # seconds without a connection, after which nobody waits for an answer any more; ops/tests/evidence-faults is in a hurry
@@ -33,6 +34,7 @@ LONGEST_OTHER = 3600  # seconds that another roll-over or backup may take
 PLAN = "plan.json"  # of a roll-over
 PATIENCE = 120  # seconds that a start may take beside what the pieces ask for
 LIBC, PR_SET_PDEATHSIG = ctypes.CDLL(None), 1
+TEXT: dict = {"encoding": sys.getfilesystemencoding(), "errors": "surrogateescape"}  # of what a program prints: it may name files
 KILL_AFTER = "TRACEDESK_KILL_AFTER"  # a step of a tool, for its test
 keep = catalogue.keep
 
@@ -99,16 +101,18 @@ def chain_of(program):
 def set_ups():
     """The lines that are set up on this machine: of each what its file LINE.conf says, as `db = /var/lib/tracedesk/desk`, and what follows from that."""
     found = []
-    with contextlib.suppress(PermissionError):  # who may not read it names each thing
-        for file in sorted(SET_UP.glob("*.conf")):
+    for file in sorted(it for it in SET_UP.glob("*.conf") if it.name != PROXYS):
+        try:
             rows = [it.partition("=") for it in file.read_text(encoding="utf-8").splitlines() if it.strip() and not it.lstrip().startswith("#")]
-            its = {name.strip(): value.strip() for name, _, value in rows}
-            if "line" not in its:
-                continue  # another one, as certificates.conf
-            if unknown := [name for name in its if name not in WORDS] + [name for name, value in its.items() if not value]:
-                raise Fault(f"{file}: {', '.join(unknown)} is none of {', '.join(WORDS)}, or has no value")
-            its = {"db": str(DESK), "port": str(PORT), "copies": str(COPIES), **its}
-            found.append({"archive": f"{pathlib.Path(its['db']).parent}/archive", "url": f"http://127.0.0.1:{its['port']}", **its})
+        except (OSError, UnicodeDecodeError) as fault:
+            raise Fault(f"{file} can't be read: {fault}") from fault
+        its = {name.strip(): value.strip() for name, _, value in rows}
+        if unknown := [name for name in its if name not in WORDS] + [name for name, value in its.items() if not value]:
+            raise Fault(f"{file}: {', '.join(unknown)} is none of {', '.join(WORDS)}, or has no value")
+        if "line" not in its:
+            raise Fault(f"{file} names no line: write line = LINE into it, or take it away")
+        its = {"db": str(DESK), "port": str(PORT), "copies": str(COPIES), **its}
+        found.append({"archive": f"{pathlib.Path(its['db']).parent}/archive", "url": f"http://127.0.0.1:{its['port']}", **its})
     if twice := {it["db"] for it in found if [other["db"] for other in found].count(it["db"]) > 1}:
         raise Fault(f"two files of {SET_UP} have the desk {', '.join(twice)}")
     return found
@@ -116,6 +120,8 @@ def set_ups():
 
 def set_up(reader, **names):
     """Takes the words of a tool from the line's set-up file, as far as the command line doesn't say them. `names` are those of words that the tool calls otherwise."""
+    if not any(action.dest == "line" for action in reader._actions):
+        reader.add_argument("--line", type=line_name, metavar="NAME", help="which line's, where several are set up")
     given = argparse.ArgumentParser(add_help=False, allow_abbrev=False)
     given.add_argument("--line")
     given.add_argument("--db")
@@ -346,27 +352,23 @@ class Program:
         if os.getppid() != self.parent:
             os._exit(1)
 
-    def begun(self, *words, **how):
-        return subprocess.Popen([self.program, *map(str, words)], preexec_fn=self.end_with_the_tool, **self.how, **how)
-
     def run(self, *words, **how):
         return subprocess.run([self.program, *map(str, words)], preexec_fn=self.end_with_the_tool, **self.how, **how)
 
     def audit(self, file):
         """How many commands a lawful desk has; a Fault says what else the audit found."""
-        done = self.run("audit", "--db", file, stdin=subprocess.DEVNULL, capture_output=True, text=True)
+        done = self.run("audit", "--db", file, stdin=subprocess.DEVNULL, capture_output=True, **TEXT)
         lawful = re.fullmatch(r"lawful (\d+)\n", done.stdout)
         if done.returncode or not lawful:
             said = " ".join((done.stdout + done.stderr).split())
             raise Fault(f"the audit of {file} ended with status {done.returncode}: {said}; docs/operations.md, 'What is said, and what to do'")
         return int(lawful[1])
 
-
     def named(self, db, desk, name=""):
         """Gives a desk that no run has open a name, where it has none; whether it got one."""
         if not desk.commands or not (lines := identity.naming(desk, name)):  # without a command it has no minute, and nothing that could be lost
             return False
-        done = self.run("feed", "--db", db, input="".join(f"{it}\n" for it in lines), capture_output=True, text=True)
+        done = self.run("feed", "--db", db, input="".join(f"{it}\n" for it in lines), capture_output=True, **TEXT)
         if done.stdout.count('"Answer":"Accepted"') != len(lines):
             raise Fault(f"{db} gets no name: {' '.join((done.stdout + done.stderr).split())}")
         return True

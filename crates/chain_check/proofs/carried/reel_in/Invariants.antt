@@ -1,8 +1,5 @@
-use Rattle.std.specs.List.{AllByRecursion}
-use Rattle.desk_types.specs.declared.row.ReelRow.{ReelRow}
-use Rattle.desk_types.specs.Id.{Name}
-use Rattle.desk_types.specs.History.{History}
-use Rattle.desk_types.specs.View.{reel_view}
+use Rattle.desk_types.proofs.Common.{AllByRecursion, History, Name, reel_view}
+use Rattle.desk_laws.proofs.Common.{ReelRow}
 use Rattle.chain_check.specs.Views.{IsCarried}
 use Rattle.chain_check.proofs.carried.reel_in.Given as goal
 

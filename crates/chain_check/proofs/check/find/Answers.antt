@@ -1,7 +1,6 @@
-use Rattle.std.proofs.Common.{◌≡◌, rules, sym, ap, unwrap_or, ◌∙◌}
-use Rattle.desk_types.specs.History.{desk_minute, now_of}
-use Rattle.feeder_state.proofs.AcceptedChanges.{state-two}
+use Rattle.desk_types.proofs.Common.{◌∙◌, ◌≡◌, ap, desk_minute, now_of, rules, sym, unwrap_or}
 use Rattle.chain_check.proofs.SameReels.{carried, reel-difference}
+use Rattle.feeder_state.proofs.AcceptedChanges.{state-two}
 use Rattle.chain_check.proofs.check.find.Goals as goal
 
 pub returns-in-Some-clause-differs : goal.returns-in-Some-clause-differs

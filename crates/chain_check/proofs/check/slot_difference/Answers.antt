@@ -1,7 +1,6 @@
-use Rattle.std.proofs.Common.{sym, ◌∙◌}
-use Rattle.desk_types.specs.Pieces.{live_on}
-use Rattle.feeder_state.proofs.AcceptedChanges.{state-two}
+use Rattle.desk_types.proofs.Common.{◌∙◌, live_on, sym}
 use Rattle.chain_check.proofs.SameSlots.{either-list}
+use Rattle.feeder_state.proofs.AcceptedChanges.{state-two}
 use Rattle.chain_check.proofs.check.slot_difference.Goals as goal
 
 pub returns-in-Some-clause-differs : goal.returns-in-Some-clause-differs

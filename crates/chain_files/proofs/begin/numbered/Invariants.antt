@@ -1,5 +1,5 @@
-use Rattle.std.proofs.Common.{◌≤◌}
-use Rattle.line_tables.specs.Frames.{ReadsOnly}
+use Rattle.desk_types.proofs.Common.{◌≤◌}
+use Rattle.line_tables.proofs.Common.{ReadsOnly}
 use Rattle.chain_files.proofs.begin.numbered.Given as goal
 
 abbrev pub invariant-loop-at : goal.invariant-loop-at

@@ -1,8 +1,7 @@
-use Rattle.std.proofs.Common.{◌≡◌, ◌∙◌, ◌++◌, [], subst}
-use Rattle.desk_types.specs.History.{basis}
-use Rattle.desk_types.specs.declared.rules.Rules.TheVariants.{Two}
-use Rattle.trace_reports.specs.Csv.{HasWritten}
+use Rattle.desk_types.proofs.Common.{[], ◌++◌, ◌∙◌, ◌≡◌, basis, subst}
+use Rattle.desk_laws.proofs.Common.{Two}
 use Rattle.chain_check.specs.Rows.{asked_of, facts_of, rows_in, rows_text}
+use Rattle.trace_reports.specs.Csv.{HasWritten}
 use Rattle.chain_files.proofs.chain.add_first.Goals as goal
 
 pub returns-in-Ok-clause-ok : goal.returns-in-Ok-clause-ok

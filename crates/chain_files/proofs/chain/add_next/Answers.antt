@@ -1,9 +1,8 @@
-use Rattle.std.proofs.Common.{◌≡◌, ◌∙◌, ◌++◌, subst}
-use Rattle.desk_types.specs.History.{basis}
-use Rattle.desk_types.specs.declared.rules.Rules.TheVariants.{Two}
-use Rattle.trace_reports.specs.Csv.{HasWritten}
+use Rattle.desk_types.proofs.Common.{◌++◌, ◌∙◌, ◌≡◌, basis, subst}
+use Rattle.desk_laws.proofs.Common.{Two}
 use Rattle.chain_check.specs.Rows.{asked_of, facts_of, rows_in, rows_text}
 use Rattle.chain_files.proofs.OneFileMore.{stops-next}
+use Rattle.trace_reports.specs.Csv.{HasWritten}
 use Rattle.chain_files.proofs.chain.add_next.Goals as goal
 
 pub returns-in-Ok-next-clause-ok : goal.returns-in-Ok-next-clause-ok

@@ -1,10 +1,11 @@
-use Rattle.std.proofs.Common.{◌≡◌, ◌∙◌, ◌+◌, ◌∷◌, [], length, length-append, map, string_bytes, refl, ap, arith}
-use Rattle.sqlite_std_file.specs.contracts.host.Host.{the_row}
-use Rattle.sqlite_std_file.specs.contracts.host.HostCalls.TheImpl.{ghosts as host, dict as host_dict}
-use Rattle.sqlite_disk.specs.contracts.modelled.ModelledDisk.TheImpl.{ghosts as disk}
-use Rattle.chain_files.specs.Files.{all_at, files_in}
+use Rattle.desk_types.proofs.Common.{[], ◌+◌, ◌∙◌, ◌∷◌, ◌≡◌, ap, arith, length, length-append, map, refl}
+use Rattle.desk_types.proofs.Common.{string_bytes}
 use Rattle.chain_files.proofs.OneFileMore.{added, stopped}
 use Rattle.chain_files.proofs.RefusedFiles.{to-fault}
+use Rattle.chain_files.specs.Files.{all_at, files_in}
+use Rattle.sqlite_disk.specs.contracts.modelled.ModelledDisk.TheImpl.{ghosts as disk}
+use Rattle.sqlite_std_file.specs.contracts.host.Host.{the_row}
+use Rattle.sqlite_std_file.specs.contracts.host.HostCalls.TheImpl.{dict as host_dict, ghosts as host}
 use Rattle.chain_files.proofs.chain.recall_files.Goals as goal
 
 pub loop-place-init : goal.loop-place-init

@@ -1,9 +1,8 @@
-use Rattle.std.proofs.Common.{◌≡◌, ◌<◌, ◌^◌, length, map, string_bytes}
-use Rattle.sqlite_std_file.specs.contracts.host.Host.{the_row}
-use Rattle.sqlite_std_file.specs.contracts.host.HostCalls.TheImpl.{ghosts as host, dict as host_dict}
+use Rattle.desk_types.proofs.Common.{◌<◌, ◌^◌, ◌≡◌, failures_of, length, map, string_bytes}
+use Rattle.chain_files.specs.Files.{all_at, files_in, Reaches}
 use Rattle.sqlite_disk.specs.contracts.modelled.ModelledDisk.TheImpl.{ghosts as disk}
-use Rattle.desk_types.specs.Wire.{failures_of}
-use Rattle.chain_files.specs.Files.{Reaches, all_at, files_in}
+use Rattle.sqlite_std_file.specs.contracts.host.Host.{the_row}
+use Rattle.sqlite_std_file.specs.contracts.host.HostCalls.TheImpl.{dict as host_dict, ghosts as host}
 use Rattle.chain_files.proofs.chain.recall_files.Given as goal
 
 abbrev pub invariant-loop-place : goal.invariant-loop-place

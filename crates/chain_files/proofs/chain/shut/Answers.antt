@@ -1,6 +1,5 @@
-use Rattle.std.proofs.Common.{refl, inl}
-use Rattle.chain_files.specs.Files.{close_of, files_in}
-use Rattle.chain_files.proofs.RefusedFiles.{closed-again}
+use Rattle.desk_types.proofs.Common.{inl, refl}
+use Rattle.chain_files.{proofs.RefusedFiles.closed-again, specs.Files.close_of, specs.Files.files_in}
 use Rattle.chain_files.proofs.chain.shut.Goals as goal
 
 pub returns-in-Ok : goal.returns-in-Ok

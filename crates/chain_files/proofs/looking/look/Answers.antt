@@ -1,9 +1,5 @@
-use Rattle.std.proofs.Common.{◌≡◌, ◌∙◌, IsTrue, Option, Some, sym, ap, subst, arith}
-use Rattle.std.specs.Prelude.{IfSome}
-use Rattle.sqlite.specs.Effect.{Database}
-use Rattle.sqlite.specs.State.{HasCleanDisk}
-use Rattle.sqlite.specs.Held.{Held, state}
-use Rattle.line_tables.specs.Rows.{Holds}
+use Rattle.desk_types.proofs.Common.{◌∙◌, ◌≡◌, ap, arith, IfSome, IsTrue, Option, Some, subst, sym}
+use Rattle.line_tables.proofs.Common.{Database, HasCleanDisk, Held, Holds, state}
 use Rattle.line_replay.specs.Rows.{ledger_tables}
 use Rattle.line_schema.specs.Traces.{working_of}
 use Rattle.chain_files.proofs.looking.look.Goals as goal

@@ -1,20 +1,16 @@
-use Rattle.std.proofs.Common.{◌≡◌, ◌∙◌, ◌∷◌, ◌++◌, [], List, ap}
-use Rattle.sqlite_disk.specs.declared.Disk as disks
-use Rattle.sqlite_disk.specs.declared.Files.{Files}
-use Rattle.sqlite_disk.specs.declared.start.Start as start
-use Rattle.sqlite_std_file.specs.contracts.host.Host.{the_row}
-use Rattle.sqlite_std_file.specs.contracts.host.HostCalls.TheImpl.{ghosts as host, dict as host_dict}
-use Rattle.sqlite_disk.specs.contracts.modelled.ModelledDisk.TheImpl.{ghosts as disk}
+use Rattle.desk_types.proofs.Common.{[], ◌++◌, ◌∙◌, ◌∷◌, ◌≡◌, ap, History, List}
+use Rattle.desk_laws.proofs.Common.{Carries}
+use Rattle.chain_check.specs.{Difference.IsDifference, Difference.Refutes}
+use Rattle.chain_check.specs.{declared.question.Question.TheVariants.Chain}
+use Rattle.chain_files.specs.{Compared.HoldBoth, Files.files_in, Files.Takes, declared.looking.Looked.Looked}
+use Rattle.feeder_state.specs.{State.IsState, declared.desk.StateDesk.StateDesk}
+use Rattle.sqlite_disk.specs.{contracts.modelled.ModelledDisk.TheImpl.ghosts as disk, declared.Files.Files}
+use Rattle.sqlite_std_file.specs.{contracts.host.Host.the_row}
+use Rattle.sqlite_std_file.specs.{contracts.host.HostCalls.TheImpl.dict as host_dict}
+use Rattle.sqlite_std_file.specs.{contracts.host.HostCalls.TheImpl.ghosts as host}
 use Rattle.sqlite_wal.specs.Files.{image_at}
-use Rattle.desk_types.specs.History.{History}
-use Rattle.feeder_state.specs.declared.desk.StateDesk.{StateDesk}
-use Rattle.feeder_state.specs.State.{IsState}
-use Rattle.chain_files.specs.declared.looking.Looked.{Looked}
-use Rattle.desk_laws.specs.Chain.{Carries}
-use Rattle.chain_check.specs.Difference.{IsDifference, Refutes}
-use Rattle.chain_check.specs.declared.question.Question.TheVariants.{Chain}
-use Rattle.chain_files.specs.Compared.{HoldBoth}
-use Rattle.chain_files.specs.Files.{Takes, files_in}
+use Rattle.sqlite_disk.specs.declared.Disk as disks
+use Rattle.sqlite_disk.specs.declared.start.Start as start
 use Rattle.chain_files.proofs.two_files.compare_files.Goals as goal
 
 both-found : {T U D E : Type 0} (g : disks.Ghosts D) (g' : disks.Ghosts E) (of_old : start.Ghosts T) (of_new : start.Ghosts U) (closed after : List (Files D)) (closed' after' : List (Files E)) (first second : Looked StateDesk) (Relates : History → History → Type 0)

@@ -1,4 +1,4 @@
-use Rattle.desk_types.proofs.BothRules.{accepted-by-two}
+use Rattle.desk_laws.proofs.Common.{accepted-by-two}
 use Rattle.desk_laws.proofs.WholeInstalls.{scrap-whole}
 use Rattle.desk_laws.proofs.pieces.scraps_are_whole.Goals as goal
 

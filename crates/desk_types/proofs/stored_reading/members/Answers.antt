@@ -1,12 +1,15 @@
-use Rattle.std.proofs.Common.{refl}
-use Rattle.desk_types.specs.Command.{IsListOf, IsSheetRow, IsCountRow}
-use Rattle.desk_types.specs.Designator.{IsDesignator}
-use Rattle.desk_types.specs.Fields.{PairInRange, pair_fields, TripleInRange, triple_fields, number_fields}
-use Rattle.desk_types.specs.Id.{IsId}
-use Rattle.desk_types.specs.Number.{IsQuantity}
-use Rattle.desk_types.specs.StoredText.{name_fields, list_fields, row_fields, count_fields}
-use Rattle.desk_types.specs.declared.stored_word.Word.TheVariants.{PartDefined, AlternateAllowed, SheetDefined, ProductSelected, ReelOpened, ReelSealed, ReelBaked, MaterialsLoaded, MaterialsSpliced, MaterialsUnloaded, WorkStarted, WorkCompleted, MaterialsInstalled, MaterialsScrapped, CountsTaken}
+use Rattle.desk_types.proofs.Common.{count_fields, IsCountRow, IsDesignator, IsId, IsListOf, IsQuantity}
+use Rattle.desk_types.proofs.Common.{IsSheetRow, list_fields, name_fields, number_fields, refl, row_fields}
+use Rattle.desk_types.proofs.Common.{triple_fields, TripleInRange}
 use Rattle.desk_types.proofs.Members.{word_unread}
+use Rattle.desk_types.specs.Fields.{pair_fields, PairInRange}
+use Rattle.desk_types.specs.declared.stored_word.Word.TheVariants.{AlternateAllowed, CountsTaken}
+use Rattle.desk_types.specs.declared.stored_word.Word.TheVariants.{MaterialsInstalled, MaterialsLoaded}
+use Rattle.desk_types.specs.declared.stored_word.Word.TheVariants.{MaterialsScrapped, MaterialsSpliced}
+use Rattle.desk_types.specs.declared.stored_word.Word.TheVariants.{MaterialsUnloaded, PartDefined}
+use Rattle.desk_types.specs.declared.stored_word.Word.TheVariants.{ProductSelected, ReelBaked, ReelOpened}
+use Rattle.desk_types.specs.declared.stored_word.Word.TheVariants.{ReelSealed, SheetDefined, WorkCompleted}
+use Rattle.desk_types.specs.declared.stored_word.Word.TheVariants.{WorkStarted}
 use Rattle.desk_types.proofs.stored_reading.members.Goals as goal
 
 pub returns-in_err-read-in-PartDefined : goal.returns-in_err-read-in-PartDefined

@@ -1,10 +1,8 @@
-use Rattle.std.proofs.Common.{rules, ◌≡◌, [], not, unwrap_or, sym, ap, ◌∙◌}
-use Rattle.std.specs.Prelude.{◌&&◌}
-use Rattle.std.specs.List.{filter}
-use Rattle.desk_types.specs.Id.{same}
-use Rattle.desk_types.proofs.Keys.{pair-written, pair-changed}
+use Rattle.desk_types.proofs.Common.{[], ◌&&◌, ◌∙◌, ◌≡◌, ap, not, pair-changed, pair-written, rules, same}
+use Rattle.desk_types.proofs.Common.{sym, unwrap_or}
+use Rattle.feeder_state.proofs.ReelsOffTapes.{drop-absent, drop-there}
 use Rattle.feeder_state.specs.Tape.{tape_at}
-use Rattle.feeder_state.proofs.ReelsOffTapes.{drop-there, drop-absent}
+use Rattle.std.specs.List.{filter}
 use Rattle.feeder_state.proofs.tapes.drop_reel.Goals as goal
 
 pub returns-in-Some : goal.returns-in-Some

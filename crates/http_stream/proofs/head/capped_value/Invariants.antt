@@ -1,5 +1,4 @@
-use Rattle.std.proofs.Common.{◌≡◌, ◌+◌, take, min}
-use Rattle.std.specs.Str.Parse.{digits_value}
+use Rattle.desk_types.proofs.Common.{◌+◌, ◌≡◌, digits_value, min, take}
 use Rattle.desk_types.specs.declared.limits.TheConstants.{LONGEST_INPUT}
 use Rattle.http_stream.proofs.head.capped_value.Given as goal
 

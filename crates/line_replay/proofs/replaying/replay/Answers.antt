@@ -1,8 +1,6 @@
-use Rattle.std.proofs.Common.{arith}
-use Rattle.std.proofs.lemmas.Result.{err_from_is_err_and}
-use Rattle.sqlite.specs.State.{HasCleanDisk}
-use Rattle.sqlite.specs.Held.{state}
-use Rattle.line_replay.proofs.Committed.{reads_through, replayed, too_few, fault_before}
+use Rattle.desk_types.proofs.Common.{arith, err_from_is_err_and}
+use Rattle.line_tables.proofs.Common.{HasCleanDisk, state}
+use Rattle.line_replay.proofs.Committed.{fault_before, reads_through, replayed, too_few}
 use Rattle.line_replay.proofs.replaying.replay.Goals as goal
 
 pub returns-in_err-least_is_one-clause-fault : goal.returns-in_err-least_is_one-clause-fault

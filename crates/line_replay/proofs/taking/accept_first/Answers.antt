@@ -1,11 +1,6 @@
-use Rattle.std.proofs.Common.{◌≡◌, ◌∙◌, inr, true, refl, sym, subst}
-use Rattle.std.specs.List.{list_any}
-use Rattle.sqlite.specs.Held.{state}
-use Rattle.desk_types.specs.Id.{Name}
-use Rattle.line_tables.specs.Calls.{Reads, is_before}
-use Rattle.line_tables.specs.Rows.{accepted_in}
-use Rattle.line_replay.specs.Rows.{entry_row}
-use Rattle.line_replay.proofs.ReadOfCommitted.{reads_as}
+use Rattle.desk_types.proofs.Common.{◌∙◌, ◌≡◌, inr, list_any, Name, refl, subst, sym, true}
+use Rattle.line_tables.proofs.Common.{accepted_in, is_before, Reads, state}
+use Rattle.line_replay.{proofs.ReadOfCommitted.reads_as, specs.Rows.entry_row}
 use Rattle.line_replay.proofs.taking.accept_first.Goals as goal
 
 pub returns-then-repeated-clause-err : goal.returns-then-repeated-clause-err

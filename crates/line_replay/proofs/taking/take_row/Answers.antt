@@ -1,12 +1,8 @@
-use Rattle.std.proofs.Common.{List, subst, arith}
-use Rattle.std.proofs.lemmas.Result.{err_from_is_err_and}
-use Rattle.sqlite.specs.State.{HasCleanDisk, KeepsCommit}
-use Rattle.sqlite.specs.Held.{state}
-use Rattle.desk_types.specs.declared.edit.RowEdit.{RowEdit}
-use Rattle.line_tables.proofs.Keeps.{keeps_then}
+use Rattle.desk_types.proofs.Common.{arith, err_from_is_err_and, List, subst}
+use Rattle.line_tables.proofs.Common.{HasCleanDisk, KeepsCommit, RowEdit, state}
+use Rattle.line_replay.proofs.{ExpectedRows.looks_back, OneRowMore.fault_stuck, OneRowMore.row_taken}
 use Rattle.line_replay.specs.Expected.{LooksUp}
-use Rattle.line_replay.proofs.ExpectedRows.{looks_back}
-use Rattle.line_replay.proofs.OneRowMore.{row_taken, fault_stuck}
+use Rattle.line_tables.proofs.Keeps.{keeps_then}
 use Rattle.line_replay.proofs.taking.take_row.Goals as goal
 
 pub returns-in_ok-look_up-in-Some-clause-ok : goal.returns-in_ok-look_up-in-Some-clause-ok

@@ -1,13 +1,8 @@
-use Rattle.std.proofs.Common.{◌+◌, ◌≤◌, [], refl, arith}
-use Rattle.std.proofs.lemmas.Result.{err_from_is_err_and}
-use Rattle.sqlite.specs.State.{HasCleanDisk}
-use Rattle.sqlite.specs.Held.{state}
-use Rattle.desk_types.specs.History.{basis}
+use Rattle.desk_types.proofs.Common.{[], ◌+◌, ◌≤◌, arith, basis, err_from_is_err_and, refl}
+use Rattle.line_tables.proofs.Common.{HasCleanDisk, state}
+use Rattle.line_replay.proofs.{ExpectedRows.none_expected, OneRowMore.fault_taken, OneRowMore.taken_more}
+use Rattle.line_replay.specs.{Expected.kept_with, Replay.StandsListed}
 use Rattle.line_tables.proofs.Frames.{reads_same, reads_then}
-use Rattle.line_replay.specs.Replay.{StandsListed}
-use Rattle.line_replay.specs.Expected.{kept_with}
-use Rattle.line_replay.proofs.ExpectedRows.{none_expected}
-use Rattle.line_replay.proofs.OneRowMore.{taken_more, fault_taken}
 use Rattle.line_replay.proofs.taking.take_rows.Goals as goal
 
 pub loop-number-init : goal.loop-number-init

@@ -1,9 +1,6 @@
-use Rattle.sqlite.specs.State.{HasCleanDisk}
-use Rattle.sqlite.specs.Held.{state}
-use Rattle.desk_types.specs.History.{History, basis}
-use Rattle.line_tables.specs.Frames.{ReadsOnly}
-use Rattle.line_replay.specs.Expected.{kept_with}
-use Rattle.line_replay.specs.Replay.{StandsListed, IsTaken}
+use Rattle.desk_types.proofs.Common.{basis, History}
+use Rattle.line_tables.proofs.Common.{HasCleanDisk, ReadsOnly, state}
+use Rattle.line_replay.specs.{Expected.kept_with, Replay.IsTaken, Replay.StandsListed}
 use Rattle.line_replay.proofs.taking.take_rows.Given as goal
 
 abbrev pub invariant-loop-number : goal.invariant-loop-number

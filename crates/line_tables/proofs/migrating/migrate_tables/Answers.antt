@@ -1,6 +1,5 @@
-use Rattle.std.proofs.Common.{IsTrue, rules}
-use Rattle.sqlite.specs.Held.{state}
-use Rattle.line_tables.specs.Calls.{Migrated, LeavesMigrated}
+use Rattle.desk_types.proofs.Common.{IsTrue, rules}
+use Rattle.line_tables.proofs.Common.{LeavesMigrated, Migrated, state}
 use Rattle.line_tables.proofs.Leaves.{Ends, ends, migration_made}
 use Rattle.line_tables.proofs.migrating.migrate_tables.Given.{Over}
 use Rattle.line_tables.proofs.migrating.migrate_tables.Goals.{After-conn-2-1}

@@ -1,10 +1,9 @@
-use Rattle.std.proofs.Common.{◌≡◌, ◌+◌, ◌-◌, ◌∙◌, ◌∷◌, List, drop, map, sym, ap, ap₂, arith}
-use Rattle.std.specs.BTreeSet.{insert_key}
-use Rattle.desk_types.specs.declared.placement.Placement.{Placement}
-use Rattle.desk_types.proofs.LoopSteps.{drop-next}
-use Rattle.trace_reports.specs.Sets.{by_fields, set_of, bytes_of}
-use Rattle.trace_reports.specs.Traces.{project, lot_columns, of_lot}
+use Rattle.desk_types.proofs.Common.{◌+◌, ◌-◌, ◌∙◌, ◌∷◌, ◌≡◌, ap, ap₂, arith, drop, drop-next, insert_key}
+use Rattle.desk_types.proofs.Common.{List, map, sym}
+use Rattle.desk_laws.proofs.Common.{Placement}
 use Rattle.trace_reports.proofs.BorrowedSets.{put-same}
+use Rattle.trace_reports.specs.Sets.{by_fields, bytes_of, set_of}
+use Rattle.trace_reports.specs.Traces.{lot_columns, of_lot, project}
 use Rattle.trace_reports.proofs.records.lot_rows.Goals as goal
 
 pub loop-i-preserved : goal.loop-i-preserved

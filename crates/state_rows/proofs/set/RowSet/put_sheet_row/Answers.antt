@@ -1,10 +1,8 @@
-use Rattle.std.proofs.Common.{◌≡◌, ap, ◌∙◌, rules}
-use Rattle.desk_types.specs.declared.sheet.SheetRow.{SheetRow}
+use Rattle.desk_types.proofs.Common.{◌∙◌, ◌≡◌, ap, rules, with_edit}
+use Rattle.desk_laws.proofs.Common.{SheetRow}
 use Rattle.desk_types.specs.declared.edit.RowEdit.TheVariants.{PutSheetRow}
-use Rattle.desk_types.specs.Edits.{with_edit}
-use Rattle.state_rows.specs.Kept.{tables_in}
-use Rattle.state_rows.specs.contracts.set.RowSet.{the_view}
 use Rattle.state_rows.proofs.RowLists.{sheet_row-put}
+use Rattle.state_rows.specs.{Kept.tables_in, contracts.set.RowSet.the_view}
 use Rattle.state_rows.proofs.set.RowSet.put_sheet_row.Goals as goal
 
 pub returns : goal.returns
