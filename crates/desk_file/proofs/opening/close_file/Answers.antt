@@ -1,4 +1,4 @@
-use Rattle.std.proofs.Common.{inl, refl}
+use Rattle.desk_types.proofs.Common.{inl, refl}
 use Rattle.desk_file.proofs.ClosedFiles.{keeps, leaves}
 use Rattle.desk_file.proofs.opening.close_file.Goals as goal
 
