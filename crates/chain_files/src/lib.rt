@@ -22,5 +22,5 @@ pub use chain::{Fault, Stopped, recall_files};
 pub use closed::ClosedChain;
 pub use first::first_desk;
 pub use looking::{Looked, look};
-pub use opener::Fresh;
+pub use opener::{Opener, SystemFiles};
 pub use whole::program;

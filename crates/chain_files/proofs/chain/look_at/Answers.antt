@@ -18,19 +18,19 @@ begins-tables image greatest H (inr none) = absurd (let no = none.1 in cc)
 
 pub returns-in-Ok-looked-clause-takes : goal.returns-in-Ok-looked-clause-takes
 returns-in-Ok-looked-clause-takes g c = (
-  c.in-Ok-close_file.files,
+  c.in-Ok-close.files,
   c.in-Ok-add_closed.ensures,
   λ clean ours.
       let conn = c.look-conn.result.0 in
-      let after : HasCleanDisk (file_state conn) = (c.in-Ok-close_file.ensures.copied clean).was_clean in
+      let after : HasCleanDisk (file_state conn) = (c.in-Ok-close.ensures.whole.1 clean).was_clean in
       let before : HasCleanDisk (file_state c.in-Ok.store.conn) = omega (arith, c.look-conn.ensures.reads.survives.clean, after) in
-      let b = c.in-Ok.ensures.begins before ours in
+      let b = c.in-Ok.ensures.opens before ours in
       let tables = ledger_tables b.0 b.1 in
       let keeps : HasCleanDisk (file_state conn) → IsTrue (file_state conn).is_open → Holds (file_state conn).committed tables = λ clean' is_open.
       let kept = c.look-conn.ensures.reads.kept clean' in
       subst (λ (db : Database). Holds db tables) (sym (kept.committed is_open)) (b.3.tables before refl (kept.was_open is_open)) in (
         b.1,
-        (b.0, begins-tables _ b.0 b.1 b.2, c.in-Ok-close_file.ensures.whole tables keeps clean, b.3.lawful before refl, b.3.consistent),
+        (b.0, begins-tables _ b.0 b.1 b.2, c.in-Ok-close.ensures.whole.0 tables keeps clean, b.3.lawful before refl, b.3.consistent),
         subst (λ r. IfOk r (Says state.Stands state.kept_rules b.1 c.args.question.now)) c.in-Ok-looked.is (c.look-conn.ensures.says (record { greatest = b.0; history = b.1; own = _ }) b.3 refl after),
       ),
 )
