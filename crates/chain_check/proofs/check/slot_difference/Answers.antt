@@ -1,4 +1,5 @@
-use Rattle.std.proofs.Common.{sym, ◌∙◌}
+use Rattle.std.proofs.Common.{refl, sym, ◌∙◌}
+use Rattle.desk_types.specs.History.{basis}
 use Rattle.desk_types.specs.Pieces.{live_on}
 use Rattle.feeder_state.proofs.AcceptedChanges.{state-two}
 use Rattle.chain_check.proofs.SameSlots.{either-list}
@@ -19,5 +20,5 @@ returns-in-Some-slot_in-clause-differs c = λ H H' of_old of_new same.
 pub returns-clause-same : goal.returns-clause-same
 returns-clause-same c = λ H H' of_old of_new m s.
     either-list (live_on H m s) (live_on H' m s)
-    (λ some. sym (of_old.floor.tapes m s) ∙ c.in_default.ensures.same H (state-two H c.args.old.now of_old) (c.rows.ensures.same H of_old) of_old.floor.tapes m s some ∙ of_new.floor.tapes m s)
-    (λ some. sym (of_old.floor.tapes m s) ∙ c.in_default-slot_in.ensures.same H' (state-two H' c.args.new.now of_new) (c.rows-2.ensures.same H' of_new) of_new.floor.tapes m s some ∙ of_new.floor.tapes m s)
+    (λ some. sym (of_old.floor.tapes m s) ∙ c.in_default.ensures.same H (state-two H c.args.old.now of_old) (c.rows.ensures.same (basis c.args.old.now.rules H) (record { rules = refl; state = of_old })) of_old.floor.tapes m s some ∙ of_new.floor.tapes m s)
+    (λ some. sym (of_old.floor.tapes m s) ∙ c.in_default-slot_in.ensures.same H' (state-two H' c.args.new.now of_new) (c.rows-2.ensures.same (basis c.args.new.now.rules H') (record { rules = refl; state = of_new })) of_new.floor.tapes m s some ∙ of_new.floor.tapes m s)

@@ -23,8 +23,8 @@ returns-in-Ok-looked-clause-takes g c = (
   λ clean ours.
       let conn = c.look-conn.result.0 in
       let after : HasCleanDisk (file_state conn) = (c.in-Ok-close_file.ensures.copied clean).was_clean in
-      let before : HasCleanDisk (file_state c.in-Ok.store.conn) = omega (arith, c.look-conn.ensures.reads.survives.clean, after) in
-      let b = c.in-Ok.ensures.begins before ours in
+      let before : HasCleanDisk (file_state c.in-Ok-desk_in.store.conn) = omega (arith, c.look-conn.ensures.reads.survives.clean, after) in
+      let b = c.in-Ok-desk_in.ensures.opens before (subst HasOursFirst (sym c.in_ok-files.ensures.image) ours) in
       let tables = ledger_tables b.0 b.1 in
       let keeps : HasCleanDisk (file_state conn) → IsTrue (file_state conn).is_open → Holds (file_state conn).committed tables = λ clean' is_open.
       let kept = c.look-conn.ensures.reads.kept clean' in
