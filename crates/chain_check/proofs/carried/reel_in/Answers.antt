@@ -14,9 +14,11 @@ loop-reel-preserved g c = λ B B' of_old of_new rest.
     let reel = c.in-Some.reel.now in
     let carried : IsCarried (reel_view B.history reel) (reel_view B'.history reel) =
     subst (λ v. IsCarried v (reel_view B'.history reel)) (c.reel-of_old.ensures B of_old)
-    (subst (λ w. IsCarried c.reel-of_old.result w) (c.reel-of_new.ensures B' of_new) c.in_default.ensures.same) in
+    (subst (λ w. IsCarried c.reel-of_old.result w) (c.reel-of_new.ensures B' of_new)
+    c.in_default.ensures.same) in
     c.loop-reel.invariant B B' of_old of_new
-    (subst (AllByRecursion (λ (e : Name × ReelRow). IsCarried (reel_view B.history e.0) (reel_view B'.history e.0))) (sym c.in-Some.ensures.steps) (carried, rest))
+    (subst (AllByRecursion (λ (e : Name × ReelRow). IsCarried (reel_view B.history e.0) (reel_view B'.history e.0)))
+    (sym c.in-Some.ensures.steps) (carried, rest))
 
 pub returns : goal.returns
 returns g c =
@@ -25,9 +27,12 @@ returns g c =
     let lists : Lists by_name es table = subst (λ xs. Lists by_name xs table) (search rules) c.reels-reel-items.ensures in
     record {
       same = λ B B' of_old of_new reel some.
-          covered-rows by_name exact_bytes (λ (k : Name). IsCarried (reel_view B.history k) (reel_view B'.history k)) es reel
+          covered-rows by_name exact_bytes
+          (λ (k : Name). IsCarried (reel_view B.history k) (reel_view B'.history k)) es reel
           (c.loop-reel.invariant B B' of_old of_new
-          (subst (AllByRecursion (λ (e : Name × ReelRow). IsCarried (reel_view B.history e.0) (reel_view B'.history e.0))) (sym c.in-None.ensures.steps.0) tt))
+          (subst
+          (AllByRecursion (λ (e : Name × ReelRow). IsCarried (reel_view B.history e.0) (reel_view B'.history e.0)))
+          (sym c.in-None.ensures.steps.0) tt))
           (ap is_some (lists.rows reel) ∙ some);
       differs = λ B B' of_old of_new. tt;
     }

@@ -18,11 +18,14 @@ returns-then-ne-clause-differs c = λ H H' of_old of_new.
 pub returns-in-Some-clause-differs : goal.returns-in-Some-clause-differs
 returns-in-Some-clause-differs c = λ H H' of_old of_new.
     c.in-Some.ensures.differs H H' (state-two H c.args.old.now of_old) (state-two H' c.args.new.now of_new)
-    (c.rows-old_rows.ensures.same _ (represented H c.args.old.now of_old)) (c.rows-new_rows.ensures.same _ (represented H' c.args.new.now of_new))
+    (c.rows-old_rows.ensures.same _ (represented H c.args.old.now of_old))
+    (c.rows-new_rows.ensures.same _ (represented H' c.args.new.now of_new))
 
 pub returns-in-Some-first_reel-clause-differs : goal.returns-in-Some-first_reel-clause-differs
 returns-in-Some-first_reel-clause-differs c = λ H H' of_old of_new.
-    let one = c.in-Some-first_reel.ensures.differs _ _ (represented H c.args.old.now of_old) (represented H' c.args.new.now of_new) in
+    let stands = represented H c.args.old.now of_old in
+    let stands' = represented H' c.args.new.now of_new in
+    let one = c.in-Some-first_reel.ensures.differs _ _ stands stands' in
     reel-difference H H' one.0 _ (state-two H c.args.old.now of_old) (state-two H' c.args.new.now of_new) one.1
 
 pub returns-clause-carries : goal.returns-clause-carries
@@ -37,7 +40,8 @@ returns-clause-carries c = λ H H' of_old of_new.
     let is' = c.rows-new_rows.ensures.same B' stands' in
     let tables = c.in_default.ensures.same H H' judged judged' is is' in
     let one : c.minute-of_old.result ≡ c.minute-of_new.result = search rules in
-    let minute : desk_minute H ≡ desk_minute H' = sym (c.minute-of_old.ensures B stands) ∙ one ∙ c.minute-of_new.ensures B' stands' in
+    let minute : desk_minute H ≡ desk_minute H' =
+    sym (c.minute-of_old.ensures B stands) ∙ one ∙ c.minute-of_new.ensures B' stands' in
     let now : now_of H ≡ now_of H' = ap (λ o. unwrap_or o 0) minute in
     let reels = c.in_default-first_reel.ensures.same B B' is is' stands stands' in
     record {
