@@ -151,20 +151,21 @@ def chain_of(asked, at):
     for number in range(asked.archives):
         if time.monotonic() > end:
             break
-        with tempfile.TemporaryDirectory(dir=MEMORY if os.path.isdir(MEMORY) else None) as room:
+        with tempfile.TemporaryDirectory(dir=MEMORY if os.path.isdir(MEMORY) else None) as room, tempfile.TemporaryFile(dir=room) as given:
             desk = pathlib.Path(room, "desk")
-            feed = subprocess.Popen([asked.program, "feed", "--db", desk], stdin=subprocess.PIPE, stdout=subprocess.DEVNULL)
             if files:
-                feed.stdin.write(subprocess.run([ROOT / "ops/begin", files[-1]], check=True, stdout=subprocess.PIPE, stderr=subprocess.DEVNULL).stdout)
+                subprocess.run([ROOT / "ops/begin", files[-1]], check=True, stdout=given, stderr=subprocess.DEVNULL)
+                given.seek(0, os.SEEK_END)
             placed = 0
             for text, some in messages:
-                feed.stdin.write(text)
+                given.write(text)
                 placed += some
                 if placed >= asked.pieces and b"WorkCompleted" in text and f"-M{starts.MACHINES}".encode() in text:
                     break  # no board is in work
-            feed.stdin.close()
-            if feed.wait():
-                sys.exit(f"{plant.NAME}: feed ended with status {feed.returncode}")
+            given.seek(0)  # and not through a pipe: on a busy machine two processes would wait for each other
+            done = subprocess.run([asked.program, "feed", "--db", desk], stdin=given, stdout=subprocess.DEVNULL)
+            if done.returncode:
+                sys.exit(f"{plant.NAME}: feed ended with status {done.returncode}")
             whole(desk)
             files.append(at / f"archive-{number}")
             shutil.move(desk, files[-1])

@@ -1,11 +1,10 @@
 -- Worked cases of the profile's limits.
-use Rattle.std.specs.Prelude.{◌≡◌, pos, Some, Ok, Err, refl}
-use Rattle.serde_json.specs.Read.{max_depth}
-use Rattle.desk_types.specs.declared.limits.TheConstants.{GREATEST_LABEL, GREATEST_QUANTITY}
-use Rattle.cfx_profile.specs.declared.fault.MessageFault.TheVariants.{BodyMember, OverLimit}
-use Rattle.cfx_profile.specs.declared.member.Member.TheVariants.{Quantity, LabelMinutes}
+use Rattle.desk_types.proofs.Common.{◌≡◌, Err, GREATEST_LABEL, GREATEST_QUANTITY, Ok, pos, refl, Some}
 use Rattle.cfx_profile.specs.Forms.{at_most, from_1_to}
-use Rattle.cfx_profile.specs.Minute.{minute_of_nanos, minute_of_day}
+use Rattle.cfx_profile.specs.Minute.{minute_of_day, minute_of_nanos}
+use Rattle.cfx_profile.specs.declared.fault.MessageFault.TheVariants.{BodyMember, OverLimit}
+use Rattle.cfx_profile.specs.declared.member.Member.TheVariants.{LabelMinutes, Quantity}
+use Rattle.serde_json.specs.Read.{max_depth}
 
 -- The nesting depth of arrays and objects, including the envelope.
 pub deepest : max_depth ≡ 127

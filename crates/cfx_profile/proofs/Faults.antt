@@ -1,6 +1,5 @@
 -- Faults passed on by callers.
-use Rattle.std.proofs.Common.{◌≡◌, ◌≢◌, ◌∙◌, sym, ap, Result, Ok, Err}
-use Rattle.std.specs.Result.{IsErrAnd}
+use Rattle.desk_types.proofs.Common.{◌∙◌, ◌≡◌, ◌≢◌, ap, Err, IsErrAnd, Ok, Result, sym}
 use Rattle.cfx_profile.specs.Fault.{IsSaidBut}
 
 pub IsSaid-fault : {X F : Type 0} {want : F} (said answer : Result X F) (fault : F)

@@ -1,13 +1,11 @@
 -- Lists of items.
-use Rattle.std.proofs.Common.{◌≡◌, refl, ap, ◌∙◌, sym, ℕ, suc, List, [], ◌∷◌, ◌++◌, length, Some, option_and_then, Result, Ok, Err}
-use Rattle.serde_json.specs.Data.{Data}
-use Rattle.serde_json.specs.Find.{get, as_array}
-use Rattle.serde_json.specs.View.{items_of}
-use Rattle.cfx_profile.specs.declared.fault.MessageFault.{MessageFault}
-use Rattle.cfx_profile.specs.declared.member.Member.{Member}
-use Rattle.cfx_profile.specs.Lists.{items_list, some_items, items_in, each}
-use Rattle.cfx_profile.specs.Member.{member_text}
-use Rattle.cfx_profile.proofs.Readings.{first_of_each, both, both-nothing, both-first}
+use Rattle.desk_types.proofs.Common.{[], ◌++◌, ◌∙◌, ◌∷◌, ◌≡◌, ap, Err, length, List, Ok, refl, Result, Some, suc, sym}
+use Rattle.desk_types.proofs.Common.{ℕ}
+use Rattle.cfx_profile.proofs.Readings.{both, both-first, both-nothing, first_of_each}
+use Rattle.cfx_profile.specs.{Lists.each, Lists.items_in, Lists.items_list, Lists.some_items, Member.member_text}
+use Rattle.cfx_profile.specs.{declared.fault.MessageFault.MessageFault, declared.member.Member.Member}
+use Rattle.serde_json.specs.{Data.Data, Find.as_array, Find.get, View.items_of}
+use Rattle.std.proofs.Common.{option_and_then}
 
 pub items_list-of : (ds : List Data) → items_list (items_of ds) ≡ ds
 items_list-of [] = refl

@@ -1,11 +1,9 @@
 -- Names as a test and as a fact.
-use Rattle.std.proofs.Common.{arith, ◌≡◌, refl, ℕ, ◌≤◌, true, false, Option, Some, None, SomeIff, List, All}
-use Rattle.std.specs.List.{list_all}
-use Rattle.std.proofs.lemmas.Bool.Decides.{nat_tests}
-use Rattle.std.proofs.lemmas.List.Sums.{AllPass-from_list_all, list_all-from_AllPass}
-use Rattle.desk_types.specs.Id.{Name, IsId}
-use Rattle.desk_types.specs.Designator.{IsDesignator, is_designator_byte}
-use Rattle.cfx_profile.specs.Forms.{is_printable, is_id, id_of, is_designator, designator_of}
+use Rattle.desk_types.proofs.Common.{◌≡◌, ◌≤◌, All, AllPass-from_list_all, arith, false, is_designator_byte}
+use Rattle.desk_types.proofs.Common.{IsDesignator, IsId, List, list_all, Name, nat_tests, None, Option, refl, Some}
+use Rattle.desk_types.proofs.Common.{SomeIff, true, ℕ}
+use Rattle.cfx_profile.specs.Forms.{designator_of, id_of, is_designator, is_id, is_printable}
+use Rattle.std.proofs.lemmas.List.Sums.{list_all-from_AllPass}
 
 printable : (b : ℕ) → is_printable b ≡ true → (0x20 ≤ b) × (b ≤ 0x7e)
 unfolding is_printable

@@ -1,5 +1,5 @@
 -- Reading the elements of a list up to the first fault.
-use Rattle.std.proofs.Common.{◌≡◌, refl, List, [], ◌∷◌, ◌++◌, Result, Ok, Err}
+use Rattle.desk_types.proofs.Common.{[], ◌++◌, ◌∷◌, ◌≡◌, Err, List, Ok, refl, Result}
 use Rattle.cfx_profile.specs.Fault.{◌>>=◌}
 
 unfoldable pub first_of_each : {X F : Type 0} → Result X F → Result (List X) F → Result (List X) F

@@ -1,23 +1,25 @@
 -- The content of a message only depends on the members that are read.
-use Rattle.std.proofs.Common.{◌≡◌, ◌∙◌, refl, sym, ap, ℕ, suc, cond, Bool, true, false, Option, Some, None, ok_or, Result, Ok, Err, List, [], ◌∷◌, length, inl, inr}
-use Rattle.std.specs.Prelude.{nat_le, ◌==◌}
-use Rattle.serde_json.specs.Data.{Data, Members, object}
-use Rattle.desk_types.specs.declared.limits.TheConstants.{LONGEST_LIST}
-use Rattle.desk_types.specs.declared.level.Level.{Level}
-use Rattle.desk_types.specs.declared.level.Level.TheVariants.{Six}
+use Rattle.desk_types.proofs.Common.{[], ◌==◌, ◌∙◌, ◌∷◌, ◌≡◌, ap, Bool, cond, Err, false, inl, inr, length, Level}
+use Rattle.desk_types.proofs.Common.{List, LONGEST_LIST, nat_le, None, Ok, ok_or, Option, refl, Result, Six, Some}
+use Rattle.desk_types.proofs.Common.{suc, sym, true, Word, ℕ}
+use Rattle.cfx_profile.specs.Bodies.{command_in, count_row_in, sheet_row_in}
+use Rattle.cfx_profile.specs.Fault.{◌>>=◌}
+use Rattle.cfx_profile.specs.Forms.{counted_in, designator_in, id_in, label_in, level_in, number_in, quantity_in}
+use Rattle.cfx_profile.specs.Forms.{text_at}
+use Rattle.cfx_profile.specs.Lists.{each, items_in, items_list, list_in, row_in, some_items}
+use Rattle.cfx_profile.specs.Message.{envelope_id, envelope_object, envelope_text, said_in, said_under, stamped_in}
+use Rattle.cfx_profile.specs.Skipped.{AgreeOn, AllRowsAgree, BodiesAgree, BodiesAgreeIn, EnvelopesAgree, LabelsAgree}
+use Rattle.cfx_profile.specs.Skipped.{ListsAgree, OthersAreSkipped, RowsAgree, SameOf}
+use Rattle.cfx_profile.specs.Word.{word_of}
 use Rattle.cfx_profile.specs.declared.fault.MessageFault.{MessageFault}
 use Rattle.cfx_profile.specs.declared.fault.MessageFault.TheVariants.{EnvelopeMember}
 use Rattle.cfx_profile.specs.declared.member.Member.{Member}
-use Rattle.cfx_profile.specs.declared.member.Member.TheVariants.{MessageName, UniqueId, Source, TimeStamp, PartNumber, Alternate, Product, Machine, Rows, Slot, Designators, Reel, Lot, Level as level, Quantity, LabelMinutes, Board, Counts}
-use Rattle.desk_types.specs.declared.stored_word.Word.{Word}
+use Rattle.cfx_profile.specs.declared.member.Member.TheVariants.{Alternate, Board, Counts, Designators, LabelMinutes}
+use Rattle.cfx_profile.specs.declared.member.Member.TheVariants.{Level as level, Lot, Machine, MessageName}
+use Rattle.cfx_profile.specs.declared.member.Member.TheVariants.{PartNumber, Product, Quantity, Reel, Rows, Slot}
+use Rattle.cfx_profile.specs.declared.member.Member.TheVariants.{Source, TimeStamp, UniqueId}
+use Rattle.serde_json.specs.Data.{Data, Members, object}
 use Rattle.desk_types.specs.declared.stored_word.Word.TheVariants as word
-use Rattle.cfx_profile.specs.Bodies.{command_in, sheet_row_in, count_row_in}
-use Rattle.cfx_profile.specs.Fault.{◌>>=◌}
-use Rattle.cfx_profile.specs.Forms.{text_at, id_in, designator_in, number_in, quantity_in, counted_in, level_in, label_in}
-use Rattle.cfx_profile.specs.Lists.{items_list, some_items, items_in, each, list_in, row_in}
-use Rattle.cfx_profile.specs.Message.{envelope_text, envelope_id, envelope_object, stamped_in, said_under, said_in}
-use Rattle.cfx_profile.specs.Word.{word_of}
-use Rattle.cfx_profile.specs.Skipped.{SameOf, AgreeOn, RowsAgree, AllRowsAgree, ListsAgree, LabelsAgree, BodiesAgree, BodiesAgreeIn, EnvelopesAgree, OthersAreSkipped}
 
 -- ---- single members
 

@@ -1,6 +1,6 @@
 -- Lists that have the same elements at each index.
-use Rattle.std.proofs.Common.{◌≡◌, ℕ, ◌<◌, Bool, true, false, Some, List, [], ◌∷◌, length, suc, refl, arith}
-use Rattle.std.specs.Prelude.{◌&&◌}
+use Rattle.std.proofs.Common.{◌≡◌, ℕ, ◌<◌, Bool, true, Some, List, [], ◌∷◌, length, suc, refl, arith}
+use Rattle.std.proofs.lemmas.Bool.{and_from as either-way}
 use Rattle.std.specs.Cmp.Lexicographic.{pointwise}
 use Rattle.std.specs.List.{slice_get}
 
@@ -14,26 +14,6 @@ gets-same (x ∷ xs) (y ∷ ys) len all =
     cc
 
 -- ---- lists that compare equal
-
-pub both : (x y : Bool) → (x && y) ≡ true → (x ≡ true) × (y ≡ true)
-both true true is = (refl, refl)
-both true false is = cc
-both false y is = cc
-
-pub either-way : (x y : Bool) → x ≡ true → y ≡ true → (x && y) ≡ true
-either-way true true a b = refl
-either-way true false a b = cc
-either-way false y a b = cc
-
-pub lists-same : {X : Type 0} (eq : X → X → Bool) → ((a b : X) → eq a b ≡ true → a ≡ b) → (xs ys : List X) → pointwise eq xs ys ≡ true → xs ≡ ys
-lists-same eq told [] [] is = refl
-lists-same eq told [] (y ∷ ys) is = cc
-lists-same eq told (x ∷ xs) [] is = cc
-lists-same eq told (x ∷ xs) (y ∷ ys) is =
-    let t = both (eq x y) (pointwise eq xs ys) is in
-    let first : x ≡ y = told x y t.0 in
-    let rest : xs ≡ ys = lists-same eq told xs ys t.1 in
-    cc
 
 pub lists-refl : {X : Type 0} (eq : X → X → Bool) → ((a : X) → eq a a ≡ true) → (xs : List X) → pointwise eq xs xs ≡ true
 lists-refl eq told [] = refl

@@ -1,29 +1,20 @@
 -- The rows over a chain are its recall.
 use Rattle.std.proofs.Common.{◌≡◌, ◌↔◌, ◌∙◌, ℕ, Bool, true, Contains, List, [], ◌∷◌, ◌++◌, length, get_or, map, refl, sym, ap}
 use Rattle.std.specs.Prelude.{Any, ◌||◌}
-use Rattle.std.specs.Cmp.Lexicographic.{nat_list_eq_equiv}
 use Rattle.std.specs.List.{list_any}
 use Rattle.std.proofs.Math.Bool.{or_comm}
 use Rattle.std.proofs.lemmas.List.{map-append}
 use Rattle.std.proofs.lemmas.List.Folds.{list_any-append, Any-from_list_any, list_any-from_Any}
-use Rattle.std.proofs.lemmas.Map.Views.{Contains-from_any, list_any-from_Contains}
 use Rattle.desk_types.specs.Id.{Name, same}
 use Rattle.desk_types.specs.History.{History}
 use Rattle.desk_types.specs.Placements.{boards_of}
-use Rattle.desk_types.proofs.Keys.{same-true}
-use Rattle.desk_laws.proofs.Mounts.{has}
+use Rattle.desk_laws.proofs.Mounts.{has, has-from, from-has}
 use Rattle.desk_laws.specs.Chain.{DeskFile, IsChain, boards_over, lots_over}
 use Rattle.desk_laws.proofs.ChainLots.{boards-union, lots-union}
 use Rattle.chain_check.specs.declared.question.Question.TheVariants.{Names}
 use Rattle.chain_check.specs.declared.question.Subject.{Subject}
 use Rattle.chain_check.specs.declared.question.Subject.TheVariants.{Board, Lot}
 use Rattle.chain_check.specs.Rows.{first_field, name_row, names_of, pieces_of, rows_over}
-
-has-from : (names : List Name) (name : Name) → Contains names name → has names name ≡ true
-has-from names name there = list_any-from_Contains nat_list_eq_equiv name names there
-
-from-has : (names : List Name) (name : Name) → has names name ≡ true → Contains names name
-from-has names name is = Contains-from_any same-true name names is
 
 -- The names of a file, and those in the rows of all files.
 abbrev names-in : Subject → DeskFile → List Name

@@ -22,7 +22,7 @@ use Rattle.desk_laws.proofs.InstalledPieces.{rightly-placed}
 use Rattle.desk_laws.proofs.Mounts.{has}
 use Rattle.desk_laws.proofs.NameSets.{has-set, traces-agree}
 use Rattle.line_traces.specs.Pieces.{AreConverse, board_trace, is_board, is_lot, lot_board_names, lot_trace, pieces_on}
-use Rattle.line_traces.proofs.Converse.{names-told, told-converse}
+use Rattle.line_traces.proofs.Converse.{names-told, told-converse, told-all}
 use Rattle.line_traces.proofs.PlacedColumns.{receipt-there}
 use Rattle.line_traces.proofs.StartedAndReceived.{receipt-lot}
 use Rattle.chain_check.specs.declared.question.Subject.TheVariants.{Board, Lot, Reel}
@@ -41,10 +41,6 @@ unlike is_known a b there lacks = by (same a b) refl
     by : (t : Bool) → same a b ≡ t → same a b ≡ false
     by true is = let one = ap is_known (same-true a b is) in cc
     by false is = is
-
-told-all : {X : Type 0} (b : Bool) (xs : List X) → (b ≡ false → xs ≡ []) → unwrap_or (if b then Some xs else None) [] ≡ xs
-told-all true xs none = refl
-told-all false xs none = sym (none refl)
 
 -- ---- lots
 

@@ -1,8 +1,7 @@
 -- The row of the number that follows a first part of a history is that of its next entry.
-use Rattle.std.proofs.Common.{◌≡◌, ◌∙◌, ◌+◌, ◌<◌, ℕ, pos, Bool, true, false, List, [], ◌∷◌, ◌++◌, length, filter, refl, sym, ap, subst, if◌then◌else◌, is_eq, Greater, Some, arith, length-append}
+use Rattle.std.proofs.Common.{◌≡◌, ◌∙◌, ◌+◌, ◌<◌, ℕ, pos, Bool, true, false, List, [], ◌∷◌, ◌++◌, length, filter, refl, sym, ap, subst, if◌then◌else◌, is_eq, Greater, arith, length-append}
 use Rattle.std.proofs.lemmas.Bool.Decides.{nat_tests}
 use Rattle.std.proofs.lemmas.Int.{ints}
-use Rattle.std.specs.List.{AllByRecursion}
 use Rattle.std.specs.List.Sorted.{IsPermutation}
 use Rattle.std.proofs.lemmas.List.Sorted.{IsPermutation-refl}
 use Rattle.sqlite_trees.proofs.ListLemmas.{filter_none, IsPermutation-filter}
@@ -10,9 +9,6 @@ use Rattle.sqlite.proofs.Callers.{one_permutation}
 use Rattle.sqlite.specs.declared.types.Value.TheVariants.{Int}
 use Rattle.sqlite_value.specs.Order.{Row, value_cmp}
 use Rattle.sqlite_value.proofs.OrderLemmas.{value_cmp-Int}
-use Rattle.sqlite_schema.specs.Rules.{equal}
-use Rattle.sqlite_sql.specs.Ops.{binary, is_true, from_truth}
-use Rattle.sqlite.specs.Collation.TheVariants.{Binary}
 use Rattle.sqlite.specs.State.{State}
 use Rattle.desk_types.specs.declared.command.Entry.{Entry}
 use Rattle.desk_types.specs.declared.rules.Rules.{Rules}
@@ -22,28 +18,17 @@ use Rattle.desk_types.specs.Judged.{IsJudged}
 use Rattle.line_tables.specs.Calls.{has_number}
 use Rattle.line_tables.specs.Rows.{accepted_in}
 use Rattle.line_replay.specs.Rows.{entry_row, rows_of}
-use Rattle.line_replay.proofs.Tests.{other_number}
+use Rattle.line_replay.proofs.RowsOfLists.{none_numbered}
 use Rattle.chain_files.specs.First.{TakesNext, HoldsHistory}
+use Rattle.line_tables.proofs.Keyed.{number_test}
 
 -- ---- numbers
-
-truth_told : (b : Bool) → is_true (from_truth (Some b)) ≡ b
-truth_told true = refl
-truth_told false = refl
-
-number_test : (a b : ℕ) → equal Binary (Int (pos a)) (Int (pos b)) ≡ is_eq (value_cmp (Int (pos a)) (Int (pos b)))
-unfolding binary
-number_test a b = truth_told _
 
 higher_cmp : (m n : ℕ) → n < m → value_cmp (Int (pos m)) (Int (pos n)) ≡ Greater
 higher_cmp m n h = value_cmp-Int (pos m) (pos n) ∙ grind (arith, ints, nat_tests)
 
 higher_number : (n : ℕ) (G : History) (e : Entry) → n < e.number → has_number n (entry_row G e) ≡ false
 higher_number n G e high = number_test e.number n ∙ ap is_eq (higher_cmp e.number n high)
-
-none_numbered : (rules : Rules) (H : History) (n : ℕ) → IsJudged rules H → length H < n → AllByRecursion (λ r. has_number n r ≡ false) (rows_of H)
-none_numbered rules [] n judged h = tt
-none_numbered rules (e ∷ H) n judged h = (other_number n H e (omega (arith, judged.0.number, h)), none_numbered rules H n judged.1 (omega (arith, h)))
 
 none_left : (rules : Rules) (P : History) → IsJudged rules P → filter (has_number (length P + 1)) (rows_of P) ≡ []
 none_left rules P judged = filter_none (has_number (length P + 1)) (rows_of P) (none_numbered rules P (length P + 1) judged (omega arith))

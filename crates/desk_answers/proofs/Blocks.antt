@@ -1,8 +1,8 @@
 -- Bytes taken from a block.
-use Rattle.std.proofs.Common.{◌≡◌, ◌∙◌, ◌+◌, ◌-◌, ◌≤◌, ℕ, List, [], ◌++◌, sym, ap, subst, take, drop, length, Option, Some, None, refl, arith, append_assoc}
-use Rattle.std.proofs.lemmas.List.{take-take}
-use Rattle.std.specs.List.{slice_range}
-use Rattle.std.specs.Io.KnownBytes.{prepend_known, Consumes, IsAtEnd}
+use Rattle.desk_types.proofs.Common.{[], ◌++◌, ◌+◌, ◌-◌, ◌∙◌, ◌≡◌, ◌≤◌, ap, append_assoc, arith, Consumes, drop}
+use Rattle.desk_types.proofs.Common.{IsAtEnd, length, List, None, Option, prepend_known, refl, Some, subst, sym, take}
+use Rattle.desk_types.proofs.Common.{ℕ}
+use Rattle.std.{proofs.lemmas.List.take-take, specs.List.slice_range}
 
 pub front_goes : (xs ys zs : List ℕ) (known : Option (List ℕ)) → xs ≡ ys ++ zs → Consumes (prepend_known xs known) (prepend_known zs known) ys
 front_goes xs ys zs None e = tt

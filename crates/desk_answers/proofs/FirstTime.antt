@@ -1,11 +1,6 @@
 -- A message that is sent for the first time.
-use Rattle.std.proofs.Common.{◌≡◌, ◌∙◌, Bool, true, false, cond, List, [], ◌∷◌, refl, Option, Some, None, map}
-use Rattle.std.specs.List.{AllByRecursion}
-use Rattle.desk_types.specs.declared.command.Entry.{Entry}
-use Rattle.desk_types.specs.declared.command.Stamped.{Stamped}
-use Rattle.desk_types.specs.History.{History}
-use Rattle.desk_types.specs.Id.{Name, same}
-use Rattle.desk_types.proofs.Keys.{same-sym}
+use Rattle.desk_types.proofs.Common.{[], ◌∙◌, ◌∷◌, ◌≡◌, AllByRecursion, Bool, cond, Entry, false, History, List, map}
+use Rattle.desk_types.proofs.Common.{Name, None, Option, refl, same, same-sym, Some, Stamped, true}
 use Rattle.desk_answers.specs.Commands.{answer_under, earlier_answer}
 
 pub first-uid : (H : History) (s : Stamped) → earlier_answer H s ≡ None → AllByRecursion (λ uid. same s.uid uid ≡ false) (map (λ (e : Entry). e.stamped.uid) H)

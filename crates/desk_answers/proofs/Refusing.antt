@@ -1,19 +1,14 @@
 -- A refused command leaves the history unchanged.
-use Rattle.std.proofs.Common.{◌≡◌, ℕ, Bool, true, false, cond, is_some, Option, Some, None, unwrap_or, refl, sym, ap}
-use Rattle.std.specs.Prelude.{◌||◌}
-use Rattle.std.specs.Option.{option_map_or}
-use Rattle.desk_types.specs.declared.answer.Detail.{Detail}
-use Rattle.desk_types.specs.declared.answer.Refusal.{Refusal}
-use Rattle.desk_types.specs.declared.answer.Reply.TheVariants as reply
-use Rattle.desk_types.specs.declared.command.Stamped.{Stamped}
-use Rattle.desk_types.specs.declared.rules.Rules.{Rules}
-use Rattle.desk_types.specs.History.{History, accept}
-use Rattle.desk_types.specs.Outcome.{change_of}
-use Rattle.desk_types.specs.Refusals.{refusal_of}
+use Rattle.desk_types.proofs.Common.{◌||◌, ◌≡◌, accept, ap, Bool, change_of, cond, false, History, is_some, None}
+use Rattle.desk_types.proofs.Common.{Option, option_map_or, refl, Refusal, refusal_of, Rules, Some, Stamped, sym}
+use Rattle.desk_types.proofs.Common.{true, unwrap_or, ℕ}
+use Rattle.desk_answers.specs.Commands.{command_after, command_answer, earlier_answer, is_full, is_refused}
+use Rattle.desk_answers.specs.Commands.{judged_answer}
+use Rattle.desk_answers.specs.Ledger.{IsAnswer, Ledger, ledger_after}
 use Rattle.desk_answers.specs.declared.answer.Answer.{Answer}
-use Rattle.desk_answers.specs.declared.answer.Answer.TheVariants.{Accepted, Refused, IdReused, DeskFull, Unavailable}
-use Rattle.desk_answers.specs.Commands.{earlier_answer, is_full, judged_answer, command_answer, command_after, is_refused}
-use Rattle.desk_answers.specs.Ledger.{Ledger, IsAnswer, ledger_after}
+use Rattle.desk_answers.specs.declared.answer.Answer.TheVariants.{Accepted, DeskFull, IdReused, Refused, Unavailable}
+use Rattle.desk_types.specs.declared.answer.Detail.{Detail}
+use Rattle.desk_types.specs.declared.answer.Reply.TheVariants as reply
 
 by_cases : (H grown : History) (s : Stamped) (detail : Detail) (earlier : Option Answer) (full : Bool) (refusal : Option Refusal)
     → is_refused (unwrap_or earlier (cond full DeskFull (judged_answer H s (option_map_or reply.Refused refusal (reply.Accepted detail))))) ≡ true

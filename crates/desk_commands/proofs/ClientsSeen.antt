@@ -1,8 +1,9 @@
 -- The events of clients, one after another.
-use Rattle.std.proofs.Common.{◌≡◌, ◌≢◌, refl, ◌++◌, ◌∷◌, [], ℕ, List, Option, sym, subst, append_assoc, append-nil}
-use Rattle.std.proofs.lemmas.List.Concat.{flat_map-append}
+use Rattle.desk_types.proofs.Common.{[], ◌++◌, ◌∷◌, ◌≡◌, ◌≢◌, append-nil, append_assoc, flat_map-append, List, Option}
+use Rattle.desk_types.proofs.Common.{refl, subst, sym, ℕ}
+use Rattle.desk_commands.specs.Clients.{Event, events_at, events_in, events_on, Exchange, no_client, no_line, no_port}
+use Rattle.desk_commands.specs.Clients.{Sees, served_all, ServesAt, ServesOn, Serving, Stop}
 use Rattle.std.specs.Prelude.{flat_map}
-use Rattle.desk_commands.specs.Clients.{Event, Exchange, Sees, Serving, ServesAt, ServesOn, Stop, served_all, no_port, no_client, no_line, events_in, events_at, events_on}
 
 -- The port was open.
 pub all_no_port : served_all ≢ no_port

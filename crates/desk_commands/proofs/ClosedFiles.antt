@@ -1,41 +1,33 @@
 -- The files that a command left open, after they are closed.
-use Rattle.std.specs.Prelude.{⊤, MatchOption}
-use Rattle.std.proofs.Common.{◌≡◌, ◌⊎◌, ◌∙◌, ℕ, true, Option, Some, None, IsTrue, length, refl, sym, ap, subst, inl, inr, arith}
-use Rattle.std.proofs.lemmas.Bool.{cases_Bool, both_ways}
-use Rattle.std.proofs.Math.Logic.{∥∥₁_map}
-use Rattle.sqlite_disk.specs.declared.Disk as disk
-use Rattle.sqlite_disk.specs.declared.Files.{Files}
-use Rattle.sqlite_disk.specs.declared.start.Start as start
-use Rattle.sqlite_wal.specs.Files.{image_at}
-use Rattle.sqlite_wal.specs.Reads.{AreClean}
-use Rattle.sqlite_wal.specs.Recovery.{Image}
-use Rattle.sqlite_wal.proofs.LogLemmas.{SeenMayStay}
-use Rattle.sqlite_store.specs.declared.store.FileStore.{FileStore}
-use Rattle.sqlite_store.specs.Laws.{settled_at}
-use Rattle.sqlite_trees.specs.Tree.{Trees}
-use Rattle.sqlite.specs.Closing.{HoldsAlone, IsCopied}
-use Rattle.sqlite.specs.Effect.{Database}
-use Rattle.sqlite.specs.Files.{file_state, over_files}
-use Rattle.sqlite.specs.Held.{Held}
-use Rattle.sqlite.specs.State.{State, HasCleanDisk, Opens}
-use Rattle.desk_types.specs.declared.rules.Rules.TheVariants.{One}
-use Rattle.desk_types.specs.History.{History}
+use Rattle.desk_types.proofs.Common.{∥∥₁_map, ⊤, ◌∙◌, ◌≡◌, ◌⊎◌, ap, arith, cases_Bool, History, inl, inr, IsTrue}
+use Rattle.desk_types.proofs.Common.{length, None, One, Option, refl, Some, subst, sym, true, ℕ}
+use Rattle.line_tables.proofs.Common.{Database, file_state, HasCleanDisk, Held, LeavesMigrated, Opens, over_files}
+use Rattle.line_tables.proofs.Common.{State, Trees}
 use Rattle.desk_answers.specs.Ledger.{Ledger}
-use Rattle.line_tables.specs.Calls.{LeavesMigrated}
-use Rattle.line_replay.specs.Rows.{ledger_tables}
-use Rattle.line_schema.specs.declared.fault.OpenFault.{OpenFault}
-use Rattle.line_schema.specs.declared.fault.OpenFault.TheVariants.{NotADesk, Unavailable}
-use Rattle.feeder_state.specs.declared.desk.StateDesk.{StateDesk}
-use Rattle.feeder_state.specs.contracts.desk.StateDeskDesk.TheImpl.{ghosts as state}
-use Rattle.line_schema.specs.declared.store.LineStore.{LineStore}
-use Rattle.line_schema.specs.Stands.{Kept, Stands, conn_of}
+use Rattle.desk_commands.specs.{Closed.AuditsTo, Closed.Close, Closed.ClosesLeft, Closed.failed, Closed.HoldsDesk}
+use Rattle.desk_commands.specs.{Closed.HoldsFound, Closed.IsRefusedTo, Closed.MigratesTo, Closed.RefusesTo}
+use Rattle.desk_commands.specs.{Closed.RefusesToMigrateTo, Closed.RunsTo, Closed.whole, Runs.Audits, Runs.Migrates}
+use Rattle.desk_commands.specs.{Runs.Refuses, Runs.RefusesToMigrate, Runs.RunsOn, declared.left.ToClose.ToClose}
+use Rattle.desk_commands.specs.{declared.left.ToClose.TheVariants.Desk, declared.left.ToClose.TheVariants.Migrated}
+use Rattle.desk_commands.specs.{declared.left.ToClose.TheVariants.Nothing, declared.left.ToClose.TheVariants.Refused}
 use Rattle.desk_file.proofs.FirstLists.{found}
-use Rattle.desk_file.specs.Files.{IsFoundIn, IsLeft}
-use Rattle.desk_file.specs.Refused.{IsFaultFor, IsFaultIn, IsRefused, IsUnchangedSince, LeavesMade, idle_state}
-use Rattle.desk_commands.specs.declared.left.ToClose.{ToClose}
-use Rattle.desk_commands.specs.declared.left.ToClose.TheVariants.{Nothing, Desk, Migrated, Refused}
-use Rattle.desk_commands.specs.Runs.{Audits, Migrates, Refuses, RefusesToMigrate, RunsOn}
-use Rattle.desk_commands.specs.Closed.{Close, whole, failed, ClosesLeft, HoldsDesk, HoldsFound, IsRefusedTo, AuditsTo, MigratesTo, RefusesTo, RefusesToMigrateTo, RunsTo}
+use Rattle.desk_file.specs.{Files.IsFoundIn, Files.IsLeft, Refused.idle_state, Refused.IsFaultFor, Refused.IsFaultIn}
+use Rattle.desk_file.specs.{Refused.IsRefused, Refused.IsUnchangedSince, Refused.LeavesMade}
+use Rattle.feeder_state.specs.{contracts.desk.StateDeskDesk.TheImpl.ghosts as state}
+use Rattle.feeder_state.specs.{declared.desk.StateDesk.StateDesk}
+use Rattle.line_replay.specs.Rows.{ledger_tables}
+use Rattle.line_schema.specs.{Stands.conn_of, Stands.Kept, Stands.Stands, declared.fault.OpenFault.OpenFault}
+use Rattle.line_schema.specs.{declared.fault.OpenFault.TheVariants.NotADesk}
+use Rattle.line_schema.specs.{declared.fault.OpenFault.TheVariants.Unavailable, declared.store.LineStore.LineStore}
+use Rattle.sqlite.specs.Closing.{HoldsAlone, IsCopied}
+use Rattle.sqlite_disk.specs.declared.Files.{Files}
+use Rattle.sqlite_store.specs.{Laws.settled_at, declared.store.FileStore.FileStore}
+use Rattle.sqlite_wal.proofs.LogLemmas.{SeenMayStay}
+use Rattle.sqlite_wal.specs.{Files.image_at, Reads.AreClean, Recovery.Image}
+use Rattle.std.proofs.lemmas.Bool.{both_ways}
+use Rattle.std.specs.Prelude.{MatchOption}
+use Rattle.sqlite_disk.specs.declared.Disk as disk
+use Rattle.sqlite_disk.specs.declared.start.Start as start
 
 -- The files of a desk after a close that failed.
 desk_left : {D : Type 0} {g : disk.Ghosts D} (d : LineStore (FileStore D g) StateDesk) (f : Files D) (L : Kept) → IsLeft (conn_of d) f → Stands over_files state.Stands d L → IsTrue L.own

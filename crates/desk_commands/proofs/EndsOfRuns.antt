@@ -1,15 +1,11 @@
 -- The end of a run, with facts that follow from its own.
-use Rattle.std.proofs.Common.{◌≡◌, ℕ, List, Option, refl, inl, inr, arith}
-use Rattle.desk_types.specs.declared.wire.Wire.{Wire}
-use Rattle.desk_types.specs.History.{History}
+use Rattle.desk_types.proofs.Common.{◌≡◌, arith, History, inl, inr, List, Option, refl, Wire, ℕ}
 use Rattle.desk_answers.specs.Ledger.{Ledger}
+use Rattle.desk_commands.specs.{Clients.Serving, Connections.AnswersEach, Ends.FeedEnds, Ends.ImportEnds}
+use Rattle.desk_commands.specs.{Ends.PrintEnds, Ends.ReportEnds, Ends.ServingEnds, OpenRuns.AnswersAll}
+use Rattle.desk_commands.specs.{OpenRuns.AnswersImport, OpenRuns.AnswersUpTo, OpenRuns.CutsImport, OpenRuns.StaysSame}
+use Rattle.http_stream.specs.{Answers.Told, Stream.RuleBy}
 use Rattle.imports.specs.declared.import.Import.{Import}
-use Rattle.http_stream.specs.Answers.{Told}
-use Rattle.http_stream.specs.Stream.{RuleBy}
-use Rattle.desk_commands.specs.Clients.{Serving}
-use Rattle.desk_commands.specs.Connections.{AnswersEach}
-use Rattle.desk_commands.specs.Ends.{FeedEnds, ImportEnds, PrintEnds, ReportEnds, ServingEnds}
-use Rattle.desk_commands.specs.OpenRuns.{AnswersAll, AnswersImport, AnswersUpTo, CutsImport, StaysSame}
 
 module _ {R W E : Type 0} {reads : R → Option (List ℕ)} {writes : W → Option (List ℕ)} {tells : E → Option (List ℕ)}
     {input input' : Wire R} {output output' : Wire W} {errors errors' : Wire E} {NoDesk NoDesk' : Type 0} {exit : ℕ} where

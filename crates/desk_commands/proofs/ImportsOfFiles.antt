@@ -1,14 +1,9 @@
 -- An import of the bytes read from a file.
-use Rattle.std.proofs.Common.{ℕ, List, Option, Result}
-use Rattle.desk_types.specs.declared.command.Stamped.{Stamped}
-use Rattle.desk_types.specs.History.{History}
-use Rattle.desk_answers.specs.Ledger.{Ledger, ForLists}
-use Rattle.imports.specs.declared.fault.ImportFault.{ImportFault}
-use Rattle.imports.specs.declared.import.Import.{Import}
-use Rattle.desk_feed.specs.Folder.{IsRead}
-use Rattle.desk_feed.specs.Import.{IsSaidBy}
-use Rattle.imports.specs.Import.{command_said}
+use Rattle.desk_types.proofs.Common.{History, List, Option, Result, Stamped, ℕ}
+use Rattle.desk_answers.specs.Ledger.{ForLists, Ledger}
 use Rattle.desk_feed.proofs.FileFronts.{said_by_all}
+use Rattle.desk_feed.specs.{Folder.IsRead, Import.IsSaidBy}
+use Rattle.imports.specs.{Import.command_said, declared.fault.ImportFault.ImportFault, declared.import.Import.Import}
 
 pub says_all : {S : Type 0} (Stands : S → Ledger → Type 0) (Trusts : S → Type 0) (old new : S) (import : Import) (file : Option (List ℕ)) (bytes : List ℕ) (Fact : Result Stamped ImportFault → Ledger → History → Type 0)
     → IsRead file bytes → ForLists Stands Trusts old new (Fact (command_said import bytes))

@@ -1,14 +1,12 @@
 -- The history after connections, with one more connection, and whether one was faulty.
-use Rattle.std.proofs.Common.{◌≡◌, ◌∙◌, ◌++◌, ◌∷◌, [], ℕ, List, Option, Ok, Err, Bool, true, false, ◌||◌, refl, sym, ap, subst}
-use Rattle.std.specs.List.{list_any}
-use Rattle.std.proofs.lemmas.List.{map-append}
-use Rattle.std.proofs.lemmas.List.Folds.{list_any-append}
-use Rattle.desk_answers.specs.Ledger.{Ledger, ForLists}
-use Rattle.desk_types.specs.History.{History}
-use Rattle.desk_answers.specs.declared.serving.ServeFault.TheVariants.{Read, Write, TooManyReads}
-use Rattle.http_stream.specs.Stream.{Rule, RuleBy, AnswersConnection}
-use Rattle.desk_commands.specs.Clients.{Ended, Exchange, ends_of}
+use Rattle.desk_types.proofs.Common.{[], ◌++◌, ◌||◌, ◌∙◌, ◌∷◌, ◌≡◌, ap, Bool, Err, History, List, list_any}
+use Rattle.desk_types.proofs.Common.{list_any-append, map-append, Ok, Option, refl, subst, sym, ℕ}
+use Rattle.desk_answers.specs.Ledger.{ForLists, Ledger}
+use Rattle.desk_answers.specs.declared.serving.ServeFault.TheVariants.{Read, TooManyReads, Write}
+use Rattle.desk_commands.specs.Clients.{Ended, ends_of, Exchange}
 use Rattle.desk_commands.specs.Connections.{Connected, ConnectedEach, is_faulty}
+use Rattle.http_stream.specs.Stream.{AnswersConnection, Rule, RuleBy}
+use Rattle.std.proofs.Math.Bool.{or-false as or_false}
 
 each_more : (rule : Rule) (H : History) (es : List Exchange) (e : Exchange) (H₁ H₂ : History) → ConnectedEach rule H es H₁ → Connected rule H₁ e H₂ → ConnectedEach rule H (es ++ e ∷ []) H₂
 each_more rule H [] e H₁ H₂ same last = (H₂, subst (λ (G : History). Connected rule G e H₂) same last, refl)
@@ -16,10 +14,6 @@ each_more rule H (d ∷ es) e H₁ H₂ each last = (each.0, each.1, each_more r
 
 pub ends_more : (es : List Exchange) (e : Exchange) (ended : Ended) → e.ended ≡ ended → ends_of (es ++ e ∷ []) ≡ ends_of es ++ ended ∷ []
 ends_more es e ended is = map-append (λ (x : Exchange). x.ended) es (e ∷ []) ∙ ap (λ (x : Ended). ends_of es ++ x ∷ []) is
-
-or_false : (b : Bool) → (b || false) ≡ b
-or_false true = refl
-or_false false = refl
 
 pub faulty_more : (before last : Bool) (ends : List Ended) (ended : Ended) → before ≡ list_any is_faulty ends → last ≡ is_faulty ended → (before || last) ≡ list_any is_faulty (ends ++ ended ∷ [])
 faulty_more before last ends ended told one =

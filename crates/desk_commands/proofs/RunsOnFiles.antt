@@ -1,22 +1,16 @@
 -- A run on a desk in a file.
-use Rattle.std.proofs.Common.{◌≡◌, ℕ, true, Option, None, length, refl, subst, sym}
+use Rattle.desk_types.proofs.Common.{◌≡◌, History, length, None, Option, refl, subst, sym, true, Two, ℕ}
+use Rattle.line_tables.proofs.Common.{HasCleanDisk, over_files}
+use Rattle.desk_answers.specs.Ledger.{ForLists, Ledger}
+use Rattle.desk_commands.specs.{OpenRuns.StaysSame, Runs.Audits, Runs.RunsOn, declared.left.ToClose.TheVariants.Desk}
+use Rattle.desk_file.specs.Files.{Begins, HasOursFirst}
+use Rattle.feeder_state.specs.{contracts.desk.StateDeskDesk.TheImpl.ghosts as state}
+use Rattle.feeder_state.specs.{declared.desk.StateDesk.StateDesk}
+use Rattle.line_schema.specs.{Stands.Kept, Stands.Stands, Stands.state_of, declared.store.LineStore.LineStore}
+use Rattle.sqlite_store.specs.declared.store.FileStore.{FileStore}
+use Rattle.sqlite_wal.specs.Files.{image_at}
 use Rattle.sqlite_disk.specs.declared.Disk as disk
 use Rattle.sqlite_disk.specs.declared.start.Start as start
-use Rattle.sqlite_wal.specs.Files.{image_at}
-use Rattle.sqlite_store.specs.declared.store.FileStore.{FileStore}
-use Rattle.sqlite.specs.State.{HasCleanDisk}
-use Rattle.sqlite.specs.Files.{over_files}
-use Rattle.desk_types.specs.declared.rules.Rules.TheVariants.{Two}
-use Rattle.desk_types.specs.History.{History}
-use Rattle.desk_answers.specs.Ledger.{Ledger, ForLists}
-use Rattle.feeder_state.specs.declared.desk.StateDesk.{StateDesk}
-use Rattle.feeder_state.specs.contracts.desk.StateDeskDesk.TheImpl.{ghosts as state}
-use Rattle.line_schema.specs.declared.store.LineStore.{LineStore}
-use Rattle.line_schema.specs.Stands.{Kept, Stands, state_of}
-use Rattle.desk_file.specs.Files.{Begins, HasOursFirst}
-use Rattle.desk_commands.specs.OpenRuns.{StaysSame}
-use Rattle.desk_commands.specs.declared.left.ToClose.TheVariants.{Desk}
-use Rattle.desk_commands.specs.Runs.{Audits, RunsOn}
 
 -- The store of a file represents the history by rules Two, with its own tables.
 abbrev pub IsKept : {D : Type 0} {g : disk.Ghosts D} → LineStore (FileStore D g) StateDesk → Ledger → Type 0

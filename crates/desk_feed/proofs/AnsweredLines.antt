@@ -1,22 +1,13 @@
 -- Lines answered one after another.
-use Rattle.std.proofs.Common.{◌≡◌, ◌∙◌, ◌+◌, ℕ, Bool, true, false, cond, List, [], ◌∷◌, ◌++◌, sym, ap, refl, subst, Option, append-nil, length, length-append, take, arith, count_by, Some, ◌<◌, ◌≤◌, ◌-◌, ◌==◌, get_or}
-use Rattle.std.specs.List.{flat_map}
-use Rattle.std.proofs.lemmas.Bool.{lt-ltb}
-use Rattle.std.proofs.lemmas.Grind.{flat_map-append, common_steps}
-use Rattle.std.proofs.lemmas.List.{length-take}
-use Rattle.std.specs.Io.KnownBytes.{Appends}
-use Rattle.std.proofs.KnownBytes.{Appends-trans}
-use Rattle.desk_types.specs.declared.rules.Rules.{Rules}
-use Rattle.desk_types.specs.History.{History}
+use Rattle.desk_types.proofs.Common.{[], ◌++◌, ◌+◌, ◌-◌, ◌<◌, ◌==◌, ◌∙◌, ◌∷◌, ◌≡◌, ◌≤◌, ap, append-nil, Appends}
+use Rattle.desk_types.proofs.Common.{Appends-trans, arith, Bool, common_steps, cond, count_by, false, flat_map}
+use Rattle.desk_types.proofs.Common.{flat_map-append, get_or, History, length, length-append, length-take, List}
+use Rattle.desk_types.proofs.Common.{LONGEST_INPUT, lt-ltb, Option, refl, Rules, Some, subst, sym, take, true, ℕ}
 use Rattle.desk_answers.specs.declared.serving.Served.{Served}
-use Rattle.desk_types.specs.declared.limits.TheConstants.{LONGEST_INPUT}
-use Rattle.desk_feed.specs.declared.line.LineAnswer.TheVariants.{TooLong}
-use Rattle.desk_feed.specs.declared.message.AnswerText.{AnswerText}
-use Rattle.desk_feed.specs.LineAnswers.{AnswersRaw}
-use Rattle.desk_feed.specs.Lines.{is_empty, without_return}
-use Rattle.desk_feed.specs.Messages.{answer_to, list_after}
-use Rattle.desk_feed.specs.Verdicts.{is_refused}
-use Rattle.desk_feed.specs.Stream.{Answered, line_answer, line_after, answers_to, after_lines, sent_line}
+use Rattle.desk_feed.specs.{LineAnswers.AnswersRaw, Lines.is_empty, Lines.without_return, Messages.answer_to}
+use Rattle.desk_feed.specs.{Messages.list_after, Stream.after_lines, Stream.Answered, Stream.answers_to}
+use Rattle.desk_feed.specs.{Stream.line_after, Stream.line_answer, Stream.sent_line, Verdicts.is_refused}
+use Rattle.desk_feed.specs.{declared.line.LineAnswer.TheVariants.TooLong, declared.message.AnswerText.AnswerText}
 
 one_counted : (b : Bool) (n m : ℕ) (told : AnswerText) → is_refused told ≡ b → m ≡ cond b (n + 1) n → m ≡ n + count_by is_refused (told ∷ [])
 one_counted true n m told e h = grind (arith, common_steps, e, h)

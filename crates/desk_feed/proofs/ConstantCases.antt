@@ -1,5 +1,5 @@
 -- Worked cases of the crate's limits.
-use Rattle.std.specs.Prelude.{◌≡◌, refl}
+use Rattle.desk_types.proofs.Common.{◌≡◌, refl}
 use Rattle.desk_feed.specs.declared.taking.TheConstants.{LONGEST_RAW}
 
 pub longest_with_its_return : LONGEST_RAW ≡ 1_048_577

@@ -1,23 +1,17 @@
 -- The first bytes of a file.
-use Rattle.std.proofs.Common.{◌≡◌, ◌≤◌, ◌∙◌, ◌++◌, ℕ, suc, Bool, true, false, cond, List, [], Option, Some, None, Result, Ok, Err, refl, sym, ap, ap₂, arith, length, option_map, subst, take}
-use Rattle.std.specs.Prelude.{IfSome, nat_le}
-use Rattle.std.specs.declared.io.traits.Take.{Take}
-use Rattle.std.specs.Io.Take.{take_inner, take_limit, take_remaining}
-use Rattle.std.proofs.lemmas.Bool.{leb-true, leb-false, lt-leb}
-use Rattle.std.proofs.lemmas.List.{length-take-le, take_all}
+use Rattle.desk_types.proofs.Common.{[], ◌++◌, ◌∙◌, ◌≡◌, ◌≤◌, ap, ap₂, arith, Bool, Command, cond, Err, false, IfSome}
+use Rattle.desk_types.proofs.Common.{leb-false, leb-true, length, length-take-le, List, LONGEST_INPUT, nat_le, None}
+use Rattle.desk_types.proofs.Common.{Ok, Option, refl, Result, Some, subst, suc, sym, take, take_all, true, ℕ}
 use Rattle.cfx_profile.specs.Fault.{◌>>=◌}
-use Rattle.desk_types.specs.declared.command.Command.{Command}
+use Rattle.desk_feed.specs.{Folder.IsRead, Import.IsSaidBy}
+use Rattle.imports.specs.{File.counts_said, File.file_rows, File.Record, File.records_of, File.rows_of}
+use Rattle.imports.specs.{File.setup_said, Import.command_said, Import.rows_said, Import.stamped_by}
+use Rattle.imports.specs.{declared.fault.ImportFault.ImportFault, declared.fault.ImportFault.TheVariants.OverLimit}
+use Rattle.imports.specs.{declared.import.Content.Content, declared.import.Content.TheVariants.Counts}
+use Rattle.imports.specs.{declared.import.Content.TheVariants.Sheet, declared.import.Import.Import}
+use Rattle.std.proofs.{Common.option_map, lemmas.Bool.lt-leb}
+use Rattle.std.specs.{Io.Take.take_inner, Io.Take.take_limit, Io.Take.take_remaining, declared.io.traits.Take.Take}
 use Rattle.desk_types.specs.declared.command.Command.TheVariants as command
-use Rattle.imports.specs.declared.fault.ImportFault.{ImportFault}
-use Rattle.imports.specs.declared.fault.ImportFault.TheVariants.{OverLimit}
-use Rattle.desk_types.specs.declared.limits.TheConstants.{LONGEST_INPUT}
-use Rattle.imports.specs.File.{Record, records_of, rows_of, file_rows, setup_said, counts_said}
-use Rattle.imports.specs.declared.import.Content.{Content}
-use Rattle.imports.specs.declared.import.Content.TheVariants.{Sheet, Counts}
-use Rattle.imports.specs.declared.import.Import.{Import}
-use Rattle.desk_feed.specs.Folder.{IsRead}
-use Rattle.desk_feed.specs.Import.{IsSaidBy}
-use Rattle.imports.specs.Import.{rows_said, stamped_by, command_said}
 
 -- ---- reading
 

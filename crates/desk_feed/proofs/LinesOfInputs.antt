@@ -1,14 +1,13 @@
 -- The lines of an input, one after another.
-use Rattle.std.proofs.Common.{◌≡◌, ◌∙◌, ℕ, Bool, true, false, not, cond, map, List, [], ◌∷◌, ◌++◌, sym, ap, refl, subst, Option, Some, None, IfSome, append_assoc, append-nil}
-use Rattle.std.proofs.lemmas.List.Splits.{slice_split_at, slice_split_none, length-slice_split}
-use Rattle.std.specs.List.{filter, slice_split}
-use Rattle.std.proofs.Common.{arith, take, suc, length, length-append, count_by, ◌+◌}
-use Rattle.std.specs.Io.KnownBytes.{Consumes, IsAtEnd, prepend_known}
-use Rattle.std.proofs.KnownBytes.{Consumes-trans}
-use Rattle.desk_feed.specs.Lines.{is_feed, is_empty, without_return, lines_in, lines_of, ended_lines}
-use Rattle.desk_feed.specs.Taking.{HasNoFeed, TakesLine, LinesGone}
+use Rattle.desk_types.proofs.Common.{[], ◌++◌, ◌+◌, ◌∙◌, ◌∷◌, ◌≡◌, ap, append-nil, append_assoc, arith, Bool, cond}
+use Rattle.desk_types.proofs.Common.{Consumes, Consumes-trans, count_by, false, IfSome, IsAtEnd, length}
+use Rattle.desk_types.proofs.Common.{length-append, length-slice_split, List, map, None, not, Option, prepend_known}
+use Rattle.desk_types.proofs.Common.{refl, slice_split_at, slice_split_none, Some, subst, suc, sym, take, true, ℕ}
 use Rattle.desk_answers.specs.declared.serving.Served.{Served}
-use Rattle.desk_feed.specs.Stream.{IsFront, AnswersEnded}
+use Rattle.desk_feed.specs.Lines.{ended_lines, is_empty, is_feed, lines_in, lines_of, without_return}
+use Rattle.desk_feed.specs.Stream.{AnswersEnded, IsFront}
+use Rattle.desk_feed.specs.Taking.{HasNoFeed, LinesGone, TakesLine}
+use Rattle.std.specs.List.{filter, slice_split}
 
 kept : (b : Bool) (x : List ℕ) (xs : List (List ℕ)) → cond (not b) (x ∷ xs) xs ≡ cond b [] (x ∷ []) ++ xs
 kept true x xs = refl

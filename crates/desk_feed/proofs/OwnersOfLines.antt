@@ -1,13 +1,9 @@
 -- An owner whose lines are answered one after another.
-use Rattle.std.proofs.Common.{◌≡◌, ℕ, List, [], ◌∷◌, ◌++◌, Option, IfSome, sym, subst}
-use Rattle.std.proofs.KnownBytes.{Appends-nil}
-use Rattle.desk_answers.specs.Ledger.{Ledger, ForLists}
-use Rattle.desk_answers.specs.declared.serving.Served.{Served}
-use Rattle.desk_feed.specs.LineAnswers.{Serves, Breaks}
-use Rattle.desk_feed.specs.Lines.{lines_of}
-use Rattle.desk_answers.specs.Counts.{none_served}
-use Rattle.desk_feed.specs.Stream.{IsFront, AnsweredInto}
-use Rattle.desk_feed.proofs.AnsweredLines.{none_answered, answered_more}
+use Rattle.desk_types.proofs.Common.{[], ◌++◌, ◌∷◌, ◌≡◌, Appends-nil, IfSome, List, Option, subst, sym, ℕ}
+use Rattle.desk_answers.specs.{Counts.none_served, Ledger.ForLists, Ledger.Ledger, declared.serving.Served.Served}
+use Rattle.desk_feed.proofs.AnsweredLines.{answered_more, none_answered}
+use Rattle.desk_feed.specs.{LineAnswers.Breaks, LineAnswers.Serves, Lines.lines_of, Stream.AnsweredInto}
+use Rattle.desk_feed.specs.{Stream.IsFront}
 
 -- The lines were answered.
 abbrev pub Goes : {S : Type 0} → (S → Ledger → Type 0) → (S → Type 0) → List (List ℕ) → S → Option (List ℕ) → Served → S → Option (List ℕ) → Served → Type 0

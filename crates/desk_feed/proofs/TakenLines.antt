@@ -1,8 +1,9 @@
 -- Bytes taken as a line.
-use Rattle.std.proofs.Common.{◌≡◌, ◌∙◌, ◌<◌, ◌+◌, ℕ, List, [], ◌∷◌, ◌++◌, sym, ap, take, drop, length, get_or, Option, arith, append_assoc, append-nil}
-use Rattle.std.proofs.lemmas.List.{drop_more, take-append-drop, drop_all}
-use Rattle.std.specs.Io.KnownBytes.{prepend_known, Consumes}
+use Rattle.desk_types.proofs.Common.{[], ◌++◌, ◌+◌, ◌<◌, ◌∙◌, ◌∷◌, ◌≡◌, ap, append-nil, append_assoc, arith, Consumes}
+use Rattle.desk_types.proofs.Common.{drop, drop_all, get_or, length, List, Option, prepend_known, sym, take}
+use Rattle.desk_types.proofs.Common.{take-append-drop, ℕ}
 use Rattle.desk_answers.proofs.Blocks.{front_goes}
+use Rattle.std.proofs.lemmas.List.{drop_more}
 
 cut_at : (xs : List ℕ) (n : ℕ) → n < length xs → get_or xs n 0 ≡ 10 → xs ≡ (take n xs ++ 10 ∷ []) ++ drop (n + 1) xs
 cut_at xs n lt e =

@@ -1,30 +1,21 @@
 -- A desk's files after a close.
-use Rattle.std.proofs.Common.{◌≡◌, ◌⊎◌, ◌∙◌, IsTrue, refl, sym, subst, inl, inr, arith}
-use Rattle.std.proofs.Math.Logic.{∥∥₁_elim, ∥∥₁_map}
-use Rattle.sqlite_disk.specs.declared.Disk as disk
-use Rattle.sqlite_disk.specs.declared.Files.{Files}
-use Rattle.sqlite_wal.specs.Files.{outcomes}
-use Rattle.sqlite_wal.specs.Reads.{AreClean}
-use Rattle.sqlite_wal.specs.Recovery.{Image}
-use Rattle.sqlite_wal.proofs.LogLemmas.{SeenMayStay}
-use Rattle.sqlite_pool.proofs.ResealLemmas.{adopts_of}
-use Rattle.sqlite_pool.proofs.StateLemmas.{clean_is, may_leave_is, size_is_allowed}
-use Rattle.sqlite_store.specs.declared.store.FileStore.{FileStore}
-use Rattle.sqlite_store.specs.FileStore.{state, view, schema_in, reading, recovers, files as store_files}
-use Rattle.sqlite_store.specs.Laws.{settled_at}
-use Rattle.sqlite_trees.specs.Tree.{Trees}
-use Rattle.sqlite_trees.proofs.Doubt.{no_doubt}
-use Rattle.sqlite_trees.specs.View.{IsClean}
-use Rattle.sqlite.specs.Closing.{HoldsAlone, IsCopied}
-use Rattle.sqlite.specs.Files.{image_of, file_state, IsClosed}
-use Rattle.sqlite.specs.Held.{AreDatabases, Held}
-use Rattle.sqlite.specs.State.{HasCleanDisk, IsLive}
-use Rattle.desk_types.specs.History.{Basis}
-use Rattle.line_tables.specs.Rows.{Holds}
-use Rattle.line_replay.specs.Rows.{ledger_tables}
-use Rattle.line_schema.specs.declared.store.LineStore.{LineStore}
-use Rattle.line_schema.specs.Stands.{conn_of}
+use Rattle.desk_types.proofs.Common.{∥∥₁_map, ◌∙◌, ◌≡◌, ◌⊎◌, arith, Basis, inl, inr, IsTrue, refl, subst, sym}
+use Rattle.line_tables.proofs.Common.{file_state, HasCleanDisk, Held, Holds, IsLive, no_doubt, Trees}
 use Rattle.desk_file.specs.Files.{Closes, KeepsTables, Leaves, MayRead, ReadsAs}
+use Rattle.line_replay.specs.Rows.{ledger_tables}
+use Rattle.line_schema.specs.{Stands.conn_of, declared.store.LineStore.LineStore}
+use Rattle.sqlite.specs.{Closing.HoldsAlone, Closing.IsCopied, Files.image_of, Files.IsClosed, Held.AreDatabases}
+use Rattle.sqlite_disk.specs.declared.Files.{Files}
+use Rattle.sqlite_pool.proofs.{ResealLemmas.adopts_of, StateLemmas.clean_is, StateLemmas.may_leave_is}
+use Rattle.sqlite_pool.proofs.{StateLemmas.size_is_allowed}
+use Rattle.sqlite_store.specs.{FileStore.files as store_files, FileStore.reading, FileStore.recovers}
+use Rattle.sqlite_store.specs.{FileStore.schema_in, FileStore.state, FileStore.view, Laws.settled_at}
+use Rattle.sqlite_store.specs.{declared.store.FileStore.FileStore}
+use Rattle.sqlite_trees.specs.View.{IsClean}
+use Rattle.sqlite_wal.proofs.LogLemmas.{SeenMayStay}
+use Rattle.sqlite_wal.specs.{Files.outcomes, Reads.AreClean, Recovery.Image}
+use Rattle.std.proofs.Math.Logic.{∥∥₁_elim}
+use Rattle.sqlite_disk.specs.declared.Disk as disk
 
 alone_in : {D : Type 0} {g : disk.Ghosts D} (conn : Held (FileStore D g)) (files : Files D) (image : Image) → IsCopied conn files
     → (image ≡ image_of g files) ⊎ outcomes g files.log files.db image → HoldsAlone image (file_state conn).committed.trees

@@ -1,32 +1,19 @@
 -- The initial history of a run on the files.
-use Rattle.std.proofs.Common.{◌≡◌, ◌∙◌, ℕ, [], Bool, true, false, true≢false, Option, Some, None, refl, sym, ap, inl, inr}
-use Rattle.std.proofs.Math.Logic.{∥∥₁_elim}
-use Rattle.std.specs.List.{list_any}
-use Rattle.std.specs.List.Sorted.{IsPermutation}
-use Rattle.std.proofs.lemmas.List.Sorted.{IsPermutation-sym, IsPermutation-trans}
-use Rattle.sqlite_wal.specs.Recovery.{Image}
-use Rattle.sqlite_trees.specs.Props.{Trees-set}
-use Rattle.sqlite_trees.specs.Tree.{Trees}
-use Rattle.sqlite_schema.specs.Names.{same_name}
+use Rattle.desk_types.proofs.Common.{[], ◌∙◌, ◌≡◌, ap, Bool, false, History, inl, inr, IsJudged, IsPermutation}
+use Rattle.desk_types.proofs.Common.{IsPermutation-sym, IsPermutation-trans, list_any, None, One, Option, refl, Rules}
+use Rattle.desk_types.proofs.Common.{Some, sym, true, true≢false, Two, ℕ}
+use Rattle.line_tables.proofs.Common.{Database, Holds, HoldsAt, HoldsDatabase, is_ours, IsLive, Layout, no_schema}
+use Rattle.line_tables.proofs.Common.{Opens, Reads, same_name, schema_of, State, Trees}
+use Rattle.desk_file.specs.{Files.Begins, Files.FindsNoTable, Files.HasOursFirst, Files.IsFoundIn, Files.IsOfOne}
+use Rattle.desk_file.specs.{Found.FindsAs}
+use Rattle.line_replay.specs.Rows.{ledger_tables, rows_of}
+use Rattle.line_schema.specs.{Opening.IsNamed, Opening.IsNamedBy, Versions.IsMigrated}
+use Rattle.line_tables.proofs.{Holding.held_at, Ours.is_blank_of, Ours.is_ours_of}
+use Rattle.line_tables.specs.{Line.is_blank, Names.has_name, Names.is_version, Rows.Tables}
 use Rattle.sqlite_schema.specs.declared.schema.Schema.{Schema}
-use Rattle.sqlite.specs.Effect.{Database}
-use Rattle.sqlite.specs.Files.{HoldsDatabase}
-use Rattle.sqlite.specs.State.{State, Opens, IsLive}
-use Rattle.desk_types.specs.declared.rules.Rules.{Rules}
-use Rattle.desk_types.specs.declared.rules.Rules.TheVariants.{One, Two}
-use Rattle.desk_types.specs.History.{History}
-use Rattle.desk_types.specs.Judged.{IsJudged}
-use Rattle.line_tables.specs.Calls.{Reads}
-use Rattle.line_tables.specs.Line.{is_blank, is_ours, no_schema, schema_of, Layout}
-use Rattle.line_tables.specs.Names.{has_name, is_version}
-use Rattle.line_tables.specs.Rows.{Tables, Holds, HoldsAt}
-use Rattle.line_tables.proofs.Holding.{held_at}
-use Rattle.line_tables.proofs.Ours.{is_blank_of, is_ours_of}
-use Rattle.line_replay.specs.Rows.{rows_of, ledger_tables}
-use Rattle.line_schema.specs.Opening.{IsNamed, IsNamedBy}
-use Rattle.line_schema.specs.Versions.{IsMigrated}
-use Rattle.desk_file.specs.Found.{FindsAs}
-use Rattle.desk_file.specs.Files.{IsFoundIn, IsOfOne, HasOursFirst, FindsNoTable, Begins}
+use Rattle.sqlite_trees.specs.Props.{Trees-set}
+use Rattle.sqlite_wal.specs.Recovery.{Image}
+use Rattle.std.proofs.Math.Logic.{∥∥₁_elim}
 
 named_by : (rules : Rules) (indexed : Layout) → list_any has_name (schema_of rules indexed).tables ≡ true
 unfolding same_name

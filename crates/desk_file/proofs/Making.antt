@@ -1,11 +1,9 @@
 -- Files without a database.
-use Rattle.std.proofs.Common.{◌≡◌, ◌≤◌, sym, subst, arith}
-use Rattle.sqlite_wal.specs.Recovery.{Image}
-use Rattle.sqlite_pool.specs.Stored.{reserved}
-use Rattle.sqlite_pool.proofs.ProbeLemmas.{not_blank}
-use Rattle.sqlite_trees.specs.Tree.{Trees}
-use Rattle.sqlite.specs.Files.{HoldsDatabase}
+use Rattle.desk_types.proofs.Common.{◌≡◌, ◌≤◌, arith, subst, sym}
+use Rattle.line_tables.proofs.Common.{HoldsDatabase, Trees}
 use Rattle.desk_file.specs.Found.{IsNew}
+use Rattle.sqlite_pool.{proofs.ProbeLemmas.not_blank, specs.Stored.reserved}
+use Rattle.sqlite_wal.specs.Recovery.{Image}
 
 pub new_holds_none : (image : Image) (trees : Trees) → IsNew image → ¬ HoldsDatabase image trees
 new_holds_none image trees new held =

@@ -1,27 +1,24 @@
 -- Files that are refused.
-use Rattle.std.proofs.Common.{◌≡◌, ◌≢◌, ◌⊎◌, ℕ, true, false, Option, Some, None, Result, Ok, Err, IfErr, refl, sym, ap, subst, inl, inr, arith}
-use Rattle.std.specs.List.{list_any}
-use Rattle.sqlite_disk.specs.declared.Disk as disk
-use Rattle.sqlite_wal.specs.Recovery.{Image}
-use Rattle.sqlite_store.specs.declared.store.FileStore.{FileStore}
-use Rattle.sqlite_trees.specs.Tree.{Trees}
-use Rattle.sqlite_schema.specs.declared.schema.Schema.{Schema}
-use Rattle.sqlite.specs.Effect.{Database}
-use Rattle.sqlite.specs.Files.{file_state, IsOpened}
-use Rattle.sqlite.specs.Held.{Held}
-use Rattle.sqlite.specs.State.{State, HasCleanDisk, KeepsCommit, Opens, Survives}
-use Rattle.desk_file.specs.Found.{FindsAs}
-use Rattle.desk_types.specs.declared.rules.Rules.{Rules}
-use Rattle.desk_types.specs.declared.rules.Rules.TheVariants.{Two}
-use Rattle.line_tables.specs.Calls.{Reads}
-use Rattle.line_tables.specs.Names.{has_name, has_state, is_accepted, is_version}
-use Rattle.line_schema.specs.declared.fault.OpenFault.{OpenFault}
-use Rattle.line_schema.specs.declared.fault.OpenFault.TheVariants.{NotADesk, OtherVersion, NotLawful, TableDiffers, NotBlank, Unavailable}
-use Rattle.line_schema.specs.Opening.{IsFaultBy, IsNamedBy, IsNoDeskBy, IsToldBy}
-use Rattle.desk_file.specs.declared.refusal.RefusedFile.{RefusedFile}
-use Rattle.desk_file.specs.Files.{IsFoundIn}
-use Rattle.desk_file.specs.Refused.{IsFaultFor, IsFaultIn, IsRefused, IsUnchangedSince, LeavesMade, RefusesRun, idle_state}
+use Rattle.desk_types.proofs.Common.{◌≡◌, ◌≢◌, ◌⊎◌, ap, arith, Err, false, IfErr, inl, inr, list_any, None, Ok}
+use Rattle.desk_types.proofs.Common.{Option, refl, Result, Rules, Some, subst, sym, true, Two, ℕ}
+use Rattle.line_tables.proofs.Common.{Database, file_state, has_state, HasCleanDisk, Held, KeepsCommit, Opens, Reads}
+use Rattle.line_tables.proofs.Common.{State, Survives, Trees}
 use Rattle.desk_file.proofs.FirstLists.{found}
+use Rattle.desk_file.specs.Files.{IsFoundIn}
+use Rattle.desk_file.specs.Found.{FindsAs}
+use Rattle.desk_file.specs.Refused.{idle_state, IsFaultFor, IsFaultIn, IsRefused, IsUnchangedSince, LeavesMade}
+use Rattle.desk_file.specs.Refused.{RefusesRun}
+use Rattle.desk_file.specs.declared.refusal.RefusedFile.{RefusedFile}
+use Rattle.line_schema.specs.Opening.{IsFaultBy, IsNamedBy, IsNoDeskBy, IsToldBy}
+use Rattle.line_schema.specs.declared.fault.OpenFault.{OpenFault}
+use Rattle.line_schema.specs.declared.fault.OpenFault.TheVariants.{NotADesk, NotBlank, NotLawful, OtherVersion}
+use Rattle.line_schema.specs.declared.fault.OpenFault.TheVariants.{TableDiffers, Unavailable}
+use Rattle.line_tables.specs.Names.{has_name, is_accepted, is_version}
+use Rattle.sqlite.specs.Files.{IsOpened}
+use Rattle.sqlite_schema.specs.declared.schema.Schema.{Schema}
+use Rattle.sqlite_store.specs.declared.store.FileStore.{FileStore}
+use Rattle.sqlite_wal.specs.Recovery.{Image}
+use Rattle.sqlite_disk.specs.declared.Disk as disk
 
 -- ---- the fault
 

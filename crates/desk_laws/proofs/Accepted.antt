@@ -1,24 +1,16 @@
 -- The tests that an accepted command passed.
-use Rattle.std.proofs.Common.{◌≡◌, ℕ, Bool, true, false, Option, Some, None, List, [], ◌∷◌, refl, sym, ap, ◌∙◌}
-use Rattle.std.specs.Prelude.{if◌then◌else◌, not, is_some, is_none, ◌==◌}
-use Rattle.std.specs.List.{AllByRecursion}
-use Rattle.desk_types.specs.declared.answer.Refusal.{Refusal}
-use Rattle.desk_types.specs.declared.answer.Refusal.TheVariants.{TooFarAhead, UnknownPart, ReelExists, UnknownReel, NoProduct, SlotNotOnSheet, ReelMounted, ReelEmpty, WrongPart, NotBaked, Expired}
-use Rattle.desk_types.specs.declared.command.Command.{Command}
-use Rattle.desk_types.specs.declared.command.Command.TheVariants.{ReelReceived, ReelOpened, ReelSealed, ReelBaked, MaterialsLoaded, MaterialsSpliced}
-use Rattle.desk_types.specs.declared.command.Entry.{Entry}
-use Rattle.desk_types.specs.declared.command.Receipt.{Receipt}
-use Rattle.desk_types.specs.declared.command.Stamped.{Stamped}
-use Rattle.desk_types.specs.declared.rules.Rules.TheVariants.{Two}
-use Rattle.desk_types.specs.Id.{Name, same}
-use Rattle.desk_types.specs.History.{History, effective_minute}
-use Rattle.desk_types.specs.Setup.{is_part, selected_on, row_on, receipt_by, receipt_of}
-use Rattle.desk_types.specs.Pieces.{left_of, is_mounted}
-use Rattle.desk_types.specs.FloorLife.{open_by, is_expired, is_unbaked}
-use Rattle.desk_types.specs.Refusals.{first_refusal, receipt_refusal, opening_refusal, closing_refusal, mounting_refusal, is_wrong_part, command_refusal, is_too_far_ahead, refusal_of}
-use Rattle.desk_types.specs.Judged.{IsNext}
-use Rattle.desk_types.proofs.Keys.{same-true}
+use Rattle.desk_types.proofs.Common.{[], ◌==◌, ◌∙◌, ◌∷◌, ◌≡◌, AllByRecursion, ap, Bool, closing_refusal, Command}
+use Rattle.desk_types.proofs.Common.{command_refusal, effective_minute, Entry, Expired, false, first_refusal, History}
+use Rattle.desk_types.proofs.Common.{if◌then◌else◌, is_expired, is_mounted, is_none, is_part, is_some}
+use Rattle.desk_types.proofs.Common.{is_too_far_ahead, is_unbaked, IsNext, left_of, List, MaterialsLoaded}
+use Rattle.desk_types.proofs.Common.{MaterialsSpliced, mounting_refusal, Name, None, NoProduct, not, NotBaked}
+use Rattle.desk_types.proofs.Common.{open_by, opening_refusal, Option, Receipt, receipt_by, receipt_of}
+use Rattle.desk_types.proofs.Common.{receipt_refusal, ReelBaked, ReelExists, ReelMounted, ReelOpened, ReelReceived}
+use Rattle.desk_types.proofs.Common.{ReelSealed, refl, Refusal, refusal_of, row_on, same, same-true, selected_on}
+use Rattle.desk_types.proofs.Common.{Some, Stamped, sym, TooFarAhead, true, Two, UnknownReel, WrongPart, ℕ}
 use Rattle.desk_types.proofs.Tests.{if-some}
+use Rattle.desk_types.specs.Refusals.{is_wrong_part}
+use Rattle.desk_types.specs.declared.answer.Refusal.TheVariants.{ReelEmpty, SlotNotOnSheet, UnknownPart}
 
 -- ---- tests
 
@@ -108,7 +100,7 @@ mountable H minute machine slot reel slot_test none =
 
 -- ---- handled reels are received reels
 
-not-some : {X : Type 0} (o : Option X) → is_some o ≡ false → o ≡ None
+pub not-some : {X : Type 0} (o : Option X) → is_some o ≡ false → o ≡ None
 not-some None is = refl
 not-some (Some x) is = cc
 

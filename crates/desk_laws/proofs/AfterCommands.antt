@@ -1,24 +1,14 @@
 -- Two histories that agree except for past boards and reels: runs of commands that name nothing past.
-use Rattle.std.proofs.Common.{◌≡◌, ◌≤◌, All, Bool, false, Option, Some, None, List, [], ◌∷◌, refl, sym, ap, ◌∙◌, arith}
-use Rattle.std.specs.Option.{option_map_or}
-use Rattle.std.proofs.lemmas.List.Elements.{All-head, All-tail}
-use Rattle.desk_types.specs.declared.answer.Refusal.{Refusal}
-use Rattle.desk_types.specs.declared.answer.Reply.TheVariants.{Accepted, Refused}
-use Rattle.desk_types.specs.declared.command.Command.{Command}
-use Rattle.desk_types.specs.declared.command.Stamped.{Stamped}
-use Rattle.desk_types.specs.declared.limits.TheConstants.{GREATEST_MINUTE}
-use Rattle.desk_types.specs.declared.rules.Rules.{Rules}
-use Rattle.desk_types.specs.Command.{IsStamped}
-use Rattle.desk_types.specs.Id.{Name}
-use Rattle.desk_types.specs.History.{History, now_of, effective_minute, accept}
-use Rattle.desk_types.specs.Refusals.{refusal_of}
-use Rattle.desk_types.specs.Outcome.{change_of, detail_of, reply_to, after_command, replies_to, after_commands}
-use Rattle.desk_types.specs.Judged.{IsJudged}
-use Rattle.desk_types.proofs.BothRules.{accepted-by-two, judged-by-two}
-use Rattle.desk_laws.proofs.Accepted.{command-accepted}
+use Rattle.desk_types.proofs.Common.{[], ◌∙◌, ◌∷◌, ◌≡◌, ◌≤◌, accept, Accepted, after_command, after_commands, All}
+use Rattle.desk_types.proofs.Common.{All-head, All-tail, ap, arith, Bool, change_of, Command, detail_of}
+use Rattle.desk_types.proofs.Common.{effective_minute, false, History, IsJudged, IsStamped, List, Name, None, now_of}
+use Rattle.desk_types.proofs.Common.{Option, option_map_or, refl, Refusal, refusal_of, Refused, replies_to, reply_to}
+use Rattle.desk_types.proofs.Common.{Rules, Some, Stamped, sym}
+use Rattle.desk_laws.proofs.{Accepted.command-accepted, Agreeing.Agree, Agreeing.detail-same, Agreeing.effective-same}
+use Rattle.desk_laws.proofs.{Agreeing.refusal-same, AgreeingNext.agree-next}
 use Rattle.desk_laws.specs.Past.{boards_named, reels_named}
-use Rattle.desk_laws.proofs.Agreeing.{Agree, effective-same, refusal-same, detail-same}
-use Rattle.desk_laws.proofs.AgreeingNext.{agree-next}
+use Rattle.desk_types.proofs.BothRules.{accepted-by-two, judged-by-two}
+use Rattle.desk_types.specs.declared.limits.TheConstants.{GREATEST_MINUTE}
 
 -- The desk minute is a minute.
 now-range : (rules : Rules) (H : History) → IsJudged rules H → now_of H ≤ GREATEST_MINUTE

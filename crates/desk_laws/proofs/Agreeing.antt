@@ -1,36 +1,35 @@
 -- Two histories that agree except for past boards and reels give the same answer to a command that names nothing past.
-use Rattle.std.proofs.Common.{◌≡◌, ℕ, ◌+◌, ◌-◌, ◌≤◌, max, nat_lt, All, Bool, true, false, not, Option, Some, None, List, [], ◌∷◌, ◌++◌, refl, sym, ap, ◌∙◌, arith}
-use Rattle.std.specs.Prelude.{if◌then◌else◌, ◌&&◌, ◌||◌, ◌==◌, is_some, is_none, nat_le, unwrap_or}
-use Rattle.std.specs.Option.{option_and_then, option_map, option_map_or, option_or}
-use Rattle.std.specs.List.{filter, list_any, sum_by}
-use Rattle.std.proofs.lemmas.Bool.Decides.{nat_tests}
-use Rattle.std.proofs.lemmas.List.Elements.{All-head, All-tail}
-use Rattle.desk_types.specs.declared.answer.Detail.TheVariants.{MinutesLeft, Reels, Taken}
-use Rattle.desk_types.specs.declared.answer.Refusal.{Refusal}
-use Rattle.desk_types.specs.declared.answer.Refusal.TheVariants.{TooFarAhead, PartExists, UnknownPart, ReelExists, UnknownReel, UnknownSheet, MachineBusy, NoProduct, SlotNotOnSheet, SlotTaken, SlotEmpty, ReelMounted, ReelEmpty, WrongPart, NotBaked, Expired, BoardBusy, OtherProduct, NotInWork, ReelShort, ReelTwice, CountAbove}
-use Rattle.desk_types.specs.declared.command.Command.{Command}
-use Rattle.desk_types.specs.declared.command.Command.TheVariants.{PartDefined, AlternateAllowed, SheetDefined, ProductSelected, ReelReceived, ReelOpened, ReelSealed, ReelBaked, MaterialsLoaded, MaterialsSpliced, MaterialsUnloaded, WorkStarted, WorkCompleted, MaterialsInstalled, MaterialsScrapped, CountsTaken, ClockSet}
-use Rattle.desk_types.specs.declared.command.Receipt.{Receipt}
-use Rattle.desk_types.specs.declared.command.Stamped.{Stamped}
-use Rattle.desk_types.specs.declared.limits.TheConstants.{FURTHEST_AHEAD}
-use Rattle.desk_types.specs.declared.count.CountRow.{CountRow}
-use Rattle.desk_types.specs.declared.rules.Rules.{Rules}
-use Rattle.desk_types.specs.declared.rules.Rules.TheVariants.{Two}
-use Rattle.desk_types.specs.declared.sheet.SheetRow.{SheetRow}
-use Rattle.desk_types.specs.declared.take.Purpose.TheVariants.{Rejected}
-use Rattle.desk_types.specs.Id.{Name, same}
-use Rattle.desk_types.specs.Level.{LevelWithLabel}
-use Rattle.desk_types.specs.History.{History, desk_minute, now_of, effective_minute}
-use Rattle.desk_types.specs.Setup.{is_part, is_alternate, sheet_of, selected_on, sheet_on, row_in, row_on, slot_in, slot_on, receipt_of}
-use Rattle.desk_types.specs.Tape.{tape_of}
-use Rattle.desk_types.specs.Pieces.{bench_of, install_picks, scrap_picks, count_picks, picks_of, left_of, live_on, first, front_of, is_mounted}
-use Rattle.desk_types.specs.FloorLife.{exposure_of, floor_life, is_expired, minutes_left, is_unbaked, out_since}
-use Rattle.desk_types.specs.Work.{in_work_on, is_in_work, product_of, is_placed_on}
-use Rattle.desk_types.specs.Refusals.{first_refusal, part_refusal, alternate_refusal, sheet_refusal, definition_refusal, selection_refusal, receipt_refusal, opening_refusal, closing_refusal, is_wrong_for, is_wrong_part, mounting_refusal, unload_refusal, scrap_refusal, front_refusal, slots_refusal, differ, start_refusal, completion_refusal, designators_refusal, install_refusal, is_above, counts_refusal, command_refusal, is_clock, refusal_of}
-use Rattle.desk_types.specs.Outcome.{reels_of, pieces_of, detail_of}
+use Rattle.desk_types.proofs.Common.{[], ◌&&◌, ◌++◌, ◌+◌, ◌-◌, ◌==◌, ◌||◌, ◌∙◌, ◌∷◌, ◌≡◌, ◌≤◌, All, All-head}
+use Rattle.desk_types.proofs.Common.{All-tail, alternate_refusal, AlternateAllowed, ap, arith, bench_of, Bool}
+use Rattle.desk_types.proofs.Common.{ClockSet, closing_refusal, Command, command_refusal, completion_refusal}
+use Rattle.desk_types.proofs.Common.{count_picks, CountAbove, CountRow, counts_refusal, CountsTaken}
+use Rattle.desk_types.proofs.Common.{definition_refusal, designators_refusal, desk_minute, detail_of, differ}
+use Rattle.desk_types.proofs.Common.{effective_minute, Expired, exposure_of, false, first, first_refusal, floor_life}
+use Rattle.desk_types.proofs.Common.{front_of, History, if◌then◌else◌, in_work_on, install_picks, install_refusal}
+use Rattle.desk_types.proofs.Common.{is_above, is_alternate, is_expired, is_in_work, is_mounted, is_none, is_part}
+use Rattle.desk_types.proofs.Common.{is_placed_on, is_some, is_unbaked, is_wrong_for, left_of, LevelWithLabel, List}
+use Rattle.desk_types.proofs.Common.{list_any, live_on, MachineBusy, MaterialsInstalled, MaterialsLoaded}
+use Rattle.desk_types.proofs.Common.{MaterialsScrapped, MaterialsSpliced, MaterialsUnloaded, max, minutes_left}
+use Rattle.desk_types.proofs.Common.{MinutesLeft, mounting_refusal, Name, nat_le, nat_lt, nat_tests, None, NoProduct}
+use Rattle.desk_types.proofs.Common.{not, NotBaked, NotInWork, now_of, opening_refusal, Option, option_and_then}
+use Rattle.desk_types.proofs.Common.{option_map, option_map_or, option_or, OtherProduct, out_since, part_refusal}
+use Rattle.desk_types.proofs.Common.{PartDefined, picks_of, pieces_of, product_of, ProductSelected, Receipt}
+use Rattle.desk_types.proofs.Common.{receipt_of, receipt_refusal, ReelBaked, ReelExists, ReelMounted, ReelOpened}
+use Rattle.desk_types.proofs.Common.{ReelReceived, Reels, reels_of, ReelSealed, ReelShort, ReelTwice, refl, Refusal}
+use Rattle.desk_types.proofs.Common.{refusal_of, Rejected, row_in, row_on, Rules, same, scrap_picks, scrap_refusal}
+use Rattle.desk_types.proofs.Common.{selected_on, selection_refusal, sheet_of, sheet_refusal, SheetDefined, SheetRow}
+use Rattle.desk_types.proofs.Common.{slot_in, slot_on, SlotEmpty, Some, Stamped, start_refusal, sum_by, sym, Taken}
+use Rattle.desk_types.proofs.Common.{tape_of, TooFarAhead, true, Two, UnknownReel, unload_refusal, unwrap_or}
+use Rattle.desk_types.proofs.Common.{WorkCompleted, WorkStarted, WrongPart, ℕ}
 use Rattle.desk_laws.proofs.Accepted.{mountable}
-use Rattle.desk_laws.proofs.Lives.{live_bench, picks-live, designators-live, scrap-live}
-use Rattle.desk_laws.specs.Past.{is_started, boards_named, reels_named}
+use Rattle.desk_laws.proofs.Lives.{designators-live, live_bench, picks-live, scrap-live}
+use Rattle.desk_laws.specs.Past.{boards_named, is_started, reels_named}
+use Rattle.desk_types.specs.Refusals.{front_refusal, is_clock, is_wrong_part, slots_refusal}
+use Rattle.desk_types.specs.Setup.{sheet_on}
+use Rattle.desk_types.specs.declared.answer.Refusal.TheVariants.{BoardBusy, PartExists, ReelEmpty, SlotNotOnSheet}
+use Rattle.desk_types.specs.declared.answer.Refusal.TheVariants.{SlotTaken, UnknownPart, UnknownSheet}
+use Rattle.desk_types.specs.declared.limits.TheConstants.{FURTHEST_AHEAD}
+use Rattle.std.specs.List.{filter}
 
 -- What stays of a receipt: the part, the lot, and the moisture level with its label.
 abbrev pub mark : Receipt → Name × (Name × LevelWithLabel)

@@ -1,32 +1,20 @@
 -- Two histories that agree except for past boards and reels still agree after a command that both accept.
-use Rattle.std.proofs.Common.{◌≡◌, ℕ, ◌≤◌, ◌-◌, max, nat_lt, Bool, true, false, Option, Some, None, ◌∷◌, refl, sym, ap, ◌∙◌, arith}
-use Rattle.std.specs.Prelude.{◌||◌, is_some, unwrap_or}
-use Rattle.std.specs.Option.{option_and_then, option_map, option_or}
+use Rattle.desk_types.proofs.Common.{◌-◌, ◌||◌, ◌∙◌, ◌∷◌, ◌≡◌, ◌≤◌, accept, ap, arith, baked_by, Bool}
+use Rattle.desk_types.proofs.Common.{effective_minute, Entry, entry_of, false, floor_life, History, is_some}
+use Rattle.desk_types.proofs.Common.{is_unbaked, IsJudged, left_of, LevelWithLabel, limit_of, max, minutes_left, Name}
+use Rattle.desk_types.proofs.Common.{nat_lt, None, open_by, Option, option_and_then, option_map, option_or, or_right}
+use Rattle.desk_types.proofs.Common.{pieces_by, pieces_picked, places, Receipt, receipt_by, receipt_of, refl}
+use Rattle.desk_types.proofs.Common.{selection_by, sheet_by, Some, Stamped, start_by, sym, tape_after, true, Two}
+use Rattle.desk_types.proofs.Common.{unwrap_or, work_by, ℕ}
+use Rattle.desk_laws.proofs.{Agreeing.Agree, Agreeing.effective-same, Agreeing.IsSame, Agreeing.mark}
+use Rattle.desk_laws.proofs.{Agreeing.marks_of, Agreeing.picks-same, Balance.spent-next, BoardsInWork.in_work-next}
+use Rattle.desk_laws.proofs.{BoardsInWork.or-second, BoardsInWork.work-next, FloorNext.baked-anew, FloorNext.is_anew}
+use Rattle.desk_laws.proofs.{FloorNext.life-marked, FloorNext.minutes-next, FloorNext.out-next, FloorNext.out_after}
+use Rattle.desk_laws.proofs.{FloorNext.remaining, FloorNext.remaining-same, FloorNext.unbaked-next, FloorNext.waiting}
+use Rattle.desk_laws.proofs.{Lives.live-next, Mounted.mounted-next, Mounts.has, ReelsLater.not-again}
+use Rattle.desk_laws.specs.{Past.is_started, Place.mounted_after, Working.in_work_after}
+use Rattle.desk_types.specs.Setup.{allows, defines}
 use Rattle.std.specs.List.{filter}
-use Rattle.desk_types.specs.declared.command.Entry.{Entry}
-use Rattle.desk_types.specs.declared.command.Receipt.{Receipt}
-use Rattle.desk_types.specs.declared.command.Stamped.{Stamped}
-use Rattle.desk_types.specs.declared.rules.Rules.TheVariants.{Two}
-use Rattle.desk_types.specs.Id.{Name}
-use Rattle.desk_types.specs.Level.{LevelWithLabel, limit_of}
-use Rattle.desk_types.specs.History.{History, effective_minute, entry_of, accept}
-use Rattle.desk_types.specs.Setup.{defines, allows, sheet_by, selection_by, receipt_by, receipt_of}
-use Rattle.desk_types.specs.Tape.{tape_after}
-use Rattle.desk_types.specs.Pieces.{pieces_picked, pieces_by, left_of}
-use Rattle.desk_types.specs.FloorLife.{open_by, baked_by, floor_life, minutes_left, is_unbaked}
-use Rattle.desk_types.specs.Work.{work_by, start_by, places}
-use Rattle.desk_types.specs.Judged.{IsJudged}
-use Rattle.desk_laws.specs.Place.{mounted_after}
-use Rattle.desk_laws.specs.Working.{in_work_after}
-use Rattle.desk_laws.proofs.Balance.{spent-next}
-use Rattle.desk_laws.proofs.BoardsInWork.{work-next, in_work-next}
-use Rattle.desk_laws.proofs.Lives.{live-next}
-use Rattle.desk_laws.proofs.Mounted.{mounted-next}
-use Rattle.desk_laws.proofs.Mounts.{has}
-use Rattle.desk_laws.proofs.ReelsLater.{not-again}
-use Rattle.desk_laws.specs.Past.{is_started}
-use Rattle.desk_laws.proofs.Agreeing.{mark, marks_of, IsSame, Agree, effective-same, picks-same}
-use Rattle.desk_laws.proofs.FloorNext.{is_anew, baked-anew, minutes-next, remaining, remaining-same, life-marked, waiting, unbaked-next, out_after, out-next}
 
 map-or : (said before : Option Receipt) → option_map mark (option_or said before) ≡ option_or (option_map mark said) (option_map mark before)
 map-or None before = refl
@@ -84,14 +72,6 @@ same-next G H s reel at a of_G of_H = record {
             (λ j. remaining (anew.0 j) (anew.1 j) h.effective (floor_life (h ∷ H) reel) (minutes_left G reel) minute)
             ∙ sym (λ j. remaining (anew.0 j) (anew.1 j) h.effective (floor_life (h ∷ H) reel) (minutes_left H reel) minute)
 
-or-true : (said before : Bool) → before ≡ true → (said || before) ≡ true
-or-true true before is = refl
-or-true false before is = is
-
-some-or : {X : Type 0} (said before : Option X) → is_some before ≡ true → is_some (option_or said before) ≡ true
-some-or None before is = is
-some-or (Some x) before is = refl
-
 module _ (past_board past_reel : Name → Bool) where
   left-same : (G H : History) (s : Stamped) → Agree past_board past_reel G H → left_of (accept G s) ≡ left_of (accept H s)
   unfolding left_of
@@ -116,10 +96,10 @@ module _ (past_board past_reel : Name → Bool) where
     mounted = λ j reel. (mounted-next G g reel of_G
         ∙ (λ k. mounted_after (nat_lt 0 (left k reel)) (λ m s. has (a.live k m s) reel) reel s.command (a.mounted k reel))
         ∙ sym (mounted-next H h reel of_H)) j;
-    started = λ board past. or-true (is_some (start_by board s.command)) (is_started G board) (a.started board past);
+    started = λ board past. or_right (is_some (start_by board s.command)) (is_started G board) (a.started board past);
     spent = λ reel past.
         let before = a.spent reel past in (
-          some-or (receipt_by reel g.effective s.command) (receipt_of G reel) before.0,
+          or-second (receipt_by reel g.effective s.command) (receipt_of G reel) before.0,
           spent-next G g reel of_G (not-again G g reel of_G before.0) before.1,
         );
     reels = λ reel new. same-next G H s reel at (a.reels reel new) of_G of_H;

@@ -1,26 +1,20 @@
 -- A small desk and one that was begun as it ended, computed by the definitions: they are alike.
-use Rattle.std.proofs.Common.{◌≡◌, ℕ, ◌+◌, ◌-◌, ◌<◌, ◌≤◌, Bool, true, false, Some, None, List, [], ◌∷◌, ◌++◌, refl, sym, ap, ◌∙◌, subst, arith}
-use Rattle.std.specs.Prelude.{if◌then◌else◌, ◌&&◌, is_some, nat_lt, unwrap_or}
-use Rattle.std.specs.Option.{option_or}
-use Rattle.std.specs.List.{AllByRecursion, filter}
-use Rattle.desk_types.specs.declared.command.Command.TheVariants.{ReelOpened, ReelSealed, MaterialsLoaded, WorkStarted, WorkCompleted, MaterialsInstalled, ClockSet}
-use Rattle.desk_types.specs.declared.command.Entry.{Entry}
-use Rattle.desk_types.specs.declared.command.Stamped.{Stamped}
-use Rattle.desk_types.specs.declared.level.Level.TheVariants.{FiveA}
-use Rattle.desk_types.specs.declared.rules.Rules.TheVariants.{Two}
-use Rattle.desk_types.specs.Id.{Name, same}
-use Rattle.desk_types.specs.History.{History, entry_of, accept}
-use Rattle.desk_types.specs.Setup.{receipt_of}
-use Rattle.desk_types.specs.Tape.{tape_after, tape_of}
-use Rattle.desk_types.specs.Pieces.{pieces_picked, install_picks, picks_from, pieces_by, left_of, live_on}
-use Rattle.desk_types.specs.FloorLife.{open_by, is_out_at, exposure_of, minutes_left}
-use Rattle.desk_types.specs.Refusals.{part_refusal, sheet_refusal, definition_refusal, selection_refusal, receipt_refusal, opening_refusal, closing_refusal, mounting_refusal, start_refusal, completion_refusal, install_refusal, command_refusal, refusal_of}
-use Rattle.desk_types.specs.Outcome.{after_commands}
+use Rattle.desk_types.proofs.Common.{[], ◌&&◌, ◌++◌, ◌+◌, ◌-◌, ◌<◌, ◌∙◌, ◌∷◌, ◌≡◌, ◌≤◌, accept, after_commands}
+use Rattle.desk_types.proofs.Common.{AllByRecursion, ap, arith, Bool, ClockSet, closing_refusal, command_refusal}
+use Rattle.desk_types.proofs.Common.{completion_refusal, definition_refusal, Entry, entry_of, exposure_of, false}
+use Rattle.desk_types.proofs.Common.{FiveA, History, if◌then◌else◌, install_picks, install_refusal, is_out_at}
+use Rattle.desk_types.proofs.Common.{is_some, left_of, List, live_on, MaterialsInstalled, MaterialsLoaded}
+use Rattle.desk_types.proofs.Common.{minutes_left, mounting_refusal, Name, nat_lt, None, open_by, opening_refusal}
+use Rattle.desk_types.proofs.Common.{option_or, part_refusal, pieces_by, pieces_picked, receipt_of, receipt_refusal}
+use Rattle.desk_types.proofs.Common.{ReelOpened, ReelSealed, refl, refusal_of, same, same-true, selection_refusal}
+use Rattle.desk_types.proofs.Common.{sheet_refusal, Some, Stamped, start_refusal, subst, sym, tape_after, tape_of}
+use Rattle.desk_types.proofs.Common.{true, Two, unwrap_or, WorkCompleted, WorkStarted, ℕ}
+use Rattle.desk_laws.specs.Alike.{AreAlike, IsSameReel}
 use Rattle.desk_types.proofs.Exposure.{exposure-after, exposure-untouched}
-use Rattle.desk_types.proofs.Keys.{same-true}
-use Rattle.desk_types.proofs.ReelCommands.{IsQuiet-untouched, exposure_starts-quiet}
-use Rattle.desk_types.proofs.RowsCommon.{M, S1, K1, B1, R1, R2, R3, at, received_at, received_at_six, base}
-use Rattle.desk_laws.specs.Alike.{IsSameReel, AreAlike}
+use Rattle.desk_types.proofs.ReelCommands.{exposure_starts-quiet, IsQuiet-untouched}
+use Rattle.desk_types.proofs.RowsCommon.{at, B1, base, K1, M, R1, R2, R3, received_at, received_at_six, S1}
+use Rattle.desk_types.specs.Pieces.{picks_from}
+use Rattle.std.specs.List.{filter}
 
 -- ---- the two desks
 

@@ -1,26 +1,14 @@
 -- The balance of a reel: received pieces are placed, scrapped or remaining.
-use Rattle.std.proofs.Common.{◌≡◌, ℕ, ◌+◌, ◌-◌, ◌≤◌, Bool, true, false, Option, Some, None, [], ◌∷◌, refl, ap, unwrap_or, arith, nat_lt, sym, ◌∙◌}
-use Rattle.std.specs.Prelude.{if◌then◌else◌}
-use Rattle.std.specs.Option.{option_map_or, option_or}
-use Rattle.std.proofs.lemmas.Bool.{ltb-false}
-use Rattle.desk_types.specs.declared.command.Command.{Command}
-use Rattle.desk_types.specs.declared.command.Command.TheVariants.{ReelReceived, MaterialsInstalled, MaterialsScrapped, CountsTaken}
-use Rattle.desk_types.specs.declared.command.Entry.{Entry}
-use Rattle.desk_types.specs.declared.command.Receipt.{Receipt}
-use Rattle.desk_types.specs.declared.rules.Rules.TheVariants.{Two}
-use Rattle.desk_types.specs.declared.take.Purpose.TheVariants.{Rejected}
-use Rattle.desk_types.specs.Id.{Name, same}
-use Rattle.desk_types.specs.History.{History}
-use Rattle.desk_types.specs.Setup.{receipt_by, receipt_of}
-use Rattle.desk_types.specs.Tape.{tape_of}
-use Rattle.desk_types.specs.Pieces.{bench_of, pieces_picked, picks_of, pieces_by, left_of, all_picks, found_by, found_of, received_of, placed_of, scrapped_of}
-use Rattle.desk_types.specs.Refusals.{command_refusal}
-use Rattle.desk_types.specs.Judged.{IsJudged}
-use Rattle.desk_laws.proofs.Accepted.{next-accepted, received-once}
-use Rattle.desk_laws.proofs.Judgements.{or-none}
-use Rattle.desk_laws.proofs.Picks.{pieces_picked-append, install-within, scrap-within, and-nothing, counted}
-use Rattle.desk_laws.proofs.Tapes.{tape-distinct}
-use Rattle.desk_laws.proofs.Totals.{pieces_picked-split}
+use Rattle.desk_types.proofs.Common.{[], ◌+◌, ◌-◌, ◌∙◌, ◌∷◌, ◌≡◌, ◌≤◌, all_picks, ap, arith, bench_of, Bool, Command}
+use Rattle.desk_types.proofs.Common.{command_refusal, CountsTaken, Entry, false, found_by, found_of, History}
+use Rattle.desk_types.proofs.Common.{if◌then◌else◌, IsJudged, left_of, ltb-false, MaterialsInstalled}
+use Rattle.desk_types.proofs.Common.{MaterialsScrapped, Name, nat_lt, None, Option, option_map_or, option_or}
+use Rattle.desk_types.proofs.Common.{picks_of, pieces_by, pieces_picked, placed_of, Receipt, receipt_by, receipt_of}
+use Rattle.desk_types.proofs.Common.{received_of, ReelReceived, refl, Rejected, same, scrapped_of, Some, sym, tape_of}
+use Rattle.desk_types.proofs.Common.{true, Two, unwrap_or, ℕ}
+use Rattle.desk_laws.proofs.{Accepted.next-accepted, Accepted.received-once, Judgements.or-none, Picks.and-nothing}
+use Rattle.desk_laws.proofs.{Picks.counted, Picks.install-within, Picks.pieces_picked-append, Picks.scrap-within}
+use Rattle.desk_laws.proofs.{Tapes.tape-distinct, Totals.pieces_picked-split}
 
 -- ---- one command
 

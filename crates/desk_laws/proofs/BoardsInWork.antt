@@ -1,26 +1,14 @@
 -- Boards in work after one more entry.
-use Rattle.std.proofs.lemmas.Bool.{not-false}
-use Rattle.std.proofs.Common.{◌≡◌, ℕ, Bool, true, false, not, Option, Some, None, List, [], ◌∷◌, refl, sym, ap, ◌∙◌, unwrap_or}
-use Rattle.std.specs.Prelude.{if◌then◌else◌, is_none, is_some}
-use Rattle.std.specs.Option.{option_and_then, option_map_or, option_or}
-use Rattle.desk_types.specs.declared.answer.Refusal.{Refusal}
-use Rattle.desk_types.specs.declared.answer.Refusal.TheVariants.{NoProduct, MachineBusy, BoardBusy, OtherProduct, NotInWork}
-use Rattle.desk_types.specs.declared.command.Command.{Command}
-use Rattle.desk_types.specs.declared.command.Command.TheVariants.{WorkStarted, WorkCompleted}
-use Rattle.desk_types.specs.declared.command.Entry.{Entry}
-use Rattle.desk_types.specs.declared.rules.Rules.TheVariants.{Two}
-use Rattle.desk_types.specs.Id.{Name, same}
-use Rattle.desk_types.specs.History.{History, latest}
-use Rattle.desk_types.specs.Setup.{selected_on}
-use Rattle.desk_types.specs.Work.{work_by, in_work_on, is_in_work_on, is_in_work, start_by, product_of}
-use Rattle.desk_types.specs.Refusals.{first_refusal, differ, start_refusal, completion_refusal, command_refusal}
-use Rattle.desk_types.specs.Judged.{IsNext, IsJudged}
-use Rattle.desk_types.proofs.Keys.{same-refl, same-true}
-use Rattle.desk_laws.specs.Working.{in_work_after}
-use Rattle.desk_laws.proofs.Accepted.{none-holds, next-accepted}
-use Rattle.desk_laws.proofs.Judgements.{or-none}
-use Rattle.desk_laws.proofs.Lookups.{in_work-somewhere, somewhere-in_work}
-use Rattle.desk_laws.proofs.Mounted.{iff}
+use Rattle.desk_types.proofs.Common.{[], ◌∙◌, ◌∷◌, ◌≡◌, ap, Bool, both_ways, Command, command_refusal}
+use Rattle.desk_types.proofs.Common.{completion_refusal, differ, Entry, false, first_refusal, History, if◌then◌else◌}
+use Rattle.desk_types.proofs.Common.{in_work_on, is_in_work, is_in_work_on, is_none, is_some, IsJudged, IsNext}
+use Rattle.desk_types.proofs.Common.{latest, List, MachineBusy, Name, None, NoProduct, not, not-false, NotInWork}
+use Rattle.desk_types.proofs.Common.{Option, option_and_then, option_map_or, option_or, OtherProduct, product_of}
+use Rattle.desk_types.proofs.Common.{refl, Refusal, same, same-refl, same-true, selected_on, Some, start_by}
+use Rattle.desk_types.proofs.Common.{start_refusal, sym, true, Two, unwrap_or, work_by, WorkCompleted, WorkStarted, ℕ}
+use Rattle.desk_laws.{proofs.Accepted.next-accepted, proofs.Accepted.none-holds, proofs.Judgements.or-none}
+use Rattle.desk_laws.{proofs.Lookups.in_work-somewhere, proofs.Lookups.somewhere-in_work, specs.Working.in_work_after}
+use Rattle.desk_types.specs.declared.answer.Refusal.TheVariants.{BoardBusy}
 
 -- ---- tests
 
@@ -150,7 +138,7 @@ after-there H minute board _ accepted is = in_work-somewhere H board is
 
 pub in_work-next : (H : History) (e : Entry) (board : Name) → IsJudged Two (e ∷ H) → is_in_work (e ∷ H) board ≡ in_work_after board e.stamped.command (is_in_work H board)
 in_work-next H e board (next, judged) =
-    iff _ _
+    both_ways _ _
     (λ is. let on = in_work-somewhere (e ∷ H) board is in there-after H e.effective board e.stamped.command on.0 judged (next-accepted H e next) (sym (work-next H e on.0) ∙ on.1))
     (λ is. let on = after-there H e.effective board e.stamped.command (next-accepted H e next) is in somewhere-in_work (e ∷ H) board (on.0, work-next H e on.0 ∙ on.1))
 
@@ -169,7 +157,7 @@ or-first : {X : Type 0} (a b : Option X) → is_some a ≡ true → is_some (opt
 or-first None b is = cc
 or-first (Some x) b is = refl
 
-or-second : {X : Type 0} (a b : Option X) → is_some b ≡ true → is_some (option_or a b) ≡ true
+pub or-second : {X : Type 0} (a b : Option X) → is_some b ≡ true → is_some (option_or a b) ≡ true
 or-second None b is = is
 or-second (Some x) b is = refl
 

@@ -1,33 +1,24 @@
 -- A chain of two small files, computed by the definitions, and two files that are no chain.
-use Rattle.std.proofs.Common.{◌≡◌, ℕ, ◌+◌, ◌-◌, ◌≤◌, All, Bool, true, false, not, None, List, [], ◌∷◌, ◌++◌, length, drop, nat_lt, refl, sym, ap, ◌∙◌, subst, arith}
-use Rattle.std.specs.Prelude.{◌==◌, ◌&&◌, is_some, if◌then◌else◌, nat_le, slice_index}
-use Rattle.std.specs.Option.{option_or}
-use Rattle.std.specs.List.{AllByRecursion, list_all}
-use Rattle.std.proofs.lemmas.Bool.Decides.{nat_tests}
-use Rattle.std.proofs.lemmas.List.{append_assoc, append-nil}
-use Rattle.std.proofs.lemmas.List.Elements.{All-append, All-cons, All-nil}
-use Rattle.std.proofs.lemmas.List.Sums.{AllPass-from_list_all}
-use Rattle.desk_types.specs.declared.command.Command.{Command}
-use Rattle.desk_types.specs.declared.command.Command.TheVariants.{MaterialsLoaded, MaterialsSpliced, MaterialsScrapped, WorkStarted, WorkCompleted, MaterialsInstalled, ClockSet}
-use Rattle.desk_types.specs.declared.command.Stamped.{Stamped}
-use Rattle.desk_types.specs.declared.rules.Rules.TheVariants.{Two}
-use Rattle.desk_types.specs.Command.{IsListOf, IsSheetRow, IsCommand, IsStamped}
-use Rattle.desk_types.specs.Designator.{IsDesignator, is_designator_byte}
-use Rattle.desk_types.specs.Id.{Name, IsId, same}
-use Rattle.desk_types.specs.History.{History, IsPrefix, entry_of, accept}
-use Rattle.desk_types.specs.Judged.{IsJudged}
-use Rattle.desk_types.specs.Setup.{receipt_of}
-use Rattle.desk_types.specs.Tape.{tape_of}
-use Rattle.desk_types.specs.Pieces.{install_picks, left_of, all_picks, found_of, live_on}
-use Rattle.desk_types.specs.FloorLife.{is_out_at, exposure_of}
-use Rattle.desk_types.specs.Placements.{takes_of, boards_of}
-use Rattle.desk_types.specs.Refusals.{receipt_refusal, mounting_refusal, scrap_refusal, start_refusal, completion_refusal, install_refusal, command_refusal, refusal_of}
-use Rattle.desk_types.specs.Outcome.{after_commands}
-use Rattle.desk_types.proofs.Keys.{same-true}
-use Rattle.desk_types.proofs.RowsCommon.{P, Q, L1, L2, PR, M, S1, K1, K2, B1, B2, R1, R2, R3, R4, R5, at, received, base}
-use Rattle.desk_laws.specs.Chain.{DeskFile, quantity_of, Carries, IsChain, received_over, placed_over, scrapped_over, left_over, lots_over, boards_over}
+use Rattle.desk_types.proofs.Common.{[], ◌&&◌, ◌++◌, ◌+◌, ◌-◌, ◌==◌, ◌∙◌, ◌∷◌, ◌≡◌, ◌≤◌, accept, after_commands, All}
+use Rattle.desk_types.proofs.Common.{All-append, All-cons, All-nil, all_picks, AllByRecursion, AllPass-from_list_all}
+use Rattle.desk_types.proofs.Common.{ap, append-nil, append_assoc, arith, boards_of, Bool, ClockSet, Command}
+use Rattle.desk_types.proofs.Common.{command_refusal, completion_refusal, drop, entry_of, exposure_of, false}
+use Rattle.desk_types.proofs.Common.{found_of, History, if◌then◌else◌, install_picks, install_refusal}
+use Rattle.desk_types.proofs.Common.{is_designator_byte, is_out_at, is_some, IsCommand, IsDesignator, IsId, IsJudged}
+use Rattle.desk_types.proofs.Common.{IsListOf, IsPrefix, IsSheetRow, IsStamped, left_of, length, List, list_all}
+use Rattle.desk_types.proofs.Common.{live_on, MaterialsInstalled, MaterialsLoaded, MaterialsScrapped}
+use Rattle.desk_types.proofs.Common.{MaterialsSpliced, mounting_refusal, Name, nat_le, nat_lt, nat_tests, None, not}
+use Rattle.desk_types.proofs.Common.{option_or, receipt_of, receipt_refusal, refl, refusal_of, same, same-true}
+use Rattle.desk_types.proofs.Common.{scrap_refusal, Stamped, start_refusal, subst, sym, takes_of, tape_of, true, Two}
+use Rattle.desk_types.proofs.Common.{WorkCompleted, WorkStarted, ℕ}
 use Rattle.desk_laws.proofs.AfterCommands.{judged-run}
-use Rattle.desk_laws.proofs.AlikeCases.{with, old_begin, old_end, old, new_begin, new, old_is_accepted, new_is_accepted, a_carried_desk_is_alike}
+use Rattle.desk_laws.proofs.AlikeCases.{a_carried_desk_is_alike, new, new_begin, new_is_accepted, old, old_begin}
+use Rattle.desk_laws.proofs.AlikeCases.{old_end, old_is_accepted, with}
+use Rattle.desk_laws.specs.Chain.{boards_over, Carries, DeskFile, IsChain, left_over, lots_over, placed_over}
+use Rattle.desk_laws.specs.Chain.{quantity_of, received_over, scrapped_over}
+use Rattle.desk_types.proofs.RowsCommon.{at, B1, B2, base, K1, K2, L1, L2, M, P, PR, Q, R1, R2, R3, R4, R5, received}
+use Rattle.desk_types.proofs.RowsCommon.{S1}
+use Rattle.std.specs.Prelude.{slice_index}
 
 -- The first file: 50 pieces of reel K1, of lot L1, are received, and three of them placed on board B1.
 abbrev first_file : DeskFile

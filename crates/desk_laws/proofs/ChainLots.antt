@@ -1,34 +1,19 @@
 -- The lots and boards over a chain of desk files.
-use Rattle.std.proofs.Math.Bool.{and_comm}
-use Rattle.std.proofs.Common.{◌≡◌, ◌↔◌, ℕ, ◌≤◌, ◌<◌, All, Bool, true, false, Contains, Option, Some, None, List, [], ◌∷◌, ◌++◌, map, refl, sym, ap, ◌∙◌, arith}
-use Rattle.std.specs.Prelude.{Any, is_some, if◌then◌else◌, ◌||◌, ◌&&◌, slice_index_or}
-use Rattle.std.specs.Option.{option_map, option_map_or, option_or}
-use Rattle.std.specs.Cmp.Lexicographic.{nat_list_eq_equiv}
-use Rattle.std.specs.List.{list_any}
-use Rattle.std.proofs.lemmas.List.{append_assoc}
-use Rattle.std.proofs.lemmas.List.Elements.{All-head, All-tail}
-use Rattle.std.proofs.lemmas.List.Folds.{list_any-append, Any-from_list_any, list_any-from_Any}
-use Rattle.std.proofs.lemmas.Map.Views.{Contains-from_any, list_any-from_Contains}
-use Rattle.desk_types.specs.declared.command.Command.{Command}
-use Rattle.desk_types.specs.declared.command.Command.TheVariants.{ReelReceived}
-use Rattle.desk_types.specs.declared.command.Receipt.{Receipt}
-use Rattle.desk_types.specs.declared.placement.Placement.{Placement}
-use Rattle.desk_types.specs.declared.rules.Rules.TheVariants.{Two}
-use Rattle.desk_types.specs.Command.{IsCommand}
-use Rattle.desk_types.specs.Id.{Name, same}
-use Rattle.desk_types.specs.History.{History}
-use Rattle.desk_types.specs.Setup.{receipt_by, receipt_of}
-use Rattle.desk_types.specs.Placements.{placements_of, lots_of, boards_of}
-use Rattle.desk_types.specs.Judged.{IsJudged}
+use Rattle.desk_types.proofs.Common.{[], ◌&&◌, ◌++◌, ◌<◌, ◌||◌, ◌↔◌, ◌∙◌, ◌∷◌, ◌≡◌, ◌≤◌, All, All-head, All-tail}
+use Rattle.desk_types.proofs.Common.{and_comm, ap, append_assoc, arith, boards_of, Bool, Command, Contains, false}
+use Rattle.desk_types.proofs.Common.{History, if◌then◌else◌, is_some, IsCommand, IsJudged, List, list_any}
+use Rattle.desk_types.proofs.Common.{list_any-append, list_any-same, lots_of, map, Name, None, Option, option_map}
+use Rattle.desk_types.proofs.Common.{option_map_or, option_or, Placement, placements_of, Receipt, receipt_by}
+use Rattle.desk_types.proofs.Common.{receipt_of, ReelReceived, refl, same, same-sym, Some, sym, true, Two, ℕ}
+use Rattle.desk_laws.proofs.{InstalledPieces.rightly-placed, Judgements.judged-prefix, Mounts.from-has, Mounts.has}
+use Rattle.desk_laws.proofs.{Mounts.has-from, NameSets.has-read, NameSets.has-set, NameSets.traces-converse}
+use Rattle.desk_laws.proofs.{ReelsLater.receipt-prefix}
+use Rattle.desk_laws.specs.{Chain.boards_over, Chain.Carries, Chain.DeskFile, Chain.IsChain, Chain.lot_over}
+use Rattle.desk_laws.specs.{Chain.lots_over, Chain.origin, Chain.pieces_over, Chain.receipt_over}
+use Rattle.desk_laws.specs.{Verified.IsRightlyPlaced}
 use Rattle.desk_types.proofs.BothRules.{judged-by-two}
-use Rattle.desk_types.proofs.Keys.{same-sym, same-true, list_any-same}
-use Rattle.desk_laws.specs.Verified.{IsRightlyPlaced}
-use Rattle.desk_laws.proofs.InstalledPieces.{rightly-placed}
-use Rattle.desk_laws.proofs.Judgements.{judged-prefix}
-use Rattle.desk_laws.proofs.Mounts.{has}
-use Rattle.desk_laws.proofs.NameSets.{has-read, has-set, traces-converse}
-use Rattle.desk_laws.proofs.ReelsLater.{receipt-prefix}
-use Rattle.desk_laws.specs.Chain.{DeskFile, Carries, IsChain, origin, receipt_over, lot_over, pieces_over, lots_over, boards_over}
+use Rattle.std.proofs.lemmas.List.Folds.{Any-from_list_any, list_any-from_Any}
+use Rattle.std.specs.Prelude.{Any, slice_index_or}
 
 -- ---- receipts
 
@@ -150,12 +135,6 @@ has-lots files board lot =
     (λ (b, l). and_comm (same b board) (same lot l) ∙ (λ j. same-sym lot l j && same-sym b board j)) (pieces_over files)
     ∙ sym (has-read (λ (b, l). b) (λ (b, l). same l lot) (pieces_over files) board)
     ∙ sym (has-set _ board)
-
-has-from : (names : List Name) (name : Name) → Contains names name → has names name ≡ true
-has-from names name there = list_any-from_Contains nat_list_eq_equiv name names there
-
-from-has : (names : List Name) (name : Name) → has names name ≡ true → Contains names name
-from-has names name is = Contains-from_any same-true name names is
 
 pub boards-union : (files : List DeskFile) (lot board : Name) → IsChain files → Contains (boards_over files lot) board ↔ Any (λ (f : DeskFile). Contains (boards_of f.whole lot) board) files
 boards-union files lot board chain = (

@@ -1,20 +1,12 @@
 -- The pieces of a reel over a chain of desk files.
-use Rattle.std.proofs.Common.{◌≡◌, ◌+◌, Bool, true, false, Option, Some, None, List, [], ◌∷◌, refl, sym, ap, ◌∙◌, arith}
-use Rattle.std.specs.Prelude.{is_some, if◌then◌else◌}
-use Rattle.std.specs.Option.{option_map_or}
-use Rattle.std.proofs.lemmas.List.Sums.{sum_by-cons}
-use Rattle.desk_types.specs.declared.command.Receipt.{Receipt}
-use Rattle.desk_types.specs.declared.rules.Rules.TheVariants.{Two}
-use Rattle.desk_types.specs.Id.{Name}
-use Rattle.desk_types.specs.History.{IsPrefix}
-use Rattle.desk_types.specs.Setup.{receipt_of}
-use Rattle.desk_types.specs.Pieces.{left_of, found_of, placed_of, scrapped_of}
-use Rattle.desk_types.specs.Judged.{IsJudged}
+use Rattle.desk_types.proofs.Common.{[], ◌+◌, ◌∙◌, ◌∷◌, ◌≡◌, ap, arith, Bool, false, found_of, if◌then◌else◌, is_some}
+use Rattle.desk_types.proofs.Common.{IsJudged, IsPrefix, left_of, List, Name, None, Option, option_map_or, placed_of}
+use Rattle.desk_types.proofs.Common.{Receipt, receipt_of, refl, scrapped_of, Some, sum_by-cons, sym, true, Two}
+use Rattle.desk_laws.proofs.{Balance.balance, Balance.unreceived-empty, Judgements.judged-prefix}
+use Rattle.desk_laws.proofs.{ReelsLater.receipt-prefix}
+use Rattle.desk_laws.specs.Chain.{DeskFile, Follows, IsChain, left_over, new_in, placed_over, quantity_of}
+use Rattle.desk_laws.specs.Chain.{received_over, scrapped_over}
 use Rattle.desk_types.proofs.BothRules.{judged-by-two}
-use Rattle.desk_laws.proofs.Balance.{balance, unreceived-empty}
-use Rattle.desk_laws.proofs.Judgements.{judged-prefix}
-use Rattle.desk_laws.proofs.ReelsLater.{receipt-prefix}
-use Rattle.desk_laws.specs.Chain.{DeskFile, quantity_of, Follows, IsChain, new_in, received_over, placed_over, scrapped_over, left_over}
 
 quantity-none : (o : Option Receipt) → is_some o ≡ false → option_map_or (λ (r : Receipt). r.quantity) o 0 ≡ 0
 quantity-none None none = refl

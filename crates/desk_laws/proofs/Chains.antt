@@ -1,9 +1,6 @@
 -- A third desk that is alike to the second is alike to the first.
-use Rattle.std.proofs.Common.{◌≡◌, ◌<◌, sym, ap, ◌∙◌, subst, arith}
-use Rattle.std.specs.Prelude.{unwrap_or}
-use Rattle.desk_types.specs.Id.{Name}
-use Rattle.desk_types.specs.History.{History, now_of}
-use Rattle.desk_laws.specs.Alike.{IsSameReel, AreAlike}
+use Rattle.desk_types.proofs.Common.{◌<◌, ◌∙◌, ◌≡◌, ap, arith, History, Name, now_of, subst, sym, unwrap_or}
+use Rattle.desk_laws.specs.Alike.{AreAlike, IsSameReel}
 
 same-chain : (F G H : History) (reel : Name) → now_of F ≡ now_of G → IsSameReel F G reel → IsSameReel G H reel → IsSameReel F H reel
 same-chain F G H reel now a b = record {

@@ -1,22 +1,12 @@
 -- Accepted counts of mounted and of other reels.
-use Rattle.std.proofs.Common.{◌≡◌, ℕ, ◌-◌, All, Bool, true, false, Some, None, List, [], ◌∷◌, ◌++◌, find, refl, sym, ap, ◌∙◌, unwrap_or, arith}
-use Rattle.std.specs.Prelude.{if◌then◌else◌, ◌||◌}
-use Rattle.std.specs.Option.{option_map, option_map_or}
-use Rattle.std.specs.List.{list_any, AllByRecursion}
-use Rattle.std.proofs.lemmas.List.Elements.{All-nil, All-cons, All-head, All-tail}
-use Rattle.std.proofs.lemmas.List.Folds.{list_any-append}
-use Rattle.desk_types.specs.declared.command.Command.{Command}
-use Rattle.desk_types.specs.declared.command.Command.TheVariants.{CountsTaken}
-use Rattle.desk_types.specs.declared.command.Stamped.{Stamped}
-use Rattle.desk_types.specs.declared.count.CountRow.{CountRow}
-use Rattle.desk_types.specs.declared.rules.Rules.TheVariants.{Two}
-use Rattle.desk_types.specs.Id.{Name, same}
-use Rattle.desk_types.specs.History.{History, effective_minute, accept}
-use Rattle.desk_types.specs.Pieces.{pieces_picked, picks_of, pieces_by, found_by, found_of, left_of, is_mounted}
-use Rattle.desk_types.specs.Refusals.{counts_refusal, command_refusal, refusal_of}
-use Rattle.desk_types.proofs.Keys.{same-refl, same-sym, same-true}
-use Rattle.desk_laws.proofs.Accepted.{command-accepted}
-use Rattle.desk_laws.proofs.Picks.{IsCountable, countable}
+use Rattle.desk_types.proofs.Common.{[], ◌++◌, ◌-◌, ◌||◌, ◌∙◌, ◌∷◌, ◌≡◌, accept, All, All-cons, All-head, All-nil}
+use Rattle.desk_types.proofs.Common.{All-tail, AllByRecursion, ap, arith, Bool, Command, command_refusal, CountRow}
+use Rattle.desk_types.proofs.Common.{counts_refusal, CountsTaken, effective_minute, false, find, found_by, found_of}
+use Rattle.desk_types.proofs.Common.{History, if◌then◌else◌, is_mounted, left_of, List, list_any, list_any-append}
+use Rattle.desk_types.proofs.Common.{Name, None, option_map, option_map_or, picks_of, pieces_by, pieces_picked, refl}
+use Rattle.desk_types.proofs.Common.{refusal_of, same, same-refl, same-sym, same-true, Some, Stamped, sym, true, Two}
+use Rattle.desk_types.proofs.Common.{unwrap_or, ℕ}
+use Rattle.desk_laws.proofs.{Accepted.command-accepted, Picks.countable, Picks.IsCountable}
 
 -- ---- mounted reels
 

@@ -1,35 +1,17 @@
 -- No designator of a board is placed twice.
-use Rattle.std.proofs.Math.Bool.{and-false, or_comm}
-use Rattle.std.proofs.lemmas.Bool.{and_right}
-use Rattle.std.proofs.Common.{◌≡◌, ℕ, ◌+◌, Bool, true, false, Option, Some, None, List, [], ◌∷◌, ◌++◌, filter_map, map, refl, sym, ap, ◌∙◌, subst}
-use Rattle.std.specs.Prelude.{◌&&◌, ◌||◌}
-use Rattle.std.specs.List.{cons_option, enumerate_from, list_any, AllByRecursion, IsDistinct}
-use Rattle.std.proofs.lemmas.List.{map-append}
-use Rattle.std.proofs.lemmas.List.Elements.{filter_map-append}
-use Rattle.std.proofs.lemmas.List.Folds.{list_any-append}
-use Rattle.desk_types.specs.declared.command.Command.{Command}
-use Rattle.desk_types.specs.declared.command.Command.TheVariants.{MaterialsInstalled, MaterialsScrapped, CountsTaken}
-use Rattle.desk_types.specs.declared.command.Entry.{Entry}
-use Rattle.desk_types.specs.declared.placement.Placement.{Placement}
-use Rattle.desk_types.specs.declared.rules.Rules.TheVariants.{Two}
-use Rattle.desk_types.specs.declared.take.Pick.{Pick}
-use Rattle.desk_types.specs.declared.take.Purpose.{Purpose}
-use Rattle.desk_types.specs.declared.take.Purpose.TheVariants.{Placed, Rejected, Counted}
-use Rattle.desk_types.specs.Id.{Name, same}
-use Rattle.desk_types.specs.Pair.{same_pair}
-use Rattle.desk_types.specs.History.{History}
-use Rattle.desk_types.specs.Tape.{tape_of}
-use Rattle.desk_types.specs.Pieces.{bench_of, left_of, is_placed, picks_of}
-use Rattle.desk_types.specs.Work.{places, is_placed_on}
-use Rattle.desk_types.specs.Refusals.{command_refusal}
-use Rattle.desk_types.specs.Outcome.{take_of}
-use Rattle.desk_types.specs.Judged.{IsJudged}
-use Rattle.desk_types.specs.Placements.{entry_takes, takes_of, placement_of, placements_of}
-use Rattle.desk_types.proofs.Keys.{same-sym}
-use Rattle.desk_laws.proofs.Accepted.{next-accepted}
-use Rattle.desk_laws.proofs.Distinct.{distinct-join}
-use Rattle.desk_laws.proofs.Installs.{ArePlacedFor, each-placed, installable, designators-differ, designators-new}
-use Rattle.desk_laws.proofs.InstalledPieces.{AreUnplaced, unplaced-scrap, unplaced-count}
+use Rattle.desk_types.proofs.Common.{[], ◌&&◌, ◌++◌, ◌+◌, ◌||◌, ◌∙◌, ◌∷◌, ◌≡◌, AllByRecursion, and-false, ap}
+use Rattle.desk_types.proofs.Common.{bench_of, Bool, Command, command_refusal, cons_option, Counted, CountsTaken}
+use Rattle.desk_types.proofs.Common.{Entry, entry_takes, enumerate_from, false, filter_map, filter_map-append}
+use Rattle.desk_types.proofs.Common.{History, is_placed, is_placed_on, IsDistinct, IsJudged, left_of, List, list_any}
+use Rattle.desk_types.proofs.Common.{list_any-append, map, map-append, MaterialsInstalled, MaterialsScrapped, Name}
+use Rattle.desk_types.proofs.Common.{None, Option, Pick, picks_of, Placed, Placement, placement_of, placements_of}
+use Rattle.desk_types.proofs.Common.{places, Purpose, refl, Rejected, same, same-sym, same_pair, Some, subst, sym}
+use Rattle.desk_types.proofs.Common.{take_of, takes_of, tape_of, true, Two, ℕ}
+use Rattle.desk_laws.proofs.{Accepted.next-accepted, Distinct.distinct-join, InstalledPieces.AreUnplaced}
+use Rattle.desk_laws.proofs.{InstalledPieces.unplaced-count, InstalledPieces.unplaced-scrap, Installs.ArePlacedFor}
+use Rattle.desk_laws.proofs.{Installs.designators-differ, Installs.designators-new, Installs.each-placed}
+use Rattle.desk_laws.proofs.{Installs.installable}
+use Rattle.std.proofs.{Math.Bool.or_comm, lemmas.Bool.and_right}
 
 -- ---- spots: a board and one of its designators
 

@@ -1,26 +1,14 @@
 -- Exposure over time and over later entries.
-use Rattle.std.proofs.Common.{◌≡◌, ◌≢◌, ℕ, All, ◌-◌, ◌<◌, ◌≤◌, Bool, true, false, Option, Some, None, List, [], ◌∷◌, ◌++◌, refl, ap, ◌∙◌, subst, unwrap_or, count_by, arith}
-use Rattle.std.specs.Prelude.{nat_le, is_some, if◌then◌else◌}
-use Rattle.std.specs.Option.{option_map, option_or}
-use Rattle.std.proofs.lemmas.Bool.{leb-true, leb-false}
-use Rattle.std.proofs.lemmas.List.Elements.{All-head, All-tail}
-use Rattle.std.proofs.lemmas.List.FromFn.{length-range_with_len}
-use Rattle.std.proofs.lemmas.List.Sums.{count_by-le-length}
-use Rattle.desk_types.specs.declared.command.Command.{Command}
-use Rattle.desk_types.specs.declared.command.Command.TheVariants.{ReelBaked}
-use Rattle.desk_types.specs.declared.command.Entry.{Entry}
-use Rattle.desk_types.specs.declared.command.Receipt.{Receipt}
-use Rattle.desk_types.specs.declared.rules.Rules.TheVariants.{Two}
-use Rattle.desk_types.specs.Id.{Name, same}
-use Rattle.desk_types.specs.History.{History}
-use Rattle.desk_types.specs.Setup.{receipt_of}
-use Rattle.desk_types.specs.FloorLife.{IsUntouched, is_out_at, bake_by, last_bake, exposure_starts, minutes_between, exposure_of}
-use Rattle.desk_types.specs.Judged.{IsJudged}
-use Rattle.desk_types.proofs.Exposure.{is_out-before, is_out-untouched}
-use Rattle.desk_types.proofs.Keys.{same-true}
-use Rattle.desk_types.proofs.Minutes.{count-split, count-agree, count-one}
-use Rattle.desk_laws.proofs.Judgements.{untouched, judged-prefix}
-use Rattle.desk_laws.proofs.ReelsLater.{receipt-prefix}
+use Rattle.desk_types.proofs.Common.{[], ◌++◌, ◌-◌, ◌<◌, ◌∙◌, ◌∷◌, ◌≡◌, ◌≢◌, ◌≤◌, All, All-head, All-tail, ap, arith}
+use Rattle.desk_types.proofs.Common.{bake_by, Bool, Command, count_by, Entry, exposure_of, exposure_starts, false}
+use Rattle.desk_types.proofs.Common.{History, if◌then◌else◌, is_out_at, is_some, IsJudged, IsUntouched, last_bake}
+use Rattle.desk_types.proofs.Common.{leb-false, leb-true, List, minutes_between, Name, nat_le, None, Option}
+use Rattle.desk_types.proofs.Common.{option_map, option_or, Receipt, receipt_of, ReelBaked, refl, same, same-true}
+use Rattle.desk_types.proofs.Common.{Some, subst, true, Two, unwrap_or, ℕ}
+use Rattle.desk_laws.proofs.{Judgements.judged-prefix, Judgements.untouched, ReelsLater.receipt-prefix}
+use Rattle.desk_types.proofs.{Exposure.is_out-before, Exposure.is_out-untouched, Minutes.count-agree}
+use Rattle.desk_types.proofs.{Minutes.count-one, Minutes.count-split}
+use Rattle.std.proofs.{lemmas.List.FromFn.length-range_with_len, lemmas.List.Sums.count_by-le-length}
 
 -- ---- one history
 

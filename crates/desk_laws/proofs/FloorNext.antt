@@ -1,36 +1,23 @@
 -- The floor life of a reel after one entry more, as far as answers depend on it.
-use Rattle.std.proofs.Common.{◌≡◌, ℕ, ◌+◌, ◌-◌, ◌≤◌, Bool, true, false, not, Option, Some, None, ◌∷◌, refl, ap, ◌∙◌, arith}
-use Rattle.std.specs.Prelude.{[], if◌then◌else◌, ◌&&◌, is_some, unwrap_or}
-use Rattle.std.specs.Option.{option_and_then, option_map, option_map_or, option_or}
-use Rattle.desk_types.specs.declared.command.Command.{Command}
-use Rattle.desk_types.specs.declared.command.Command.TheVariants.{ReelReceived, ReelOpened, ReelSealed, ReelBaked, MaterialsLoaded, MaterialsSpliced}
-use Rattle.desk_types.specs.declared.command.Entry.{Entry}
-use Rattle.desk_types.specs.declared.command.Receipt.{Receipt}
-use Rattle.desk_types.specs.declared.rules.Rules.TheVariants.{Two}
-use Rattle.desk_types.specs.Id.{Name, same}
-use Rattle.desk_types.specs.Level.{LevelWithLabel, limit_of}
-use Rattle.desk_types.specs.History.{History, latest, now_of}
-use Rattle.desk_types.specs.Setup.{receipt_by, receipt_of}
-use Rattle.desk_types.specs.FloorLife.{open_by, IsUntouched, last_bake, exposure_starts, exposure_of, since_after, out_since, floor_life, minutes_left, baked_by, is_baked, is_six, is_unbaked}
-use Rattle.desk_types.specs.Judged.{IsJudged}
-use Rattle.desk_types.proofs.Exposure.{exposure-after, exposure-anew, exposure-untouched}
-use Rattle.desk_types.proofs.ReelCommands.{IsQuiet-open, IsQuiet-untouched, IsQuiet-seal, last_bake-quiet, exposure_starts-quiet}
-use Rattle.desk_types.proofs.Tests.{if-some}
-use Rattle.desk_laws.proofs.Accepted.{received-once}
-use Rattle.desk_laws.proofs.Judgements.{untouched, by-later, by-desk_minute}
-use Rattle.desk_laws.proofs.Openings.{starts-by}
-use Rattle.desk_laws.proofs.Agreeing.{mark, marks_of, marked}
+use Rattle.desk_types.proofs.Common.{[], ◌&&◌, ◌+◌, ◌-◌, ◌∙◌, ◌∷◌, ◌≡◌, ◌≤◌, ap, arith, baked_by, Bool, Command}
+use Rattle.desk_types.proofs.Common.{Entry, exposure_of, exposure_starts, false, floor_life, History, if◌then◌else◌}
+use Rattle.desk_types.proofs.Common.{is_baked, is_six, is_some, is_unbaked, IsJudged, IsUntouched, last_bake, latest}
+use Rattle.desk_types.proofs.Common.{LevelWithLabel, limit_of, MaterialsLoaded, MaterialsSpliced, minutes_left, Name}
+use Rattle.desk_types.proofs.Common.{None, not, now_of, open_by, Option, option_and_then, option_map, option_map_or}
+use Rattle.desk_types.proofs.Common.{option_or, out_since, Receipt, receipt_by, receipt_of, ReelBaked, ReelOpened}
+use Rattle.desk_types.proofs.Common.{ReelReceived, ReelSealed, refl, same, since_after, Some, true, Two, unwrap_or, ℕ}
+use Rattle.desk_laws.proofs.{Accepted.received-once, Agreeing.mark, Agreeing.marked, Agreeing.marks_of}
+use Rattle.desk_laws.proofs.{Judgements.by-desk_minute, Judgements.by-later, Judgements.untouched, Openings.starts-by}
+use Rattle.desk_types.proofs.{Exposure.exposure-after, Exposure.exposure-anew, Exposure.exposure-untouched}
+use Rattle.desk_types.proofs.{ReelCommands.exposure_starts-quiet, ReelCommands.IsQuiet-open}
+use Rattle.desk_types.proofs.{ReelCommands.IsQuiet-seal, ReelCommands.IsQuiet-untouched, ReelCommands.last_bake-quiet}
+use Rattle.desk_types.proofs.{ReelCommands.last_bake-untouched, Tests.if-none, Tests.if-some}
 
 -- ---- exposure
 
 opens : {P : Type 0} (b : Bool) → (if b then Some true else None) ≡ Some false → P
 opens true is = cc
 opens false is = cc
-
-last_bake-untouched : (H : History) (name : Name) → IsUntouched H name → last_bake H name ≡ None
-last_bake-untouched [] name none = refl
-last_bake-untouched (e ∷ H) name (none, rest) =
-    last_bake-quiet H e name (IsQuiet-untouched name e.effective e.stamped.command none) ∙ last_bake-untouched H name rest
 
 -- Whether exposure begins anew with the command, where it puts a reel into its bag.
 abbrev pub is_anew : Command → Bool
@@ -162,10 +149,6 @@ life-marked H reel = by (receipt_of H reel)
 abbrev pub waiting : Option Bool → Option (Name × (Name × LevelWithLabel)) → Bool → Bool
 waiting None m before = before
 waiting (Some baked) m before = option_map_or (λ (m : Name × (Name × LevelWithLabel)). is_six m.1.1.level) m false && not baked
-
-if-none : {X Y : Type 0} (b : Bool) (x : X) (y : Y) → (if b then Some x else None) ≡ None → (if b then Some y else None) ≡ None
-if-none true x y is = cc
-if-none false x y is = refl
 
 unreceived : (reel : Name) (at : ℕ) (command : Command) → baked_by reel command ≡ None → receipt_by reel at command ≡ None
 unreceived reel at (ReelReceived r part lot moisture quantity) none = if-none (same r reel) false _ none

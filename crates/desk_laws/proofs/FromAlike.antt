@@ -1,53 +1,29 @@
 -- Alike histories agree except for past boards and reels. Histories that agree so are alike if no board is in work.
-use Rattle.std.proofs.Common.{◌≡◌, ℕ, ◌-◌, ◌<◌, nat_lt, Bool, true, false, Contains, Option, Some, None, List, [], ◌∷◌, refl, sym, ap, ◌∙◌, subst, arith}
-use Rattle.std.specs.Prelude.{if◌then◌else◌, ◌&&◌, ◌||◌, ◌==◌, is_some, not}
-use Rattle.std.specs.Option.{option_and_then, option_map, option_map_or, option_or}
-use Rattle.std.specs.List.{list_any}
-use Rattle.std.proofs.lemmas.Bool.{eqb-true}
-use Rattle.std.proofs.lemmas.Bool.Decides.{nat_tests}
-use Rattle.desk_types.specs.declared.answer.Refusal.TheVariants.{NotInWork}
-use Rattle.desk_types.specs.declared.command.Command.{Command}
-use Rattle.desk_types.specs.declared.command.Command.TheVariants.{WorkStarted, MaterialsInstalled}
-use Rattle.desk_types.specs.declared.command.Entry.{Entry}
-use Rattle.desk_types.specs.declared.command.Receipt.{Receipt}
-use Rattle.desk_types.specs.declared.rules.Rules.TheVariants.{Two}
-use Rattle.desk_types.specs.Id.{Name, same}
-use Rattle.desk_types.specs.Level.{LevelWithLabel, limit_of}
-use Rattle.desk_types.specs.History.{History}
-use Rattle.desk_types.specs.Setup.{receipt_of, selected_on}
-use Rattle.desk_types.specs.Pieces.{bench_of, left_of, is_mounted}
-use Rattle.desk_types.specs.FloorLife.{IsUntouched, out_since, since_after, exposure_of, is_six, is_baked}
-use Rattle.desk_types.specs.Work.{in_work_on, is_in_work, is_in_work_on, start_by, product_of, places, is_placed_on}
-use Rattle.desk_types.specs.Refusals.{designators_refusal, install_refusal, command_refusal}
-use Rattle.desk_types.specs.Judged.{IsNext, IsJudged}
-use Rattle.desk_types.proofs.Keys.{same-true}
-use Rattle.desk_types.proofs.Tests.{and-both}
-use Rattle.desk_laws.proofs.Accepted.{next-accepted}
-use Rattle.desk_laws.proofs.BoardsInWork.{work-selected, work-product}
-use Rattle.desk_laws.proofs.Judgements.{untouched}
-use Rattle.desk_laws.proofs.Lookups.{mounted-live, mounted-there, in_work-somewhere}
-use Rattle.desk_laws.proofs.Mounted.{iff}
-use Rattle.desk_laws.specs.Alike.{IsIdle, IsSameReel, AreAlike}
-use Rattle.desk_laws.specs.Past.{is_started, is_spent}
-use Rattle.desk_laws.proofs.Agreeing.{mark, marked, IsSame, Agree, known, left-new}
+use Rattle.desk_types.proofs.Common.{[], ◌&&◌, ◌-◌, ◌<◌, ◌==◌, ◌||◌, ◌∙◌, ◌∷◌, ◌≡◌, and_parts, ap, arith, bench_of}
+use Rattle.desk_types.proofs.Common.{Bool, both_ways, Command, command_refusal, Contains, designators_refusal, Entry}
+use Rattle.desk_types.proofs.Common.{eqb-true, exposure_of, false, History, if◌then◌else◌, in_work_on}
+use Rattle.desk_types.proofs.Common.{install_refusal, is_baked, is_in_work, is_in_work_on, is_mounted, is_placed_on}
+use Rattle.desk_types.proofs.Common.{is_six, is_some, IsJudged, IsNext, IsUntouched, left_of, LevelWithLabel}
+use Rattle.desk_types.proofs.Common.{limit_of, List, list_any, MaterialsInstalled, Name, nat_lt, nat_tests, None, not}
+use Rattle.desk_types.proofs.Common.{NotInWork, Option, option_and_then, option_map, option_map_or, option_or}
+use Rattle.desk_types.proofs.Common.{or_parts, out_since, places, product_of, Receipt, receipt_of, refl, same}
+use Rattle.desk_types.proofs.Common.{same-true, selected_on, since_after, Some, start_by, subst, sym, true, Two}
+use Rattle.desk_types.proofs.Common.{WorkStarted, ℕ}
+use Rattle.desk_laws.proofs.{Accepted.next-accepted, Accepted.not-some, Agreeing.Agree, Agreeing.IsSame}
+use Rattle.desk_laws.proofs.{Agreeing.known, Agreeing.left-new, Agreeing.mark, Agreeing.marked}
+use Rattle.desk_laws.proofs.{BoardsInWork.work-product, BoardsInWork.work-selected, Judgements.untouched}
+use Rattle.desk_laws.proofs.{Lookups.in_work-somewhere, Lookups.mounted-live, Lookups.mounted-there}
+use Rattle.desk_laws.specs.{Alike.AreAlike, Alike.IsIdle, Alike.IsSameReel, Past.is_spent, Past.is_started}
 
 -- ---- boards
-
-or-neither : (a b : Bool) → (a || b) ≡ false → (a ≡ false) × (b ≡ false)
-or-neither true b is = cc
-or-neither false b is = (refl, is)
-
-no-some : {X : Type 0} (o : Option X) → is_some o ≡ false → o ≡ None
-no-some None is = refl
-no-some (Some x) is = cc
 
 -- A board that was not started has no product,
 pub unstarted-product : (H : History) (board : Name) → is_started H board ≡ false → product_of H board ≡ None
 unstarted-product [] board new = refl
 unstarted-product (e ∷ H) board new =
-    let neither = or-neither (is_some (start_by board e.stamped.command)) (is_started H board) new in
+    let neither = or_parts (is_some (start_by board e.stamped.command)) (is_started H board) new in
     ap (λ o. option_or o (option_and_then (selected_on H) (start_by board e.stamped.command))) (unstarted-product H board neither.1)
-    ∙ ap (option_and_then (selected_on H)) (no-some (start_by board e.stamped.command) neither.0)
+    ∙ ap (option_and_then (selected_on H)) (not-some (start_by board e.stamped.command) neither.0)
 
 -- And one that was started has one.
 if-is : {X : Type 0} (b : Bool) (x y : X) → (if b then Some x else None) ≡ Some y → x ≡ y
@@ -105,7 +81,7 @@ places-none H minute _ board d judged none product = refl
 unstarted-placed : (H : History) (board d : Name) → IsJudged Two H → is_started H board ≡ false → is_placed_on H board d ≡ false
 unstarted-placed [] board d judged new = refl
 unstarted-placed (e ∷ H) board d (next, judged) new =
-    let neither = or-neither (is_some (start_by board e.stamped.command)) (is_started H board) new in
+    let neither = or_parts (is_some (start_by board e.stamped.command)) (is_started H board) new in
     ap (λ b. b || is_placed_on H board d)
     (places-none H e.effective e.stamped.command board d judged (next-accepted H e next) (unstarted-product H board neither.1))
     ∙ unstarted-placed H board d judged neither.1
@@ -193,7 +169,7 @@ agree-from G H of_G of_H a = record {
   live = λ j machine slot. a.slots machine slot j;
   mounted = λ j reel. mounted reel j;
   started = λ board past. past;
-  spent = λ reel past. let both = and-both (is_some (receipt_of G reel)) (left_of G reel == 0) past in (both.0, eqb-true (left_of G reel) 0 both.1);
+  spent = λ reel past. let both = and_parts (is_some (receipt_of G reel)) (left_of G reel == 0) past in (both.0, eqb-true (left_of G reel) 0 both.1);
   reels = λ reel new. of-reel reel new (receipt_of G reel) refl;
 }
   where
@@ -207,7 +183,7 @@ agree-from G H of_G of_H a = record {
 
     mounted : (reel : Name) → is_mounted G reel ≡ is_mounted H reel
     mounted reel =
-        iff (is_mounted G reel) (is_mounted H reel)
+        both_ways (is_mounted G reel) (is_mounted H reel)
         (λ is. let at = mounted-live G reel is in mounted-there H reel (at.0, at.1, subst (λ reels. Contains reels reel) (a.slots at.0 at.1) at.2))
         (λ is. let at = mounted-live H reel is in mounted-there G reel (at.0, at.1, subst (λ reels. Contains reels reel) (sym (a.slots at.0 at.1)) at.2))
 

@@ -1,14 +1,8 @@
 -- Tapes grow at their ends.
-use Rattle.std.proofs.Common.{◌≡◌, All, Bool, true, false, List, [], ◌∷◌, ◌++◌, refl, sym, ap, ◌∙◌}
-use Rattle.std.specs.Prelude.{◌&&◌, if◌then◌else◌}
-use Rattle.std.proofs.lemmas.List.{append_assoc, append-nil}
-use Rattle.std.proofs.lemmas.List.Elements.{All-head, All-tail}
-use Rattle.desk_types.specs.declared.command.Command.{Command}
-use Rattle.desk_types.specs.declared.command.Command.TheVariants.{MaterialsLoaded, MaterialsSpliced, MaterialsUnloaded}
-use Rattle.desk_types.specs.declared.command.Entry.{Entry}
-use Rattle.desk_types.specs.Id.{Name, same}
-use Rattle.desk_types.specs.History.{History}
-use Rattle.desk_types.specs.Tape.{tape_with, tape_after, tape_of}
+use Rattle.desk_types.proofs.Common.{[], ◌&&◌, ◌++◌, ◌∙◌, ◌∷◌, ◌≡◌, All, All-head, All-tail, ap, append-nil}
+use Rattle.desk_types.proofs.Common.{append_assoc, Bool, Command, Entry, false, History, if◌then◌else◌, List}
+use Rattle.desk_types.proofs.Common.{MaterialsLoaded, MaterialsSpliced, MaterialsUnloaded, Name, refl, same, sym}
+use Rattle.desk_types.proofs.Common.{tape_after, tape_of, tape_with, true}
 use Rattle.desk_laws.specs.TapeOrder.{restarts}
 
 -- The first tape is the second with reels joined to its end.

@@ -1,36 +1,20 @@
 -- The pieces that an accepted install places.
-use Rattle.std.proofs.Common.{◌≡◌, ℕ, ◌+◌, ◌-◌, Bool, true, false, Option, Some, None, List, [], ◌∷◌, ◌++◌, find, filter_map, length, take, map, min, All, refl, sym, ap, ◌∙◌, subst, arith}
-use Rattle.std.specs.Prelude.{if◌then◌else◌, ⊤, ◌||◌, slice_get}
-use Rattle.std.specs.Option.{option_and_then, option_map, option_map_or, option_to_list}
-use Rattle.std.specs.List.{cons_option, enumerate_from, AllByRecursion}
-use Rattle.std.proofs.lemmas.List.{append_assoc, append-nil, length-append, take_at}
-use Rattle.std.proofs.lemmas.List.Elements.{All-nil, All-cons, All-append, filter_map-append}
-use Rattle.desk_types.specs.declared.command.Command.{Command}
-use Rattle.desk_types.specs.declared.command.Command.TheVariants.{MaterialsInstalled, MaterialsScrapped, CountsTaken}
-use Rattle.desk_types.specs.declared.command.Entry.{Entry}
-use Rattle.desk_types.specs.declared.command.Receipt.{Receipt}
-use Rattle.desk_types.specs.declared.count.CountRow.{CountRow}
-use Rattle.desk_types.specs.declared.placement.Placement.{Placement}
-use Rattle.desk_types.specs.declared.rules.Rules.TheVariants.{Two}
-use Rattle.desk_types.specs.declared.take.Pick.{Pick}
-use Rattle.desk_types.specs.declared.take.Purpose.{Purpose}
-use Rattle.desk_types.specs.declared.take.Purpose.TheVariants.{Placed, Rejected, Counted}
-use Rattle.desk_types.specs.Id.{Name, same}
-use Rattle.desk_types.specs.History.{History}
-use Rattle.desk_types.specs.Setup.{slot_on, receipt_of}
-use Rattle.desk_types.specs.Tape.{tape_of}
-use Rattle.desk_types.specs.Pieces.{bench_of, pieces_off, pick_for, install_picks, scrap_picks, count_picks, left_of, is_placed, picks_of}
-use Rattle.desk_types.specs.Outcome.{take_of}
-use Rattle.desk_types.specs.Judged.{IsJudged}
-use Rattle.desk_types.specs.Placements.{entry_takes, takes_of, placement_of, placements_of}
-use Rattle.desk_types.proofs.Keys.{same-refl}
-use Rattle.desk_laws.specs.Verified.{next_reel, IsRightlyPlaced}
-use Rattle.desk_laws.proofs.Accepted.{next-accepted}
-use Rattle.desk_laws.proofs.Distinct.{all-append}
-use Rattle.desk_laws.proofs.Installs.{ArePlacedFor, placed-at, each-placed}
-use Rattle.desk_laws.proofs.Mounts.{has, unreceived-nowhere}
-use Rattle.desk_laws.proofs.Picks.{all-off}
-use Rattle.desk_laws.proofs.VerifiedReels.{tape-verified}
+use Rattle.desk_types.proofs.Common.{[], ⊤, ◌++◌, ◌+◌, ◌-◌, ◌||◌, ◌∙◌, ◌∷◌, ◌≡◌, All, All-append, All-cons, All-nil}
+use Rattle.desk_types.proofs.Common.{AllByRecursion, ap, append-nil, append_assoc, arith, bench_of, Bool, Command}
+use Rattle.desk_types.proofs.Common.{cons_option, count_picks, Counted, CountRow, CountsTaken, Entry, entry_takes}
+use Rattle.desk_types.proofs.Common.{enumerate_from, false, filter_map, filter_map-append, find, History}
+use Rattle.desk_types.proofs.Common.{if◌then◌else◌, install_picks, is_placed, IsJudged, left_of, length}
+use Rattle.desk_types.proofs.Common.{length-append, List, map, MaterialsInstalled, MaterialsScrapped, min, Name, None}
+use Rattle.desk_types.proofs.Common.{Option, option_and_then, option_map, option_map_or, option_to_list, Pick}
+use Rattle.desk_types.proofs.Common.{pick_for, picks_of, pieces_off, Placed, Placement, placement_of, placements_of}
+use Rattle.desk_types.proofs.Common.{Purpose, Receipt, receipt_of, refl, Rejected, same, same-refl, scrap_picks}
+use Rattle.desk_types.proofs.Common.{slice_get, slot_on, Some, subst, sym, take, take_of, takes_of, tape_of, true}
+use Rattle.desk_types.proofs.Common.{Two, ℕ}
+use Rattle.desk_laws.proofs.{Accepted.next-accepted, Distinct.all-append, Installs.ArePlacedFor, Installs.each-placed}
+use Rattle.desk_laws.proofs.{Installs.placed-at, Mounts.has, Mounts.unreceived-nowhere, Picks.all-off}
+use Rattle.desk_laws.proofs.{VerifiedReels.tape-verified}
+use Rattle.desk_laws.specs.Verified.{IsRightlyPlaced, next_reel}
+use Rattle.std.proofs.lemmas.List.{take_at}
 
 -- ---- picks in turn
 

@@ -1,24 +1,14 @@
 -- The designators of an accepted install, and its one pick for each.
-use Rattle.std.proofs.Common.{◌≡◌, ℕ, nat_lt, Bool, true, false, Option, Some, None, List, [], ◌∷◌, ◌++◌, find, length, refl, sym, ap, ◌∙◌, subst}
-use Rattle.std.specs.Prelude.{is_none, if◌then◌else◌, ⊤, slice_get}
-use Rattle.std.specs.Option.{option_and_then, option_map, option_to_list}
-use Rattle.std.specs.List.{list_any, AllByRecursion, IsDistinct}
-use Rattle.std.proofs.lemmas.List.{append_assoc, append-nil}
-use Rattle.desk_types.specs.declared.answer.Refusal.{Refusal}
-use Rattle.desk_types.specs.declared.answer.Refusal.TheVariants.{DesignatorNotOnSheet, DesignatorTwice, AlreadyPlaced, NotInWork, ReelShort}
-use Rattle.desk_types.specs.declared.command.Command.{Command}
-use Rattle.desk_types.specs.declared.command.Command.TheVariants.{MaterialsInstalled}
-use Rattle.desk_types.specs.declared.rules.Rules.TheVariants.{Two}
-use Rattle.desk_types.specs.declared.take.Pick.{Pick}
-use Rattle.desk_types.specs.declared.take.Purpose.TheVariants.{Placed}
-use Rattle.desk_types.specs.Id.{Name, same}
-use Rattle.desk_types.specs.History.{History}
-use Rattle.desk_types.specs.Pieces.{Bench, bench_of, pieces_picked, pick_for, install_picks, picks_of}
-use Rattle.desk_types.specs.Work.{is_placed_on, is_in_work_on}
-use Rattle.desk_types.specs.Refusals.{first_refusal, designators_refusal, install_refusal, command_refusal}
-use Rattle.desk_laws.proofs.Accepted.{none-holds}
-use Rattle.desk_laws.proofs.Judgements.{or-none}
-use Rattle.desk_laws.proofs.Tapes.{one-more}
+use Rattle.desk_types.proofs.Common.{[], ⊤, ◌++◌, ◌∙◌, ◌∷◌, ◌≡◌, AllByRecursion, AlreadyPlaced, ap, append-nil}
+use Rattle.desk_types.proofs.Common.{append_assoc, Bench, bench_of, Bool, Command, command_refusal}
+use Rattle.desk_types.proofs.Common.{designators_refusal, false, find, first_refusal, History, if◌then◌else◌}
+use Rattle.desk_types.proofs.Common.{install_picks, install_refusal, is_in_work_on, is_none, is_placed_on, IsDistinct}
+use Rattle.desk_types.proofs.Common.{length, List, list_any, MaterialsInstalled, Name, nat_lt, None, NotInWork}
+use Rattle.desk_types.proofs.Common.{Option, option_and_then, option_map, option_to_list, Pick, pick_for, picks_of}
+use Rattle.desk_types.proofs.Common.{pieces_picked, Placed, ReelShort, refl, Refusal, same, slice_get, Some, subst}
+use Rattle.desk_types.proofs.Common.{sym, true, Two, ℕ}
+use Rattle.desk_laws.proofs.{Accepted.none-holds, Judgements.or-none, Tapes.one-more}
+use Rattle.desk_types.specs.declared.answer.Refusal.TheVariants.{DesignatorNotOnSheet, DesignatorTwice}
 
 -- ---- picks in the order of designators
 

@@ -1,14 +1,8 @@
 -- Accepted histories are consistent.
-use Rattle.desk_types.specs.declared.rules.Rules.{Rules}
-use Rattle.desk_types.specs.History.{History}
-use Rattle.desk_types.specs.Judged.{IsJudged}
+use Rattle.desk_types.proofs.Common.{History, IsJudged, Rules}
+use Rattle.desk_laws.{proofs.Balance.balance, proofs.InstalledPieces.rightly-placed, proofs.NameSets.traces-converse}
+use Rattle.desk_laws.{proofs.Places.one-slot, proofs.Tapes.live-distinct, specs.Consistent.IsConsistent}
 use Rattle.desk_types.proofs.BothRules.{judged-by-two}
-use Rattle.desk_laws.proofs.Balance.{balance}
-use Rattle.desk_laws.proofs.NameSets.{traces-converse}
-use Rattle.desk_laws.proofs.Places.{one-slot}
-use Rattle.desk_laws.proofs.InstalledPieces.{rightly-placed}
-use Rattle.desk_laws.proofs.Tapes.{live-distinct}
-use Rattle.desk_laws.specs.Consistent.{IsConsistent}
 
 pub consistent : (rules : Rules) (H : History) → IsJudged rules H → IsConsistent H
 consistent rules H judged =

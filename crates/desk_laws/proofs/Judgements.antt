@@ -1,17 +1,10 @@
 -- Facts about the histories that a desk can reach.
-use Rattle.std.proofs.Common.{◌≡◌, ℕ, ◌≤◌, Bool, Option, Some, None, List, [], ◌∷◌, ◌++◌, refl, ap, ◌∙◌, subst, arith, unwrap_or}
-use Rattle.std.specs.Prelude.{max}
-use Rattle.std.specs.Option.{option_or}
-use Rattle.std.specs.List.{AllByRecursion}
-use Rattle.std.proofs.Math.Nat.{le-max_left, le-max_right}
-use Rattle.desk_types.specs.declared.command.Entry.{Entry}
-use Rattle.desk_types.specs.declared.rules.Rules.TheVariants.{Two}
-use Rattle.desk_types.specs.Id.{Name}
-use Rattle.desk_types.specs.History.{History, IsPrefix, desk_minute, now_of}
-use Rattle.desk_types.specs.Setup.{receipt_by, receipt_of}
-use Rattle.desk_types.specs.FloorLife.{open_by, IsUntouched}
-use Rattle.desk_types.specs.Judged.{IsJudged}
+use Rattle.desk_types.proofs.Common.{[], ◌++◌, ◌∙◌, ◌∷◌, ◌≡◌, ◌≤◌, AllByRecursion, ap, arith, Bool, desk_minute}
+use Rattle.desk_types.proofs.Common.{Entry, History, IsJudged, IsPrefix, IsUntouched, List, max, Name, None, now_of}
+use Rattle.desk_types.proofs.Common.{open_by, Option, option_or, receipt_by, receipt_of, refl, Some, subst, Two}
+use Rattle.desk_types.proofs.Common.{unwrap_or, ℕ}
 use Rattle.desk_laws.proofs.Accepted.{handled-received}
+use Rattle.std.proofs.Math.Nat.{le-max_left, le-max_right}
 
 -- ---- reels
 

@@ -1,31 +1,17 @@
 -- Live reels after one more entry. Picks come only from live reels.
-use Rattle.std.proofs.Common.{◌≡◌, ℕ, ◌-◌, min, nat_lt, Bool, true, false, Option, Some, None, List, [], ◌∷◌, ◌++◌, find, refl, sym, ap, ◌∙◌, arith}
-use Rattle.std.specs.Prelude.{if◌then◌else◌, ◌&&◌, is_none}
-use Rattle.std.specs.Option.{option_and_then, option_map, option_or, option_to_list}
-use Rattle.std.specs.List.{list_any, filter}
-use Rattle.std.proofs.lemmas.Bool.{ltb-false, ltb-true, lt-ltb, or_left, or_right}
-use Rattle.std.proofs.lemmas.List.Elements.{filter-append}
-use Rattle.desk_types.specs.declared.answer.Refusal.{Refusal}
-use Rattle.desk_types.specs.declared.command.Command.{Command}
-use Rattle.desk_types.specs.declared.command.Command.TheVariants.{MaterialsLoaded, MaterialsSpliced, MaterialsUnloaded}
-use Rattle.desk_types.specs.declared.command.Entry.{Entry}
-use Rattle.desk_types.specs.declared.command.Receipt.{Receipt}
-use Rattle.desk_types.specs.declared.rules.Rules.TheVariants.{Two}
-use Rattle.desk_types.specs.declared.take.Pick.{Pick}
-use Rattle.desk_types.specs.declared.take.Purpose.{Purpose}
-use Rattle.desk_types.specs.declared.take.Purpose.TheVariants.{Placed}
-use Rattle.desk_types.specs.Id.{Name, same}
-use Rattle.desk_types.specs.History.{History}
-use Rattle.desk_types.specs.Setup.{slot_on, receipt_by}
-use Rattle.desk_types.specs.Tape.{tape_with, tape_after, tape_of}
-use Rattle.desk_types.specs.Pieces.{Bench, bench_by, bench_of, pieces_picked, pieces_off, pick_for, install_picks, scrap_picks, left_of, live_on, first}
-use Rattle.desk_types.specs.Refusals.{designator_refusal, designators_refusal, command_refusal}
-use Rattle.desk_types.specs.Judged.{IsJudged}
-use Rattle.desk_types.proofs.Keys.{same-refl}
-use Rattle.desk_laws.proofs.Accepted.{next-accepted, mountable, received-once}
-use Rattle.desk_laws.proofs.Balance.{some-next}
-use Rattle.desk_laws.proofs.Mounts.{has, unreceived-nowhere}
-use Rattle.desk_laws.proofs.Places.{joined, vacant-same}
+use Rattle.desk_types.proofs.Common.{[], ◌&&◌, ◌++◌, ◌-◌, ◌∙◌, ◌∷◌, ◌≡◌, ap, arith, Bench, bench_of, Bool, Command}
+use Rattle.desk_types.proofs.Common.{command_refusal, designators_refusal, Entry, false, filter-append, find, first}
+use Rattle.desk_types.proofs.Common.{History, if◌then◌else◌, install_picks, is_none, IsJudged, left_of, List}
+use Rattle.desk_types.proofs.Common.{list_any, live_on, lt-ltb, ltb-false, ltb-true, MaterialsLoaded}
+use Rattle.desk_types.proofs.Common.{MaterialsSpliced, MaterialsUnloaded, min, Name, nat_lt, None, Option}
+use Rattle.desk_types.proofs.Common.{option_and_then, option_map, option_or, option_to_list, or_left, or_right, Pick}
+use Rattle.desk_types.proofs.Common.{pick_for, pieces_off, pieces_picked, Placed, Purpose, Receipt, receipt_by, refl}
+use Rattle.desk_types.proofs.Common.{Refusal, same, same-refl, scrap_picks, slot_on, Some, sym, tape_after, tape_of}
+use Rattle.desk_types.proofs.Common.{tape_with, true, Two, ℕ}
+use Rattle.desk_laws.proofs.{Accepted.mountable, Accepted.next-accepted, Accepted.received-once, Balance.some-next}
+use Rattle.desk_laws.proofs.{Mounts.has, Mounts.unreceived-nowhere, Places.joined, Places.vacant-same}
+use Rattle.desk_types.specs.{Pieces.bench_by, Refusals.designator_refusal}
+use Rattle.std.specs.List.{filter}
 
 -- ---- filters
 
@@ -139,7 +125,7 @@ designators-live H placed machine board before seen (d ∷ ds) =
     ∙ ap (λ (o : Option Refusal). option_or (designator_refusal d (slot_on H machine d) (list_any (same d) seen) (placed d) (pick_for (bench_of H machine board) before d)) o)
     (designators-live H placed machine board (before ++ option_to_list (pick_for (bench_of H machine board) before d)) (seen ++ d ∷ []) ds)
 
-scrap-filter : (pieces : Name → ℕ) (purpose : Purpose) (reels : List Name) (n : ℕ)
+pub scrap-filter : (pieces : Name → ℕ) (purpose : Purpose) (reels : List Name) (n : ℕ)
     → scrap_picks pieces purpose (filter (λ r. nat_lt 0 (pieces r)) reels) n ≡ scrap_picks pieces purpose reels n
 scrap-filter pieces purpose [] n = refl
 scrap-filter pieces purpose (r ∷ rs) n = by (nat_lt 0 (pieces r)) refl (scrap-filter pieces purpose rs)

@@ -1,30 +1,16 @@
 -- Searches in the definitions agree with the plain rules.
-use Rattle.std.proofs.lemmas.Bool.{and_parts, or_left, or_right}
-use Rattle.std.proofs.Common.{◌≡◌, ◌≢◌, Bool, true, false, Any, Contains, Option, Some, None, List, [], ◌∷◌, filter_map, unwrap_or, refl, sym, ap, ◌∙◌}
-use Rattle.std.specs.Prelude.{◌&&◌, ◌||◌, if◌then◌else◌, is_none}
-use Rattle.std.specs.Option.{option_map_or, option_or}
-use Rattle.std.specs.List.{list_any, cons_option}
-use Rattle.std.specs.Cmp.Lexicographic.{nat_list_eq_equiv}
-use Rattle.std.proofs.lemmas.List.Folds.{Any-from_list_any, list_any-from_Any}
-use Rattle.std.proofs.lemmas.Map.Views.{Contains-from_any, list_any-from_Contains}
-use Rattle.desk_types.specs.declared.command.Command.{Command}
-use Rattle.desk_types.specs.declared.command.Command.TheVariants.{MaterialsLoaded, WorkStarted, WorkCompleted}
-use Rattle.desk_types.specs.declared.command.Entry.{Entry}
-use Rattle.desk_types.specs.declared.placement.Placement.{Placement}
-use Rattle.desk_types.specs.declared.rules.Rules.TheVariants.{Two}
-use Rattle.desk_types.specs.Id.{Name, same}
-use Rattle.desk_types.specs.Pair.{same_pair}
-use Rattle.desk_types.specs.History.{History, latest}
-use Rattle.desk_types.specs.Tape.{tape_of}
-use Rattle.desk_types.specs.Pieces.{live_on, first, is_live_where_loaded, is_mounted}
-use Rattle.desk_types.specs.Work.{work_by, in_work_on, is_in_work_on, is_in_work_where_started, is_in_work, is_placed_on}
-use Rattle.desk_types.specs.Judged.{IsJudged}
-use Rattle.desk_types.specs.Placements.{placements_of}
-use Rattle.desk_types.specs.View.{slot_by, loaded_slots}
-use Rattle.desk_types.proofs.Keys.{same-refl, same-true}
-use Rattle.desk_laws.proofs.Designators.{spots_of, spot-placed}
-use Rattle.desk_laws.proofs.Mounts.{has, loaded-by, live-mounted}
-use Rattle.desk_laws.proofs.NameSets.{has-set}
+use Rattle.desk_types.proofs.Common.{[], ◌&&◌, ◌||◌, ◌∙◌, ◌∷◌, ◌≡◌, ◌≢◌, and_parts, ap, Bool, Command, cons_option}
+use Rattle.desk_types.proofs.Common.{Contains, Contains-from_any, Entry, false, filter_map, first, History}
+use Rattle.desk_types.proofs.Common.{if◌then◌else◌, in_work_on, is_in_work, is_in_work_on, is_live_where_loaded}
+use Rattle.desk_types.proofs.Common.{is_mounted, is_none, is_placed_on, IsJudged, latest, List, list_any}
+use Rattle.desk_types.proofs.Common.{list_any-from_Contains, live_on, loaded_slots, MaterialsLoaded, Name}
+use Rattle.desk_types.proofs.Common.{nat_list_eq_equiv, None, Option, option_map_or, option_or, or_left, or_right}
+use Rattle.desk_types.proofs.Common.{Placement, placements_of, refl, same, same-refl, same-true, same_pair, Some, sym}
+use Rattle.desk_types.proofs.Common.{tape_of, true, Two, unwrap_or, work_by, WorkCompleted, WorkStarted}
+use Rattle.desk_laws.proofs.{Designators.spot-placed, Designators.spots_of, Mounts.has, Mounts.live-mounted}
+use Rattle.desk_laws.proofs.{Mounts.loaded-by, NameSets.has-set}
+use Rattle.desk_types.specs.{View.slot_by, Work.is_in_work_where_started}
+use Rattle.std.proofs.{Common.Any, lemmas.List.Folds.Any-from_list_any, lemmas.List.Folds.list_any-from_Any}
 
 -- ---- mounted reels
 

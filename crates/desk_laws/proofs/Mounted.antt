@@ -1,46 +1,29 @@
 -- Mounted reels after one more entry.
-use Rattle.std.proofs.Math.Bool.{and-false, and-true}
-use Rattle.std.proofs.lemmas.Bool.{and_from, and_parts, not-false}
-use Rattle.std.proofs.Common.{◌≡◌, ℕ, ◌-◌, nat_lt, Bool, true, false, not, Option, Some, None, List, [], ◌∷◌, refl, sym, ap, ◌∙◌, unwrap_or, arith}
-use Rattle.std.specs.Prelude.{if◌then◌else◌, ◌||◌, ◌&&◌, is_none, is_some}
-use Rattle.std.specs.List.{list_any}
-use Rattle.desk_types.specs.declared.command.Command.{Command}
-use Rattle.desk_types.specs.declared.command.Command.TheVariants.{ReelReceived, MaterialsLoaded, MaterialsSpliced, MaterialsUnloaded, MaterialsInstalled, MaterialsScrapped, CountsTaken}
-use Rattle.desk_types.specs.declared.command.Entry.{Entry}
-use Rattle.desk_types.specs.declared.command.Receipt.{Receipt}
-use Rattle.desk_types.specs.declared.rules.Rules.TheVariants.{Two}
-use Rattle.desk_types.specs.Id.{Name, same}
-use Rattle.desk_types.specs.History.{History}
-use Rattle.desk_types.specs.Setup.{receipt_by}
-use Rattle.desk_types.specs.Tape.{tape_of}
-use Rattle.desk_types.specs.Pieces.{left_of, live_on, first, is_live_where_loaded, is_mounted, pieces_picked, pieces_by, picks_of}
-use Rattle.desk_types.specs.Refusals.{is_vacant, command_refusal}
-use Rattle.desk_types.specs.Judged.{IsJudged}
-use Rattle.desk_types.proofs.Keys.{same-refl}
-use Rattle.desk_laws.specs.Place.{is_at, place_after, place_of, mounted_after}
-use Rattle.desk_laws.proofs.Accepted.{next-accepted, mountable, received-by}
-use Rattle.desk_laws.proofs.Balance.{some-next}
-use Rattle.desk_laws.proofs.Judgements.{untouched}
-use Rattle.desk_laws.proofs.Mounts.{has, has-live_on, live-mounted}
-use Rattle.desk_laws.proofs.Places.{placed, live-placed, untouched-unplaced}
+use Rattle.desk_types.proofs.Common.{[], ◌&&◌, ◌-◌, ◌||◌, ◌∙◌, ◌∷◌, ◌≡◌, and-false, and-true, and_from, and_parts, ap}
+use Rattle.desk_types.proofs.Common.{arith, Bool, both_ways, Command, command_refusal, CountsTaken, Entry, false}
+use Rattle.desk_types.proofs.Common.{first, History, if◌then◌else◌, is_live_where_loaded, is_mounted, is_none}
+use Rattle.desk_types.proofs.Common.{is_some, is_vacant, IsJudged, left_of, List, list_any, live_on}
+use Rattle.desk_types.proofs.Common.{MaterialsInstalled, MaterialsLoaded, MaterialsScrapped, MaterialsSpliced}
+use Rattle.desk_types.proofs.Common.{MaterialsUnloaded, Name, nat_lt, None, not, not-false, Option, picks_of}
+use Rattle.desk_types.proofs.Common.{pieces_by, pieces_picked, Receipt, receipt_by, ReelReceived, refl, same}
+use Rattle.desk_types.proofs.Common.{same-refl, Some, sym, tape_of, true, Two, unwrap_or, ℕ}
+use Rattle.desk_laws.proofs.{Accepted.mountable, Accepted.next-accepted, Accepted.received-by, Balance.some-next}
+use Rattle.desk_laws.proofs.{Judgements.untouched, Mounts.has, Mounts.has-live_on, Mounts.live-mounted}
+use Rattle.desk_laws.proofs.{Places.live-placed, Places.placed, Places.untouched-unplaced}
+use Rattle.desk_laws.specs.Place.{is_at, mounted_after, place_after, place_of}
 
 -- ---- pieces left
 
-abbrev some_left : History → Name → Bool
+abbrev pub some_left : History → Name → Bool
 some_left H reel = nat_lt 0 (left_of H reel)
 
-abbrev left_after : History → Command → Name → ℕ
+abbrev pub left_after : History → Command → Name → ℕ
 left_after H command reel = unwrap_or (pieces_by reel command) (left_of H reel - pieces_picked (picks_of H command) reel)
 
-less-none : (n : ℕ) → n - 0 ≡ n
+pub less-none : (n : ℕ) → n - 0 ≡ n
 less-none n = omega arith
 
 -- ---- places
-
-pub iff : (a b : Bool) → (a ≡ true → b ≡ true) → (b ≡ true → a ≡ true) → a ≡ b
-iff true b there back = sym (there refl)
-iff false true there back = back refl
-iff false false there back = refl
 
 at-some : (machine slot : Name) (place : Option (Name × Name)) → is_at machine slot place ≡ true → is_some place ≡ true
 at-some machine slot None is = cc
@@ -73,7 +56,7 @@ placed-mounted H reel (Some q) judged is some =
     ∙ and_from _ _ some (placed H q.0 q.1 reel judged some ∙ ap (is_at q.0 q.1) is ∙ and_from _ _ (same-refl q.0) (same-refl q.1)))
 
 pub mounted-is : (H : History) (reel : Name) → IsJudged Two H → is_mounted H reel ≡ (is_some (place_of H reel) && some_left H reel)
-mounted-is H reel judged = iff _ _ (from-any H reel H judged) (placed-mounted H reel (place_of H reel) judged refl)
+mounted-is H reel judged = both_ways _ _ (from-any H reel H judged) (placed-mounted H reel (place_of H reel) judged refl)
 
 -- ---- one more entry
 

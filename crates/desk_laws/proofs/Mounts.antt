@@ -1,28 +1,31 @@
 -- The reels on slots, and the entries that put them there.
-use Rattle.std.proofs.lemmas.Bool.{and_parts, or_left, or_right}
-use Rattle.std.proofs.Common.{◌≡◌, Bool, true, false, Option, Some, None, List, [], ◌∷◌, refl, sym, ap, ◌∙◌}
-use Rattle.std.specs.Prelude.{nat_lt, is_none, is_some, ◌&&◌, ◌||◌, if◌then◌else◌}
-use Rattle.std.specs.List.{list_any, filter}
-use Rattle.std.proofs.lemmas.List.Folds.{list_any-append}
-use Rattle.std.proofs.lemmas.Map.Views.{any-filter_same}
-use Rattle.desk_types.specs.declared.command.Command.{Command}
-use Rattle.desk_types.specs.declared.command.Command.TheVariants.{MaterialsLoaded, MaterialsSpliced, MaterialsUnloaded}
-use Rattle.desk_types.specs.declared.command.Entry.{Entry}
-use Rattle.desk_types.specs.declared.command.Receipt.{Receipt}
-use Rattle.desk_types.specs.declared.rules.Rules.TheVariants.{Two}
-use Rattle.desk_types.specs.Id.{Name, same}
-use Rattle.desk_types.specs.History.{History}
-use Rattle.desk_types.specs.Tape.{tape_with, tape_after, tape_of}
-use Rattle.desk_types.specs.Setup.{receipt_of}
-use Rattle.desk_types.specs.Pieces.{left_of, live_on, first, front_of, is_live_where_loaded, is_mounted}
-use Rattle.desk_types.specs.FloorLife.{open_by, IsUntouched}
-use Rattle.desk_types.specs.Judged.{IsJudged}
-use Rattle.desk_laws.specs.Verified.{mounts}
-use Rattle.desk_laws.proofs.Judgements.{untouched}
-use Rattle.desk_types.proofs.Keys.{same-refl, same-sym, same-true}
+use Rattle.desk_types.proofs.Common.{[], ◌&&◌, ◌||◌, ◌∙◌, ◌∷◌, ◌≡◌, AllByRecursion, and_parts, ap, Bool, Command}
+use Rattle.desk_types.proofs.Common.{Contains, Contains-from_any, Entry, false, first, front_of, History}
+use Rattle.desk_types.proofs.Common.{if◌then◌else◌, is_live_where_loaded, is_mounted, is_none, is_some, IsJudged}
+use Rattle.desk_types.proofs.Common.{IsUntouched, left_of, List, list_any, list_any-append, list_any-from_Contains}
+use Rattle.desk_types.proofs.Common.{live_on, MaterialsLoaded, MaterialsSpliced, MaterialsUnloaded, Name}
+use Rattle.desk_types.proofs.Common.{nat_list_eq_equiv, nat_lt, None, open_by, Option, or_left, or_right, Receipt}
+use Rattle.desk_types.proofs.Common.{receipt_of, refl, same, same-refl, same-sym, same-true, Some, subst, sym}
+use Rattle.desk_types.proofs.Common.{tape_after, tape_of, tape_with, true, Two}
+use Rattle.desk_laws.{proofs.Judgements.untouched, specs.Verified.mounts}
+use Rattle.std.{proofs.lemmas.Map.Views.any-filter_same, specs.List.filter}
 
 abbrev pub has : List Name → Name → Bool
 has reels reel = list_any (same reel) reels
+
+pub has-from : (names : List Name) (name : Name) → Contains names name → has names name ≡ true
+has-from names name there = list_any-from_Contains nat_list_eq_equiv name names there
+
+pub from-has : (names : List Name) (name : Name) → has names name ≡ true → Contains names name
+from-has names name is = Contains-from_any same-true name names is
+
+pub all-at : (P : Name → Type 0) (names : List Name) (r : Name) → AllByRecursion P names → has names r ≡ true → P r
+all-at P [] r all there = cc
+all-at P (x ∷ xs) r (first, all) there = by (same r x) refl there (all-at P xs r all)
+  where
+    by : (b : Bool) → same r x ≡ b → (b || has xs r) ≡ true → (has xs r ≡ true → P r) → P r
+    by true here there rest = subst P (sym (same-true r x here)) first
+    by false away there rest = rest there
 
 -- ---- live reels
 

@@ -1,41 +1,60 @@
 -- Sets of names, and traces.
-use Rattle.std.proofs.Math.Bool.{and_comm, or_self_left}
-use Rattle.std.proofs.Common.{◌≡◌, ◌↔◌, Bool, true, false, Contains, List, [], ◌∷◌, filter, map, refl, sym, ap, ◌∙◌}
-use Rattle.std.specs.Prelude.{if◌then◌else◌, ◌||◌, ◌&&◌}
-use Rattle.std.specs.BTreeMap.{is_at}
-use Rattle.std.specs.BTreeSet.{insert_key}
-use Rattle.std.specs.Cmp.Lexicographic.{nat_list_eq_equiv}
-use Rattle.std.specs.List.{list_any}
-use Rattle.std.specs.Ordering.{match_ordering}
-use Rattle.std.specs.declared.cmp.Ordering.{Ordering}
-use Rattle.std.specs.declared.cmp.Ordering.TheVariants.{Less, Equal, Greater}
-use Rattle.std.proofs.lemmas.Map.Views.{Contains-from_any, list_any-from_Contains}
-use Rattle.desk_types.specs.declared.placement.Placement.{Placement}
-use Rattle.desk_types.specs.Id.{Name, same, by_name}
-use Rattle.desk_types.specs.History.{History}
-use Rattle.desk_types.specs.Placements.{placements_of, set_of, lots_of, boards_of}
-use Rattle.desk_types.proofs.Keys.{same-sym, same-true, is_at-by_name, list_any-same}
-use Rattle.desk_types.proofs.Tests.{swap-or}
+use Rattle.desk_types.proofs.Common.{[], ◌&&◌, ◌||◌, ◌↔◌, ◌∙◌, ◌∷◌, ◌≡◌, AllByRecursion, and_comm, ap, boards_of}
+use Rattle.desk_types.proofs.Common.{Bool, by_name, CmpEqualImpliesEq, Contains, Contains-from_any, Equal}
+use Rattle.desk_types.proofs.Common.{exact_bytes, false, filter, Greater, History, if◌then◌else◌, insert_key}
+use Rattle.desk_types.proofs.Common.{IsStrictlySortedBy, IsTotalOrder, Less, List, list_any, list_any-from_Contains}
+use Rattle.desk_types.proofs.Common.{list_any-same, lots_of, map, match_ordering, Name, nat_list_cmp_total}
+use Rattle.desk_types.proofs.Common.{nat_list_eq_equiv, Ordering, ordering_reverse, Placement, placements_of, refl}
+use Rattle.desk_types.proofs.Common.{same, same-sym, same-true, set_of, sym, true}
 use Rattle.desk_laws.proofs.Mounts.{has}
+use Rattle.desk_types.proofs.Tests.{swap-or}
+use Rattle.std.proofs.Math.Bool.{or_self_left}
 
-has-insert : (names : List Name) (name other : Name) → has (insert_key by_name names name) other ≡ (same other name || has names other)
-has-insert [] name other = refl
-has-insert (x ∷ xs) name other = by (by_name name x) refl (has-insert xs name other)
-  where
-    by : (o : Ordering) → by_name name x ≡ o → has (insert_key by_name xs name) other ≡ (same other name || has xs other)
-        → has (match_ordering o (name ∷ x ∷ xs) (x ∷ xs) (x ∷ insert_key by_name xs name)) other ≡ (same other name || (same other x || has xs other))
-    by Less o rest = refl
-    by Equal o rest =
-        let one = same-true name x (sym (is_at-by_name name x) ∙ equal name x o) in
-        sym (or_self_left (same other x) (has xs other)) ∙ ap (λ y. same other y || (same other x || has xs other)) (sym one)
-      where
-        equal : (a b : Name) → by_name a b ≡ Equal → is_at (by_name a) b ≡ true
-        equal a b is = cc
-    by Greater o rest = ap (λ b. same other x || b) rest ∙ swap-or (same other x) (same other name) (has xs other)
+pub all-weaker : {X : Type 0} (P Q : X → Type 0) → ((x : X) → P x → Q x) → (xs : List X) → AllByRecursion P xs → AllByRecursion Q xs
+all-weaker P Q weaker [] all = tt
+all-weaker P Q weaker (x ∷ xs) (first, all) = (weaker x first, all-weaker P Q weaker xs all)
+
+-- ---- names put in order
+
+module _ (R : Name → Name → Ordering) (o : IsTotalOrder R) (exact : CmpEqualImpliesEq R) where
+  pub has-put : (names : List Name) (x r : Name) → has (insert_key R names x) r ≡ (same r x || has names r)
+  has-put [] x r = refl
+  has-put (y ∷ ys) x r = by (R x y) refl (has-put ys x r)
+    where
+      by : (order : Ordering) → R x y ≡ order → has (insert_key R ys x) r ≡ (same r x || has ys r)
+          → has (match_ordering order (x ∷ y ∷ ys) (y ∷ ys) (y ∷ insert_key R ys x)) r ≡ (same r x || (same r y || has ys r))
+      by Less is rest = refl
+      by Equal is rest = sym (or_self_left (same r y) (has ys r)) ∙ ap (λ z. same r z || (same r y || has ys r)) (sym (exact x y is))
+      by Greater is rest = ap (λ b. same r y || b) rest ∙ swap-or (same r y) (same r x) (has ys r)
+
+  all-put : (P : Name → Type 0) (names : List Name) (x : Name) → AllByRecursion P names → P x → AllByRecursion P (insert_key R names x)
+  all-put P [] x all one = (one, tt)
+  all-put P (y ∷ ys) x (first, all) one = by (R x y) (all-put P ys x all one)
+    where
+      by : (order : Ordering) → AllByRecursion P (insert_key R ys x) → AllByRecursion P (match_ordering order (x ∷ y ∷ ys) (y ∷ ys) (y ∷ insert_key R ys x))
+      by Less rest = (one, (first, all))
+      by Equal rest = (first, all)
+      by Greater rest = (first, rest)
+
+  pub ordered-put : (names : List Name) (x : Name) → IsStrictlySortedBy R names → IsStrictlySortedBy R (insert_key R names x)
+  unfolding IsStrictlySortedBy
+  ordered-put [] x up = (tt, tt)
+  ordered-put (y ∷ ys) x (first, up) = by (R x y) refl (ordered-put ys x up)
+    where
+      by : (order : Ordering) → R x y ≡ order → IsStrictlySortedBy R (insert_key R ys x)
+          → IsStrictlySortedBy R (match_ordering order (x ∷ y ∷ ys) (y ∷ ys) (y ∷ insert_key R ys x))
+      by Less is rest = ((is, all-weaker (λ z. R y z ≡ Less) (λ z. R x z ≡ Less) (λ z less. o.trans x y z is less) ys first), (first, up))
+      by Equal is rest = (first, up)
+      by Greater is rest = (all-put (λ z. R y z ≡ Less) ys x first (o.antisymm y x ∙ ap ordering_reverse is), rest)
 
 pub has-set : (names : List Name) (other : Name) → has (set_of names) other ≡ has names other
 has-set [] other = refl
-has-set (x ∷ xs) other = has-insert (set_of xs) x other ∙ ap (λ b. same other x || b) (has-set xs other)
+has-set (x ∷ xs) other = has-put by_name nat_list_cmp_total exact_bytes (set_of xs) x other ∙ ap (λ b. same other x || b) (has-set xs other)
+
+pub set-ordered : (names : List Name) → IsStrictlySortedBy by_name (set_of names)
+unfolding IsStrictlySortedBy
+set-ordered [] = tt
+set-ordered (x ∷ xs) = ordered-put by_name nat_list_cmp_total exact_bytes (set_of xs) x (set-ordered xs)
 
 -- ---- traces
 

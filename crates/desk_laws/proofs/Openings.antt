@@ -1,26 +1,17 @@
 -- Mounted reels are out of their bags, so their exposure grows.
-use Rattle.std.proofs.Common.{◌≡◌, ℕ, ◌+◌, ◌-◌, ◌≤◌, Bool, true, false, Option, Some, None, [], ◌∷◌, refl, sym, ap, ◌∙◌, unwrap_or, arith}
-use Rattle.std.specs.Prelude.{is_some, if◌then◌else◌}
-use Rattle.std.specs.Option.{option_map, option_or}
-use Rattle.std.proofs.lemmas.Bool.{and_parts}
-use Rattle.desk_types.specs.declared.command.Command.{Command}
-use Rattle.desk_types.specs.declared.command.Command.TheVariants.{ReelReceived, ReelOpened, ReelSealed, ReelBaked, MaterialsLoaded, MaterialsSpliced, MaterialsUnloaded, MaterialsInstalled, MaterialsScrapped, CountsTaken}
-use Rattle.desk_types.specs.declared.command.Receipt.{Receipt}
-use Rattle.desk_types.specs.declared.rules.Rules.TheVariants.{Two}
-use Rattle.desk_types.specs.Id.{Name, same}
-use Rattle.desk_types.specs.History.{History, now_of}
-use Rattle.desk_types.specs.Setup.{receipt_by, receipt_of}
-use Rattle.desk_types.specs.Pieces.{is_mounted}
-use Rattle.desk_types.specs.FloorLife.{open_by, is_out_at, bake_by, last_bake, exposure_starts, exposure_of, since_after, out_since}
-use Rattle.desk_types.specs.Refusals.{command_refusal}
-use Rattle.desk_types.specs.Judged.{IsJudged}
-use Rattle.desk_types.proofs.Exposure.{is_out-after, is_out-untouched}
-use Rattle.desk_types.proofs.Keys.{same-true}
-use Rattle.desk_types.proofs.Minutes.{count-split, count-one}
+use Rattle.desk_types.proofs.Common.{[], ◌+◌, ◌-◌, ◌∙◌, ◌∷◌, ◌≡◌, ◌≤◌, and_parts, ap, arith, bake_by, Bool, Command}
+use Rattle.desk_types.proofs.Common.{command_refusal, CountsTaken, exposure_of, exposure_starts, false, History}
+use Rattle.desk_types.proofs.Common.{if◌then◌else◌, is_mounted, is_out_at, is_some, IsJudged, last_bake}
+use Rattle.desk_types.proofs.Common.{MaterialsInstalled, MaterialsLoaded, MaterialsScrapped, MaterialsSpliced}
+use Rattle.desk_types.proofs.Common.{MaterialsUnloaded, Name, None, now_of, open_by, Option, option_map, option_or}
+use Rattle.desk_types.proofs.Common.{out_since, Receipt, receipt_by, receipt_of, ReelBaked, ReelOpened, ReelReceived}
+use Rattle.desk_types.proofs.Common.{ReelSealed, refl, same, same-true, since_after, Some, sym, true, Two, unwrap_or}
+use Rattle.desk_types.proofs.Common.{ℕ}
+use Rattle.desk_laws.proofs.{Accepted.at-rest, Accepted.next-accepted, Judgements.AreBy, Judgements.by-desk_minute}
+use Rattle.desk_laws.proofs.{Judgements.by-later, Mounted.mounted-next}
 use Rattle.desk_laws.specs.Place.{mounted_after}
-use Rattle.desk_laws.proofs.Accepted.{next-accepted, at-rest}
-use Rattle.desk_laws.proofs.Judgements.{AreBy, by-later, by-desk_minute}
-use Rattle.desk_laws.proofs.Mounted.{mounted-next}
+use Rattle.desk_types.proofs.{Exposure.is_out-after, Exposure.is_out-untouched, Minutes.count-one}
+use Rattle.desk_types.proofs.{Minutes.count-split}
 
 -- ---- out of its bag
 

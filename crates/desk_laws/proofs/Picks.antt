@@ -1,28 +1,15 @@
 -- The pieces that a command takes off a reel.
-use Rattle.std.proofs.Common.{◌≡◌, ℕ, ◌+◌, ◌-◌, ◌≤◌, min, nat_lt, Bool, true, false, Option, Some, None, List, [], ◌∷◌, ◌++◌, find, refl, sym, ap, ◌∙◌, subst, unwrap_or, zero-add, arith}
-use Rattle.std.specs.Prelude.{if◌then◌else◌, is_none, ◌||◌, ◌&&◌, ◌==◌}
-use Rattle.std.specs.Option.{option_and_then, option_map, option_map_or, option_to_list}
-use Rattle.std.specs.List.{list_any, AllByRecursion, IsDistinct}
-use Rattle.std.proofs.lemmas.Bool.{ltb-false, ltb-true}
-use Rattle.std.proofs.lemmas.List.Folds.{list_any-append}
-use Rattle.std.proofs.lemmas.List.Sums.{sum_by-append}
+use Rattle.desk_types.proofs.Common.{[], ◌&&◌, ◌++◌, ◌+◌, ◌-◌, ◌==◌, ◌||◌, ◌∙◌, ◌∷◌, ◌≡◌, ◌≤◌, AllByRecursion, ap}
+use Rattle.desk_types.proofs.Common.{arith, Bench, Bool, count_picks, CountAbove, Counted, CountRow, counts_refusal}
+use Rattle.desk_types.proofs.Common.{CountsTaken, false, find, first_refusal, found_by, History, if◌then◌else◌}
+use Rattle.desk_types.proofs.Common.{install_picks, is_mounted, is_none, IsDistinct, left_of, List, list_any}
+use Rattle.desk_types.proofs.Common.{list_any-append, ltb-false, ltb-true, min, Name, nat_lt, None, Option}
+use Rattle.desk_types.proofs.Common.{option_and_then, option_map, option_map_or, option_to_list, Pick, pick_for}
+use Rattle.desk_types.proofs.Common.{pieces_off, pieces_picked, Placed, Purpose, receipt_of, ReelMounted, ReelTwice}
+use Rattle.desk_types.proofs.Common.{refl, Refusal, same, same-refl, same-sym, same-true, scrap_picks, Some, subst}
+use Rattle.desk_types.proofs.Common.{sum_by-append, sym, true, Two, UnknownReel, unwrap_or, zero-add, ℕ}
+use Rattle.desk_laws.proofs.{Accepted.none-holds, Judgements.or-none}
 use Rattle.std.proofs.lemmas.Map.Keys.{IsDistinct-head, IsDistinct-tail}
-use Rattle.desk_types.specs.declared.answer.Refusal.{Refusal}
-use Rattle.desk_types.specs.declared.answer.Refusal.TheVariants.{UnknownReel, ReelTwice, ReelMounted, CountAbove}
-use Rattle.desk_types.specs.declared.command.Command.TheVariants.{CountsTaken}
-use Rattle.desk_types.specs.declared.count.CountRow.{CountRow}
-use Rattle.desk_types.specs.declared.rules.Rules.TheVariants.{Two}
-use Rattle.desk_types.specs.declared.take.Pick.{Pick}
-use Rattle.desk_types.specs.declared.take.Purpose.{Purpose}
-use Rattle.desk_types.specs.declared.take.Purpose.TheVariants.{Placed, Counted}
-use Rattle.desk_types.specs.Id.{Name, same}
-use Rattle.desk_types.specs.History.{History}
-use Rattle.desk_types.specs.Setup.{receipt_of}
-use Rattle.desk_types.specs.Pieces.{Bench, pieces_picked, pieces_off, pick_for, install_picks, scrap_picks, count_picks, found_by, left_of, is_mounted}
-use Rattle.desk_types.specs.Refusals.{first_refusal, counts_refusal}
-use Rattle.desk_types.proofs.Keys.{same-refl, same-sym, same-true}
-use Rattle.desk_laws.proofs.Accepted.{none-holds}
-use Rattle.desk_laws.proofs.Judgements.{or-none}
 
 -- ---- concatenated picks
 

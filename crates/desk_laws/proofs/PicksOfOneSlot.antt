@@ -1,33 +1,16 @@
 -- Each pick comes from the only slot where its reel is live.
-use Rattle.std.proofs.Common.{◌≡◌, ℕ, ◌-◌, min, nat_lt, true, Option, Some, None, List, [], ◌∷◌, ◌++◌, find, refl, sym, ap, ◌∙◌, subst}
-use Rattle.std.specs.Prelude.{◌&&◌}
-use Rattle.std.specs.Option.{option_and_then, option_map, option_to_list}
-use Rattle.std.specs.List.{AllByRecursion}
-use Rattle.std.proofs.lemmas.Bool.{and_from, and_parts, or_left, or_right}
-use Rattle.std.proofs.lemmas.Map.Views.{Contains-from_any}
-use Rattle.desk_types.specs.declared.command.Command.{Command}
-use Rattle.desk_types.specs.declared.command.Command.TheVariants.{MaterialsInstalled, MaterialsScrapped, CountsTaken}
-use Rattle.desk_types.specs.declared.command.Entry.{Entry}
-use Rattle.desk_types.specs.declared.count.CountRow.{CountRow}
-use Rattle.desk_types.specs.declared.rules.Rules.TheVariants.{Two}
-use Rattle.desk_types.specs.declared.take.Pick.{Pick}
-use Rattle.desk_types.specs.declared.take.Purpose.TheVariants.{Placed, Rejected, Counted}
-use Rattle.desk_types.specs.Id.{Name, same}
-use Rattle.desk_types.specs.History.{History}
-use Rattle.desk_types.specs.Setup.{slot_on}
-use Rattle.desk_types.specs.Tape.{tape_of}
-use Rattle.desk_types.specs.Pieces.{pieces_picked, pieces_off, pick_for, install_picks, scrap_picks, count_picks, left_of, picks_of, live_on}
-use Rattle.desk_types.specs.Refusals.{counts_refusal, command_refusal}
-use Rattle.desk_types.specs.Judged.{IsJudged}
-use Rattle.desk_types.proofs.Keys.{same-refl, same-true}
+use Rattle.desk_types.proofs.Common.{[], ◌&&◌, ◌++◌, ◌-◌, ◌∙◌, ◌∷◌, ◌≡◌, AllByRecursion, and_from, and_parts, ap}
+use Rattle.desk_types.proofs.Common.{Command, command_refusal, Contains-from_any, count_picks, Counted, CountRow}
+use Rattle.desk_types.proofs.Common.{counts_refusal, CountsTaken, Entry, find, History, install_picks, IsJudged}
+use Rattle.desk_types.proofs.Common.{left_of, List, live_on, MaterialsInstalled, MaterialsScrapped, min, Name, nat_lt}
+use Rattle.desk_types.proofs.Common.{None, Option, option_and_then, option_map, option_to_list, or_left, or_right}
+use Rattle.desk_types.proofs.Common.{Pick, pick_for, picks_of, pieces_off, pieces_picked, Placed, refl, Rejected}
+use Rattle.desk_types.proofs.Common.{same, same-refl, same-true, scrap_picks, slot_on, Some, subst, sym, tape_of}
+use Rattle.desk_types.proofs.Common.{true, Two, ℕ}
+use Rattle.desk_laws.proofs.{Accepted.next-accepted, Distinct.all-append, InstalledPieces.find-there}
+use Rattle.desk_laws.proofs.{Lives.live_bench, Lives.picks-live, Lives.scrap-live, Mounts.has, Mounts.has-live_on}
+use Rattle.desk_laws.proofs.{Mounts.live-mounted, Picks.all-off, Picks.countable, Places.one-slot}
 use Rattle.desk_laws.specs.Slots.{IsOnItsSlot}
-use Rattle.desk_laws.proofs.Accepted.{next-accepted}
-use Rattle.desk_laws.proofs.Distinct.{all-append}
-use Rattle.desk_laws.proofs.Lives.{live_bench, picks-live, scrap-live}
-use Rattle.desk_laws.proofs.Mounts.{has, has-live_on, live-mounted}
-use Rattle.desk_laws.proofs.Picks.{all-off, countable}
-use Rattle.desk_laws.proofs.Places.{one-slot}
-use Rattle.desk_laws.proofs.InstalledPieces.{find-there}
 
 pub live-pieces : (H : History) (machine slot reel : Name) → has (live_on H machine slot) reel ≡ true → nat_lt 0 (left_of H reel) ≡ true
 live-pieces H machine slot reel live = (and_parts _ (has (tape_of H machine slot) reel) (sym (has-live_on H machine slot reel) ∙ live)).0

@@ -1,29 +1,15 @@
 -- Each reel with pieces left is on the slot of its place and on no other.
-use Rattle.std.proofs.Common.{Contains, ◌≡◌, ℕ, nat_lt, Bool, true, false, Option, Some, None, List, [], ◌∷◌, ◌++◌, filter, refl, sym, ap, ◌∙◌}
-use Rattle.std.specs.Prelude.{if◌then◌else◌, ◌&&◌, is_none}
-use Rattle.std.specs.Cmp.Lexicographic.{nat_list_eq_equiv}
-use Rattle.std.proofs.lemmas.Bool.{and_parts}
-use Rattle.std.proofs.lemmas.Map.Views.{list_any-from_Contains}
-use Rattle.desk_types.specs.declared.command.Command.{Command}
-use Rattle.desk_types.specs.declared.command.Command.TheVariants.{ReelReceived, MaterialsLoaded, MaterialsSpliced, MaterialsUnloaded}
-use Rattle.desk_types.specs.declared.command.Receipt.{Receipt}
-use Rattle.desk_types.specs.declared.rules.Rules.TheVariants.{Two}
-use Rattle.desk_types.specs.Id.{Name, same}
-use Rattle.desk_types.specs.History.{History}
-use Rattle.desk_types.specs.Setup.{receipt_by}
-use Rattle.desk_types.specs.Tape.{tape_with, tape_after, tape_of}
-use Rattle.desk_types.specs.Pieces.{left_of, live_on, first, is_mounted}
-use Rattle.desk_types.specs.FloorLife.{open_by, IsUntouched}
-use Rattle.desk_types.specs.Refusals.{is_vacant, command_refusal}
-use Rattle.desk_types.specs.Judged.{IsJudged}
-use Rattle.desk_types.proofs.Keys.{same-true}
+use Rattle.desk_types.proofs.Common.{[], ◌&&◌, ◌++◌, ◌∙◌, ◌∷◌, ◌≡◌, and_parts, ap, Bool, Command, command_refusal}
+use Rattle.desk_types.proofs.Common.{Contains, false, filter, first, History, if◌then◌else◌, is_mounted, is_none}
+use Rattle.desk_types.proofs.Common.{is_vacant, IsJudged, IsUntouched, left_of, List, list_any-from_Contains, live_on}
+use Rattle.desk_types.proofs.Common.{MaterialsLoaded, MaterialsSpliced, MaterialsUnloaded, Name, nat_list_eq_equiv}
+use Rattle.desk_types.proofs.Common.{nat_lt, None, open_by, Option, Receipt, receipt_by, ReelReceived, refl, same}
+use Rattle.desk_types.proofs.Common.{same-true, Some, sym, tape_after, tape_of, tape_with, true, Two, ℕ}
+use Rattle.desk_laws.proofs.{Accepted.mountable, Accepted.next-accepted, Accepted.received-by, Balance.some-next}
+use Rattle.desk_laws.proofs.{Judgements.untouched, Mounts.has, Mounts.has-live_on, Mounts.unreceived-nowhere}
+use Rattle.desk_laws.proofs.{SlotsLater.IsOn, SlotsLater.on-load, SlotsLater.on-splice, SlotsLater.on-unload}
+use Rattle.desk_laws.proofs.{Tapes.unmounted-nowhere}
 use Rattle.desk_laws.specs.Place.{is_at, place_after, place_of}
-use Rattle.desk_laws.proofs.Accepted.{next-accepted, mountable, received-by}
-use Rattle.desk_laws.proofs.Balance.{some-next}
-use Rattle.desk_laws.proofs.Judgements.{untouched}
-use Rattle.desk_laws.proofs.Mounts.{has, has-live_on, unreceived-nowhere}
-use Rattle.desk_laws.proofs.SlotsLater.{IsOn, on-load, on-splice, on-unload}
-use Rattle.desk_laws.proofs.Tapes.{unmounted-nowhere}
 
 -- ---- splices
 

@@ -1,14 +1,8 @@
 -- Runs in two parts, and facts that later entries keep.
-use Rattle.std.proofs.Common.{◌≡◌, List, [], ◌∷◌, ◌++◌, filter_map, refl, sym, ap, ◌∙◌}
-use Rattle.std.proofs.lemmas.List.{append_assoc, append-nil}
-use Rattle.std.proofs.lemmas.List.Elements.{filter_map-append}
-use Rattle.desk_types.specs.declared.command.Entry.{Entry}
-use Rattle.desk_types.specs.declared.command.Stamped.{Stamped}
-use Rattle.desk_types.specs.declared.placement.Placement.{Placement}
-use Rattle.desk_types.specs.declared.rules.Rules.{Rules}
-use Rattle.desk_types.specs.History.{History, IsPrefix}
-use Rattle.desk_types.specs.Outcome.{reply_to, after_command, replies_to, after_commands}
-use Rattle.desk_types.specs.Placements.{EntryTake, entry_takes, takes_of, placement_of, placements_of}
+use Rattle.desk_types.proofs.Common.{[], ◌++◌, ◌∙◌, ◌∷◌, ◌≡◌, after_command, after_commands, ap, append-nil}
+use Rattle.desk_types.proofs.Common.{append_assoc, Entry, entry_takes, EntryTake, filter_map, filter_map-append}
+use Rattle.desk_types.proofs.Common.{History, IsPrefix, List, Placement, placement_of, placements_of, refl}
+use Rattle.desk_types.proofs.Common.{replies_to, reply_to, Rules, Stamped, sym, takes_of}
 
 pub replies-append : (rules : Rules) (H : History) (first second : List Stamped) → replies_to rules H (first ++ second) ≡ replies_to rules H first ++ replies_to rules (after_commands rules H first) second
 replies-append rules H [] second = refl

@@ -1,21 +1,11 @@
 -- The greatest number of pieces on a reel.
-use Rattle.std.proofs.Common.{◌≡◌, ℕ, ◌+◌, ◌*◌, ◌-◌, ◌≤◌, Bool, true, false, cond, Option, Some, None, List, [], ◌∷◌, All, length, unwrap_or, refl, ap, arith}
-use Rattle.std.specs.Prelude.{if◌then◌else◌}
+use Rattle.desk_types.proofs.Common.{[], ◌*◌, ◌+◌, ◌-◌, ◌∷◌, ◌≡◌, ◌≤◌, All, All-head, All-tail, ap, arith, Bool}
+use Rattle.desk_types.proofs.Common.{Command, cond, CountRow, CountsTaken, false, found_by, found_of}
+use Rattle.desk_types.proofs.Common.{GREATEST_QUANTITY, History, if◌then◌else◌, IsCommand, IsCountRow, IsJudged}
+use Rattle.desk_types.proofs.Common.{left_of, length, List, Name, None, Option, option_map, option_map_or, option_or}
+use Rattle.desk_types.proofs.Common.{picks_of, pieces_by, pieces_picked, Receipt, receipt_by, receipt_of, received_of}
+use Rattle.desk_types.proofs.Common.{ReelReceived, refl, same, Some, true, Two, unwrap_or, ℕ}
 use Rattle.std.specs.List.{find}
-use Rattle.std.specs.Option.{option_map, option_map_or, option_or}
-use Rattle.std.proofs.lemmas.List.Elements.{All-head, All-tail}
-use Rattle.desk_types.specs.declared.command.Command.{Command}
-use Rattle.desk_types.specs.declared.command.Command.TheVariants.{ReelReceived, CountsTaken}
-use Rattle.desk_types.specs.declared.command.Receipt.{Receipt}
-use Rattle.desk_types.specs.declared.count.CountRow.{CountRow}
-use Rattle.desk_types.specs.declared.limits.TheConstants.{GREATEST_QUANTITY}
-use Rattle.desk_types.specs.declared.rules.Rules.TheVariants.{Two}
-use Rattle.desk_types.specs.Command.{IsCommand, IsCountRow}
-use Rattle.desk_types.specs.Id.{Name, same}
-use Rattle.desk_types.specs.History.{History}
-use Rattle.desk_types.specs.Setup.{receipt_by, receipt_of}
-use Rattle.desk_types.specs.Pieces.{pieces_picked, picks_of, pieces_by, left_of, found_by, found_of, received_of}
-use Rattle.desk_types.specs.Judged.{IsJudged}
 
 -- ---- one command
 

@@ -1,17 +1,8 @@
 -- Facts about a reel that later entries keep.
-use Rattle.std.proofs.Common.{◌≡◌, true, Option, Some, None, List, [], ◌∷◌, ◌++◌, refl, ap, ◌∙◌, subst}
-use Rattle.std.specs.Prelude.{is_some}
-use Rattle.std.specs.Option.{option_or}
-use Rattle.desk_types.specs.declared.command.Entry.{Entry}
-use Rattle.desk_types.specs.declared.command.Receipt.{Receipt}
-use Rattle.desk_types.specs.declared.rules.Rules.TheVariants.{Two}
-use Rattle.desk_types.specs.Id.{Name}
-use Rattle.desk_types.specs.History.{History, IsPrefix}
-use Rattle.desk_types.specs.Setup.{receipt_by, receipt_of}
-use Rattle.desk_types.specs.Pieces.{left_of}
-use Rattle.desk_types.specs.Judged.{IsJudged}
-use Rattle.desk_laws.proofs.Accepted.{received-once}
-use Rattle.desk_laws.proofs.Balance.{spent-next}
+use Rattle.desk_types.proofs.Common.{[], ◌++◌, ◌∙◌, ◌∷◌, ◌≡◌, ap, Entry, History, is_some, IsJudged, IsPrefix}
+use Rattle.desk_types.proofs.Common.{left_of, List, Name, None, Option, option_or, Receipt, receipt_by, receipt_of}
+use Rattle.desk_types.proofs.Common.{refl, Some, subst, true, Two}
+use Rattle.desk_laws.proofs.{Accepted.received-once, Balance.spent-next}
 
 pub not-again : (H : History) (e : Entry) (reel : Name) → IsJudged Two (e ∷ H) → is_some (receipt_of H reel) ≡ true → receipt_by reel e.effective e.stamped.command ≡ None
 not-again H e reel (next, judged) received = by (receipt_by reel e.effective e.stamped.command) refl

@@ -1,25 +1,13 @@
 -- The difference between the rules: under rules One, no count exceeds the remaining pieces.
-use Rattle.std.proofs.Common.{◌≡◌, ◌≢◌, ℕ, ◌-◌, nat_lt, Bool, true, false, Some, None, List, [], ◌∷◌, ◌++◌, find, refl, ap, arith}
-use Rattle.std.specs.Prelude.{if◌then◌else◌, is_none}
-use Rattle.std.specs.Option.{option_map_or}
-use Rattle.std.specs.List.{list_any}
-use Rattle.std.proofs.lemmas.Bool.{ltb-false}
-use Rattle.desk_types.specs.declared.answer.Refusal.{Refusal}
-use Rattle.desk_types.specs.declared.answer.Refusal.TheVariants.{TooFarAhead, UnknownReel, ReelTwice, ReelMounted, CountAbove}
-use Rattle.desk_types.specs.declared.command.Command.{Command}
-use Rattle.desk_types.specs.declared.command.Command.TheVariants.{CountsTaken}
-use Rattle.desk_types.specs.declared.command.Stamped.{Stamped}
-use Rattle.desk_types.specs.declared.count.CountRow.{CountRow}
-use Rattle.desk_types.specs.declared.rules.Rules.TheVariants.{One, Two}
-use Rattle.desk_types.specs.Id.{Name, same}
-use Rattle.desk_types.specs.History.{History, effective_minute}
-use Rattle.desk_types.specs.Setup.{receipt_of}
-use Rattle.desk_types.specs.Pieces.{left_of, is_mounted, found_by, found_of}
-use Rattle.desk_types.specs.Refusals.{count_refusal, counts_refusal, command_refusal, is_too_far_ahead, refusal_of}
-use Rattle.desk_types.specs.Judged.{IsJudged}
-use Rattle.desk_types.proofs.Keys.{same-true}
-use Rattle.desk_laws.proofs.Accepted.{none-holds}
-use Rattle.desk_laws.proofs.Judgements.{or-none}
+use Rattle.desk_types.proofs.Common.{[], ◌++◌, ◌-◌, ◌∷◌, ◌≡◌, ◌≢◌, ap, arith, Bool, Command, command_refusal}
+use Rattle.desk_types.proofs.Common.{CountAbove, CountRow, counts_refusal, CountsTaken, effective_minute, false, find}
+use Rattle.desk_types.proofs.Common.{found_by, found_of, History, if◌then◌else◌, is_mounted, is_none}
+use Rattle.desk_types.proofs.Common.{is_too_far_ahead, IsJudged, left_of, List, list_any, ltb-false, Name, nat_lt}
+use Rattle.desk_types.proofs.Common.{None, One, option_map_or, receipt_of, ReelMounted, ReelTwice, refl, Refusal}
+use Rattle.desk_types.proofs.Common.{refusal_of, same, same-true, Some, Stamped, TooFarAhead, true, Two, UnknownReel}
+use Rattle.desk_types.proofs.Common.{ℕ}
+use Rattle.desk_laws.proofs.{Accepted.none-holds, Judgements.or-none}
+use Rattle.desk_types.specs.Refusals.{count_refusal}
 
 -- ---- found pieces
 

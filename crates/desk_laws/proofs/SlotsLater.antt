@@ -1,14 +1,8 @@
 -- Slots and places after one command, for any tape.
-use Rattle.std.proofs.Math.Bool.{or-false}
-use Rattle.std.proofs.lemmas.Bool.{and_parts}
-use Rattle.std.proofs.Common.{◌≡◌, Bool, true, false, Option, Some, None, List, [], ◌∷◌, ◌++◌, refl, sym, ap, ◌∙◌}
-use Rattle.std.specs.Prelude.{if◌then◌else◌, ◌||◌, ◌&&◌}
-use Rattle.std.proofs.lemmas.List.Folds.{list_any-append}
-use Rattle.desk_types.specs.Id.{Name, same}
-use Rattle.desk_types.specs.Tape.{tape_with}
-use Rattle.desk_types.proofs.Keys.{same-sym, same-true}
-use Rattle.desk_laws.specs.Place.{is_at}
-use Rattle.desk_laws.proofs.Mounts.{has}
+use Rattle.desk_types.proofs.Common.{[], ◌&&◌, ◌++◌, ◌||◌, ◌∙◌, ◌∷◌, ◌≡◌, and_parts, ap, Bool, false, if◌then◌else◌}
+use Rattle.desk_types.proofs.Common.{List, list_any-append, Name, None, Option, or-false, refl, same, same-sym}
+use Rattle.desk_types.proofs.Common.{same-true, Some, sym, tape_with, true}
+use Rattle.desk_laws.{proofs.Mounts.has, specs.Place.is_at}
 
 cleared : (machine slot : Name) (place : Option (Name × Name)) → is_at machine slot (if is_at machine slot place then None else place) ≡ false
 cleared machine slot None = refl

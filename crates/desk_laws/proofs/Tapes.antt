@@ -1,21 +1,10 @@
 -- Tapes of accepted histories.
-use Rattle.std.proofs.Common.{◌≡◌, ℕ, nat_lt, Bool, true, false, None, List, [], ◌∷◌, ◌++◌, refl, ap, ◌∙◌, arith}
-use Rattle.std.specs.Prelude.{if◌then◌else◌, ◌&&◌, ◌==◌}
-use Rattle.std.specs.List.{IsDistinct}
-use Rattle.std.proofs.lemmas.Bool.{ltb-false}
-use Rattle.desk_types.specs.declared.command.Command.{Command}
-use Rattle.desk_types.specs.declared.command.Command.TheVariants.{MaterialsLoaded, MaterialsSpliced, MaterialsUnloaded}
-use Rattle.desk_types.specs.declared.rules.Rules.TheVariants.{Two}
-use Rattle.desk_types.specs.Id.{Name, same}
-use Rattle.desk_types.specs.History.{History}
-use Rattle.desk_types.specs.Tape.{tape_with, tape_after, tape_of}
-use Rattle.desk_types.specs.Pieces.{left_of, live_on, is_mounted}
-use Rattle.desk_types.specs.Refusals.{command_refusal}
-use Rattle.desk_types.specs.Judged.{IsJudged}
-use Rattle.desk_types.proofs.Keys.{same-sym}
-use Rattle.desk_laws.proofs.Accepted.{next-accepted, mountable}
-use Rattle.desk_laws.proofs.Distinct.{distinct-filter, distinct-join}
-use Rattle.desk_laws.proofs.Mounts.{has, has-live_on, live-mounted}
+use Rattle.desk_types.proofs.Common.{[], ◌&&◌, ◌++◌, ◌==◌, ◌∙◌, ◌∷◌, ◌≡◌, ap, arith, Bool, Command, command_refusal}
+use Rattle.desk_types.proofs.Common.{false, History, if◌then◌else◌, is_mounted, IsDistinct, IsJudged, left_of, List}
+use Rattle.desk_types.proofs.Common.{live_on, ltb-false, MaterialsLoaded, MaterialsSpliced, MaterialsUnloaded, Name}
+use Rattle.desk_types.proofs.Common.{nat_lt, None, refl, same, same-sym, tape_after, tape_of, tape_with, true, Two, ℕ}
+use Rattle.desk_laws.proofs.{Accepted.mountable, Accepted.next-accepted, Distinct.distinct-filter}
+use Rattle.desk_laws.proofs.{Distinct.distinct-join, Mounts.has, Mounts.has-live_on, Mounts.live-mounted}
 
 pub not-zero : (n : ℕ) → (n == 0) ≡ false → nat_lt 0 n ≡ true
 not-zero n some = by (nat_lt 0 n) refl

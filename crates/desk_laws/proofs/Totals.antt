@@ -1,15 +1,9 @@
 -- A reel's placed and scrapped pieces after one more entry.
-use Rattle.std.proofs.Common.{◌≡◌, ◌+◌, Bool, not, List, ◌∷◌, ◌++◌, refl, sym, ap, ◌∙◌}
-use Rattle.std.specs.Prelude.{if◌then◌else◌}
-use Rattle.std.specs.List.{filter}
-use Rattle.std.proofs.lemmas.List.Elements.{filter-append}
-use Rattle.std.proofs.lemmas.List.Filters.{sum_by-filter_both}
-use Rattle.desk_types.specs.declared.command.Entry.{Entry}
-use Rattle.desk_types.specs.declared.take.Pick.{Pick}
-use Rattle.desk_types.specs.Id.{Name, same}
-use Rattle.desk_types.specs.History.{History}
-use Rattle.desk_types.specs.Pieces.{pieces_picked, picks_of, all_picks, is_placed, placed_of, scrapped_of}
+use Rattle.desk_types.proofs.Common.{◌++◌, ◌+◌, ◌∙◌, ◌∷◌, ◌≡◌, all_picks, ap, Bool, Entry, filter-append, History}
+use Rattle.desk_types.proofs.Common.{if◌then◌else◌, is_placed, List, Name, not, Pick, picks_of, pieces_picked}
+use Rattle.desk_types.proofs.Common.{placed_of, refl, same, scrapped_of, sym}
 use Rattle.desk_laws.proofs.Picks.{pieces_picked-append}
+use Rattle.std.{proofs.lemmas.List.Filters.sum_by-filter_both, specs.List.filter}
 
 pub pieces_picked-split : (picks : List Pick) (reel : Name)
     → pieces_picked picks reel ≡ pieces_picked (filter (λ p. is_placed p.purpose) picks) reel + pieces_picked (filter (λ p. not (is_placed p.purpose)) picks) reel

@@ -1,26 +1,21 @@
 -- Faults of a roll-over: for each an old desk and a new one that are not alike. In two of them the new desk knows a name that the old one
 -- doesn't. Each but the case of the lot has a command that the two desks answer differently.
-use Rattle.std.proofs.Common.{◌≡◌, ℕ, Bool, true, false, Option, Some, None, List, [], ◌∷◌, ◌++◌, refl, ap, arith}
-use Rattle.std.specs.Prelude.{◌==◌, is_some}
-use Rattle.std.specs.Option.{option_map_or, option_and_then}
-use Rattle.desk_types.specs.declared.answer.Detail.TheVariants.{Plain, MinutesLeft, Reels, Taken}
-use Rattle.desk_types.specs.declared.answer.Refusal.TheVariants.{PartExists, ReelExists, SlotEmpty, WrongPart, NotBaked, Expired, AlreadyPlaced, ReelShort, MachineBusy}
-use Rattle.desk_types.specs.declared.answer.Reply.{Reply}
-use Rattle.desk_types.specs.declared.answer.Reply.TheVariants.{Accepted, Refused}
-use Rattle.desk_types.specs.declared.command.Command.TheVariants.{PartDefined, AlternateAllowed, SheetDefined, ProductSelected, ReelOpened, ReelBaked, MaterialsLoaded, MaterialsSpliced, WorkStarted, WorkCompleted, MaterialsInstalled, MaterialsScrapped, ClockSet}
-use Rattle.desk_types.specs.declared.command.Stamped.{Stamped}
-use Rattle.desk_types.specs.declared.level.Level.TheVariants.{FiveA}
-use Rattle.desk_types.specs.declared.rules.Rules.TheVariants.{Two}
-use Rattle.desk_types.specs.declared.sheet.SheetRow.{SheetRow}
-use Rattle.desk_types.specs.Id.{Name, same}
-use Rattle.desk_types.specs.History.{History}
-use Rattle.desk_types.specs.Tape.{tape_of}
-use Rattle.desk_types.specs.Pieces.{install_picks, left_of, live_on, first}
-use Rattle.desk_types.specs.FloorLife.{is_out_at, exposure_of}
-use Rattle.desk_types.specs.Refusals.{part_refusal, alternate_refusal, sheet_refusal, definition_refusal, selection_refusal, receipt_refusal, opening_refusal, closing_refusal, mounting_refusal, start_refusal, completion_refusal, install_refusal, scrap_refusal, command_refusal, refusal_of}
-use Rattle.desk_types.specs.Outcome.{replies_to, after_commands}
-use Rattle.desk_types.proofs.RowsCommon.{P, Q, L1, L2, PR, M, S1, S2, K1, K2, B1, R1, R2, at, said, sheet_row, received_at, received, received_at_six, base}
+use Rattle.desk_types.proofs.Common.{[], ◌++◌, ◌==◌, ◌∷◌, ◌≡◌, Accepted, after_commands, AlreadyPlaced}
+use Rattle.desk_types.proofs.Common.{alternate_refusal, AlternateAllowed, ap, arith, Bool, ClockSet, closing_refusal}
+use Rattle.desk_types.proofs.Common.{command_refusal, completion_refusal, definition_refusal, Expired, exposure_of}
+use Rattle.desk_types.proofs.Common.{false, first, FiveA, History, install_picks, install_refusal, is_out_at, is_some}
+use Rattle.desk_types.proofs.Common.{left_of, List, live_on, MachineBusy, MaterialsInstalled, MaterialsLoaded}
+use Rattle.desk_types.proofs.Common.{MaterialsScrapped, MaterialsSpliced, MinutesLeft, mounting_refusal, Name, None}
+use Rattle.desk_types.proofs.Common.{NotBaked, opening_refusal, Option, option_and_then, option_map_or, part_refusal}
+use Rattle.desk_types.proofs.Common.{PartDefined, ProductSelected, receipt_refusal, ReelBaked, ReelExists, ReelOpened}
+use Rattle.desk_types.proofs.Common.{Reels, ReelShort, refl, refusal_of, Refused, replies_to, Reply, same}
+use Rattle.desk_types.proofs.Common.{scrap_refusal, selection_refusal, sheet_refusal, SheetDefined, SheetRow}
+use Rattle.desk_types.proofs.Common.{SlotEmpty, Some, Stamped, start_refusal, Taken, tape_of, true, Two}
+use Rattle.desk_types.proofs.Common.{WorkCompleted, WorkStarted, WrongPart, ℕ}
 use Rattle.desk_laws.specs.Alike.{AreAlike}
+use Rattle.desk_types.proofs.RowsCommon.{at, B1, base, K1, K2, L1, L2, M, P, PR, Q, R1, R2, received, received_at}
+use Rattle.desk_types.proofs.RowsCommon.{received_at_six, S1, S2, said, sheet_row}
+use Rattle.desk_types.specs.{declared.answer.Detail.TheVariants.Plain, declared.answer.Refusal.TheVariants.PartExists}
 
 -- The history of a desk that got these commands.
 abbrev after : List Stamped → History

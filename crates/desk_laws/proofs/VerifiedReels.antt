@@ -1,27 +1,12 @@
 -- The verification of the reels that feed slots.
-use Rattle.std.proofs.lemmas.Bool.{and_parts, not-false}
-use Rattle.std.proofs.Common.{◌≡◌, ℕ, Bool, true, false, not, Option, Some, None, [], ◌∷◌, refl, sym, ap, ◌∙◌, subst}
-use Rattle.std.specs.Prelude.{◌&&◌, ◌||◌}
-use Rattle.std.specs.Option.{option_map_or}
-use Rattle.std.specs.List.{list_any}
-use Rattle.desk_types.specs.declared.command.Command.{Command}
-use Rattle.desk_types.specs.declared.command.Command.TheVariants.{MaterialsLoaded, MaterialsSpliced}
-use Rattle.desk_types.specs.declared.command.Entry.{Entry}
-use Rattle.desk_types.specs.declared.command.Receipt.{Receipt}
-use Rattle.desk_types.specs.declared.rules.Rules.TheVariants.{Two}
-use Rattle.desk_types.specs.declared.sheet.SheetRow.{SheetRow}
-use Rattle.desk_types.specs.Id.{Name, same}
-use Rattle.desk_types.specs.History.{History, IsPrefix}
-use Rattle.desk_types.specs.Setup.{is_allowed, row_on, receipt_of}
-use Rattle.desk_types.specs.Tape.{tape_of}
-use Rattle.desk_types.specs.FloorLife.{is_expired}
-use Rattle.desk_types.specs.Refusals.{is_wrong_for, command_refusal}
-use Rattle.desk_types.specs.Judged.{IsNext, IsJudged}
-use Rattle.desk_types.proofs.Keys.{same-true}
-use Rattle.desk_laws.specs.Verified.{mounts, IsVerified, WasVerified}
-use Rattle.desk_laws.proofs.Accepted.{IsMountable, next-accepted, mountable}
-use Rattle.desk_laws.proofs.Judgements.{judged-prefix}
-use Rattle.desk_laws.proofs.Mounts.{has, mounted-step}
+use Rattle.desk_types.proofs.Common.{[], ◌&&◌, ◌||◌, ◌∙◌, ◌∷◌, ◌≡◌, and_parts, ap, Bool, Command, command_refusal}
+use Rattle.desk_types.proofs.Common.{Entry, false, History, is_allowed, is_expired, is_wrong_for, IsJudged, IsNext}
+use Rattle.desk_types.proofs.Common.{IsPrefix, list_any, MaterialsLoaded, MaterialsSpliced, Name, None, not}
+use Rattle.desk_types.proofs.Common.{not-false, Option, option_map_or, Receipt, receipt_of, refl, row_on, same}
+use Rattle.desk_types.proofs.Common.{same-true, SheetRow, Some, subst, sym, tape_of, true, Two, ℕ}
+use Rattle.desk_laws.proofs.{Accepted.IsMountable, Accepted.mountable, Accepted.next-accepted}
+use Rattle.desk_laws.proofs.{Judgements.judged-prefix, Mounts.has, Mounts.mounted-step}
+use Rattle.desk_laws.specs.Verified.{IsVerified, mounts, WasVerified}
 
 -- ---- loads and splices
 

@@ -1,32 +1,17 @@
 -- Accepted installs and scraps are whole.
-use Rattle.std.proofs.Common.{◌≡◌, ℕ, ◌+◌, ◌-◌, ◌≤◌, min, nat_lt, Bool, true, false, None, List, [], ◌∷◌, ◌++◌, map, filter_map, refl, sym, ap, ◌∙◌, arith, zero-add, filter, cond}
-use Rattle.std.specs.Prelude.{if◌then◌else◌}
-use Rattle.std.specs.List.{cons_option, enumerate_from, sum_by}
-use Rattle.std.proofs.lemmas.Bool.{ltb-false}
-use Rattle.std.proofs.lemmas.List.{append_cancel_left}
-use Rattle.std.proofs.lemmas.List.Elements.{filter_map-append}
-use Rattle.std.proofs.lemmas.List.Sums.{sum_by-append}
-use Rattle.desk_types.specs.declared.answer.Detail.TheVariants.{Reels}
-use Rattle.desk_types.specs.declared.answer.Refusal.{Refusal}
-use Rattle.desk_types.specs.declared.answer.Refusal.TheVariants.{SlotEmpty, ReelShort}
-use Rattle.desk_types.specs.declared.command.Command.TheVariants.{MaterialsInstalled, MaterialsScrapped}
-use Rattle.desk_types.specs.declared.command.Entry.{Entry}
-use Rattle.desk_types.specs.declared.command.Stamped.{Stamped}
-use Rattle.desk_types.specs.declared.placement.Placement.{Placement}
-use Rattle.desk_types.specs.declared.rules.Rules.TheVariants.{Two}
-use Rattle.desk_types.specs.declared.take.Pick.{Pick}
-use Rattle.desk_types.specs.declared.take.Purpose.{Purpose}
-use Rattle.desk_types.specs.declared.take.Purpose.TheVariants.{Rejected}
-use Rattle.desk_types.specs.Id.{Name}
-use Rattle.desk_types.specs.History.{History, effective_minute, entry_of, accept}
-use Rattle.desk_types.specs.Tape.{tape_of}
-use Rattle.desk_types.specs.Pieces.{pieces_off, scrap_picks, left_of, live_on, picks_of}
-use Rattle.desk_types.specs.Outcome.{reels_of, pieces_of, take_of, detail_of}
-use Rattle.desk_types.specs.Placements.{entry_takes, takes_of, placement_of, placements_of}
-use Rattle.desk_types.specs.Refusals.{is_vacant, scrap_refusal, command_refusal, refusal_of}
+use Rattle.desk_types.proofs.Common.{[], ◌++◌, ◌+◌, ◌-◌, ◌∙◌, ◌∷◌, ◌≡◌, ◌≤◌, accept, ap, arith, Bool, command_refusal}
+use Rattle.desk_types.proofs.Common.{cons_option, detail_of, effective_minute, Entry, entry_of, entry_takes}
+use Rattle.desk_types.proofs.Common.{enumerate_from, false, filter_map, filter_map-append, History, if◌then◌else◌}
+use Rattle.desk_types.proofs.Common.{is_vacant, left_of, List, live_on, ltb-false, map, MaterialsInstalled}
+use Rattle.desk_types.proofs.Common.{MaterialsScrapped, min, Name, nat_lt, None, Pick, picks_of, pieces_of}
+use Rattle.desk_types.proofs.Common.{pieces_off, Placement, placement_of, placements_of, Purpose, Reels, reels_of}
+use Rattle.desk_types.proofs.Common.{ReelShort, refl, Refusal, refusal_of, Rejected, scrap_picks, scrap_refusal}
+use Rattle.desk_types.proofs.Common.{SlotEmpty, Stamped, sum_by, sum_by-append, sym, take_of, takes_of, true, Two}
+use Rattle.desk_types.proofs.Common.{zero-add, ℕ}
+use Rattle.desk_laws.proofs.{Accepted.command-accepted, Accepted.none-holds, Installs.ArePlacedFor}
+use Rattle.desk_laws.proofs.{Installs.each-placed, Lives.scrap-live}
 use Rattle.desk_laws.specs.Whole.{spot_of, spots_from, spots_named}
-use Rattle.desk_laws.proofs.Accepted.{none-holds, command-accepted}
-use Rattle.desk_laws.proofs.Installs.{ArePlacedFor, each-placed}
+use Rattle.std.proofs.lemmas.List.{append_cancel_left}
 
 -- ---- installs
 
@@ -67,29 +52,7 @@ install-told H s machine board ds more minute none is placed =
 
 -- ---- scraps
 
-scrap-filter : (pieces : Name → ℕ) (purpose : Purpose) (reels : List Name) (n : ℕ)
-    → scrap_picks pieces purpose (filter (λ r. nat_lt 0 (pieces r)) reels) n ≡ scrap_picks pieces purpose reels n
-scrap-filter pieces purpose [] n = refl
-scrap-filter pieces purpose (r ∷ rs) n = by (nat_lt 0 (pieces r)) refl (scrap-filter pieces purpose rs)
-  where
-    empty : (k : ℕ) → k ≡ 0 → scrap_picks pieces purpose rs n ≡ pieces_off r (min n k) purpose ++ scrap_picks pieces purpose rs (n - k)
-    empty k is =
-        let nothing : min n k ≡ 0 = omega (arith, is) in
-        let all : n - k ≡ n = omega (arith, is) in
-        sym (ap (λ q. pieces_off r q purpose ++ scrap_picks pieces purpose rs (n - k)) nothing ∙ ap (scrap_picks pieces purpose rs) all)
-
-    by : (b : Bool) → nat_lt 0 (pieces r) ≡ b → ((k : ℕ) → scrap_picks pieces purpose (filter (λ x. nat_lt 0 (pieces x)) rs) k ≡ scrap_picks pieces purpose rs k)
-        → scrap_picks pieces purpose (cond b (r ∷ filter (λ x. nat_lt 0 (pieces x)) rs) (filter (λ x. nat_lt 0 (pieces x)) rs)) n
-        ≡ pieces_off r (min n (pieces r)) purpose ++ scrap_picks pieces purpose rs (n - pieces r)
-    by true some rest = ap (λ l. pieces_off r (min n (pieces r)) purpose ++ l) (rest (n - pieces r))
-    by false none rest = rest n ∙ empty (pieces r) (let few = ltb-false 0 (pieces r) none in omega (arith, few))
-
-scrap-live : (H : History) (purpose : Purpose) (machine slot : Name) (n : ℕ)
-    → scrap_picks (left_of H) purpose (live_on H machine slot) n ≡ scrap_picks (left_of H) purpose (tape_of H machine slot) n
-unfolding live_on
-scrap-live H purpose machine slot n = scrap-filter (left_of H) purpose (tape_of H machine slot) n
-
-pieces-off : (r : Name) (n : ℕ) (purpose : Purpose) → pieces_of (pieces_off r n purpose) ≡ n
+pub pieces-off : (r : Name) (n : ℕ) (purpose : Purpose) → pieces_of (pieces_off r n purpose) ≡ n
 pieces-off r n purpose = by (nat_lt 0 n) refl
   where
     by : (b : Bool) → nat_lt 0 n ≡ b → pieces_of (if◌then◌else◌ {A = List Pick} b (record { reel = r; quantity = n; purpose = purpose } ∷ []) []) ≡ n

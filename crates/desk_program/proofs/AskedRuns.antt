@@ -1,30 +1,26 @@
 -- A run that the arguments ask for.
-use Rattle.std.proofs.Common.{◌≡◌, ◌≢◌, ◌⊎◌, ℕ, List, Option, None, Some, true, false, refl, subst, inl, inr, arith}
-use Rattle.std.specs.Io.KnownBytes.{Appends}
-use Rattle.sqlite_disk.specs.declared.Disk as disk
-use Rattle.desk_types.specs.declared.wire.Wire.{Wire}
-use Rattle.desk_types.specs.History.{History}
-use Rattle.desk_types.specs.Wire.{inner_of, failures_of}
-use Rattle.desk_answers.specs.Ledger.{Ledger}
-use Rattle.line_schema.specs.declared.fault.OpenFault.{OpenFault}
-use Rattle.desk_answers.specs.declared.serving.ServeFault.TheVariants.{Write}
-use Rattle.desk_answers.specs.Counts.{none_served}
-use Rattle.desk_answers.specs.Sent.{SendsFront}
-use Rattle.imports.specs.declared.import.Import.{Import}
-use Rattle.desk_words.specs.CommandLine.{AsksForAudit, AsksForFeed, AsksForImport, AsksForMigration, AsksForReport, AsksForServing}
-use Rattle.http_stream.specs.Answers.{Told, code_of}
-use Rattle.http_stream.specs.Stream.{RuleBy}
+use Rattle.desk_types.proofs.Common.{◌≡◌, ◌≢◌, ◌⊎◌, Appends, arith, failures_of, false, History, inl, inner_of, inr}
+use Rattle.desk_types.proofs.Common.{List, None, Option, refl, Some, subst, true, Wire, ℕ}
+use Rattle.desk_answers.specs.{Counts.none_served, Ledger.Ledger, Sent.SendsFront}
+use Rattle.desk_answers.specs.{declared.serving.ServeFault.TheVariants.Write}
+use Rattle.desk_commands.specs.{Clients.ends_of, Clients.Exchange, Clients.Serving, Connections.AnswersEach}
+use Rattle.desk_commands.specs.{Connections.TellsConnections, Ends.FeedEnds, Ends.ImportEnds, Ends.PrintEnds}
+use Rattle.desk_commands.specs.{Ends.ReportEnds, Ends.ServingEnds, OpenRuns.AnswersAll, OpenRuns.AnswersImport}
+use Rattle.desk_commands.specs.{OpenRuns.AnswersReport, OpenRuns.AnswersUpTo, OpenRuns.CutsImport, OpenRuns.StaysSame}
+use Rattle.desk_commands.specs.{Runs.HasNoDesk, Runs.LeavesDesk, Runs.LeavesFile, Runs.RunsInMemory, Runs.ServesEach}
+use Rattle.desk_commands.specs.{Told.lawful_line, Told.report_output, Told.TellsLine, Told.unavailable_line}
+use Rattle.desk_commands.specs.{Told.version_line, declared.left.ToClose.ToClose}
+use Rattle.desk_program.specs.{Program.Bad, Program.LeavesAs, Program.Names, Program.NamesDesk, Program.NamesMigrated}
+use Rattle.desk_program.specs.{Program.RefusesNamed, Program.RunsAs, Program.RunsAsked, Program.RunsImport}
+use Rattle.desk_program.specs.{Program.RunsReport, Program.RunsServing, Ways.Ways}
+use Rattle.desk_words.specs.CommandLine.{AsksForAudit, AsksForFeed, AsksForImport, AsksForMigration, AsksForReport}
+use Rattle.desk_words.specs.CommandLine.{AsksForServing}
 use Rattle.gateway_http.specs.Reports.{report_of}
-use Rattle.desk_commands.specs.Clients.{Exchange, Serving, ends_of}
-use Rattle.desk_commands.specs.Connections.{AnswersEach, TellsConnections}
-use Rattle.desk_commands.specs.Ends.{FeedEnds, ImportEnds, PrintEnds, ReportEnds, ServingEnds}
-use Rattle.desk_commands.specs.OpenRuns.{AnswersAll, AnswersImport, AnswersReport, AnswersUpTo, CutsImport, StaysSame}
-use Rattle.desk_commands.specs.Told.{lawful_line, report_output, unavailable_line, version_line, TellsLine}
-use Rattle.desk_commands.specs.declared.left.ToClose.{ToClose}
+use Rattle.http_stream.specs.{Answers.code_of, Answers.Told, Stream.RuleBy}
+use Rattle.imports.specs.declared.import.Import.{Import}
+use Rattle.line_schema.specs.declared.fault.OpenFault.{OpenFault}
+use Rattle.sqlite_disk.specs.declared.Disk as disk
 use Rattle.desk_commands.specs.declared.left.ToClose.TheVariants as left
-use Rattle.desk_commands.specs.Runs.{HasNoDesk, LeavesDesk, LeavesFile, RunsInMemory, ServesEach}
-use Rattle.desk_program.specs.Program.{Bad, LeavesAs, Names, NamesDesk, NamesMigrated, RefusesNamed, RunsAs, RunsAsked, RunsImport, RunsReport, RunsServing}
-use Rattle.desk_program.specs.Ways.{Ways}
 
 pub runs_import : (ways : Ways) (words : List (List ℕ)) (Fact : Import → List ℕ → Ledger → History → Type 0) (file : List ℕ) (import : Import) (from path : List ℕ)
     → AsksForImport words file import from → path ≡ from → ways.Runs None (Fact import path) → RunsImport ways words Fact

@@ -1,30 +1,29 @@
 -- The table of a run, by its open files and by the files that it closed.
-use Rattle.std.proofs.Common.{◌≡◌, ◌≢◌, ◌⊎◌, ◌≤◌, ◌+◌, ℕ, true, false, zero, suc, List, Option, None, Some, OnSome, refl, sym, ap, subst, inl, inr, arith}
-use Rattle.std.specs.Io.KnownBytes.{Appends}
-use Rattle.sqlite_disk.specs.declared.Disk as disk
-use Rattle.sqlite_disk.specs.declared.Files.{Files}
-use Rattle.sqlite_disk.specs.declared.start.Start as start
-use Rattle.sqlite_wal.proofs.LogLemmas.{SeenMayStay}
-use Rattle.desk_types.specs.declared.wire.Wire.{Wire}
-use Rattle.desk_types.specs.History.{History}
-use Rattle.desk_types.specs.Wire.{inner_of, failures_of}
-use Rattle.desk_answers.specs.Ledger.{Ledger}
-use Rattle.line_schema.specs.declared.fault.OpenFault.{OpenFault}
-use Rattle.imports.specs.declared.import.Import.{Import}
-use Rattle.http_stream.specs.Answers.{Told, code_of}
-use Rattle.desk_answers.specs.Sent.{SendsFront}
-use Rattle.gateway_http.specs.Reports.{report_of}
-use Rattle.desk_commands.specs.Clients.{Serving}
-use Rattle.desk_commands.specs.OpenRuns.{AnswersAll, AnswersImport, AnswersUpTo, CutsImport, StaysSame, AnswersReport}
-use Rattle.desk_commands.specs.Told.{report_output, unavailable_line, TellsEnd, TellsLine}
-use Rattle.desk_commands.specs.declared.left.ToClose.{ToClose}
-use Rattle.desk_commands.specs.declared.left.ToClose.TheVariants as left
-use Rattle.desk_commands.specs.Runs.{ServesEach}
-use Rattle.desk_commands.specs.Closed.{Close, ClosesLeft}
+use Rattle.desk_types.proofs.Common.{◌+◌, ◌≡◌, ◌≢◌, ◌≤◌, ◌⊎◌, ap, Appends, arith, failures_of, false, History, inl}
+use Rattle.desk_types.proofs.Common.{inner_of, inr, List, None, Option, refl, Some, subst, suc, sym, true, Wire, zero}
+use Rattle.desk_types.proofs.Common.{ℕ}
+use Rattle.desk_answers.specs.{Ledger.Ledger, Sent.SendsFront}
 use Rattle.desk_commands.proofs.ClosedFiles.{audits_to, migrates_to, refuses_to, refuses_to_migrate, runs_to}
-use Rattle.desk_program.specs.Program.{Bad, Done, Failed, ImportUnread, LeavesAs, Names, NamesFile, NoDesk, Refused, RefusesNamed, RunsAs, RunsAsked, RunsImport, RunsReport, RunsServing, Unclosed}
-use Rattle.desk_program.specs.Ways.{Ways, ways_when_closed, ways_when_open}
+use Rattle.desk_commands.specs.{Clients.Serving, Closed.Close, Closed.ClosesLeft, OpenRuns.AnswersAll}
+use Rattle.desk_commands.specs.{OpenRuns.AnswersImport, OpenRuns.AnswersReport, OpenRuns.AnswersUpTo}
+use Rattle.desk_commands.specs.{OpenRuns.CutsImport, OpenRuns.StaysSame, Runs.ServesEach, Told.report_output}
+use Rattle.desk_commands.specs.{Told.TellsEnd, Told.TellsLine, Told.unavailable_line, declared.left.ToClose.ToClose}
 use Rattle.desk_program.proofs.AskedRuns.{ends_none, has_none}
+use Rattle.desk_program.specs.{Program.Bad, Program.Done, Program.Failed, Program.ImportUnread, Program.LeavesAs}
+use Rattle.desk_program.specs.{Program.Names, Program.NamesFile, Program.NoDesk, Program.Refused}
+use Rattle.desk_program.specs.{Program.RefusesNamed, Program.RunsAs, Program.RunsAsked, Program.RunsImport}
+use Rattle.desk_program.specs.{Program.RunsReport, Program.RunsServing, Program.Unclosed, Ways.Ways}
+use Rattle.desk_program.specs.{Ways.ways_when_closed, Ways.ways_when_open}
+use Rattle.gateway_http.specs.Reports.{report_of}
+use Rattle.http_stream.specs.Answers.{code_of, Told}
+use Rattle.imports.specs.declared.import.Import.{Import}
+use Rattle.line_schema.specs.declared.fault.OpenFault.{OpenFault}
+use Rattle.sqlite_disk.specs.declared.Files.{Files}
+use Rattle.sqlite_wal.proofs.LogLemmas.{SeenMayStay}
+use Rattle.std.proofs.Common.{OnSome}
+use Rattle.sqlite_disk.specs.declared.Disk as disk
+use Rattle.sqlite_disk.specs.declared.start.Start as start
+use Rattle.desk_commands.specs.declared.left.ToClose.TheVariants as left
 
 -- A fact about the first is a fact about the second.
 pub record Follows (ways ways' : Ways) : Type 1 where

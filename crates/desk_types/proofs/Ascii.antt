@@ -1,12 +1,7 @@
 -- Names are text.
-use Rattle.std.proofs.Common.{◌≡◌, ℕ, ◌<◌, ◌≤◌, true, List, All, inl, inr, length, arith}
-use Rattle.std.proofs.lemmas.Bool.{cases_lt}
-use Rattle.std.proofs.lemmas.Bool.Decides.{nat_tests}
-use Rattle.std.proofs.lemmas.List.{get_or_past}
-use Rattle.std.proofs.lemmas.Str.{IsUtf8-from_ascii}
-use Rattle.std.specs.List.{AllPass, slice_index}
-use Rattle.std.specs.Str.{IsUtf8}
-use Rattle.desk_types.specs.Designator.{is_designator_byte}
+use Rattle.desk_types.proofs.Common.{◌<◌, ◌≡◌, ◌≤◌, All, arith, cases_lt, inl, inr, is_designator_byte, IsUtf8}
+use Rattle.desk_types.proofs.Common.{IsUtf8-from_ascii, length, List, nat_tests, true, ℕ}
+use Rattle.std.{proofs.lemmas.List.get_or_past, specs.List.AllPass, specs.List.slice_index}
 
 pub IsUtf8-printable : (bytes : List ℕ) → All (λ b. (0x20 ≤ b) × (b ≤ 0x7e)) bytes → IsUtf8 bytes
 IsUtf8-printable bytes each = IsUtf8-from_ascii bytes at

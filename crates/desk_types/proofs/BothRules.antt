@@ -1,23 +1,15 @@
 -- Rules Two accept every command that rules One accept.
-use Rattle.std.proofs.Common.{◌≡◌, ℕ, nat_lt, Bool, true, false, Option, Some, None, List, [], ◌∷◌, ◌++◌, refl, sym, ap, ◌∙◌}
-use Rattle.std.specs.Prelude.{if◌then◌else◌, is_none, ◌&&◌, ◌==◌}
-use Rattle.std.specs.Option.{option_or}
-use Rattle.std.proofs.lemmas.Bool.{eqb-true}
-use Rattle.std.specs.List.{list_any}
-use Rattle.desk_types.specs.declared.answer.Refusal.{Refusal}
-use Rattle.desk_types.specs.declared.answer.Refusal.TheVariants.{TooFarAhead, UnknownReel, ReelMounted, ReelTwice, CountAbove}
-use Rattle.desk_types.specs.declared.command.Command.{Command}
-use Rattle.desk_types.specs.declared.command.Command.TheVariants.{PartDefined, AlternateAllowed, SheetDefined, ProductSelected, ReelReceived, ReelOpened, ReelSealed, ReelBaked, MaterialsLoaded, MaterialsSpliced, MaterialsUnloaded, WorkStarted, WorkCompleted, MaterialsInstalled, MaterialsScrapped, CountsTaken, ClockSet}
-use Rattle.desk_types.specs.declared.command.Stamped.{Stamped}
-use Rattle.desk_types.specs.declared.count.CountRow.{CountRow}
-use Rattle.desk_types.specs.declared.rules.Rules.{Rules}
-use Rattle.desk_types.specs.declared.rules.Rules.TheVariants.{One, Two}
-use Rattle.desk_types.specs.Id.{Name, same}
-use Rattle.desk_types.specs.History.{History, effective_minute}
-use Rattle.desk_types.specs.Setup.{receipt_of}
-use Rattle.desk_types.specs.Pieces.{left_of, is_mounted}
-use Rattle.desk_types.specs.Judged.{IsJudged}
-use Rattle.desk_types.specs.Refusals.{first_refusal, is_above, is_too_far_ahead, count_refusal, counts_refusal, command_refusal, refusal_of}
+use Rattle.desk_types.proofs.Common.{[], ◌&&◌, ◌++◌, ◌==◌, ◌∙◌, ◌∷◌, ◌≡◌, AlternateAllowed, ap, Bool, ClockSet}
+use Rattle.desk_types.proofs.Common.{Command, command_refusal, CountAbove, CountRow, counts_refusal, CountsTaken}
+use Rattle.desk_types.proofs.Common.{effective_minute, eqb-true, false, first_refusal, History, if◌then◌else◌}
+use Rattle.desk_types.proofs.Common.{is_above, is_mounted, is_none, is_too_far_ahead, IsJudged, left_of, List}
+use Rattle.desk_types.proofs.Common.{list_any, MaterialsInstalled, MaterialsLoaded, MaterialsScrapped}
+use Rattle.desk_types.proofs.Common.{MaterialsSpliced, MaterialsUnloaded, Name, nat_lt, None, One, Option, option_or}
+use Rattle.desk_types.proofs.Common.{PartDefined, ProductSelected, receipt_of, ReelBaked, ReelMounted, ReelOpened}
+use Rattle.desk_types.proofs.Common.{ReelReceived, ReelSealed, ReelTwice, refl, Refusal, refusal_of, Rules, same}
+use Rattle.desk_types.proofs.Common.{SheetDefined, Some, Stamped, sym, TooFarAhead, true, Two, UnknownReel}
+use Rattle.desk_types.proofs.Common.{WorkCompleted, WorkStarted, ℕ}
+use Rattle.desk_types.specs.Refusals.{count_refusal}
 
 above-by-two : (left counted : ℕ) → nat_lt left counted ≡ false → is_above Two left counted ≡ false
 above-by-two left counted low = by (left == 0) refl

@@ -1,17 +1,11 @@
 -- Worked cases of counts under both sets of rules.
-use Rattle.std.specs.Prelude.{◌≡◌, None, List, [], ◌∷◌, ◌++◌, refl}
-use Rattle.desk_types.specs.declared.answer.Detail.TheVariants.{Plain, MinutesLeft, Taken}
-use Rattle.desk_types.specs.declared.answer.Refusal.TheVariants.{ReelMounted, CountAbove}
-use Rattle.desk_types.specs.declared.answer.Reply.TheVariants.{Accepted, Refused}
-use Rattle.desk_types.specs.declared.command.Command.TheVariants.{MaterialsLoaded, CountsTaken}
-use Rattle.desk_types.specs.declared.command.Stamped.{Stamped}
-use Rattle.desk_types.specs.declared.rules.Rules.TheVariants.{One, Two}
-use Rattle.desk_types.specs.History.{History}
-use Rattle.desk_types.specs.Tape.{tape_of}
-use Rattle.desk_types.specs.Pieces.{left_of, all_picks, received_of, found_of, scrapped_of, live_on}
-use Rattle.desk_types.specs.Refusals.{part_refusal, sheet_refusal, definition_refusal, selection_refusal, receipt_refusal, mounting_refusal, command_refusal, refusal_of}
-use Rattle.desk_types.specs.Outcome.{replies_to, after_commands}
-use Rattle.desk_types.proofs.RowsCommon.{P, L1, M, S1, K1, said, counted, received, base, base_replies}
+use Rattle.desk_types.proofs.Common.{[], ◌++◌, ◌∷◌, ◌≡◌, Accepted, after_commands, all_picks, command_refusal}
+use Rattle.desk_types.proofs.Common.{CountAbove, CountsTaken, definition_refusal, found_of, History, left_of, List}
+use Rattle.desk_types.proofs.Common.{live_on, MaterialsLoaded, MinutesLeft, mounting_refusal, None, One, part_refusal}
+use Rattle.desk_types.proofs.Common.{receipt_refusal, received_of, ReelMounted, refl, refusal_of, Refused, replies_to}
+use Rattle.desk_types.proofs.Common.{scrapped_of, selection_refusal, sheet_refusal, Stamped, Taken, tape_of, Two}
+use Rattle.desk_types.proofs.RowsCommon.{base, base_replies, counted, K1, L1, M, P, received, S1, said}
+use Rattle.desk_types.specs.declared.answer.Detail.TheVariants.{Plain}
 
 -- A reel of ten pieces is counted at fifteen, then twelve, none and one.
 abbrev counts : List Stamped

@@ -1,15 +1,13 @@
 -- Comparing bytes eight at a time as one number.
-use Rattle.std.proofs.Common.{◌≡◌, ◌≢◌, ℕ, zero, suc, ◌+◌, ◌-◌, ◌*◌, ◌==◌, ◌<◌, ◌≤◌, List, [], ◌∷◌, ◌++◌, length, take, drop, replicate, slice_index, All, inl, inr, refl, sym, ap, ◌∙◌, arith}
-use Rattle.std.proofs.lemmas.Bool.{cases_lt}
-use Rattle.std.proofs.lemmas.Bool.Decides.{nat_tests}
-use Rattle.std.proofs.lemmas.List.{get_or-take, get_or-drop, get_or_past, length-take, length-drop, drop-drop}
-use Rattle.std.proofs.lemmas.Cmp.{tied_itself, nat_list_cmp_total, nat_cmp_total}
-use Rattle.std.specs.Cmp.Lexicographic.{slice_cmp, pointwise, texts_ties}
-use Rattle.std.specs.Ordering.{nat_cmp, ordering_then, is_eq}
+use Rattle.desk_types.proofs.Common.{[], ◌*◌, ◌++◌, ◌+◌, ◌-◌, ◌<◌, ◌==◌, ◌∙◌, ◌∷◌, ◌≡◌, ◌≢◌, ◌≤◌, All, ap, arith}
+use Rattle.desk_types.proofs.Common.{cases_lt, drop, Equal, Greater, inl, inr, is_eq, length, length-drop}
+use Rattle.desk_types.proofs.Common.{length-take, Less, List, nat_cmp, nat_cmp_total, nat_list_cmp_total, nat_tests}
+use Rattle.desk_types.proofs.Common.{Ordering, ordering_then, pointwise, refl, slice_cmp, suc, sym, take, texts_ties}
+use Rattle.desk_types.proofs.Common.{tied_itself, zero, ℕ}
+use Rattle.desk_types.specs.Fixed.{IsPadded, word_at}
+use Rattle.std.proofs.Common.{replicate, slice_index}
+use Rattle.std.proofs.lemmas.List.{drop-drop, get_or-drop, get_or-take, get_or_past}
 use Rattle.std.specs.Slice.Scan.{big_endian}
-use Rattle.std.specs.declared.cmp.Ordering.{Ordering}
-use Rattle.desk_types.specs.Fixed.{word_at, IsPadded}
-use Rattle.std.specs.declared.cmp.Ordering.TheVariants.{Less, Equal, Greater}
 
 abbrev Bytes : List ℕ → Type 0
 Bytes xs = (i : ℕ) → slice_index xs i < 256

@@ -1,13 +1,9 @@
 -- How an entry changes the exposure of a reel.
-use Rattle.std.proofs.Common.{◌≡◌, ℕ, ◌+◌, ◌-◌, ◌<◌, ◌≤◌, Bool, true, false, cond, Option, Some, None, ◌∷◌, refl, ap, ◌∙◌, count_by, arith}
-use Rattle.std.specs.Prelude.{nat_le, unwrap_or, if◌then◌else◌}
-use Rattle.std.specs.Option.{option_or}
-use Rattle.std.proofs.lemmas.Bool.Decides.{nat_tests}
-use Rattle.desk_types.specs.declared.command.Entry.{Entry}
-use Rattle.desk_types.specs.Id.{Name}
-use Rattle.desk_types.specs.History.{History, latest}
-use Rattle.desk_types.specs.FloorLife.{open_by, is_out_at, exposure_starts, minutes_between, exposure_of}
-use Rattle.desk_types.proofs.Minutes.{count-split, count-agree, count-one}
+use Rattle.desk_types.proofs.Common.{◌+◌, ◌-◌, ◌<◌, ◌∙◌, ◌∷◌, ◌≡◌, ◌≤◌, ap, arith, Bool, cond, count_by, Entry}
+use Rattle.desk_types.proofs.Common.{exposure_of, exposure_starts, false, History, if◌then◌else◌, is_out_at, latest}
+use Rattle.desk_types.proofs.Common.{minutes_between, Name, nat_le, nat_tests, None, open_by, Option, option_or, refl}
+use Rattle.desk_types.proofs.Common.{Some, true, unwrap_or, ℕ}
+use Rattle.desk_types.proofs.Minutes.{count-agree, count-one, count-split}
 
 -- How the last command on the reel in effect by the minute leaves it.
 abbrev said_at : History → Name → ℕ → Option Bool

@@ -1,18 +1,12 @@
 -- Worked cases of floor life.
-use Rattle.std.specs.Prelude.{◌≡◌, ℕ, Some, List, [], ◌∷◌, ◌++◌, refl}
-use Rattle.desk_types.specs.declared.answer.Detail.TheVariants.{Plain, MinutesLeft}
-use Rattle.desk_types.specs.declared.answer.Refusal.TheVariants.{NotBaked, Expired}
-use Rattle.desk_types.specs.declared.answer.Reply.TheVariants.{Accepted, Refused}
-use Rattle.desk_types.specs.declared.command.Command.TheVariants.{ReelOpened, ReelSealed, ReelBaked, MaterialsLoaded, MaterialsUnloaded}
-use Rattle.desk_types.specs.declared.command.Stamped.{Stamped}
-use Rattle.desk_types.specs.declared.level.Level.TheVariants.{Three, FiveA}
-use Rattle.desk_types.specs.Tape.{tape_of}
-use Rattle.desk_types.specs.Pieces.{left_of, live_on}
-use Rattle.desk_types.specs.FloorLife.{is_out_at, exposure_of}
-use Rattle.desk_types.specs.Refusals.{part_refusal, sheet_refusal, definition_refusal, selection_refusal, receipt_refusal, opening_refusal, closing_refusal, mounting_refusal, unload_refusal, command_refusal, refusal_of}
-use Rattle.desk_types.specs.declared.rules.Rules.TheVariants.{Two}
-use Rattle.desk_types.specs.Outcome.{replies_to}
-use Rattle.desk_types.proofs.RowsCommon.{M, S1, K1, K2, at, received_at, received_at_six, base, base_replies}
+use Rattle.desk_types.proofs.Common.{[], ◌++◌, ◌∷◌, ◌≡◌, Accepted, closing_refusal, command_refusal}
+use Rattle.desk_types.proofs.Common.{definition_refusal, Expired, exposure_of, FiveA, is_out_at, left_of, List}
+use Rattle.desk_types.proofs.Common.{live_on, MaterialsLoaded, MaterialsUnloaded, MinutesLeft, mounting_refusal}
+use Rattle.desk_types.proofs.Common.{NotBaked, opening_refusal, part_refusal, receipt_refusal, ReelBaked, ReelOpened}
+use Rattle.desk_types.proofs.Common.{ReelSealed, refl, refusal_of, Refused, replies_to, selection_refusal}
+use Rattle.desk_types.proofs.Common.{sheet_refusal, Some, Stamped, tape_of, Three, Two, unload_refusal, ℕ}
+use Rattle.desk_types.proofs.RowsCommon.{at, base, base_replies, K1, K2, M, received_at, received_at_six, S1}
+use Rattle.desk_types.specs.declared.answer.Detail.TheVariants.{Plain}
 
 -- A reel of level 3 is loaded with one minute left of its 10,080. One minute later another reel,
 -- opened with it, is refused.

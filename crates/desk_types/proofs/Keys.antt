@@ -1,16 +1,13 @@
 -- Names and pairs of names as the keys of ordered sets and maps.
-use Rattle.std.proofs.Common.{◌≡◌, Bool, true, false, cond, Option, List, refl, sym, ap, ◌∙◌}
-use Rattle.std.specs.Prelude.{◌&&◌, ◌||◌}
-use Rattle.std.specs.BTreeMap.{is_at}
-use Rattle.std.specs.Cmp.{partial_equiv_from_equiv}
-use Rattle.std.specs.Cmp.Lexicographic.{texts_ties, nat_list_eq_equiv, bytes_decides}
-use Rattle.std.specs.List.{list_any}
-use Rattle.std.specs.Ordering.{is_eq, ordering_then}
-use Rattle.std.specs.declared.cmp.Ordering.{Ordering}
-use Rattle.std.specs.declared.cmp.Ordering.TheVariants.{Less, Equal, Greater}
-use Rattle.desk_types.specs.Id.{Name, same, by_name}
-use Rattle.desk_types.specs.Pair.{same_pair, by_pair}
-use Rattle.desk_types.proofs.Tests.{and-both}
+use Rattle.desk_types.proofs.Tests.{or-cond}
+use Rattle.desk_types.specs.{Id.by_name, Id.Name, Id.same, Pair.by_pair, Pair.same_pair}
+use Rattle.std.proofs.{Common.◌∙◌, Common.◌≡◌, Common.ap, Common.Bool, Common.cond, Common.false, Common.List}
+use Rattle.std.proofs.{Common.Option, Common.refl, Common.sym, Common.true, lemmas.Bool.and_parts}
+use Rattle.std.specs.{BTreeMap.is_at, Cmp.partial_equiv_from_equiv, Cmp.Lexicographic.bytes_decides}
+use Rattle.std.specs.{Cmp.Lexicographic.nat_list_eq_equiv, Cmp.Lexicographic.texts_ties, List.list_any}
+use Rattle.std.specs.{Ordering.is_eq, Ordering.ordering_then, Prelude.◌&&◌, Prelude.◌||◌}
+use Rattle.std.specs.{declared.cmp.Ordering.Ordering, declared.cmp.Ordering.TheVariants.Equal}
+use Rattle.std.specs.{declared.cmp.Ordering.TheVariants.Greater, declared.cmp.Ordering.TheVariants.Less}
 
 pub same-refl : (a : Name) → same a a ≡ true
 same-refl a = nat_list_eq_equiv.refl a
@@ -37,10 +34,6 @@ is_at-by_pair k q =
 
 pub list_any-same : {X : Type 0} (s t : X → Bool) → ((x : X) → s x ≡ t x) → (xs : List X) → list_any s xs ≡ list_any t xs
 list_any-same s t agree xs = ap (λ test. list_any test xs) (λ j x. agree x j)
-
-or-cond : (b c : Bool) → cond b true c ≡ (b || c)
-or-cond true c = refl
-or-cond false c = refl
 
 -- The members of a set after inserting k; `at` is the lookup and `is` the test of a key.
 pub has-after : {K : Type 0} (at is : K → K → Bool) → ((k q : K) → at k q ≡ is k q) → (old new : List K) (k : K)
@@ -81,6 +74,6 @@ pair-changed x y old step k was is a b = by (same_pair k (a, b)) refl
   where
     by : (t : Bool) → same_pair k (a, b) ≡ t → cond t y (old a b) ≡ cond t (step (old a b)) (old a b)
     by true one =
-        let both = and-both (same k.0 a) (same k.1 b) one in
+        let both = and_parts (same k.0 a) (same k.1 b) one in
         sym is ∙ ap step (sym was ∙ ap (λ m. old m k.1) (same-true k.0 a both.0) ∙ ap (old a) (same-true k.1 b both.1))
     by false one = refl

@@ -1,5 +1,6 @@
 pub mod Ascii
 pub mod BothRules
+pub mod Common
 pub mod CountCases
 pub mod EightBytes
 pub mod Exposure
@@ -14,6 +15,7 @@ pub mod PieceCases
 pub mod Readers
 pub mod ReelCommands
 pub mod RowsCommon
+pub mod Sameness
 pub mod SetupCases
 pub mod Splitting
 pub mod StoredCases

@@ -1,9 +1,7 @@
 -- Remaining floor life as a key of ordered sets.
-use Rattle.std.proofs.Common.{◌≡◌, refl}
-use Rattle.desk_types.specs.declared.view.Left.{Left}
-use Rattle.desk_types.specs.declared.view.Left.TheVariants.{Minutes, Unlimited, Unbaked}
-use Rattle.desk_types.specs.contracts.view.LeftOrd.TheImpl.{ghosts}
-use Rattle.desk_types.specs.Free.{by_left}
+use Rattle.desk_types.proofs.Common.{◌≡◌, Left, Minutes, refl, Unlimited}
+use Rattle.desk_types.specs.{Free.by_left, contracts.view.LeftOrd.TheImpl.ghosts}
+use Rattle.desk_types.specs.{declared.view.Left.TheVariants.Unbaked}
 
 left-cmp : (a b : Left) → ghosts.cmp a b ≡ by_left a b
 left-cmp (Minutes a) (Minutes b) = refl

@@ -1,26 +1,23 @@
 -- A command consists of its kind and its members.
-use Rattle.std.proofs.Common.{◌≡◌, ℕ, Result, Ok, Err, List, [], ◌∷◌, ◌++◌, refl, sym, ap, subst, ◌∙◌, arith}
-use Rattle.std.specs.Prelude.{⊤}
-use Rattle.std.specs.Result.{IsErrAnd}
-use Rattle.desk_types.specs.Apart.{names_apart, numbers_apart, levels_apart, quantities_fit, pairs_apart, triples_apart, lists_apart, rows_apart, counts_apart}
-use Rattle.desk_types.specs.Command.{IsCommand, IsListOf, IsSheetRow, IsCountRow}
-use Rattle.desk_types.specs.Designator.{IsDesignator}
-use Rattle.desk_types.specs.Fields.{Reads, IsPrefixFree, TripleInRange, triple_fields, number_fields, level_fields, IsNumber, members_of, IsSaidBy}
-use Rattle.desk_types.specs.Id.{Name, IsId}
-use Rattle.desk_types.specs.Level.{IsLabel}
-use Rattle.desk_types.specs.Number.{IsQuantity}
-use Rattle.desk_types.specs.StoredText.{Field, word_text, name_fields, list_fields, row_fields, count_fields, fields_of}
-use Rattle.desk_types.specs.declared.command.Command.{Command}
-use Rattle.desk_types.specs.declared.command.Command.TheVariants as command
-use Rattle.desk_types.specs.declared.count.CountRow.{CountRow}
-use Rattle.desk_types.specs.declared.level.Level.{Level}
-use Rattle.desk_types.specs.declared.level.Level.TheVariants.{One, Two, TwoA, Three, Four, Five, FiveA, Six}
-use Rattle.desk_types.specs.declared.sheet.SheetRow.{SheetRow}
-use Rattle.desk_types.specs.declared.stored_fields.Unread.{Unread}
-use Rattle.desk_types.specs.declared.stored_fields.Unread.TheVariants.{NoMemory, NotStored}
-use Rattle.desk_types.specs.declared.stored_word.Word.{Word}
-use Rattle.desk_types.specs.declared.stored_word.Word.TheVariants.{PartDefined, AlternateAllowed, SheetDefined, ProductSelected, ReelReceived, ReelOpened, ReelSealed, ReelBaked, MaterialsLoaded, MaterialsSpliced, MaterialsUnloaded, WorkStarted, WorkCompleted, MaterialsInstalled, MaterialsScrapped, CountsTaken, ClockSet}
+use Rattle.desk_types.proofs.Common.{[], ⊤, ◌++◌, ◌∙◌, ◌∷◌, ◌≡◌, ap, arith, Command, count_fields, CountRow, Err}
+use Rattle.desk_types.proofs.Common.{Field, fields_of, Five, FiveA, Four, IsCommand, IsCountRow, IsDesignator}
+use Rattle.desk_types.proofs.Common.{IsErrAnd, IsId, IsLabel, IsListOf, IsNumber, IsQuantity, IsSheetRow, Level, List}
+use Rattle.desk_types.proofs.Common.{list_fields, members_of, Name, name_fields, NoMemory, NotStored, number_fields}
+use Rattle.desk_types.proofs.Common.{numbers_apart, Ok, quantities_fit, refl, Result, row_fields, SheetRow, Six}
+use Rattle.desk_types.proofs.Common.{subst, sym, Three, triple_fields, TripleInRange, TwoA, Unread, Word, word_text}
+use Rattle.desk_types.proofs.Common.{ℕ}
 use Rattle.desk_types.proofs.Words.{word_text-apart}
+use Rattle.desk_types.specs.Apart.{counts_apart, levels_apart, lists_apart, names_apart, pairs_apart, rows_apart}
+use Rattle.desk_types.specs.Apart.{triples_apart}
+use Rattle.desk_types.specs.Fields.{IsPrefixFree, IsSaidBy, level_fields, Reads}
+use Rattle.desk_types.specs.declared.level.Level.TheVariants.{One, Two}
+use Rattle.desk_types.specs.declared.stored_word.Word.TheVariants.{AlternateAllowed, ClockSet, CountsTaken}
+use Rattle.desk_types.specs.declared.stored_word.Word.TheVariants.{MaterialsInstalled, MaterialsLoaded}
+use Rattle.desk_types.specs.declared.stored_word.Word.TheVariants.{MaterialsScrapped, MaterialsSpliced}
+use Rattle.desk_types.specs.declared.stored_word.Word.TheVariants.{MaterialsUnloaded, PartDefined, ProductSelected}
+use Rattle.desk_types.specs.declared.stored_word.Word.TheVariants.{ReelBaked, ReelOpened, ReelReceived, ReelSealed}
+use Rattle.desk_types.specs.declared.stored_word.Word.TheVariants.{SheetDefined, WorkCompleted, WorkStarted}
+use Rattle.desk_types.specs.declared.command.Command.TheVariants as command
 
 abbrev pub word_of : Command → Word
 word_of (command.PartDefined _) = PartDefined

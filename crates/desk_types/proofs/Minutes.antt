@@ -1,8 +1,8 @@
 -- Counting minutes.
-use Rattle.std.proofs.Common.{◌≡◌, ℕ, zero, suc, ◌+◌, ◌-◌, ◌<◌, ◌≤◌, Bool, true, false, cond, ◌∷◌, ◌++◌, refl, sym, ap, ◌∙◌, zero-add, add-zero, count_by, arith}
-use Rattle.std.specs.List.{range_with_len}
-use Rattle.std.proofs.lemmas.List.Sums.{sum_by-append, sum_by-cons}
-use Rattle.desk_types.specs.FloorLife.{minutes_between}
+use Rattle.desk_types.proofs.Common.{◌++◌, ◌+◌, ◌-◌, ◌<◌, ◌∙◌, ◌∷◌, ◌≡◌, ◌≤◌, ap, arith, Bool, cond, count_by, false}
+use Rattle.desk_types.proofs.Common.{minutes_between, range_with_len, refl, suc, sum_by-append, sum_by-cons, sym}
+use Rattle.desk_types.proofs.Common.{true, zero, zero-add, ℕ}
+use Rattle.std.proofs.Common.{add-zero}
 
 range-add : (a m n : ℕ) → range_with_len a (m + n) ≡ range_with_len a m ++ range_with_len (a + m) n
 range-add a zero n = ap (range_with_len a) (zero-add n) ∙ ap (λ b. range_with_len b n) (sym (add-zero a))

@@ -1,19 +1,16 @@
 -- Worked cases of tapes, pieces and counts.
-use Rattle.std.specs.Prelude.{◌≡◌, ℕ, None, List, [], ◌∷◌, ◌++◌, map, refl}
-use Rattle.desk_types.specs.declared.answer.Detail.TheVariants.{Plain, MinutesLeft, Reels, Taken}
-use Rattle.desk_types.specs.declared.answer.Refusal.TheVariants.{SlotTaken, SlotEmpty, ReelMounted, AlreadyPlaced, CountAbove}
-use Rattle.desk_types.specs.declared.answer.Reply.{Reply}
-use Rattle.desk_types.specs.declared.answer.Reply.TheVariants.{Accepted, Refused}
-use Rattle.desk_types.specs.declared.command.Command.TheVariants.{MaterialsLoaded, MaterialsSpliced, MaterialsUnloaded, WorkStarted, MaterialsInstalled, MaterialsScrapped, CountsTaken}
-use Rattle.desk_types.specs.declared.command.Stamped.{Stamped}
-use Rattle.desk_types.specs.declared.count.CountRow.{CountRow}
-use Rattle.desk_types.specs.declared.rules.Rules.TheVariants.{Two}
-use Rattle.desk_types.specs.History.{History}
-use Rattle.desk_types.specs.Tape.{tape_of}
-use Rattle.desk_types.specs.Pieces.{install_picks, left_of, all_picks, received_of, found_of, placed_of, scrapped_of, live_on}
-use Rattle.desk_types.specs.Refusals.{part_refusal, sheet_refusal, definition_refusal, selection_refusal, receipt_refusal, mounting_refusal, unload_refusal, scrap_refusal, start_refusal, install_refusal, command_refusal, refusal_of}
-use Rattle.desk_types.specs.Outcome.{replies_to, after_commands}
-use Rattle.desk_types.proofs.RowsCommon.{P, L1, M, S1, K1, K2, K3, K4, B1, R1, R2, R3, R4, R5, said, counted, received, base, base_replies}
+use Rattle.desk_types.proofs.Common.{[], ◌++◌, ◌∷◌, ◌≡◌, Accepted, after_commands, all_picks, AlreadyPlaced}
+use Rattle.desk_types.proofs.Common.{command_refusal, CountAbove, CountRow, CountsTaken, definition_refusal, found_of}
+use Rattle.desk_types.proofs.Common.{History, install_picks, install_refusal, left_of, List, live_on, map}
+use Rattle.desk_types.proofs.Common.{MaterialsInstalled, MaterialsLoaded, MaterialsScrapped, MaterialsSpliced}
+use Rattle.desk_types.proofs.Common.{MaterialsUnloaded, MinutesLeft, mounting_refusal, None, part_refusal, placed_of}
+use Rattle.desk_types.proofs.Common.{receipt_refusal, received_of, ReelMounted, Reels, refl, refusal_of, Refused}
+use Rattle.desk_types.proofs.Common.{replies_to, Reply, scrap_refusal, scrapped_of, selection_refusal, sheet_refusal}
+use Rattle.desk_types.proofs.Common.{SlotEmpty, Stamped, start_refusal, Taken, tape_of, Two, unload_refusal}
+use Rattle.desk_types.proofs.Common.{WorkStarted, ℕ}
+use Rattle.desk_types.proofs.RowsCommon.{B1, base, base_replies, counted, K1, K2, K3, K4, L1, M, P, R1, R2, R3, R4}
+use Rattle.desk_types.proofs.RowsCommon.{R5, received, S1, said}
+use Rattle.desk_types.specs.{declared.answer.Detail.TheVariants.Plain, declared.answer.Refusal.TheVariants.SlotTaken}
 
 -- A reel of fifty pieces is spliced to one of two pieces, and a board takes five.
 abbrev spliced_board : List Stamped

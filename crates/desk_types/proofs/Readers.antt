@@ -1,15 +1,11 @@
 -- Reading composed values.
-use Rattle.std.proofs.Common.{◌≡◌, ℕ, ◌<◌, ◌^◌, Result, Ok, Err, List, [], ◌∷◌, ◌++◌, length, flat_map, decimal, sym, ap, subst, ◌∙◌, append_assoc, arith}
-use Rattle.std.specs.List.{AllByRecursion}
-use Rattle.std.specs.Result.{IsErrAnd}
-use Rattle.std.proofs.lemmas.List.{length-append}
-use Rattle.std.proofs.lemmas.List.Elements.{recursion_from_All}
-use Rattle.desk_types.specs.Apart.{front_apart, numbers_apart, lengths_fit}
-use Rattle.desk_types.specs.Command.{IsListOf}
-use Rattle.desk_types.specs.Fields.{Reads, IsPrefixFree, AreCounted, IsNumber}
-use Rattle.desk_types.specs.StoredText.{Field, list_fields}
-use Rattle.desk_types.specs.declared.stored_fields.Unread.{Unread}
-use Rattle.desk_types.specs.declared.stored_fields.Unread.TheVariants.{NoMemory, NotStored}
+use Rattle.desk_types.proofs.Common.{[], ◌++◌, ◌<◌, ◌^◌, ◌∙◌, ◌∷◌, ◌≡◌, AllByRecursion, ap, append_assoc, arith}
+use Rattle.desk_types.proofs.Common.{decimal, Err, Field, IsErrAnd, IsListOf, IsNumber, length, length-append, List}
+use Rattle.desk_types.proofs.Common.{list_fields, NoMemory, NotStored, numbers_apart, Ok, recursion_from_All, Result}
+use Rattle.desk_types.proofs.Common.{subst, sym, Unread, ℕ}
+use Rattle.desk_types.specs.Apart.{front_apart, lengths_fit}
+use Rattle.desk_types.specs.Fields.{AreCounted, IsPrefixFree, Reads}
+use Rattle.std.proofs.Common.{flat_map}
 
 pub unread_as : {X Y : Type 0} (Is : X → Type 0) (spelling : X → List Field) (IsY : Y → Type 0) (spelling_y : Y → List Field) (of : Y → X)
     → ((y : Y) → IsY y → Is (of y)) → ((y : Y) → spelling_y y ≡ spelling (of y)) → (before after then : List Field) (fault : Unread) (r : Result Y Unread)

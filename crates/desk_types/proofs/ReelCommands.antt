@@ -1,15 +1,9 @@
 -- The effects of commands on a reel.
-use Rattle.std.proofs.Common.{◌≡◌, ℕ, Bool, true, false, Some, None, ◌∷◌, refl, ap, ◌∙◌}
-use Rattle.std.specs.Prelude.{unwrap_or, if◌then◌else◌}
-use Rattle.std.specs.Option.{option_or, option_map}
-use Rattle.desk_types.specs.declared.command.Command.{Command}
-use Rattle.desk_types.specs.declared.command.Command.TheVariants.{ReelReceived, ReelSealed, ReelBaked}
-use Rattle.desk_types.specs.declared.command.Entry.{Entry}
-use Rattle.desk_types.specs.declared.command.Receipt.{Receipt}
-use Rattle.desk_types.specs.Id.{Name, same}
-use Rattle.desk_types.specs.History.{History, latest}
-use Rattle.desk_types.specs.Setup.{receipt_by, receipt_of}
-use Rattle.desk_types.specs.FloorLife.{open_by, bake_by, baked_by, last_bake, exposure_starts, is_baked}
+use Rattle.desk_types.proofs.Common.{[], ◌∙◌, ◌∷◌, ◌≡◌, ap, bake_by, baked_by, Bool, Command, Entry, exposure_starts}
+use Rattle.desk_types.proofs.Common.{false, History, if◌then◌else◌, is_baked, IsUntouched, last_bake, latest, Name}
+use Rattle.desk_types.proofs.Common.{None, open_by, option_map, option_or, Receipt, receipt_by, receipt_of, ReelBaked}
+use Rattle.desk_types.proofs.Common.{ReelReceived, ReelSealed, refl, same, Some, true, unwrap_or, ℕ}
+use Rattle.desk_types.proofs.Tests.{if-none}
 
 -- The command neither receives nor bakes the reel.
 pub record IsQuiet (name : Name) (minute : ℕ) (command : Command) : Type 0 where
@@ -21,10 +15,6 @@ in-bag : {P : Type 0} (b : Bool) → (if b then Some false else None) ≡ Some t
 in-bag true is = cc
 in-bag false is = cc
 
-not-at-all : {X Y : Type 0} (b : Bool) (x : X) (y : Y) → (if b then Some x else None) ≡ None → (if b then Some y else None) ≡ None
-not-at-all true x y is = cc
-not-at-all false x y is = refl
-
 pub IsQuiet-open : (name : Name) (minute : ℕ) (command : Command) → open_by name command ≡ Some true → IsQuiet name minute command
 IsQuiet-open name minute (ReelReceived r part lot moisture quantity) is = in-bag (same r name) is
 IsQuiet-open name minute (ReelBaked r) is = in-bag (same r name) is
@@ -32,14 +22,14 @@ IsQuiet-open name minute _ is = record { receipt = refl; bake = refl; baked = re
 
 pub IsQuiet-untouched : (name : Name) (minute : ℕ) (command : Command) → open_by name command ≡ None → IsQuiet name minute command
 IsQuiet-untouched name minute (ReelReceived r part lot moisture quantity) is = record {
-  receipt = not-at-all (same r name) false (record { part = part; lot = lot; moisture = moisture; quantity = quantity; effective = minute }) is;
+  receipt = if-none (same r name) false (record { part = part; lot = lot; moisture = moisture; quantity = quantity; effective = minute }) is;
   bake = refl;
-  baked = not-at-all (same r name) false false is;
+  baked = if-none (same r name) false false is;
 }
 IsQuiet-untouched name minute (ReelBaked r) is = record {
   receipt = refl;
-  bake = not-at-all (same r name) false minute is;
-  baked = not-at-all (same r name) false true is;
+  bake = if-none (same r name) false minute is;
+  baked = if-none (same r name) false true is;
 }
 IsQuiet-untouched name minute _ is = record { receipt = refl; bake = refl; baked = refl }
 
@@ -52,6 +42,11 @@ receipt_of-quiet H e name quiet = ap (λ o. option_or o (receipt_of H name)) qui
 
 pub last_bake-quiet : (H : History) (e : Entry) (name : Name) → IsQuiet name e.effective e.stamped.command → last_bake (e ∷ H) name ≡ last_bake H name
 last_bake-quiet H e name quiet = ap (λ o. option_or o (last_bake H name)) quiet.bake
+
+pub last_bake-untouched : (H : History) (name : Name) → IsUntouched H name → last_bake H name ≡ None
+last_bake-untouched [] name untouched = refl
+last_bake-untouched (e ∷ H) name (none, rest) =
+    last_bake-quiet H e name (IsQuiet-untouched name e.effective e.stamped.command none) ∙ last_bake-untouched H name rest
 
 pub is_baked-quiet : (H : History) (e : Entry) (name : Name) → IsQuiet name e.effective e.stamped.command → is_baked (e ∷ H) name ≡ is_baked H name
 is_baked-quiet H e name quiet = ap (λ o. unwrap_or (option_or o (latest (λ (e' : Entry). baked_by name e'.stamped.command) H)) false) quiet.baked

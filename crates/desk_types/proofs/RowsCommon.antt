@@ -1,16 +1,7 @@
 -- The names, messages and machine setup shared by the worked cases.
-use Rattle.std.specs.Prelude.{ℕ, List, [], ◌∷◌, map, codes}
-use Rattle.desk_types.specs.declared.answer.Detail.TheVariants.{Plain}
-use Rattle.desk_types.specs.declared.answer.Reply.{Reply}
-use Rattle.desk_types.specs.declared.answer.Reply.TheVariants.{Accepted}
-use Rattle.desk_types.specs.declared.command.Command.{Command}
-use Rattle.desk_types.specs.declared.command.Command.TheVariants.{PartDefined, SheetDefined, ProductSelected, ReelReceived}
-use Rattle.desk_types.specs.declared.command.Stamped.{Stamped}
-use Rattle.desk_types.specs.declared.count.CountRow.{CountRow}
-use Rattle.desk_types.specs.declared.level.Level.{Level}
-use Rattle.desk_types.specs.declared.level.Level.TheVariants.{One, Six}
-use Rattle.desk_types.specs.declared.sheet.SheetRow.{SheetRow}
-use Rattle.desk_types.specs.Id.{Name}
+use Rattle.desk_types.proofs.Common.{[], ◌∷◌, Accepted, codes, Command, CountRow, Level, List, map, Name, PartDefined}
+use Rattle.desk_types.proofs.Common.{ProductSelected, ReelReceived, Reply, SheetDefined, SheetRow, Six, Stamped, ℕ}
+use Rattle.desk_types.specs.{declared.answer.Detail.TheVariants.Plain, declared.level.Level.TheVariants.One}
 
 -- ---- names
 

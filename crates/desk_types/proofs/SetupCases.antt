@@ -1,17 +1,13 @@
 -- Worked cases of parts, alternates and the clock.
-use Rattle.std.specs.Prelude.{◌≡◌, None, List, [], ◌∷◌, ◌++◌, map, codes, refl}
-use Rattle.desk_types.specs.declared.answer.Detail.TheVariants.{Plain, MinutesLeft}
-use Rattle.desk_types.specs.declared.answer.Refusal.TheVariants.{TooFarAhead, WrongPart}
-use Rattle.desk_types.specs.declared.answer.Reply.TheVariants.{Accepted, Refused}
-use Rattle.desk_types.specs.declared.command.Command.TheVariants.{PartDefined, AlternateAllowed, SheetDefined, ProductSelected, MaterialsLoaded, ClockSet}
-use Rattle.desk_types.specs.declared.command.Entry.{Entry}
-use Rattle.desk_types.specs.declared.command.Stamped.{Stamped}
-use Rattle.desk_types.specs.Tape.{tape_of}
-use Rattle.desk_types.specs.Pieces.{left_of, live_on}
-use Rattle.desk_types.specs.Refusals.{part_refusal, alternate_refusal, sheet_refusal, definition_refusal, selection_refusal, receipt_refusal, mounting_refusal, command_refusal, refusal_of}
-use Rattle.desk_types.specs.declared.rules.Rules.TheVariants.{Two}
-use Rattle.desk_types.specs.Outcome.{replies_to, after_commands}
-use Rattle.desk_types.proofs.RowsCommon.{P, Q, L1, PS, M, N, S1, K1, K2, R1, at, said, sheet_row, received, base, base_replies}
+use Rattle.desk_types.proofs.Common.{[], ◌++◌, ◌∷◌, ◌≡◌, Accepted, after_commands, alternate_refusal}
+use Rattle.desk_types.proofs.Common.{AlternateAllowed, ClockSet, codes, command_refusal, definition_refusal, Entry}
+use Rattle.desk_types.proofs.Common.{left_of, List, live_on, map, MaterialsLoaded, MinutesLeft, mounting_refusal}
+use Rattle.desk_types.proofs.Common.{None, part_refusal, PartDefined, ProductSelected, receipt_refusal, refl}
+use Rattle.desk_types.proofs.Common.{refusal_of, Refused, replies_to, selection_refusal, sheet_refusal, SheetDefined}
+use Rattle.desk_types.proofs.Common.{Stamped, tape_of, TooFarAhead, Two, WrongPart}
+use Rattle.desk_types.proofs.RowsCommon.{at, base, base_replies, K1, K2, L1, M, N, P, PS, Q, R1, received, S1, said}
+use Rattle.desk_types.proofs.RowsCommon.{sheet_row}
+use Rattle.desk_types.specs.declared.answer.Detail.TheVariants.{Plain}
 
 pub another_part_is_refused_at_its_slot : replies_to Two [] (base ++ said (
     received K1 Q L1 100

@@ -1,10 +1,9 @@
 -- Splitting a text at its first tab.
-use Rattle.std.proofs.Common.{◌≡◌, ◌==◌, ℕ, ◌+◌, ◌≤◌, Bool, true, false, Some, None, List, [], ◌∷◌, cond, length, take, drop, nat_lt, position, refl, ap, ◌∙◌, arith}
+use Rattle.desk_types.proofs.Common.{[], ◌+◌, ◌==◌, ◌∙◌, ◌∷◌, ◌≡◌, ◌≤◌, ap, arith, Bool, cond, drop, false, fields_in}
+use Rattle.desk_types.proofs.Common.{length, length-slice_split, List, nat_lt, nat_tests, None, refl}
+use Rattle.desk_types.proofs.Common.{slice_split_none, Some, take, true, ℕ}
+use Rattle.std.proofs.{Common.position, lemmas.List.Splits.slice_split_first, lemmas.List.Sums.fails_before_first}
 use Rattle.std.specs.List.{position_or_len}
-use Rattle.std.proofs.lemmas.Bool.Decides.{nat_tests}
-use Rattle.std.proofs.lemmas.List.Splits.{slice_split_first, slice_split_none, length-slice_split}
-use Rattle.std.proofs.lemmas.List.Sums.{fails_before_first}
-use Rattle.desk_types.specs.Fields.{fields_in}
 
 abbrev is_tab : ℕ → Bool
 is_tab byte = byte == 0x09

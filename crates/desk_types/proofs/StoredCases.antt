@@ -1,9 +1,7 @@
 -- Worked cases of the texts of commands.
-use Rattle.std.proofs.Common.{◌≡◌, [], ◌∷◌, codes, length, refl}
+use Rattle.desk_types.proofs.Common.{[], ◌∷◌, ◌≡◌, codes, CountsTaken, length, MaterialsLoaded, ReelReceived, refl}
+use Rattle.desk_types.proofs.Common.{SheetDefined, stored_text, Three, word_text, words}
 use Rattle.std.specs.Fmt.{digits}
-use Rattle.desk_types.specs.StoredText.{stored_text, word_text, words}
-use Rattle.desk_types.specs.declared.command.Command.TheVariants.{SheetDefined, ReelReceived, MaterialsLoaded, CountsTaken}
-use Rattle.desk_types.specs.declared.level.Level.TheVariants.{Three}
 
 pub seventeen_words : length words ≡ 17
 seventeen_words = refl

@@ -1,29 +1,23 @@
 -- A command's fields have no tabs, so splitting its text gives them back.
-use Rattle.std.proofs.Common.{◌≡◌, ◌==◌, ℕ, ◌<◌, ◌≤◌, ◌^◌, true, false, not, List, [], ◌∷◌, ◌++◌, All, length, flat_map, decimal, refl, sym, ap, ◌∙◌, append-nil, drop, arith}
-use Rattle.std.specs.List.{AllByRecursion, join_with_byte, list_all}
-use Rattle.std.proofs.lemmas.Bool.Decides.{nat_tests}
-use Rattle.std.proofs.lemmas.Fmt.{decimal_is_IsNumeral}
-use Rattle.std.proofs.lemmas.List.Elements.{All-from_get_or, recursion_from_All}
-use Rattle.std.proofs.lemmas.List.Splits.{join_with_byte-slice_split, slice_split_at, slice_split_none}
-use Rattle.std.proofs.lemmas.List.Sums.{AllPass-from_list_all}
-use Rattle.std.proofs.lemmas.Str.Parse.{digit_at}
-use Rattle.desk_types.specs.Apart.{lengths_fit, quantities_fit, counted_quantities_fit}
-use Rattle.desk_types.specs.Command.{IsCommand, IsListOf, IsSheetRow, IsCountRow}
-use Rattle.desk_types.specs.Designator.{IsDesignator}
-use Rattle.desk_types.specs.Fields.{fields_in, after_tabs, fields_text, members_of}
-use Rattle.desk_types.specs.Id.{IsId}
-use Rattle.desk_types.specs.Level.{text_of}
-use Rattle.desk_types.specs.StoredText.{Field, word_text, name_fields, list_fields, row_fields, count_fields, fields_of, stored_text}
-use Rattle.desk_types.specs.declared.command.Command.{Command}
-use Rattle.desk_types.specs.declared.command.Command.TheVariants.{PartDefined, AlternateAllowed, SheetDefined, ProductSelected, ReelReceived, ReelOpened, ReelSealed, ReelBaked, MaterialsLoaded, MaterialsSpliced, MaterialsUnloaded, WorkStarted, WorkCompleted, MaterialsInstalled, MaterialsScrapped, CountsTaken, ClockSet}
-use Rattle.desk_types.specs.declared.count.CountRow.{CountRow}
-use Rattle.desk_types.specs.declared.level.Level.{Level}
-use Rattle.desk_types.specs.declared.level.Level.TheVariants.{One, Two, TwoA, Three, Four, Five, FiveA, Six}
-use Rattle.desk_types.specs.declared.sheet.SheetRow.{SheetRow}
-use Rattle.desk_types.specs.declared.stored_word.Word.{Word}
+use Rattle.desk_types.proofs.Common.{[], ◌++◌, ◌<◌, ◌==◌, ◌^◌, ◌∙◌, ◌∷◌, ◌≡◌, ◌≤◌, All, AllByRecursion}
+use Rattle.desk_types.proofs.Common.{AllPass-from_list_all, AlternateAllowed, ap, append-nil, arith, ClockSet}
+use Rattle.desk_types.proofs.Common.{Command, count_fields, CountRow, CountsTaken, decimal, drop, false, Field}
+use Rattle.desk_types.proofs.Common.{fields_in, fields_of, Five, FiveA, Four, IsCommand, IsCountRow, IsDesignator}
+use Rattle.desk_types.proofs.Common.{IsId, IsListOf, IsSheetRow, join_with_byte, length, Level, List, list_all}
+use Rattle.desk_types.proofs.Common.{list_fields, MaterialsInstalled, MaterialsLoaded, MaterialsScrapped}
+use Rattle.desk_types.proofs.Common.{MaterialsSpliced, MaterialsUnloaded, members_of, name_fields, nat_tests, not}
+use Rattle.desk_types.proofs.Common.{PartDefined, ProductSelected, quantities_fit, recursion_from_All, ReelBaked}
+use Rattle.desk_types.proofs.Common.{ReelOpened, ReelReceived, ReelSealed, refl, row_fields, SheetDefined, SheetRow}
+use Rattle.desk_types.proofs.Common.{Six, slice_split_at, slice_split_none, stored_text, sym, Three, true, TwoA, Word}
+use Rattle.desk_types.proofs.Common.{word_text, WorkCompleted, WorkStarted, ℕ}
+use Rattle.desk_types.proofs.{Ascii.printable-marks, Members.commands_apart, Members.fields_are, Members.label_fits}
+use Rattle.desk_types.proofs.{Members.word_of}
+use Rattle.desk_types.specs.{Apart.counted_quantities_fit, Apart.lengths_fit, Fields.after_tabs, Fields.fields_text}
+use Rattle.desk_types.specs.{Level.text_of, declared.level.Level.TheVariants.One}
+use Rattle.desk_types.specs.{declared.level.Level.TheVariants.Two}
+use Rattle.std.proofs.{Common.flat_map, lemmas.Fmt.decimal_is_IsNumeral, lemmas.List.Elements.All-from_get_or}
+use Rattle.std.proofs.{lemmas.List.Splits.join_with_byte-slice_split, lemmas.Str.Parse.digit_at}
 use Rattle.desk_types.specs.declared.stored_word.Word.TheVariants as word
-use Rattle.desk_types.proofs.Ascii.{printable-marks}
-use Rattle.desk_types.proofs.Members.{word_of, fields_are, commands_apart, label_fits}
 
 abbrev HasNoTab : Field → Type 0
 HasNoTab field = All (λ byte. (byte == 0x09) ≡ false) field

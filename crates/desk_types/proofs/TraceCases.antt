@@ -1,22 +1,16 @@
 -- Worked cases of traces.
-use Rattle.std.specs.Prelude.{◌≡◌, ℕ, Bool, true, false, Some, None, List, [], ◌∷◌, ◌++◌, map, codes, refl}
-use Rattle.desk_types.specs.declared.answer.Detail.TheVariants.{Plain, MinutesLeft, Reels}
-use Rattle.desk_types.specs.declared.answer.Refusal.TheVariants.{Expired}
-use Rattle.desk_types.specs.declared.answer.Reply.TheVariants.{Accepted, Refused}
-use Rattle.desk_types.specs.declared.command.Command.TheVariants.{PartDefined, SheetDefined, ProductSelected, MaterialsLoaded, MaterialsSpliced, MaterialsUnloaded, WorkStarted, WorkCompleted, MaterialsInstalled}
-use Rattle.desk_types.specs.declared.command.Stamped.{Stamped}
-use Rattle.desk_types.specs.declared.level.Level.TheVariants.{FiveA}
-use Rattle.desk_types.specs.declared.placement.Placement.{Placement}
-use Rattle.desk_types.specs.Id.{Name}
-use Rattle.desk_types.specs.declared.rules.Rules.TheVariants.{Two}
-use Rattle.desk_types.specs.History.{History}
-use Rattle.desk_types.specs.Tape.{tape_of}
-use Rattle.desk_types.specs.Pieces.{install_picks, left_of, live_on}
-use Rattle.desk_types.specs.FloorLife.{is_out_at, exposure_of}
-use Rattle.desk_types.specs.Refusals.{part_refusal, sheet_refusal, definition_refusal, selection_refusal, receipt_refusal, mounting_refusal, unload_refusal, start_refusal, completion_refusal, install_refusal, command_refusal, refusal_of}
-use Rattle.desk_types.specs.Outcome.{replies_to, after_commands}
-use Rattle.desk_types.specs.Placements.{takes_of, placements_of, overdue_of, lots_of, boards_of}
-use Rattle.desk_types.proofs.RowsCommon.{P, L, L1, L2, PR, M, S1, S2, K1, K2, K3, B1, B2, R1, R2, R3, R4, R5, at, said, sheet_row, received, received_at, base, base_replies}
+use Rattle.desk_types.proofs.Common.{[], ◌++◌, ◌∷◌, ◌≡◌, Accepted, after_commands, boards_of, Bool, codes}
+use Rattle.desk_types.proofs.Common.{command_refusal, completion_refusal, definition_refusal, Expired, exposure_of}
+use Rattle.desk_types.proofs.Common.{false, FiveA, History, install_picks, install_refusal, is_out_at, left_of, List}
+use Rattle.desk_types.proofs.Common.{live_on, lots_of, map, MaterialsInstalled, MaterialsLoaded, MaterialsSpliced}
+use Rattle.desk_types.proofs.Common.{MaterialsUnloaded, MinutesLeft, mounting_refusal, Name, None, overdue_of}
+use Rattle.desk_types.proofs.Common.{part_refusal, PartDefined, Placement, placements_of, ProductSelected}
+use Rattle.desk_types.proofs.Common.{receipt_refusal, Reels, refl, refusal_of, Refused, replies_to, selection_refusal}
+use Rattle.desk_types.proofs.Common.{sheet_refusal, SheetDefined, Some, Stamped, start_refusal, takes_of, tape_of}
+use Rattle.desk_types.proofs.Common.{true, Two, unload_refusal, WorkCompleted, WorkStarted, ℕ}
+use Rattle.desk_types.proofs.RowsCommon.{at, B1, B2, base, base_replies, K1, K2, K3, L, L1, L2, M, P, PR, R1, R2, R3}
+use Rattle.desk_types.proofs.RowsCommon.{R4, R5, received, received_at, S1, S2, said, sheet_row}
+use Rattle.desk_types.specs.declared.answer.Detail.TheVariants.{Plain}
 
 -- A piece of part P, placed from slot 1 of machine M by this entry, at this place in its message.
 abbrev piece : ℕ → ℕ → Name → Name → Name → Name → ℕ → Bool → Placement

@@ -1,23 +1,16 @@
 -- Worked cases of the reported state of reels and slots.
-use Rattle.std.specs.Prelude.{◌≡◌, ℕ, true, false, Some, None, List, [], ◌∷◌, ◌++◌, map, refl}
-use Rattle.desk_types.specs.declared.command.Command.TheVariants.{PartDefined, SheetDefined, ProductSelected, ReelOpened, ReelSealed, MaterialsLoaded, MaterialsSpliced, WorkStarted, MaterialsInstalled, CountsTaken, ClockSet}
-use Rattle.desk_types.specs.declared.command.Stamped.{Stamped}
-use Rattle.desk_types.specs.declared.level.Level.TheVariants.{One, Three, FiveA}
-use Rattle.desk_types.specs.declared.view.Left.{Left}
-use Rattle.desk_types.specs.declared.view.Left.TheVariants.{Minutes, Unlimited}
-use Rattle.desk_types.specs.declared.view.Mount.{Mount}
-use Rattle.desk_types.specs.declared.view.ReelView.{ReelView}
-use Rattle.desk_types.specs.Id.{Name}
-use Rattle.desk_types.specs.declared.rules.Rules.TheVariants.{Two}
-use Rattle.desk_types.specs.History.{History}
-use Rattle.desk_types.specs.Tape.{tape_of}
-use Rattle.desk_types.specs.Pieces.{install_picks, all_picks, left_of, found_of, live_on}
-use Rattle.desk_types.specs.FloorLife.{is_out_at, exposure_of}
-use Rattle.desk_types.specs.Refusals.{part_refusal, sheet_refusal, definition_refusal, selection_refusal, receipt_refusal, opening_refusal, closing_refusal, mounting_refusal, start_refusal, install_refusal, command_refusal, refusal_of}
-use Rattle.desk_types.specs.Outcome.{after_commands}
-use Rattle.desk_types.specs.View.{reel_view, mounts_on}
-use Rattle.desk_types.specs.Free.{free_reels}
-use Rattle.desk_types.proofs.RowsCommon.{P, Q, L1, PR, M, N, S1, S2, K1, K2, K3, K4, B1, R1, R2, R3, at, said, counted, sheet_row, received, received_at, received_at_six, base}
+use Rattle.desk_types.proofs.Common.{[], ◌++◌, ◌∷◌, ◌≡◌, after_commands, all_picks, ClockSet, closing_refusal}
+use Rattle.desk_types.proofs.Common.{command_refusal, CountsTaken, definition_refusal, exposure_of, false, FiveA}
+use Rattle.desk_types.proofs.Common.{found_of, free_reels, History, install_picks, install_refusal, is_out_at, Left}
+use Rattle.desk_types.proofs.Common.{left_of, List, live_on, map, MaterialsInstalled, MaterialsLoaded}
+use Rattle.desk_types.proofs.Common.{MaterialsSpliced, Minutes, mounting_refusal, Name, None, opening_refusal}
+use Rattle.desk_types.proofs.Common.{part_refusal, PartDefined, ProductSelected, receipt_refusal, reel_view}
+use Rattle.desk_types.proofs.Common.{ReelOpened, ReelSealed, ReelView, refl, refusal_of, selection_refusal}
+use Rattle.desk_types.proofs.Common.{sheet_refusal, SheetDefined, Some, Stamped, start_refusal, tape_of, Three, true}
+use Rattle.desk_types.proofs.Common.{Two, Unlimited, WorkStarted, ℕ}
+use Rattle.desk_types.proofs.RowsCommon.{at, B1, base, counted, K1, K2, K3, K4, L1, M, N, P, PR, Q, R1, R2, R3}
+use Rattle.desk_types.proofs.RowsCommon.{received, received_at, received_at_six, S1, S2, said, sheet_row}
+use Rattle.desk_types.specs.{View.mounts_on, declared.level.Level.TheVariants.One, declared.view.Mount.Mount}
 
 -- Slot 2 comes first on the sheet. On slot 1 a reel of fifty pieces is spliced to one of two.
 abbrev two_slots : List Stamped

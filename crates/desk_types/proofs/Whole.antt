@@ -1,15 +1,9 @@
 -- Reading a whole text from its fields.
-use Rattle.std.proofs.Common.{◌≡◌, ℕ, Result, Ok, Err, List, [], ◌∷◌, ◌++◌, sym, ap, subst, ◌∙◌, append-nil}
-use Rattle.std.specs.Result.{IsErrAnd}
-use Rattle.desk_types.specs.Command.{IsCommand}
-use Rattle.desk_types.specs.Fields.{Reads, IsReading, IsSaidBy, fields_in, members_of}
-use Rattle.desk_types.specs.StoredText.{Field, word_text, fields_of, stored_text}
-use Rattle.desk_types.specs.declared.command.Command.{Command}
-use Rattle.desk_types.specs.declared.stored_fields.Unread.{Unread}
-use Rattle.desk_types.specs.declared.stored_fields.Unread.TheVariants.{NoMemory, NotStored}
-use Rattle.desk_types.specs.declared.stored_word.Word.{Word}
-use Rattle.desk_types.proofs.Members.{word_of, fields_are}
-use Rattle.desk_types.proofs.Tabs.{fields_in-stored_text}
+use Rattle.desk_types.proofs.Common.{[], ◌++◌, ◌∙◌, ◌∷◌, ◌≡◌, ap, append-nil, Command, Err, Field, fields_in}
+use Rattle.desk_types.proofs.Common.{fields_of, IsCommand, IsErrAnd, List, members_of, NoMemory, NotStored, Ok}
+use Rattle.desk_types.proofs.Common.{Result, stored_text, subst, sym, Unread, Word, word_text, ℕ}
+use Rattle.desk_types.proofs.{Members.fields_are, Members.word_of, Tabs.fields_in-stored_text}
+use Rattle.desk_types.specs.Fields.{IsReading, IsSaidBy, Reads}
 
 pub begins : (text : List ℕ) (c : Command) → IsCommand c → text ≡ stored_text c → fields_in text ≡ word_text (word_of c) ∷ members_of c
 begins text c is e = ap fields_in e ∙ fields_in-stored_text c is ∙ fields_are c

@@ -1,10 +1,13 @@
 -- The kinds of commands in stored texts.
-use Rattle.std.proofs.Common.{◌≡◌, Bool, true, false, Option, Some, None, IfSome, IfNone, List, [], ◌∷◌, cond, find, refl, sym, ap, subst, ◌∙◌}
-use Rattle.desk_types.specs.Id.{same}
-use Rattle.desk_types.specs.StoredText.{Field, word_text, words}
-use Rattle.desk_types.specs.declared.stored_word.Word.{Word}
-use Rattle.desk_types.specs.declared.stored_word.Word.TheVariants.{PartDefined, AlternateAllowed, SheetDefined, ProductSelected, ReelReceived, ReelOpened, ReelSealed, ReelBaked, MaterialsLoaded, MaterialsSpliced, MaterialsUnloaded, WorkStarted, WorkCompleted, MaterialsInstalled, MaterialsScrapped, CountsTaken, ClockSet}
-use Rattle.desk_types.proofs.Keys.{same-true}
+use Rattle.desk_types.proofs.Common.{[], ◌∙◌, ◌∷◌, ◌≡◌, ap, Bool, cond, false, Field, find, IfSome, List, None}
+use Rattle.desk_types.proofs.Common.{Option, refl, same, same-true, Some, subst, sym, true, Word, word_text, words}
+use Rattle.desk_types.specs.declared.stored_word.Word.TheVariants.{AlternateAllowed, ClockSet, CountsTaken}
+use Rattle.desk_types.specs.declared.stored_word.Word.TheVariants.{MaterialsInstalled, MaterialsLoaded}
+use Rattle.desk_types.specs.declared.stored_word.Word.TheVariants.{MaterialsScrapped, MaterialsSpliced}
+use Rattle.desk_types.specs.declared.stored_word.Word.TheVariants.{MaterialsUnloaded, PartDefined, ProductSelected}
+use Rattle.desk_types.specs.declared.stored_word.Word.TheVariants.{ReelBaked, ReelOpened, ReelReceived, ReelSealed}
+use Rattle.desk_types.specs.declared.stored_word.Word.TheVariants.{SheetDefined, WorkCompleted, WorkStarted}
+use Rattle.std.proofs.Common.{IfNone}
 
 -- The kind with this text.
 abbrev pub word_in : Field → Option Word

@@ -1,14 +1,18 @@
 -- Worked command lines: their meaning, and the text printed if no command is run.
-use Rattle.std.proofs.Common.{◌≡◌, ◌∙◌, ℕ, List, Some, None, codes, [], ◌∷◌, refl, inl, inr, false, true≢false, sym}
-use Rattle.std.specs.Option.{option_map_or}
+use Rattle.desk_types.proofs.Common.{[], ◌∙◌, ◌∷◌, ◌≡◌, codes, false, inl, inr, List, MOST_ENTRIES, None}
+use Rattle.desk_types.proofs.Common.{option_map_or, refl, Some, sym, true≢false, ℕ}
+use Rattle.clap.proofs.OnLiterals.{clap_on_literals}
+use Rattle.clap.proofs.ValueTestLemmas.{Accepts-accepts, accepts-Accepts}
 use Rattle.clap.specs.ValueTests.{is_unsigned_in}
 use Rattle.clap.specs.Walk.{Row}
+use Rattle.clap.specs.declared.error.kind.ErrorKind.TheVariants.{ArgumentConflict, DisplayHelp, DisplayVersion}
+use Rattle.clap.specs.declared.error.kind.ErrorKind.TheVariants.{InvalidSubcommand, InvalidValue}
+use Rattle.clap.specs.declared.error.kind.ErrorKind.TheVariants.{MissingRequiredArgument, MissingSubcommand}
+use Rattle.clap.specs.declared.error.kind.ErrorKind.TheVariants.{UnknownArgument}
+use Rattle.desk_types.specs.declared.limits.TheConstants.{MOST_CONNECTIONS, MOST_PORT}
+use Rattle.desk_words.specs.CommandLine.{AsksForAudit, AsksForFeed, AsksForMigration, AsksForNothing, AsksForReport}
+use Rattle.desk_words.specs.CommandLine.{AsksForServing, IsGreatest, named_by, told_of}
 use Rattle.clap.specs.declared.builder.value_parser.ValueParser.TheVariants as vp
-use Rattle.clap.specs.declared.error.kind.ErrorKind.TheVariants.{DisplayHelp, DisplayVersion, MissingSubcommand, MissingRequiredArgument, InvalidSubcommand, InvalidValue, ArgumentConflict, UnknownArgument}
-use Rattle.clap.proofs.OnLiterals.{clap_on_literals}
-use Rattle.clap.proofs.ValueTestLemmas.{accepts-Accepts, Accepts-accepts}
-use Rattle.desk_types.specs.declared.limits.TheConstants.{MOST_CONNECTIONS, MOST_ENTRIES, MOST_PORT}
-use Rattle.desk_words.specs.CommandLine.{AsksForAudit, AsksForFeed, AsksForMigration, AsksForNothing, AsksForReport, AsksForServing, IsGreatest, named_by, told_of}
 
 abbrev rows_in : List (List ℕ) → List Row
 rows_in words = option_map_or (λ (p : List ℕ × List Row). p.1) (named_by words) []

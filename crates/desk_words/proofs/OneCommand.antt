@@ -1,14 +1,12 @@
 -- Arguments name one command: if they mean `feed`, they mean nothing else.
-use Rattle.std.proofs.Common.{◌≡◌, ◌∙◌, ℕ, Bool, true, false, true≢false, sym, ap, subst, codes, List, [], ◌∷◌, Option, Some, None, IsSomeAnd, Result, Ok, Err, inl, inr, refl}
-use Rattle.std.specs.Option.{option_map_or}
-use Rattle.std.specs.Str.{bytes_eq}
-use Rattle.std.proofs.lemmas.Slice.Eq.{bytes_eq-Decides}
-use Rattle.clap.specs.Kinds.{Kinds, IsAmong}
-use Rattle.clap.specs.Walk.{Row, first_of}
-use Rattle.clap.specs.declared.error.kind.ErrorKind.{ErrorKind}
+use Rattle.desk_types.proofs.Common.{[], ◌∙◌, ◌∷◌, ◌≡◌, ap, Bool, bytes_eq-Decides, codes, false, inl, inr, IsSomeAnd}
+use Rattle.desk_types.proofs.Common.{List, None, Ok, Option, option_map_or, refl, Result, Some, subst, sym, true}
+use Rattle.desk_types.proofs.Common.{true≢false, ℕ}
+use Rattle.clap.specs.{Kinds.IsAmong, Kinds.Kinds, Walk.first_of, Walk.Row, declared.error.kind.ErrorKind.ErrorKind}
 use Rattle.desk_feed.specs.declared.options.BadOption.{BadOption}
+use Rattle.desk_words.specs.CommandLine.{AsksForNothing, GoesUpTo, IsGreatest, named_by, Names, NamesImport, told_of}
 use Rattle.imports.specs.declared.import.Import.{Import}
-use Rattle.desk_words.specs.CommandLine.{AsksForFeed, AsksForNothing, AsksForOther, GoesUpTo, IsGreatest, Names, NamesImport, named_by, told_of}
+use Rattle.std.specs.Str.{bytes_eq}
 
 abbrev name_in : Option (List ℕ × List Row) → List ℕ
 name_in found = option_map_or (λ (p : List ℕ × List Row). p.0) found []
@@ -49,16 +47,4 @@ lines_or_nothing words rows greatest feed up nothing = elim nothing [
   | inr (rows', inr (inr (inr (inl (audit, _))))) ↦ never_both words (codes "feed") (codes "audit") rows rows' refl feed audit
   | inr (rows', inr (inr (inr (inr (inl (migration, _)))))) ↦ never_both words (codes "feed") (codes "migrate") rows rows' refl feed migration
   | inr (rows', inr (inr (inr (inr (inr (import, imports, _)))))) ↦ never_import words (codes "feed") rows rows' (Ok import) refl refl feed imports
-]
-
-pub lines_or_other : (words : List (List ℕ)) (file : Option (List ℕ)) (greatest : ℕ) → AsksForFeed words file greatest → AsksForOther words → ⊥
-lines_or_other words file greatest (rows, feed, at, up) other = elim other [
-  | inl (_, (rows', audit, _)) ↦ never_both words (codes "feed") (codes "audit") rows rows' refl feed audit
-  | inr (inl (_, (rows', migration, _))) ↦ never_both words (codes "feed") (codes "migrate") rows rows' refl feed migration
-  | inr (inr (inl (_, import, _, (rows', imports, _, _)))) ↦ never_import words (codes "feed") rows rows' (Ok import) refl refl feed imports
-  | inr (inr (inr (inl (_, _, _, _, (rows', serving, _, _, _, _))))) ↦ never_both words (codes "feed") (codes "serve") rows rows' refl feed serving
-  | inr (inr (inr (inr (inl (_, _, (rows', report, _, _)))))) ↦ never_both words (codes "feed") (codes "report") rows rows' refl feed report
-  | inr (inr (inr (inr (inr (inl (option, (rows', imports))))))) ↦ never_import words (codes "feed") rows rows' (Err option) refl refl feed imports
-  | inr (inr (inr (inr (inr (inr (inl (kind, told, _))))))) ↦ never_told words (codes "feed") rows kind feed told
-  | inr (inr (inr (inr (inr (inr (inr nothing)))))) ↦ lines_or_nothing words rows greatest feed up nothing
 ]

@@ -1,53 +1,31 @@
 -- A change that is accepted.
-use Rattle.std.proofs.Common.{◌≡◌, ℕ, nat_lt, Bool, true, false, is_some, Some, None, List, [], ◌∷◌, refl, sym, ap, subst, ◌∙◌, arith}
-use Rattle.std.specs.Prelude.{max, if◌then◌else◌}
-use Rattle.std.specs.Option.{option_map_or}
-use Rattle.std.proofs.lemmas.Bool.{or_parts}
-use Rattle.desk_types.specs.declared.change.Change.{Change}
-use Rattle.desk_types.specs.declared.command.Stamped.{Stamped}
-use Rattle.desk_types.specs.declared.rules.Rules.{Rules}
-use Rattle.desk_types.specs.Command.{IsStamped}
-use Rattle.desk_types.specs.Number.{IsMinute}
-use Rattle.desk_types.specs.History.{History, Basis, now_of, desk_minute, effective_minute, entry_of, accept}
-use Rattle.desk_types.specs.Judged.{IsJudged}
-use Rattle.desk_types.specs.Outcome.{takes_by}
-use Rattle.desk_types.specs.Desk.{IsChange}
-use Rattle.std.specs.List.{filter, list_any}
-use Rattle.desk_types.specs.declared.rules.Rules.TheVariants.{Two}
-use Rattle.desk_types.specs.Id.{Name, same}
-use Rattle.desk_types.specs.declared.row.ReelRow.{ReelRow}
-use Rattle.desk_types.specs.declared.edit.RowEdit.{RowEdit}
-use Rattle.desk_types.specs.declared.edit.RowEdit.TheVariants.{TakeSheetRow, TakeMount, PutPart, PutAlternate, PutSheetRow, PutSelected, PutReel, PutMount, PutBoard, PutPlacement, PutFound}
-use Rattle.desk_types.specs.Edits.{with_edit, with_edits}
-use Rattle.desk_laws.proofs.Tapes.{not-zero}
-use Rattle.desk_types.specs.Pieces.{left_of, live_on, is_mounted}
-use Rattle.desk_laws.proofs.PicksOfOneSlot.{live-pieces}
-use Rattle.desk_types.specs.Setup.{is_part, is_alternate, selected_on}
-use Rattle.desk_types.specs.Tables.{Tables, board_row}
-use Rattle.state_rows.specs.Kept.{KeptRows, tables_in, but_placements}
-use Rattle.feeder_state.specs.Tape.{tape_at}
+use Rattle.desk_types.proofs.Common.{[], ◌∙◌, ◌∷◌, ◌≡◌, accept, ap, arith, Basis, board_row, Bool, Change}
+use Rattle.desk_types.proofs.Common.{desk_minute, effective_minute, entry_of, false, History, if◌then◌else◌}
+use Rattle.desk_types.proofs.Common.{is_alternate, is_mounted, is_part, is_some, IsChange, IsJudged, IsMinute}
+use Rattle.desk_types.proofs.Common.{IsStamped, left_of, List, list_any, live_on, max, Name, nat_lt, None, now_of}
+use Rattle.desk_types.proofs.Common.{option_map_or, or_parts, PutAlternate, PutBoard, PutFound, PutMount, PutPart}
+use Rattle.desk_types.proofs.Common.{PutPlacement, PutReel, PutSelected, PutSheetRow, ReelRow, refl, RowEdit, Rules}
+use Rattle.desk_types.proofs.Common.{same, selected_on, Some, Stamped, subst, sym, Tables, TakeMount, takes_by}
+use Rattle.desk_types.proofs.Common.{TakeSheetRow, true, Two, with_edit, with_edits, ℕ}
+use Rattle.desk_laws.proofs.{PicksOfOneSlot.live-pieces, Tapes.not-zero}
 use Rattle.desk_types.proofs.BothRules.{judged-by-two}
-use Rattle.feeder_state.specs.Noted.{IsNoted}
-use Rattle.feeder_state.specs.State.{IsState, Represents}
-use Rattle.feeder_state.specs.Rows.{AreRows, AreRowsAt, left_at}
-use Rattle.feeder_state.specs.Spending.{empties, NoneIsSpent}
-use Rattle.feeder_state.specs.declared.desk.StateDesk.{StateDesk}
-use Rattle.feeder_state.proofs.RowReels.{mounts-row, row-left}
-use Rattle.feeder_state.proofs.TapeSteps.{all-kept, zero-is}
-
-change-minute : (rules : Rules) (H : History) (s : Stamped) (change : Change) → IsChange rules H s change → change.minute ≡ effective_minute H s.minute
-change-minute rules H s change is = ap (λ (x : Change). x.minute) is.value
+use Rattle.feeder_state.proofs.{RowReels.mounts-row, RowReels.row-left, TapeSteps.all-kept, TapeSteps.zero-is}
+use Rattle.feeder_state.specs.{Noted.IsNoted, Rows.AreRows, Rows.AreRowsAt, Rows.left_at, Spending.empties}
+use Rattle.feeder_state.specs.{Spending.NoneIsSpent, State.IsState, State.Represents, Tape.tape_at}
+use Rattle.feeder_state.specs.{declared.desk.StateDesk.StateDesk}
+use Rattle.state_rows.specs.Kept.{but_placements, KeptRows, tables_in}
+use Rattle.std.specs.List.{filter}
 
 pub accepted-judged : (rules : Rules) (H : History) (s : Stamped) (change : Change) → IsJudged rules H → IsStamped s → IsMinute change.minute → IsChange rules H s change
     → IsJudged rules (accept H s)
 accepted-judged rules H s change judged in_range minute is =
-    let at = change-minute rules H s change is in
+    let at = ap (λ (x : Change). x.minute) is.value in
     (record { in_range = record { stamped = in_range; effective = omega (arith, at, minute) }; number = refl; effective = refl; accepted = is.accepted }, judged)
 
 pub accepted-noted : (rules : Rules) (H : History) (s : Stamped) (change : Change) → IsJudged rules H → IsStamped s → IsMinute change.minute → IsChange rules H s change
     → IsNoted H (entry_of H s) s.command change.minute change.takes
 accepted-noted rules H s change judged in_range minute is =
-    let at = change-minute rules H s change is in
+    let at = ap (λ (x : Change). x.minute) is.value in
     record {
       judged = judged-by-two rules (accept H s) (accepted-judged rules H s change judged in_range minute is);
       command_is = refl;
@@ -57,7 +35,7 @@ accepted-noted rules H s change judged in_range minute is =
 
 pub accepted-minute : (rules : Rules) (H : History) (s : Stamped) (change : Change) → IsChange rules H s change → Some change.minute ≡ desk_minute (accept H s)
 accepted-minute rules H s change is =
-    let at = change-minute rules H s change is in
+    let at = ap (λ (x : Change). x.minute) is.value in
     let greatest : change.minute ≡ max (effective_minute H s.minute) (now_of H) = omega (arith, at) in
     ap Some greatest
 

@@ -1,35 +1,17 @@
 -- Reels at rest: after one entry more, and as rows have them.
-use Rattle.std.proofs.Common.{◌≡◌, ℕ, ◌+◌, ◌<◌, nat_lt, Bool, true, false, cond, not, Option, Some, None, is_some, List, [], ◌∷◌, take, get_or, length, refl, sym, ap, ◌∙◌}
-use Rattle.std.specs.Prelude.{◌&&◌, ◌||◌, ◌==◌}
-use Rattle.std.specs.BTreeMap.{is_at}
-use Rattle.std.specs.List.{list_any}
-use Rattle.std.specs.Map.{lookup}
-use Rattle.std.specs.Option.{option_map_or}
-use Rattle.std.proofs.Math.Bool.{and-false, and-true}
-use Rattle.std.proofs.lemmas.Bool.{and_from, and_parts, eqb-true}
-use Rattle.std.proofs.lemmas.List.Folds.{list_any-append}
-use Rattle.desk_types.specs.declared.command.Command.{Command}
-use Rattle.desk_types.specs.declared.command.Command.TheVariants.{ReelReceived, MaterialsLoaded, MaterialsSpliced, MaterialsUnloaded, MaterialsInstalled, MaterialsScrapped, CountsTaken}
-use Rattle.desk_types.specs.declared.command.Entry.{Entry}
-use Rattle.desk_types.specs.declared.command.Receipt.{Receipt}
-use Rattle.desk_types.specs.declared.rules.Rules.TheVariants.{Two}
-use Rattle.desk_types.specs.Id.{Name, same, by_name}
-use Rattle.desk_types.specs.History.{History}
-use Rattle.desk_types.specs.Setup.{receipt_of, receipt_by}
-use Rattle.desk_types.specs.Pieces.{left_of, live_on, is_mounted}
-use Rattle.desk_types.specs.Judged.{IsJudged}
-use Rattle.desk_types.proofs.Keys.{is_at-by_name, same-sym, same-true}
-use Rattle.desk_types.proofs.LoopSteps.{take-next}
+use Rattle.desk_types.proofs.Common.{[], ◌&&◌, ◌+◌, ◌<◌, ◌==◌, ◌||◌, ◌∙◌, ◌∷◌, ◌≡◌, and-false, and-true, and_from}
+use Rattle.desk_types.proofs.Common.{and_parts, ap, Bool, by_name, Command, cond, CountsTaken, Entry, eqb-true, false}
+use Rattle.desk_types.proofs.Common.{get_or, History, is_at, is_at-by_name, is_mounted, is_some, IsJudged, left_of}
+use Rattle.desk_types.proofs.Common.{length, List, list_any, list_any-append, live_on, lookup, MaterialsInstalled}
+use Rattle.desk_types.proofs.Common.{MaterialsLoaded, MaterialsScrapped, MaterialsSpliced, MaterialsUnloaded, Name}
+use Rattle.desk_types.proofs.Common.{nat_lt, None, not, Option, option_map_or, Receipt, receipt_by, receipt_of}
+use Rattle.desk_types.proofs.Common.{ReelReceived, ReelRow, refl, same, same-sym, same-true, Some, sym, take}
+use Rattle.desk_types.proofs.Common.{take-next, true, Two, ℕ}
+use Rattle.desk_laws.proofs.{Balance.some-next, Balance.unreceived-empty, Mounted.mounted-next, Mounts.has}
 use Rattle.desk_laws.specs.Place.{mounted_after}
-use Rattle.desk_laws.proofs.Balance.{some-next, unreceived-empty}
-use Rattle.desk_laws.proofs.Mounted.{mounted-next}
-use Rattle.desk_laws.proofs.Mounts.{has}
-use Rattle.desk_types.specs.declared.row.ReelRow.{ReelRow}
-use Rattle.state_rows.specs.Kept.{KeptRows, tables_in, row_at}
-use Rattle.feeder_state.specs.Rows.{AreRows}
-use Rattle.feeder_state.specs.Noted.{may_take}
-use Rattle.feeder_state.specs.Resting.{rests, row_rests, resting_after}
-use Rattle.feeder_state.proofs.RowReels.{row-none, reels-row, row-left, mounts-row}
+use Rattle.feeder_state.proofs.RowReels.{mounts-row, reels-row, row-left, row-none}
+use Rattle.feeder_state.specs.{Noted.may_take, Resting.resting_after, Resting.rests, Resting.row_rests, Rows.AreRows}
+use Rattle.state_rows.specs.Kept.{KeptRows, row_at, tables_in}
 
 -- ---- one entry more
 

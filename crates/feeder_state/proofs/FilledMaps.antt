@@ -1,16 +1,10 @@
 -- The entries of a table, and sets that are filled from them.
-use Rattle.std.proofs.Common.{◌≡◌, Bool, true, false, Option, Some, None, List, [], ◌∷◌, refl, sym, ap, ◌∙◌}
-use Rattle.std.specs.Prelude.{◌||◌}
-use Rattle.std.specs.BTreeMap.{is_at}
-use Rattle.std.specs.Cmp.{IsTotalOrder, tied_itself, eq_by_cmp_equiv}
-use Rattle.std.specs.List.{AllByRecursion}
-use Rattle.std.specs.List.Sorted.{IsStrictlySortedBy}
-use Rattle.std.specs.Map.{keys_of}
-use Rattle.std.specs.Ordering.{is_eq, ordering_reverse}
-use Rattle.std.specs.declared.cmp.Ordering.{Ordering}
-use Rattle.std.specs.declared.cmp.Ordering.TheVariants.{Less}
+use Rattle.desk_types.proofs.Common.{[], ◌||◌, ◌∙◌, ◌∷◌, ◌≡◌, AllByRecursion, ap, Bool, false, is_at, is_eq}
+use Rattle.desk_types.proofs.Common.{IsStrictlySortedBy, IsTotalOrder, keys_of, Less, List, None, Option, Ordering}
+use Rattle.desk_types.proofs.Common.{ordering_reverse, refl, Some, sym, true}
+use Rattle.state_rows.specs.Kept.{Lists, row_at}
 use Rattle.std.proofs.lemmas.Map.Entries.{lookup_head, lookup_tail}
-use Rattle.state_rows.specs.Kept.{row_at, Lists}
+use Rattle.std.specs.Cmp.{eq_by_cmp_equiv, tied_itself}
 
 -- Each entry is a row of the table.
 abbrev pub AreOf : {K X : Type 0} → (K → Option X) → List (K × X) → Type 0

@@ -1,8 +1,5 @@
 -- The shop floor before the first entry.
-use Rattle.std.proofs.Common.{◌≡◌, Bool, true, [], refl}
-use Rattle.desk_types.specs.Id.{Name}
-use Rattle.desk_types.specs.Tape.{tape_of}
-use Rattle.desk_types.specs.Pieces.{live_on, left_of}
+use Rattle.desk_types.proofs.Common.{[], ◌≡◌, Bool, left_of, live_on, Name, refl, tape_of, true}
 use Rattle.feeder_state.specs.Resting.{rests}
 
 pub live_on-none : (machine slot : Name) → [] ≡ live_on [] machine slot

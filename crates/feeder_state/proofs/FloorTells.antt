@@ -1,23 +1,13 @@
 -- The facts of a floor, from rows.
-use Rattle.std.proofs.Common.{◌≡◌, ℕ, nat_lt, Bool, true, false, Some, None, List, [], ◌∷◌, All, is_some, unwrap_or, refl, sym, ap, subst, ◌∙◌}
-use Rattle.std.specs.Prelude.{◌&&◌}
-use Rattle.std.specs.Option.{option_map}
-use Rattle.std.specs.Cmp.Lexicographic.{nat_list_eq_equiv}
-use Rattle.std.proofs.lemmas.Map.Views.{All-from_any}
-use Rattle.desk_types.specs.declared.rules.Rules.TheVariants.{Two}
-use Rattle.desk_types.specs.Id.{Name}
-use Rattle.desk_types.specs.History.{History, desk_minute, now_of}
-use Rattle.desk_types.specs.Setup.{receipt_of}
-use Rattle.desk_types.specs.Pieces.{left_of, live_on, is_mounted}
-use Rattle.state_rows.specs.Kept.{KeptRows}
-use Rattle.desk_types.specs.View.{view_of, reel_view}
-use Rattle.desk_types.specs.Free.{free_reels}
-use Rattle.desk_types.specs.Judged.{IsJudged}
+use Rattle.desk_types.proofs.Common.{[], ◌&&◌, ◌∙◌, ◌∷◌, ◌≡◌, All, ap, Bool, desk_minute, false, free_reels, History}
+use Rattle.desk_types.proofs.Common.{is_mounted, is_some, IsJudged, left_of, List, live_on, Name, nat_list_eq_equiv}
+use Rattle.desk_types.proofs.Common.{nat_lt, None, now_of, option_map, receipt_of, reel_view, refl, Some, subst, sym}
+use Rattle.desk_types.proofs.Common.{true, Two, unwrap_or, view_of, ℕ}
+use Rattle.desk_laws.proofs.{Balance.unreceived-empty, Mounted.mounted-is, Mounts.live-received}
 use Rattle.desk_laws.specs.Place.{place_of}
-use Rattle.desk_laws.proofs.Balance.{unreceived-empty}
-use Rattle.desk_laws.proofs.Mounted.{mounted-is}
-use Rattle.desk_laws.proofs.Mounts.{live-received}
 use Rattle.feeder_state.specs.Rows.{AreRowsAt}
+use Rattle.state_rows.specs.Kept.{KeptRows}
+use Rattle.std.proofs.lemmas.Map.Views.{All-from_any}
 
 -- ---- reels
 

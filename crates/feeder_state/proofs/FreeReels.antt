@@ -1,38 +1,19 @@
 -- Free reels in their order, whichever is looked at first.
-use Rattle.std.proofs.Common.{◌≡◌, ℕ, nat_lt, Bool, true, false, cond, not, Some, None, is_some, List, [], ◌∷◌, ◌++◌, map, filter, refl, sym, ap, subst, ◌∙◌}
-use Rattle.std.specs.Prelude.{◌&&◌, ◌||◌}
-use Rattle.std.specs.BTreeMap.{is_at}
-use Rattle.std.specs.BTreeSet.{BTreeSet, insert_key}
-use Rattle.std.specs.Cmp.{IsTotalOrder}
-use Rattle.std.specs.List.{cons_option}
-use Rattle.std.specs.Option.{option_map, option_map_or, option_or}
-use Rattle.std.specs.Ordering.{nat_cmp, ordering_then, on, then_cmp}
-use Rattle.std.specs.declared.cmp.Ordering.{Ordering}
-use Rattle.std.specs.declared.cmp.Ordering.TheVariants.{Less, Equal, Greater}
-use Rattle.std.proofs.lemmas.Cmp.{nat_cmp_total, nat_list_cmp_total, on_total, then_total}
-use Rattle.std.proofs.lemmas.List.Folds.{list_any-append}
-use Rattle.std.proofs.lemmas.Map.Lookups.{CmpEqualImpliesEq, exact_bytes}
-use Rattle.desk_types.specs.declared.command.Command.{Command}
-use Rattle.desk_types.specs.declared.command.Command.TheVariants.{ReelReceived}
-use Rattle.desk_types.specs.declared.command.Receipt.{Receipt}
-use Rattle.desk_types.specs.declared.rules.Rules.TheVariants.{Two}
-use Rattle.desk_types.specs.declared.view.Left.{Left}
-use Rattle.desk_types.specs.declared.view.Left.TheVariants.{Minutes, Unlimited, Unbaked}
-use Rattle.desk_types.specs.Id.{Name, same, by_name}
-use Rattle.desk_types.specs.History.{History, now_of}
-use Rattle.desk_types.specs.Setup.{receipt_of, receipt_by, is_allowed}
-use Rattle.desk_types.specs.Pieces.{left_of, is_mounted}
-use Rattle.desk_types.specs.FloorLife.{is_unbaked, is_expired}
-use Rattle.desk_types.specs.Judged.{IsJudged}
-use Rattle.desk_types.specs.View.{part_of, life_left}
-use Rattle.desk_types.specs.Free.{received_by, reels_received, is_free, by_left, by_turn, in_order}
-use Rattle.desk_types.proofs.Keys.{is_at-by_name, list_any-same, same-sym}
+use Rattle.desk_types.proofs.Common.{[], ◌&&◌, ◌++◌, ◌||◌, ◌∙◌, ◌∷◌, ◌≡◌, ap, Bool, by_name, by_turn}
+use Rattle.desk_types.proofs.Common.{CmpEqualImpliesEq, Command, cond, cons_option, Equal, exact_bytes, false, filter}
+use Rattle.desk_types.proofs.Common.{Greater, History, in_order, insert_key, is_allowed, is_at, is_at-by_name}
+use Rattle.desk_types.proofs.Common.{is_expired, is_free, is_mounted, is_some, is_unbaked, IsJudged, IsTotalOrder}
+use Rattle.desk_types.proofs.Common.{Left, left_of, Less, life_left, List, list_any-append, list_any-same, map}
+use Rattle.desk_types.proofs.Common.{Minutes, Name, nat_cmp, nat_cmp_total, nat_list_cmp_total, nat_lt, None, not}
+use Rattle.desk_types.proofs.Common.{now_of, on_total, option_map, option_map_or, option_or, Ordering, ordering_then}
+use Rattle.desk_types.proofs.Common.{Receipt, receipt_by, receipt_of, received_by, ReelReceived, reels_received, refl}
+use Rattle.desk_types.proofs.Common.{same, same-sym, Some, subst, sym, then_total, true, Two, Unlimited, ℕ}
 use Rattle.desk_laws.proofs.Mounts.{has, has-filter}
-use Rattle.judging.specs.Turns.{turn_of, by_life, if_free}
-use Rattle.judging.proofs.FreeReels.{turn-put}
-use Rattle.feeder_state.specs.Resting.{rests, is_resting}
-use Rattle.feeder_state.proofs.AtRest.{rests-received}
-use Rattle.feeder_state.proofs.NamesInOrder.{in_order-same}
+use Rattle.desk_types.{specs.Free.by_left, specs.View.part_of, specs.declared.view.Left.TheVariants.Unbaked}
+use Rattle.feeder_state.{proofs.AtRest.rests-received, proofs.NamesInOrder.in_order-same, specs.Resting.is_resting}
+use Rattle.feeder_state.{specs.Resting.rests}
+use Rattle.judging.{proofs.FreeReels.turn-put, specs.Turns.by_life, specs.Turns.if_free, specs.Turns.turn_of}
+use Rattle.std.{specs.BTreeSet.BTreeSet, specs.Ordering.on, specs.Ordering.then_cmp}
 
 -- ---- the order
 

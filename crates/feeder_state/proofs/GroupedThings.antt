@@ -1,9 +1,6 @@
 -- Things that are gathered by keys.
-use Rattle.std.proofs.Common.{◌≡◌, Bool, true, false, cond, List, [], ◌∷◌, ◌++◌, refl, ap, ◌∙◌}
-use Rattle.std.specs.Prelude.{◌&&◌, ◌||◌}
-use Rattle.std.specs.List.{list_any}
-use Rattle.std.proofs.lemmas.List.Folds.{list_any-append}
-use Rattle.desk_types.specs.Id.{Name, same}
+use Rattle.desk_types.proofs.Common.{[], ◌&&◌, ◌++◌, ◌||◌, ◌∙◌, ◌∷◌, ◌≡◌, ap, Bool, cond, false, List, list_any}
+use Rattle.desk_types.proofs.Common.{list_any-append, Name, refl, same, true}
 
 pub grouped-name : (here : Bool) (at old new : List Name) (x d : Name) (rest : Bool) → new ≡ cond here (at ++ x ∷ []) old → (here ≡ true → at ≡ old)
     → (list_any (same d) new || rest) ≡ (list_any (same d) old || ((here && same d x) || rest))

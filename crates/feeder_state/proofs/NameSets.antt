@@ -1,16 +1,10 @@
 -- Sets and maps by names after one name is put in or taken out.
-use Rattle.std.proofs.Common.{◌≡◌, Bool, true, false, cond, Some, None, unwrap_or, refl, ap, ◌∙◌}
-use Rattle.std.specs.Prelude.{◌||◌, ◌&&◌}
-use Rattle.std.specs.BTreeMap.{is_at}
-use Rattle.desk_types.specs.Id.{Name, same, by_name}
-use Rattle.desk_types.proofs.Keys.{is_at-by_name, same-true}
-
-cond-or : (b z : Bool) → cond b true z ≡ (b || z)
-cond-or true z = refl
-cond-or false z = refl
+use Rattle.desk_types.proofs.Common.{◌&&◌, ◌||◌, ◌∙◌, ◌≡◌, ap, Bool, by_name, cond, false, is_at, is_at-by_name, Name}
+use Rattle.desk_types.proofs.Common.{None, refl, same, same-true, Some, true, unwrap_or}
+use Rattle.desk_types.proofs.Tests.{or-cond}
 
 pub put : (x q : Name) (new old : Bool) → new ≡ cond (is_at (by_name x) q) true old → new ≡ (same x q || old)
-put x q new old after = after ∙ cond-or (is_at (by_name x) q) old ∙ ap (λ b. b || old) (is_at-by_name x q)
+put x q new old after = after ∙ or-cond (is_at (by_name x) q) old ∙ ap (λ b. b || old) (is_at-by_name x q)
 
 pub changed : {X : Type 0} (x q : Name) (new old value : X) → new ≡ cond (is_at (by_name x) q) value old → new ≡ cond (same x q) value old
 changed x q new old value after = after ∙ ap (λ b. cond b value old) (is_at-by_name x q)

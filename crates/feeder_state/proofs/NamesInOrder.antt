@@ -1,39 +1,13 @@
 -- Names in an order, each once: which names they are says which list it is.
-use Rattle.std.proofs.Common.{◌≡◌, Bool, true, false, cond, List, [], ◌∷◌, refl, sym, ap, subst, ◌∙◌}
-use Rattle.std.specs.Prelude.{◌&&◌, ◌||◌}
-use Rattle.std.specs.BTreeSet.{insert_key}
-use Rattle.std.specs.Cmp.{IsTotalOrder, tied_itself}
-use Rattle.std.specs.List.{filter, flat_map, AllByRecursion}
-use Rattle.std.specs.List.Sorted.{IsStrictlySortedBy}
-use Rattle.std.specs.Ordering.{is_gt, ordering_reverse, match_ordering}
-use Rattle.std.specs.declared.cmp.Ordering.{Ordering}
-use Rattle.std.specs.declared.cmp.Ordering.TheVariants.{Less, Equal, Greater}
-use Rattle.std.proofs.lemmas.Bool.{or_left}
+use Rattle.desk_types.proofs.Common.{[], ◌&&◌, ◌||◌, ◌∙◌, ◌∷◌, ◌≡◌, AllByRecursion, ap, Bool, CmpEqualImpliesEq, cond}
+use Rattle.desk_types.proofs.Common.{Equal, false, flat_map, Greater, in_order, IsStrictlySortedBy, IsTotalOrder}
+use Rattle.desk_types.proofs.Common.{Less, List, Name, or_left, Ordering, ordering_reverse, refl, same, same-refl}
+use Rattle.desk_types.proofs.Common.{same-true, sym, true}
+use Rattle.desk_laws.proofs.{Mounts.all-at, Mounts.has, Mounts.has-filter, NameSets.has-put, NameSets.ordered-put}
 use Rattle.std.proofs.lemmas.List.Kept.{IsStrictlySortedBy-filter}
-use Rattle.std.proofs.lemmas.Map.Lookups.{CmpEqualImpliesEq}
-use Rattle.desk_types.specs.Id.{Name, same}
-use Rattle.desk_types.specs.Free.{in_order}
-use Rattle.desk_types.proofs.Keys.{same-refl, same-true}
-use Rattle.desk_types.proofs.Tests.{swap-or}
-use Rattle.desk_laws.proofs.Mounts.{has, has-filter}
+use Rattle.std.specs.{Cmp.tied_itself, List.filter, Ordering.is_gt}
 
 -- ---- facts about all names
-
-all-at : (P : Name → Type 0) (names : List Name) (r : Name) → AllByRecursion P names → has names r ≡ true → P r
-all-at P [] r all there = cc
-all-at P (x ∷ xs) r (first, all) there = by (same r x) refl there (all-at P xs r all)
-  where
-    by : (b : Bool) → same r x ≡ b → (b || has xs r) ≡ true → (has xs r ≡ true → P r) → P r
-    by true here there rest = subst P (sym (same-true r x here)) first
-    by false away there rest = rest there
-
-all-map : (P Q : Name → Type 0) → ((r : Name) → P r → Q r) → (names : List Name) → AllByRecursion P names → AllByRecursion Q names
-all-map P Q step [] all = tt
-all-map P Q step (x ∷ xs) (first, all) = (step x first, all-map P Q step xs all)
-
-twice-or : (a b : Bool) → (a || (a || b)) ≡ (a || b)
-twice-or true b = refl
-twice-or false b = refl
 
 level : (a b : Ordering) → a ≡ ordering_reverse b → is_gt a ≡ false → is_gt b ≡ false → a ≡ Equal
 level Less Less turned up down = cc
@@ -81,44 +55,14 @@ module _ (R : Name → Name → Ordering) (o : IsTotalOrder R) (exact : CmpEqual
 
   -- ---- names put in order
 
-  has-put : (names : List Name) (x r : Name) → has (insert_key R names x) r ≡ (same r x || has names r)
-  has-put [] x r = refl
-  has-put (y ∷ ys) x r = by (R x y) refl (has-put ys x r)
-    where
-      by : (order : Ordering) → R x y ≡ order → has (insert_key R ys x) r ≡ (same r x || has ys r)
-          → has (match_ordering order (x ∷ y ∷ ys) (y ∷ ys) (y ∷ insert_key R ys x)) r ≡ (same r x || (same r y || has ys r))
-      by Less is rest = refl
-      by Equal is rest = sym (twice-or (same r y) (has ys r)) ∙ ap (λ z. same r z || (same r y || has ys r)) (sym (exact x y is))
-      by Greater is rest = ap (λ b. same r y || b) rest ∙ swap-or (same r y) (same r x) (has ys r)
-
-  all-put : (P : Name → Type 0) (names : List Name) (x : Name) → AllByRecursion P names → P x → AllByRecursion P (insert_key R names x)
-  all-put P [] x all one = (one, tt)
-  all-put P (y ∷ ys) x (first, all) one = by (R x y) (all-put P ys x all one)
-    where
-      by : (order : Ordering) → AllByRecursion P (insert_key R ys x) → AllByRecursion P (match_ordering order (x ∷ y ∷ ys) (y ∷ ys) (y ∷ insert_key R ys x))
-      by Less rest = (one, (first, all))
-      by Equal rest = (first, all)
-      by Greater rest = (first, rest)
-
-  ordered-put : (names : List Name) (x : Name) → IsStrictlySortedBy R names → IsStrictlySortedBy R (insert_key R names x)
-  unfolding IsStrictlySortedBy
-  ordered-put [] x up = (tt, tt)
-  ordered-put (y ∷ ys) x (first, up) = by (R x y) refl (ordered-put ys x up)
-    where
-      by : (order : Ordering) → R x y ≡ order → IsStrictlySortedBy R (insert_key R ys x)
-          → IsStrictlySortedBy R (match_ordering order (x ∷ y ∷ ys) (y ∷ ys) (y ∷ insert_key R ys x))
-      by Less is rest = ((is, all-map (λ z. R y z ≡ Less) (λ z. R x z ≡ Less) (λ z less. o.trans x y z is less) ys first), (first, up))
-      by Equal is rest = (first, up)
-      by Greater is rest = (all-put (λ z. R y z ≡ Less) ys x first (o.antisymm y x ∙ ap ordering_reverse is), rest)
-
   pub in_order-ordered : (names : List Name) → IsStrictlySortedBy R (in_order R names)
   unfolding IsStrictlySortedBy
   in_order-ordered [] = tt
-  in_order-ordered (x ∷ xs) = ordered-put (in_order R xs) x (in_order-ordered xs)
+  in_order-ordered (x ∷ xs) = ordered-put R o exact (in_order R xs) x (in_order-ordered xs)
 
   pub has-in_order : (names : List Name) (r : Name) → has (in_order R names) r ≡ has names r
   has-in_order [] r = refl
-  has-in_order (x ∷ xs) r = has-put (in_order R xs) x r ∙ ap (λ b. same r x || b) (has-in_order xs r)
+  has-in_order (x ∷ xs) r = has-put R o exact (in_order R xs) x r ∙ ap (λ b. same r x || b) (has-in_order xs r)
 
   pub in_order-same : (xs ys : List Name) → ((r : Name) → has xs r ≡ has ys r) → in_order R xs ≡ in_order R ys
   in_order-same xs ys agree =

@@ -1,27 +1,13 @@
 -- The designators that the rows of placed pieces name.
-use Rattle.std.proofs.Common.{◌≡◌, ℕ, Bool, true, false, cond, Option, Some, None, List, [], ◌∷◌, map, refl, sym, ap, ◌∙◌}
-use Rattle.std.specs.Prelude.{◌&&◌, ◌||◌}
-use Rattle.std.specs.BTreeMap.{is_at}
-use Rattle.std.specs.Cmp.{IsTotalOrder}
-use Rattle.std.specs.List.{list_any}
-use Rattle.std.proofs.lemmas.Bool.{or_left, or_right}
-use Rattle.std.proofs.lemmas.Cmp.{nat_cmp_total, on_total, then_total}
-use Rattle.std.specs.declared.cmp.Ordering.{Ordering}
-use Rattle.desk_types.specs.declared.placement.Placement.{Placement}
-use Rattle.desk_types.specs.declared.rules.Rules.TheVariants.{Two}
-use Rattle.desk_types.specs.Id.{Name, same}
-use Rattle.desk_types.specs.Pair.{same_pair}
-use Rattle.desk_types.specs.History.{History}
-use Rattle.desk_types.specs.Judged.{IsJudged}
-use Rattle.desk_types.specs.Placements.{placements_of}
-use Rattle.desk_types.specs.Work.{is_placed_on}
-use Rattle.desk_laws.proofs.Designators.{spots_of, spot-placed}
-use Rattle.desk_laws.proofs.Mounted.{iff}
-use Rattle.desk_types.specs.declared.row.PlacementRow.{PlacementRow}
-use Rattle.state_rows.specs.Kept.{by_piece, row_at, Lists}
-use Rattle.desk_types.specs.Tables.{placement_row}
-use Rattle.state_rows.proofs.PlacedRows.{entry_of, piece_entries, pieces-listed}
+use Rattle.desk_types.proofs.Common.{[], ◌&&◌, ◌||◌, ◌∙◌, ◌∷◌, ◌≡◌, ap, Bool, both_ways, cond, false, History, is_at}
+use Rattle.desk_types.proofs.Common.{is_placed_on, IsJudged, IsTotalOrder, List, list_any, map, Name, nat_cmp_total}
+use Rattle.desk_types.proofs.Common.{None, on_total, Option, or_left, or_right, Ordering, Placement, placement_row}
+use Rattle.desk_types.proofs.Common.{PlacementRow, placements_of, refl, same, same_pair, Some, sym, then_total, true}
+use Rattle.desk_types.proofs.Common.{Two, ℕ}
+use Rattle.desk_laws.proofs.Designators.{spot-placed, spots_of}
 use Rattle.feeder_state.proofs.FilledMaps.{AreOf, each-of}
+use Rattle.state_rows.proofs.PlacedRows.{entry_of, piece_entries, pieces-listed}
+use Rattle.state_rows.specs.Kept.{by_piece, Lists, row_at}
 
 -- ---- lists of one table
 
@@ -52,7 +38,7 @@ weaker f g is (e ∷ es) (first, each) = (sym (is e.0) ∙ first, weaker f g is 
 pub any-same : {K X : Type 0} (cmp : K → K → Ordering) → IsTotalOrder cmp → (test : X → Bool) (table : K → Option X) (xs ys : List (K × X)) → Lists cmp xs table → Lists cmp ys table
     → list_any (λ e. test e.1) xs ≡ list_any (λ e. test e.1) ys
 any-same cmp o test table xs ys of_xs of_ys =
-    iff _ _ (any-other cmp test xs ys (weaker table (row_at cmp ys) (λ k. sym (of_ys.rows k)) xs (each-of cmp o xs table of_xs)))
+    both_ways _ _ (any-other cmp test xs ys (weaker table (row_at cmp ys) (λ k. sym (of_ys.rows k)) xs (each-of cmp o xs table of_xs)))
     (any-other cmp test ys xs (weaker table (row_at cmp xs) (λ k. sym (of_xs.rows k)) ys (each-of cmp o ys table of_ys)))
 
 -- ---- placed designators

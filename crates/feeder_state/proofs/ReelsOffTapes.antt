@@ -1,16 +1,10 @@
 -- Reels that go off tapes.
-use Rattle.std.proofs.Common.{◌≡◌, ℕ, Bool, true, false, cond, not, List, [], ◌∷◌, take, get_or, length, ◌<◌, ◌+◌, refl, sym, ap, ◌∙◌}
-use Rattle.std.specs.Prelude.{◌&&◌, ◌||◌, ◌==◌}
-use Rattle.std.specs.List.{filter, list_any, IsDistinct, AllByRecursion}
-use Rattle.std.proofs.lemmas.List.Folds.{list_any-append}
-use Rattle.std.proofs.lemmas.Map.Keys.{IsDistinct-head}
-use Rattle.desk_types.specs.declared.take.Purpose.TheVariants.{Counted}
-use Rattle.desk_types.specs.declared.take.Take.{Take}
-use Rattle.desk_types.specs.Id.{Name, same}
-use Rattle.desk_types.proofs.Keys.{same-refl, same-true}
-use Rattle.desk_types.proofs.LoopSteps.{take-next}
+use Rattle.desk_types.proofs.Common.{[], ◌&&◌, ◌+◌, ◌<◌, ◌==◌, ◌||◌, ◌∙◌, ◌∷◌, ◌≡◌, AllByRecursion, ap, Bool, cond}
+use Rattle.desk_types.proofs.Common.{Counted, false, get_or, IsDistinct, length, List, list_any, list_any-append}
+use Rattle.desk_types.proofs.Common.{Name, not, refl, same, same-refl, same-true, sym, Take, take, take-next, true, ℕ}
 use Rattle.desk_laws.specs.Slots.{comes_off}
 use Rattle.feeder_state.specs.Spending.{is_spent_by}
+use Rattle.std.{proofs.lemmas.Map.Keys.IsDistinct-head, specs.List.filter}
 
 -- ---- filters
 

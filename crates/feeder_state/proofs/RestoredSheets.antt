@@ -1,33 +1,18 @@
 -- Sheets that are made again from their rows.
-use Rattle.std.proofs.Common.{◌≡◌, ℕ, zero, suc, ◌+◌, ◌≤◌, nat_lt, Bool, true, false, cond, Option, Some, None, SomeIff, List, [], ◌∷◌, ◌++◌, length, take, slice_get, unwrap_or, refl, sym, ap, subst, ◌∙◌, arith}
-use Rattle.std.specs.Prelude.{◌&&◌, ◌||◌, ◌==◌, if◌then◌else◌}
-use Rattle.std.specs.Cmp.{IsTotalOrder}
-use Rattle.std.specs.List.{list_any}
-use Rattle.std.specs.Option.{option_and_then, option_or}
-use Rattle.std.proofs.lemmas.Bool.{eq-eqb, ne_eqb, ltb-true, ltb-false, or_left, or_right}
-use Rattle.std.proofs.lemmas.List.{take_all}
-use Rattle.std.proofs.lemmas.Option.{slice_get_within, get_or_from_slice_get}
-use Rattle.std.proofs.lemmas.Cmp.{nat_cmp_total, nat_list_cmp_total, on_total, then_total}
-use Rattle.desk_types.specs.declared.command.Command.{Command}
-use Rattle.desk_types.specs.declared.command.Command.TheVariants.{SheetDefined}
-use Rattle.desk_types.specs.declared.limits.TheConstants.{LONGEST_LIST}
-use Rattle.desk_types.specs.declared.sheet.SheetRow.{SheetRow}
-use Rattle.desk_types.specs.Bounds.{IsListLength}
-use Rattle.desk_types.specs.Command.{IsCommand}
-use Rattle.desk_types.specs.declared.rules.Rules.TheVariants.{Two}
-use Rattle.desk_types.specs.Id.{Name, same}
-use Rattle.desk_types.specs.History.{History}
-use Rattle.desk_types.specs.Judged.{IsJudged}
-use Rattle.desk_types.specs.Setup.{sheet_by, sheet_of}
-use Rattle.desk_types.specs.View.{defines_on, has_sheet}
-use Rattle.desk_types.proofs.LoopSteps.{take-next}
-use Rattle.desk_types.proofs.Keys.{same-refl, same-sym, same-true}
-use Rattle.desk_laws.proofs.Mounted.{iff}
-use Rattle.judging.proofs.Reels.{no-gap}
-use Rattle.state_rows.specs.Kept.{by_sheet_place, row_at, Lists}
-use Rattle.desk_types.specs.Tables.{at_place, sheet_row}
-use Rattle.state_rows.proofs.RowLists.{is_at-by_sheet_place}
+use Rattle.desk_types.proofs.Common.{[], ◌&&◌, ◌++◌, ◌+◌, ◌==◌, ◌||◌, ◌∙◌, ◌∷◌, ◌≡◌, ◌≤◌, ap, arith, at_place, Bool}
+use Rattle.desk_types.proofs.Common.{both_ways, Command, cond, defines_on, eq-eqb, false, has_sheet, History}
+use Rattle.desk_types.proofs.Common.{if◌then◌else◌, IsCommand, IsJudged, IsListLength, IsTotalOrder, length, List}
+use Rattle.desk_types.proofs.Common.{list_any, LONGEST_LIST, ltb-false, ltb-true, Name, nat_cmp_total}
+use Rattle.desk_types.proofs.Common.{nat_list_cmp_total, nat_lt, ne_eqb, None, on_total, Option, option_and_then}
+use Rattle.desk_types.proofs.Common.{option_or, or_left, or_right, refl, same, same-refl, same-sym, same-true}
+use Rattle.desk_types.proofs.Common.{sheet_by, sheet_of, SheetDefined, SheetRow, slice_get, Some, SomeIff, subst, suc}
+use Rattle.desk_types.proofs.Common.{sym, take, take-next, take_all, then_total, true, Two, unwrap_or, zero, ℕ}
+use Rattle.desk_types.specs.Tables.{sheet_row}
 use Rattle.feeder_state.proofs.FilledMaps.{AreOf, each-of}
+use Rattle.judging.proofs.Reels.{no-gap}
+use Rattle.state_rows.proofs.RowLists.{is_at-by_sheet_place}
+use Rattle.state_rows.specs.Kept.{by_sheet_place, Lists, row_at}
+use Rattle.std.proofs.lemmas.Option.{get_or_from_slice_get, slice_get_within}
 
 -- ---- the rows of one sheet, in turn
 
@@ -121,10 +106,6 @@ sheet-next None None new true row left is was = ap (λ o. option_or o (option_an
     none None = refl
     none (Some r) = refl
 
-pub all-in : (sheet now : Option (List SheetRow)) → option_or now None ≡ sheet → now ≡ sheet
-all-in sheet None is = is
-all-in sheet (Some rows) is = is
-
 -- ---- machines with a sheet
 
 by_sheet_place-total : IsTotalOrder by_sheet_place
@@ -207,7 +188,7 @@ found-for product machine place row (e ∷ es) is =
 
 pub rows-for : (H : History) (machine : Name) (es : List ((Name × Name × ℕ) × SheetRow)) → IsJudged Two H → Lists by_sheet_place es (λ k. sheet_row H k.0 k.1 k.2)
     → is_for machine es ≡ has_sheet H machine
-rows-for H machine es judged lists = iff _ _ (row-has H machine es (each-of by_sheet_place by_sheet_place-total es (λ k. sheet_row H k.0 k.1 k.2) lists)) (λ has. back (has-sheet H machine has))
+rows-for H machine es judged lists = both_ways _ _ (row-has H machine es (each-of by_sheet_place by_sheet_place-total es (λ k. sheet_row H k.0 k.1 k.2) lists)) (λ has. back (has-sheet H machine has))
   where
     back : HasSheet H machine → is_for machine es ≡ true
     back sheet = by sheet.rows sheet.is (sheet-range H sheet.product machine sheet.rows judged sheet.is)

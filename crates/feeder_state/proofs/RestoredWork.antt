@@ -1,22 +1,12 @@
 -- The work of rows.
-use Rattle.std.proofs.Common.{◌≡◌, Bool, true, false, cond, Option, Some, None, is_some, List, [], ◌∷◌, refl, sym, ap, unwrap_or, ◌∙◌}
-use Rattle.std.specs.Prelude.{◌&&◌, ◌||◌}
-use Rattle.std.specs.BTreeMap.{is_at}
-use Rattle.std.specs.List.{list_any}
-use Rattle.std.specs.Map.{lookup}
-use Rattle.std.specs.Option.{option_and_then, option_map, option_map_or}
-use Rattle.std.proofs.lemmas.Cmp.{nat_list_cmp_total}
-use Rattle.desk_types.specs.declared.rules.Rules.TheVariants.{Two}
-use Rattle.desk_types.specs.Id.{Name, same, by_name}
-use Rattle.desk_types.specs.History.{History}
-use Rattle.desk_types.specs.Judged.{IsJudged}
-use Rattle.desk_types.specs.Work.{in_work_on, is_in_work, product_of}
-use Rattle.desk_types.proofs.Keys.{is_at-by_name, same-sym, same-true, same-refl}
-use Rattle.desk_types.specs.declared.row.BoardRow.{BoardRow}
-use Rattle.state_rows.specs.Kept.{row_at}
-use Rattle.desk_types.specs.Tables.{board_row, work_machine}
-use Rattle.state_rows.proofs.DesksOfRows.{machine_in, work-on_row, in_work-row}
+use Rattle.desk_types.proofs.Common.{[], ◌&&◌, ◌||◌, ◌∙◌, ◌∷◌, ◌≡◌, ap, board_row, BoardRow, Bool, by_name, cond}
+use Rattle.desk_types.proofs.Common.{false, History, in_work_on, is_at, is_at-by_name, is_in_work, is_some, IsJudged}
+use Rattle.desk_types.proofs.Common.{List, list_any, lookup, Name, nat_list_cmp_total, None, Option, option_and_then}
+use Rattle.desk_types.proofs.Common.{option_map, option_map_or, product_of, refl, same, same-refl, same-sym}
+use Rattle.desk_types.proofs.Common.{same-true, Some, sym, true, Two, unwrap_or, work_machine}
 use Rattle.feeder_state.proofs.FilledMaps.{AreOf, others}
+use Rattle.state_rows.proofs.DesksOfRows.{in_work-row, machine_in, work-on_row}
+use Rattle.state_rows.specs.Kept.{row_at}
 
 pub product-row : (H : History) (board : Name) → option_and_then (λ (r : BoardRow). Some r.product) (board_row H board) ≡ product_of H board
 product-row H board = by (product_of H board)

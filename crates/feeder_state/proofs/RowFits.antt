@@ -1,11 +1,10 @@
 -- Rows that fit a reel, by the tests of a desk.
-use Rattle.std.proofs.Common.{◌≡◌, ℕ, ◌+◌, ◌-◌, ◌≤◌, true, Option, Some, None, refl, ap, arith, le-leb, leb-true, eq-eqb, eqb-true}
-use Rattle.std.specs.Option.{ForSome, ForNone, option_map_or}
-use Rattle.std.proofs.lemmas.Bool.{and_from, and_parts}
-use Rattle.desk_types.specs.declared.limits.TheConstants.{GREATEST_LABEL}
-use Rattle.desk_types.specs.declared.row.ReelRow.{ReelRow}
+use Rattle.desk_types.proofs.Common.{◌+◌, ◌-◌, ◌≡◌, ◌≤◌, and_from, and_parts, ap, arith, eq-eqb, eqb-true}
+use Rattle.desk_types.proofs.Common.{GREATEST_LABEL, leb-true, None, Option, option_map_or, ReelRow, refl, Some, true}
+use Rattle.desk_types.proofs.Common.{ℕ}
+use Rattle.feeder_state.specs.Held.{balances, is_reel, times_fit}
 use Rattle.reels.specs.Fitting.{IsFitting}
-use Rattle.feeder_state.specs.Held.{balances, times_fit, is_reel}
+use Rattle.std.{proofs.Common.le-leb, specs.Option.ForNone, specs.Option.ForSome}
 
 fits-balances : (row : ReelRow) (found minute : ℕ) → IsFitting row found minute → balances row ≡ true
 fits-balances row found minute fits =

@@ -1,42 +1,20 @@
 -- Reels made from their rows.
-use Rattle.std.proofs.Common.{◌≡◌, ℕ, ◌+◌, ◌≤◌, Bool, true, false, Option, Some, None, ◌∷◌, [], refl, sym, ap, subst, ◌∙◌, unwrap_or, arith, is_some}
-use Rattle.std.specs.Prelude.{if◌then◌else◌}
-use Rattle.std.specs.Option.{option_map, option_map_or, option_or}
-use Rattle.std.specs.Cmp.Lexicographic.{nat_list_eq_equiv}
-use Rattle.std.proofs.lemmas.Map.Views.{list_any-from_Contains}
-use Rattle.desk_types.specs.declared.command.Command.{Command}
-use Rattle.desk_types.specs.declared.command.Command.TheVariants.{ReelReceived}
-use Rattle.desk_types.specs.declared.command.Receipt.{Receipt}
-use Rattle.desk_types.specs.declared.limits.TheConstants.{GREATEST_LABEL}
-use Rattle.desk_types.specs.declared.rules.Rules.TheVariants.{Two}
-use Rattle.desk_types.specs.Command.{IsCommand}
-use Rattle.desk_types.specs.Id.{Name, same}
-use Rattle.desk_types.specs.History.{History, now_of}
-use Rattle.desk_types.specs.Setup.{receipt_of, receipt_by}
-use Rattle.desk_types.specs.Pieces.{left_of, found_of, live_on, is_mounted}
-use Rattle.desk_types.specs.FloorLife.{out_since, exposure_of}
-use Rattle.desk_types.specs.View.{view_of}
-use Rattle.desk_types.specs.Judged.{IsJudged}
-use Rattle.desk_laws.proofs.Balance.{balance, unreceived-empty}
-use Rattle.desk_laws.proofs.Exposures.{exposure-within}
-use Rattle.desk_laws.proofs.Lookups.{mounted-live}
-use Rattle.desk_laws.proofs.Judgements.{by-desk_minute}
-use Rattle.desk_laws.proofs.Openings.{starts-by}
-use Rattle.desk_types.specs.declared.row.ReelRow.{ReelRow}
-use Rattle.desk_types.specs.declared.row.MountRow.{MountRow}
-use Rattle.reels.specs.declared.reel.Reel.{Reel}
-use Rattle.reels.specs.Fitting.{IsFitting}
-use Rattle.reels.specs.Reel.{RowStandsFor}
-use Rattle.reels.proofs.StandingReels.{label-below}
+use Rattle.desk_types.proofs.Common.{[], ◌+◌, ◌∙◌, ◌∷◌, ◌≡◌, ◌≤◌, ap, arith, Bool, columns_of, Command, exposure_of}
+use Rattle.desk_types.proofs.Common.{false, found_of, GREATEST_LABEL, History, if◌then◌else◌, is_mounted, is_some}
+use Rattle.desk_types.proofs.Common.{IsCommand, IsJudged, last_put, left_of, list_any-from_Contains, live_on}
+use Rattle.desk_types.proofs.Common.{mount_row, MountRow, Name, nat_list_eq_equiv, None, now_of, Option, option_map}
+use Rattle.desk_types.proofs.Common.{option_map_or, option_or, out_since, Receipt, receipt_by, receipt_of, reel_row}
+use Rattle.desk_types.proofs.Common.{ReelReceived, ReelRow, refl, same, Some, subst, sym, Tables, true, Two}
+use Rattle.desk_types.proofs.Common.{unwrap_or, view_of, ℕ}
+use Rattle.desk_laws.proofs.{Balance.balance, Balance.unreceived-empty, Exposures.exposure-within}
+use Rattle.desk_laws.proofs.{Judgements.by-desk_minute, Lookups.mounted-live, Openings.starts-by}
+use Rattle.feeder_state.specs.{Held.IsHeld, Held.IsHeldOf, Held.with_mount, Rows.AreRows, Rows.left_at}
+use Rattle.feeder_state.specs.{declared.held.Held.Held}
 use Rattle.judging.specs.Facts.{IsReelOf}
-use Rattle.desk_types.specs.Tables.{Tables, columns_of, reel_row, last_put, mount_row}
-use Rattle.state_rows.proofs.Exposed.{since-by}
-use Rattle.state_rows.proofs.MountedRows.{live-mount}
+use Rattle.reels.proofs.StandingReels.{label-below}
+use Rattle.reels.specs.{Fitting.IsFitting, Reel.RowStandsFor, declared.reel.Reel.Reel}
+use Rattle.state_rows.proofs.{Exposed.since-by, MountedRows.live-mount, ReelRows.found-kept, ReelRows.used-then}
 use Rattle.state_rows.specs.Kept.{KeptRows, tables_in, without_number}
-use Rattle.state_rows.proofs.ReelRows.{used-then, found-kept}
-use Rattle.feeder_state.specs.declared.held.Held.{Held}
-use Rattle.feeder_state.specs.Held.{IsHeld, IsHeldOf, with_mount}
-use Rattle.feeder_state.specs.Rows.{AreRows, left_at}
 
 -- ---- the values of a row
 

@@ -1,34 +1,18 @@
 -- Histories of one state agree on everything that replies depend on.
-use Rattle.std.proofs.Common.{◌≡◌, All, Bool, false, Option, Some, None, List, refl, sym, ap, ◌∙◌, arith}
-use Rattle.std.specs.Prelude.{◌-◌, ◌&&◌, is_some, not, unwrap_or}
-use Rattle.std.specs.Option.{option_and_then, option_map, option_map_or}
-use Rattle.desk_types.specs.declared.command.Stamped.{Stamped}
-use Rattle.desk_types.specs.declared.row.BoardRow.{BoardRow}
-use Rattle.desk_types.specs.declared.rules.Rules.TheVariants.{Two}
-use Rattle.desk_types.specs.Command.{IsStamped}
-use Rattle.desk_types.specs.Id.{Name}
-use Rattle.desk_types.specs.Level.{LevelWithLabel, limit_of}
-use Rattle.desk_types.specs.History.{History, desk_minute, now_of}
-use Rattle.desk_types.specs.Setup.{receipt_of}
-use Rattle.desk_types.specs.Pieces.{left_of, is_mounted}
-use Rattle.desk_types.specs.FloorLife.{is_six, is_baked}
-use Rattle.desk_types.specs.Tables.{Tables, tables_of}
-use Rattle.desk_types.specs.Outcome.{replies_to}
-use Rattle.desk_types.specs.Judged.{IsJudged}
+use Rattle.desk_types.proofs.Common.{◌&&◌, ◌-◌, ◌∙◌, ◌≡◌, All, ap, arith, BoardRow, Bool, desk_minute, false, History}
+use Rattle.desk_types.proofs.Common.{is_baked, is_mounted, is_six, is_some, IsJudged, IsStamped, left_of}
+use Rattle.desk_types.proofs.Common.{LevelWithLabel, limit_of, List, Name, None, not, now_of, Option, option_and_then}
+use Rattle.desk_types.proofs.Common.{option_map, option_map_or, receipt_of, refl, replies_to, Some, Stamped, sym}
+use Rattle.desk_types.proofs.Common.{Tables, tables_of, Two, unwrap_or}
+use Rattle.desk_laws.proofs.{AfterCommands.many-commands, Agreeing.Agree, Agreeing.IsSame, Agreeing.mark}
+use Rattle.desk_laws.proofs.{Agreeing.marked, Agreeing.marks_of, FloorNext.life-marked, FromAlike.same-absent}
+use Rattle.feeder_state.proofs.{AcceptedChanges.state-rows, AcceptedChanges.state-two, FloorTells.absent-left}
+use Rattle.feeder_state.proofs.{FloorTells.absent-mounted, RestoredWork.busy-row, RestoredWork.is_at_work}
+use Rattle.feeder_state.proofs.{RestoredWork.product-row, RowReels.both-held}
+use Rattle.feeder_state.specs.{Held.IsHeldOf, State.IsState, declared.desk.StateDesk.StateDesk}
+use Rattle.feeder_state.specs.{declared.held.Held.Held}
 use Rattle.reels.specs.Reel.{StandsFor}
 use Rattle.state_rows.specs.Kept.{unnumbered}
-use Rattle.desk_laws.proofs.AfterCommands.{many-commands}
-use Rattle.desk_laws.proofs.Agreeing.{mark, marks_of, marked, IsSame, Agree}
-use Rattle.desk_laws.proofs.FloorNext.{life-marked}
-use Rattle.desk_laws.proofs.FromAlike.{same-absent}
-use Rattle.feeder_state.specs.declared.desk.StateDesk.{StateDesk}
-use Rattle.feeder_state.specs.declared.held.Held.{Held}
-use Rattle.feeder_state.specs.Held.{IsHeldOf}
-use Rattle.feeder_state.specs.State.{IsState}
-use Rattle.feeder_state.proofs.AcceptedChanges.{state-two, state-rows}
-use Rattle.feeder_state.proofs.FloorTells.{absent-left, absent-mounted}
-use Rattle.feeder_state.proofs.RestoredWork.{is_at_work, busy-row, product-row}
-use Rattle.feeder_state.proofs.RowReels.{both-held}
 
 -- The facts of a state about a reel.
 record IsSameHeld (G H : History) (reel : Name) : Type 0 where

@@ -1,32 +1,16 @@
 -- The slots of one machine among all slots.
-use Rattle.std.proofs.Common.{◌≡◌, nat_lt, Bool, true, false, cond, Option, Some, None, is_some, unwrap_or, List, [], ◌∷◌, map, refl, sym, ap, subst, ◌∙◌}
-use Rattle.std.specs.Prelude.{◌&&◌, ◌||◌, if◌then◌else◌}
-use Rattle.std.specs.BTreeMap.{BTreeMap, is_at}
-use Rattle.std.specs.BTreeSet.{insert_key}
-use Rattle.std.specs.Cmp.{IsTotalOrder, tied_itself}
-use Rattle.std.specs.Cmp.Lexicographic.{nat_list_eq_equiv}
-use Rattle.std.specs.List.{filter, filter_map, cons_option, flat_map, enumerate_from, AllByRecursion}
-use Rattle.std.specs.List.Sorted.{IsStrictlySortedBy}
-use Rattle.std.specs.Map.{keys_of, lookup}
-use Rattle.std.specs.Ordering.{ordering_then}
-use Rattle.std.specs.declared.cmp.Ordering.{Ordering}
-use Rattle.std.specs.declared.cmp.Ordering.TheVariants.{Less, Equal, Greater}
-use Rattle.std.proofs.lemmas.Cmp.{nat_list_cmp_total, on_total, then_total}
-use Rattle.std.proofs.lemmas.Map.Lookups.{exact_bytes}
-use Rattle.std.proofs.lemmas.Map.Views.{list_any-from_Contains}
-use Rattle.desk_types.specs.declared.command.Entry.{Entry}
-use Rattle.desk_types.specs.Id.{Name, same, by_name}
-use Rattle.desk_types.specs.Pair.{by_pair}
-use Rattle.desk_types.specs.History.{History}
-use Rattle.desk_types.specs.Pieces.{left_of, live_on, first}
-use Rattle.desk_types.specs.Placements.{set_of}
-use Rattle.desk_types.specs.View.{slot_by, slot_mounts, mount_of, loaded_slots}
-use Rattle.desk_types.specs.Free.{in_order}
-use Rattle.desk_types.proofs.Keys.{is_at-by_pair, same-sym, same-true}
-use Rattle.desk_laws.proofs.Lookups.{tape-loaded}
-use Rattle.desk_laws.proofs.Mounts.{has}
-use Rattle.feeder_state.specs.Tape.{tape_at}
-use Rattle.feeder_state.proofs.NamesInOrder.{in_order-ordered, told-same}
+use Rattle.desk_types.proofs.Common.{[], ◌&&◌, ◌||◌, ◌∙◌, ◌∷◌, ◌≡◌, AllByRecursion, ap, Bool, BTreeMap, by_name}
+use Rattle.desk_types.proofs.Common.{by_pair, cond, cons_option, Entry, enumerate_from, Equal, exact_bytes, false}
+use Rattle.desk_types.proofs.Common.{first, flat_map, Greater, History, if◌then◌else◌, is_at, is_at-by_pair, is_some}
+use Rattle.desk_types.proofs.Common.{IsStrictlySortedBy, IsTotalOrder, keys_of, left_of, Less, List}
+use Rattle.desk_types.proofs.Common.{list_any-from_Contains, live_on, loaded_slots, lookup, map, mount_of, Name}
+use Rattle.desk_types.proofs.Common.{nat_list_cmp_total, nat_list_eq_equiv, nat_lt, None, on_total, Option, Ordering}
+use Rattle.desk_types.proofs.Common.{ordering_then, refl, same, same-sym, same-true, slot_mounts, Some, sym}
+use Rattle.desk_types.proofs.Common.{then_total, true, unwrap_or}
+use Rattle.desk_laws.{proofs.Lookups.tape-loaded, proofs.Mounts.has, proofs.NameSets.set-ordered}
+use Rattle.desk_types.specs.View.{slot_by}
+use Rattle.feeder_state.{proofs.NamesInOrder.told-same, specs.Tape.tape_at}
+use Rattle.std.{specs.Cmp.tied_itself, specs.List.filter, specs.List.filter_map}
 
 pub by_pair-total : IsTotalOrder by_pair
 by_pair-total = then_total (on_total (λ (k : Name × Name). k.0) nat_list_cmp_total) (on_total (λ (k : Name × Name). k.1) nat_list_cmp_total)
@@ -100,13 +84,6 @@ taken-loaded H machine slot taken =
 taken-there : (H : History) (machine slot : Name) (found : Option (List Name)) → unwrap_or found [] ≡ live_on H machine slot → is_taken H machine slot ≡ true → is_some found ≡ true
 taken-there H machine slot None is taken = let vacant = ap (λ reels. is_some (first reels)) is in cc
 taken-there H machine slot (Some tape) is taken = refl
-
-set-in_order : (names : List Name) → in_order by_name names ≡ set_of names
-set-in_order [] = refl
-set-in_order (x ∷ xs) = ap (λ names. insert_key by_name names x) (set-in_order xs)
-
-set-ordered : (names : List Name) → IsStrictlySortedBy by_name (set_of names)
-set-ordered names = subst (IsStrictlySortedBy by_name) (set-in_order names) (in_order-ordered by_name nat_list_cmp_total exact_bytes names)
 
 -- The slots in the map give the same result as all slots that were ever loaded.
 pub told-loaded : (H : History) (machine : Name) (tapes : BTreeMap (Name × Name) (List Name)) → IsStrictlySortedBy by_pair (keys_of tapes.entries)

@@ -1,36 +1,18 @@
 -- The live reels of slots, entry by entry.
-use Rattle.std.proofs.Common.{◌≡◌, ℕ, ◌+◌, ◌<◌, nat_lt, Bool, true, false, cond, not, Option, Some, None, List, [], ◌∷◌, map, refl, sym, ap, ◌∙◌, arith}
-use Rattle.std.specs.Prelude.{◌&&◌, ◌||◌, ◌==◌, if◌then◌else◌}
-use Rattle.std.specs.List.{filter, list_any, AllByRecursion}
-use Rattle.std.proofs.Math.Bool.{and-false}
-use Rattle.std.proofs.lemmas.Bool.{lt-ltb, ltb-true, ltb-false, eqb-true}
-use Rattle.std.proofs.lemmas.List.Sums.{sum_by-cons}
-use Rattle.std.proofs.lemmas.List.Folds.{list_any-append}
-use Rattle.desk_types.specs.declared.command.Command.{Command}
-use Rattle.desk_types.specs.declared.command.Command.TheVariants.{MaterialsLoaded, MaterialsSpliced, MaterialsUnloaded, MaterialsInstalled, MaterialsScrapped, CountsTaken}
-use Rattle.desk_types.specs.declared.command.Entry.{Entry}
-use Rattle.desk_types.specs.declared.command.Receipt.{Receipt}
-use Rattle.desk_types.specs.declared.rules.Rules.TheVariants.{Two}
-use Rattle.desk_types.specs.declared.take.Pick.{Pick}
-use Rattle.desk_types.specs.declared.take.Take.{Take}
-use Rattle.desk_types.specs.Id.{Name, same}
-use Rattle.desk_types.specs.History.{History}
-use Rattle.desk_types.specs.Setup.{receipt_by}
-use Rattle.desk_types.specs.Tape.{tape_with, tape_after}
-use Rattle.desk_types.specs.Pieces.{left_of, live_on, picks_of, found_by, pieces_picked}
-use Rattle.desk_types.specs.Judged.{IsJudged}
-use Rattle.desk_types.specs.Refusals.{command_refusal}
-use Rattle.desk_types.specs.Outcome.{takes_by, take_of}
-use Rattle.desk_types.proofs.Keys.{same-refl, same-true}
+use Rattle.desk_types.proofs.Common.{[], ◌&&◌, ◌+◌, ◌<◌, ◌==◌, ◌||◌, ◌∙◌, ◌∷◌, ◌≡◌, AllByRecursion, and-false, ap}
+use Rattle.desk_types.proofs.Common.{arith, Bool, Command, command_refusal, cond, CountsTaken, Entry, eqb-true, false}
+use Rattle.desk_types.proofs.Common.{found_by, History, if◌then◌else◌, IsJudged, left_of, List, list_any}
+use Rattle.desk_types.proofs.Common.{list_any-append, live_on, lt-ltb, ltb-false, ltb-true, map, MaterialsInstalled}
+use Rattle.desk_types.proofs.Common.{MaterialsLoaded, MaterialsScrapped, MaterialsSpliced, MaterialsUnloaded, Name}
+use Rattle.desk_types.proofs.Common.{nat_lt, None, not, Option, Pick, picks_of, pieces_picked, Receipt, receipt_by}
+use Rattle.desk_types.proofs.Common.{refl, same, same-refl, same-true, Some, sum_by-cons, sym, Take, take_of}
+use Rattle.desk_types.proofs.Common.{takes_by, tape_after, tape_with, true, Two, ℕ}
+use Rattle.desk_laws.proofs.{Accepted.mountable, Accepted.next-accepted, Accepted.received-once, Balance.left-next}
+use Rattle.desk_laws.proofs.{Balance.unreceived-empty, Lives.live-next, Mounts.has, PicksOfOneSlot.live-pieces}
+use Rattle.desk_laws.proofs.{PicksOfOneSlot.picks-alone, Tapes.not-zero}
 use Rattle.desk_laws.specs.Slots.{comes_off, IsOnItsSlot}
-use Rattle.desk_laws.proofs.Accepted.{next-accepted, mountable, received-once}
-use Rattle.desk_laws.proofs.PicksOfOneSlot.{picks-alone, live-pieces}
-use Rattle.desk_laws.proofs.Balance.{left-next, unreceived-empty}
-use Rattle.desk_laws.proofs.Lives.{live-next}
-use Rattle.desk_laws.proofs.Mounts.{has}
-use Rattle.desk_laws.proofs.Tapes.{not-zero}
-use Rattle.feeder_state.specs.Noted.{IsNoted, may_take}
-use Rattle.feeder_state.specs.Spending.{is_spent_by}
+use Rattle.feeder_state.specs.{Noted.IsNoted, Noted.may_take, Spending.is_spent_by}
+use Rattle.std.specs.List.{filter}
 
 -- ---- filters
 

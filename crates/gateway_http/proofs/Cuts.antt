@@ -1,10 +1,9 @@
 -- A target is split at its first `?`.
-use Rattle.std.proofs.Common.{arith, ◌≡◌, ℕ, ◌+◌, ◌-◌, ◌≤◌, List, [], length, take, drop, Bool, true, false, cond, Some, None, refl, sym, ap, ◌∙◌}
-use Rattle.std.proofs.lemmas.Bool.Decides.{nat_tests}
-use Rattle.std.proofs.lemmas.List.{take_all, drop_all, length-drop}
-use Rattle.std.specs.Prelude.{nat_lt}
-use Rattle.std.specs.List.{position, position_or_len}
+use Rattle.desk_types.proofs.Common.{[], ◌+◌, ◌-◌, ◌∙◌, ◌≡◌, ◌≤◌, ap, arith, Bool, cond, drop, drop_all, false}
+use Rattle.desk_types.proofs.Common.{length, length-drop, List, nat_lt, nat_tests, None, refl, Some, sym, take}
+use Rattle.desk_types.proofs.Common.{take_all, true, ℕ}
 use Rattle.gateway_http.specs.Asked.{is_mark, path_of, query_of}
+use Rattle.std.specs.List.{position, position_or_len}
 
 place-some : (target : List ℕ) (n : ℕ) → position is_mark target ≡ Some n → position_or_len is_mark target ≡ n
 place-some target n = by (nat_lt (position_or_len is_mark target) (length target))

@@ -1,23 +1,22 @@
 -- A GET leaves the history unchanged.
-use Rattle.std.proofs.Common.{◌≡◌, ◌∙◌, ℕ, List, [], Option, Some, None, Result, Ok, Err, ok_or, refl, codes, Bool, true, false, inl, inr}
-use Rattle.std.specs.Prelude.{⊤}
+use Rattle.desk_types.proofs.Common.{[], ⊤, ◌∙◌, ◌≡◌, Bool, codes, Err, false, History, inl, inr, List, None, Ok}
+use Rattle.desk_types.proofs.Common.{ok_or, Option, refl, Result, Some, true, ℕ}
 use Rattle.cfx_profile.specs.Fault.{◌>>=◌}
 use Rattle.desk_answers.specs.Ledger.{Ledger}
-use Rattle.gateway_http.specs.Asked.{asked_of, asked_at, by_method, path_of, query_of, id_in, detail_in, boards_in}
-use Rattle.gateway_http.specs.Routes.{route_of}
-use Rattle.gateway_http.specs.declared.asked.Asked.{Asked}
+use Rattle.gateway_http.specs.{Asked.asked_at, Asked.asked_of, Asked.boards_in, Asked.by_method, Asked.detail_in}
+use Rattle.gateway_http.specs.{Asked.id_in, Asked.path_of, Asked.query_of, Gateways.AnswersGet, Repeats.get_of}
+use Rattle.gateway_http.specs.{Requests.asked_outcome, Requests.outcome_of, Requests.Reports, Requests.request_rule}
+use Rattle.gateway_http.specs.{Routes.route_of, declared.asked.Asked.Asked, declared.fault.AskFault.AskFault}
+use Rattle.gateway_http.specs.{declared.fault.AskFault.TheVariants.NoPath, declared.routes.Route.Route}
+use Rattle.gateway_http.specs.{declared.routes.Route.TheVariants.ImportCounts}
+use Rattle.gateway_http.specs.{declared.routes.Route.TheVariants.ImportSetup, declared.routes.Route.TheVariants.Kit}
+use Rattle.gateway_http.specs.{declared.routes.Route.TheVariants.Messages, declared.routes.Route.TheVariants.Overdue}
+use Rattle.gateway_http.specs.{declared.routes.Route.TheVariants.Reel, declared.routes.Route.TheVariants.Slots}
+use Rattle.gateway_http.specs.{declared.routes.Route.TheVariants.TraceBoard}
+use Rattle.gateway_http.specs.{declared.routes.Route.TheVariants.TraceLot}
+use Rattle.http_stream.specs.{Answers.Told, Stream.AnswersRequest, Stream.request_outcome}
 use Rattle.gateway_http.specs.declared.asked.Asked.TheVariants as asks
-use Rattle.gateway_http.specs.declared.fault.AskFault.{AskFault}
-use Rattle.gateway_http.specs.declared.fault.AskFault.TheVariants.{NoPath}
 use Rattle.gateway_http.specs.declared.parameter.Parameter.TheVariants as parameter
-use Rattle.gateway_http.specs.declared.routes.Route.{Route}
-use Rattle.gateway_http.specs.declared.routes.Route.TheVariants.{Messages, ImportSetup, ImportCounts, TraceBoard, TraceLot, Reel, Slots, Kit, Overdue}
-use Rattle.http_stream.specs.Answers.{Told}
-use Rattle.http_stream.specs.Stream.{AnswersRequest, request_outcome}
-use Rattle.desk_types.specs.History.{History}
-use Rattle.gateway_http.specs.Gateways.{AnswersGet}
-use Rattle.gateway_http.specs.Repeats.{get_of}
-use Rattle.gateway_http.specs.Requests.{Reports, asked_outcome, outcome_of, request_rule}
 
 -- The request is for a report, or has a fault.
 abbrev Asks : Result Asked AskFault → Type 0

@@ -1,13 +1,12 @@
 -- A router of paths without parameters finds exactly the row with the requested path.
-use Rattle.std.proofs.Common.{◌≡◌, ◌∙◌, ℕ, zero, suc, ◌-◌, ◌<◌, List, [], ◌∷◌, length, map, Option, Some, None, option_map, Bool, true, false, cond, refl, sym, ap, rules, arith, ◌==◌}
-use Rattle.std.proofs.lemmas.Bool.Decides.{nat_tests}
-use Rattle.std.specs.List.{find}
-use Rattle.matchit.specs.Rows.{RowsOf, param_token, catch_all_token}
-use Rattle.matchit.specs.Level.{IsText}
-use Rattle.matchit.specs.Seek.{seek, first, own, step, param_step, or_else, same_text, has_slash}
-use Rattle.desk_types.specs.Id.{same}
-use Rattle.gateway_http.specs.declared.routes.Route.{Route}
-use Rattle.gateway_http.specs.Routes.{route_path, row, routes, table, route_of}
+use Rattle.desk_types.proofs.Common.{[], ◌-◌, ◌<◌, ◌==◌, ◌∙◌, ◌∷◌, ◌≡◌, ap, arith, Bool, cond, false, length, List}
+use Rattle.desk_types.proofs.Common.{map, nat_tests, None, Option, refl, rules, same, Some, suc, sym, true, zero, ℕ}
+use Rattle.gateway_http.{specs.Routes.route_of, specs.Routes.route_path, specs.Routes.routes, specs.Routes.row}
+use Rattle.gateway_http.{specs.Routes.table, specs.declared.routes.Route.Route}
+use Rattle.matchit.{specs.Level.IsText, specs.Rows.catch_all_token, specs.Rows.param_token, specs.Rows.RowsOf}
+use Rattle.matchit.{specs.Seek.first, specs.Seek.has_slash, specs.Seek.or_else, specs.Seek.own, specs.Seek.param_step}
+use Rattle.matchit.{specs.Seek.same_text, specs.Seek.seek, specs.Seek.step}
+use Rattle.std.{proofs.Common.option_map, specs.List.find}
 
 module _ {K : Type 0} where
   -- No row has a parameter.

@@ -1,14 +1,13 @@
 -- A path that isn't UTF-8 belongs to no route.
-use Rattle.std.proofs.Common.{◌≡◌, ℕ, List, [], ◌∷◌, Bool, true, false, cond, Some, None, refl, subst}
-use Rattle.std.specs.List.{find}
-use Rattle.std.specs.Str.{IsUtf8, is_utf8, chars}
-use lib.Utf8.{encode}
-use Rattle.std.proofs.lemmas.Str.{IsUtf8-from_is_utf8}
-use Rattle.std.proofs.lemmas.Slice.Eq.{bytes_eq-Decides}
-use Rattle.desk_types.specs.Id.{same}
+use Rattle.desk_types.proofs.Common.{[], ◌∷◌, ◌≡◌, Bool, bytes_eq-Decides, cond, false, is_utf8, IsUtf8}
+use Rattle.desk_types.proofs.Common.{IsUtf8-from_is_utf8, List, None, refl, same, Some, subst, true, ℕ}
+use Rattle.gateway_http.specs.Routes.{route_of, route_path, routes}
 use Rattle.gateway_http.specs.declared.routes.Route.{Route}
-use Rattle.gateway_http.specs.declared.routes.Route.TheVariants.{Messages, ImportSetup, ImportCounts, TraceBoard, TraceLot, Reel, Slots, Kit, Overdue}
-use Rattle.gateway_http.specs.Routes.{route_path, routes, route_of}
+use Rattle.gateway_http.specs.declared.routes.Route.TheVariants.{ImportCounts, ImportSetup, Kit, Messages, Overdue}
+use Rattle.gateway_http.specs.declared.routes.Route.TheVariants.{Reel, Slots, TraceBoard, TraceLot}
+use Rattle.std.specs.List.{find}
+use Rattle.std.specs.Str.{chars}
+use lib.Utf8.{encode}
 
 path-text : (route : Route) → IsUtf8 (route_path route)
 unfolding is_utf8 chars encode

@@ -1,23 +1,16 @@
 -- A repeat leaves the history unchanged.
-use Rattle.std.proofs.Common.{◌≡◌, ℕ, List, true, false, not, Option, Some, None, is_some, Result, Ok, Err, refl}
-use Rattle.std.specs.Option.{option_map_or}
-use Rattle.cfx_profile.specs.Message.{said_in}
-use Rattle.cfx_profile.specs.declared.fault.MessageFault.{MessageFault}
-use Rattle.cfx_profile.specs.declared.message.Said.{Said}
+use Rattle.desk_types.proofs.Common.{◌≡◌, Err, false, is_some, List, None, not, Ok, Option, option_map_or, refl}
+use Rattle.desk_types.proofs.Common.{Result, Some, Stamped, true, ℕ}
+use Rattle.cfx_profile.specs.{Message.said_in, declared.fault.MessageFault.MessageFault, declared.message.Said.Said}
+use Rattle.desk_answers.specs.{Commands.command_after, Commands.earlier_answer, Commands.is_refused, Ledger.Ledger}
+use Rattle.desk_answers.specs.{declared.answer.Answer.Answer}
+use Rattle.desk_feed.specs.{Import.after_said, Messages.after_heard}
+use Rattle.gateway_http.specs.{Repeats.command_asked, Repeats.import_command, Repeats.is_known}
+use Rattle.gateway_http.specs.{Repeats.message_command, Requests.asked_outcome, Requests.Reports}
+use Rattle.gateway_http.specs.{declared.asked.Asked.Asked, declared.fault.AskFault.AskFault}
+use Rattle.imports.specs.{Import.command_said, declared.fault.ImportFault.ImportFault}
 use Rattle.cfx_profile.specs.declared.message.Said.TheVariants as says
-use Rattle.desk_answers.specs.Commands.{command_after, earlier_answer, is_refused}
-use Rattle.desk_answers.specs.Ledger.{Ledger}
-use Rattle.desk_answers.specs.declared.answer.Answer.{Answer}
-use Rattle.desk_types.specs.declared.command.Stamped.{Stamped}
-use Rattle.gateway_http.specs.declared.asked.Asked.{Asked}
 use Rattle.gateway_http.specs.declared.asked.Asked.TheVariants as asks
-use Rattle.gateway_http.specs.declared.fault.AskFault.{AskFault}
-use Rattle.desk_feed.specs.Messages.{after_heard}
-use Rattle.desk_feed.specs.Import.{after_said}
-use Rattle.imports.specs.Import.{command_said}
-use Rattle.imports.specs.declared.fault.ImportFault.{ImportFault}
-use Rattle.gateway_http.specs.Repeats.{message_command, import_command, command_asked, is_known}
-use Rattle.gateway_http.specs.Requests.{Reports, asked_outcome}
 
 known-some : (o : Option Answer) → option_map_or (λ answer. not (is_refused answer)) o false ≡ true → is_some o ≡ true
 known-some None e = absurd (cc)

@@ -1,6 +1,6 @@
 -- Several calls in sequence.
-use Rattle.std.proofs.Common.{List, [], ◌∷◌, refl, sym, subst}
-use Rattle.desk_answers.specs.Ledger.{Ledger, ForLists}
+use Rattle.desk_types.proofs.Common.{[], ◌∷◌, List, refl, subst, sym}
+use Rattle.desk_answers.specs.Ledger.{ForLists, Ledger}
 use Rattle.gateway_http.specs.Requests.{Reports}
 use Rattle.headline.specs.Calls.{AnswersByTheList, Call, Calls}
 

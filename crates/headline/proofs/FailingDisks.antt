@@ -1,27 +1,17 @@
 -- What a crash leaves of a store after a command, if its disk may fail.
-use Rattle.std.proofs.Common.{◌≡◌, ◌⊎◌, inl, inr, Bool, true, false, Option, Some, None, is_some, MatchBool, ◌||◌, if◌then◌else◌, unwrap_or, sym, subst}
-use Rattle.std.specs.Option.{option_map_or}
-use Rattle.sqlite_trees.specs.declared.store.Store.{Ghosts}
-use Rattle.sqlite_trees.specs.Tree.{Trees}
-use Rattle.desk_types.specs.declared.answer.Refusal.{Refusal}
-use Rattle.desk_types.specs.declared.answer.Reply.TheVariants as reply
-use Rattle.desk_types.specs.declared.command.Stamped.{Stamped}
-use Rattle.desk_types.specs.declared.rules.Rules.{Rules}
-use Rattle.desk_types.specs.declared.rules.Rules.TheVariants.{Two}
-use Rattle.desk_types.specs.History.{Basis, accept}
-use Rattle.desk_types.specs.Outcome.{change_of}
-use Rattle.desk_types.specs.Refusals.{refusal_of}
-use Rattle.desk_answers.specs.declared.answer.Answer.{Answer}
-use Rattle.desk_answers.specs.declared.answer.Answer.TheVariants.{Accepted, Refused, IdReused, DeskFull, Unavailable}
+use Rattle.desk_types.proofs.Common.{◌||◌, ◌≡◌, ◌⊎◌, accept, Basis, Bool, change_of, false, if◌then◌else◌, inl, inr}
+use Rattle.desk_types.proofs.Common.{is_some, MatchBool, None, Option, option_map_or, Refusal, refusal_of, Rules}
+use Rattle.desk_types.proofs.Common.{Some, Stamped, subst, sym, true, Two, unwrap_or}
+use Rattle.line_tables.proofs.Common.{Ghosts, Trees}
 use Rattle.desk_answers.specs.Commands.{command_after, command_answer, earlier_answer, is_full, judged_answer}
 use Rattle.desk_answers.specs.Ledger.{IsAnswer, Ledger, ledger_after}
-use Rattle.line_schema.specs.declared.store.LineStore.{LineStore}
-use Rattle.line_schema.specs.Stands.{Kept, Leaves, NewlyLeaves, kept_after, ledger}
+use Rattle.desk_answers.specs.declared.answer.Answer.{Answer}
+use Rattle.desk_answers.specs.declared.answer.Answer.TheVariants.{Accepted, DeskFull, IdReused, Refused, Unavailable}
 use Rattle.headline.specs.Failing.{HoldsUpToOneMore, IsWatched, own_kept}
-
-left : (b : Bool) (P Q : Type 0) → MatchBool b P (P ⊎ Q) → P ⊎ Q
-left true P Q h = inl h
-left false P Q h = h
+use Rattle.line_schema.proofs.UnansweredCommands.{left}
+use Rattle.line_schema.specs.Stands.{Kept, kept_after, Leaves, ledger, NewlyLeaves}
+use Rattle.line_schema.specs.declared.store.LineStore.{LineStore}
+use Rattle.desk_types.specs.declared.answer.Reply.TheVariants as reply
 
 module _ (L : Kept) (s : Stamped) (before : Type 0) (trees : Trees) (near : before → HoldsUpToOneMore L trees) where
   answered : (earlier : Option Answer) (full : Bool) (refused : Option Refusal) (a : Answer)

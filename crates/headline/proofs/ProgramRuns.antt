@@ -1,42 +1,28 @@
 -- The program's contracts give a run in the sense of these definitions.
-use Rattle.std.proofs.Common.{ℕ, List, [], ◌∷◌, true, Option, Some, Ok, Err, refl, ap, subst}
-use Rattle.sqlite_disk.specs.declared.Disk as disk
-use Rattle.sqlite_disk.specs.declared.Files.{Files}
-use Rattle.sqlite_disk.specs.declared.start.Start as start
-use Rattle.sqlite_wal.specs.Recovery.{Image}
-use Rattle.sqlite_store.specs.declared.store.FileStore.{FileStore}
-use Rattle.desk_types.specs.History.{History}
-use Rattle.desk_answers.specs.Ledger.{Ledger}
-use Rattle.feeder_state.specs.declared.desk.StateDesk.{StateDesk}
-use Rattle.line_schema.specs.declared.store.LineStore.{LineStore}
-use Rattle.gateway_http.specs.Requests.{Reports, request_rule}
-use Rattle.desk_commands.specs.Clients.{Ended, Exchange}
-use Rattle.desk_commands.specs.Connections.{ConnectedSo}
-use Rattle.desk_answers.specs.declared.serving.ServeFault.TheVariants.{Read, Write, TooManyReads}
-use Rattle.gateway_http.specs.Reports.{report_of}
-use Rattle.headline.specs.Calls.{AnswersByTheList, Call, Calls, Feeds, Imports, Serves}
-use Rattle.headline.specs.Calls.Call.{asked, fed, imported}
-use Rattle.desk_commands.specs.declared.left.ToClose.TheVariants.{Desk}
-use Rattle.desk_commands.specs.Runs.{RunsOn, ServesEach}
-use Rattle.desk_commands.specs.Closed.{RunsTo, whole}
-use Rattle.headline.specs.Runs.{by_two, IsRun}
-use Rattle.headline.specs.Closed.{ClosesTo, GivesCalls, ReadsClean, connections_of, run_of}
-use Rattle.headline.specs.Crashed.{CrashesTo, killed_run_of}
-use Rattle.sqlite_wal.specs.Files.{image_at}
-use Rattle.sqlite_trees.specs.Tree.{Trees}
-use Rattle.sqlite.specs.Effect.{Database}
-use Rattle.sqlite.specs.Files.{HoldsDatabase, over_files}
-use Rattle.sqlite.specs.State.{State, HasCleanDisk}
-use Rattle.line_tables.specs.Rows.{Holds, HoldsAt}
-use Rattle.line_replay.specs.Rows.{ledger_tables}
-use Rattle.line_schema.specs.declared.fault.OpenFault.{OpenFault}
-use Rattle.line_schema.specs.Stands.{state_of}
+use Rattle.desk_types.proofs.Common.{[], ◌∷◌, ap, Err, History, List, Ok, Option, refl, Some, subst, true, ℕ}
+use Rattle.line_tables.proofs.Common.{Database, HasCleanDisk, Holds, HoldsAt, HoldsDatabase, over_files, State, Trees}
+use Rattle.desk_answers.specs.{Ledger.Ledger, declared.serving.ServeFault.TheVariants.Read}
+use Rattle.desk_answers.specs.{declared.serving.ServeFault.TheVariants.TooManyReads}
+use Rattle.desk_answers.specs.{declared.serving.ServeFault.TheVariants.Write}
+use Rattle.desk_commands.specs.{Clients.Ended, Clients.Exchange, Closed.IsRefusedTo, Closed.RunsTo, Closed.whole}
+use Rattle.desk_commands.specs.{Connections.ConnectedSo, OpenRuns.AnswersReport, OpenRuns.StaysSame, Runs.RunsOn}
+use Rattle.desk_commands.specs.{Runs.ServesEach, declared.left.ToClose.TheVariants.Desk}
 use Rattle.desk_file.specs.Files.{IsFoundIn}
-use Rattle.desk_commands.specs.OpenRuns.{AnswersReport, StaysSame}
-use Rattle.desk_commands.specs.Closed.{IsRefusedTo}
+use Rattle.feeder_state.specs.declared.desk.StateDesk.{StateDesk}
+use Rattle.gateway_http.specs.{Reports.report_of, Requests.Reports, Requests.request_rule}
 use Rattle.headline.proofs.CallsInTurn.{goes_on, trusts_back}
-use Rattle.headline.specs.Crashed.{MakesCalls, StandsForList}
-use Rattle.headline.specs.Runs.{KeepsList}
+use Rattle.headline.specs.{Calls.AnswersByTheList, Calls.Call, Calls.Calls, Calls.Feeds, Calls.Imports, Calls.Serves}
+use Rattle.headline.specs.{Calls.Call.asked, Calls.Call.fed, Calls.Call.imported, Closed.ClosesTo}
+use Rattle.headline.specs.{Closed.connections_of, Closed.GivesCalls, Closed.ReadsClean, Closed.run_of}
+use Rattle.headline.specs.{Crashed.CrashesTo, Crashed.killed_run_of, Crashed.MakesCalls, Crashed.StandsForList}
+use Rattle.headline.specs.{Runs.by_two, Runs.IsRun, Runs.KeepsList}
+use Rattle.line_replay.specs.Rows.{ledger_tables}
+use Rattle.line_schema.specs.{Stands.state_of, declared.fault.OpenFault.OpenFault, declared.store.LineStore.LineStore}
+use Rattle.sqlite_disk.specs.declared.Files.{Files}
+use Rattle.sqlite_store.specs.declared.store.FileStore.{FileStore}
+use Rattle.sqlite_wal.specs.{Files.image_at, Recovery.Image}
+use Rattle.sqlite_disk.specs.declared.Disk as disk
+use Rattle.sqlite_disk.specs.declared.start.Start as start
 
 module _ {T D : Type 0} {g : disk.Ghosts D} (first : start.Ghosts T) (make : Option ℕ) (desk : LineStore (FileStore D g) StateDesk) (files : Files D) (image : Image) where
   pub is_run : (Fact : Ledger → History → Type 0) (calls : List Call) → ((G : Ledger) (H : History) → Fact G H → AnswersByTheList report_of G calls H)

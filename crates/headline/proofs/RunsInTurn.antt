@@ -1,18 +1,16 @@
 -- A run and the next one are equivalent to one run.
-use Rattle.std.proofs.Common.{◌≡◌, ◌⊎◌, ℕ, List, [], ◌∷◌, ◌++◌, Option, inl, inr, refl, sym, subst}
-use Rattle.sqlite_wal.specs.Recovery.{Image}
-use Rattle.sqlite_trees.specs.Tree.{Trees}
-use Rattle.sqlite.specs.Files.{HoldsDatabase}
-use Rattle.desk_types.specs.declared.rules.Rules.TheVariants.{Two}
-use Rattle.desk_types.specs.History.{History}
-use Rattle.desk_types.specs.Judged.{IsJudged, IsLawful}
+use Rattle.desk_types.proofs.Common.{[], ◌++◌, ◌∷◌, ◌≡◌, ◌⊎◌, History, inl, inr, IsJudged, IsLawful, List, Option}
+use Rattle.desk_types.proofs.Common.{refl, subst, sym, Two, ℕ}
+use Rattle.line_tables.proofs.Common.{HoldsAt, HoldsDatabase, Trees}
 use Rattle.desk_answers.specs.Ledger.{Ledger}
-use Rattle.gateway_http.specs.Requests.{Reports}
-use Rattle.line_tables.specs.Rows.{Tables, HoldsAt}
-use Rattle.line_replay.specs.Rows.{ledger_tables}
 use Rattle.desk_file.specs.Files.{Begins, HasOursFirst}
+use Rattle.gateway_http.specs.Requests.{Reports}
 use Rattle.headline.specs.Calls.{AnswersByTheList, Call}
-use Rattle.headline.specs.Runs.{Ending, closed, crashed, Run, EndsWith, by_two, IsRunFrom, IsRun, KeepsList, AreRuns, run_then, as_one}
+use Rattle.headline.specs.Runs.{AreRuns, as_one, by_two, closed, crashed, Ending, EndsWith, IsRun, IsRunFrom}
+use Rattle.headline.specs.Runs.{KeepsList, Run, run_then}
+use Rattle.line_replay.specs.Rows.{ledger_tables}
+use Rattle.line_tables.specs.Rows.{Tables}
+use Rattle.sqlite_wal.specs.Recovery.{Image}
 
 pub appended : (reports : Reports) (calls later : List Call) (G : Ledger) (H H' : History) → AnswersByTheList reports G calls H
     → AnswersByTheList reports (record G { history = H }) later H' → AnswersByTheList reports G (calls ++ later) H'

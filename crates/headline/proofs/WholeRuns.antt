@@ -1,33 +1,26 @@
 -- A whole run of the program after others.
-use Rattle.std.proofs.Common.{◌≡◌, ◌≢◌, ◌⊎◌, ℕ, List, [], ◌∷◌, length, Option, None, Some, true, false, Ok, Err, IfSome, refl, sym, inl, inr}
-use Rattle.std.specs.Io.KnownBytes.{Appends}
-use Rattle.sqlite_disk.specs.declared.Disk as disk
-use Rattle.sqlite_disk.specs.declared.Files.{Files}
-use Rattle.sqlite_disk.specs.declared.start.Start as start
-use Rattle.desk_types.specs.declared.wire.Wire.{Wire}
-use Rattle.desk_types.specs.Wire.{inner_of}
-use Rattle.desk_types.specs.History.{History}
-use Rattle.desk_answers.specs.Ledger.{Ledger}
-use Rattle.desk_answers.specs.Sent.{SendsFront}
-use Rattle.imports.specs.declared.import.Import.{Import}
-use Rattle.desk_words.specs.CommandLine.{AsksForAudit}
-use Rattle.desk_commands.specs.Clients.{Ended, Serving}
-use Rattle.desk_commands.specs.OpenRuns.{AnswersAll, AnswersImport, AnswersReport, AnswersUpTo, CutsImport, StaysSame}
-use Rattle.desk_commands.specs.Told.{report_output}
-use Rattle.desk_commands.specs.Closed.{RunsTo, whole}
-use Rattle.desk_commands.specs.Runs.{ServesEach}
-use Rattle.desk_program.specs.Program.{Done, Failed, ImportUnread, Refused, RunsAs, RunsAsked, RunsImport, RunsReport, RunsServing}
-use Rattle.desk_program.specs.Ways.{Ways, ways_when_closed}
+use Rattle.desk_types.proofs.Common.{[], ◌∷◌, ◌≡◌, ◌≢◌, ◌⊎◌, Appends, Err, false, History, IfSome, inl, inner_of, inr}
+use Rattle.desk_types.proofs.Common.{length, List, None, Ok, Option, refl, Some, sym, true, Wire, ℕ}
+use Rattle.desk_answers.specs.{Ledger.Ledger, Sent.SendsFront}
+use Rattle.desk_commands.specs.{Clients.Ended, Clients.Serving, Closed.RunsTo, Closed.whole, OpenRuns.AnswersAll}
+use Rattle.desk_commands.specs.{OpenRuns.AnswersImport, OpenRuns.AnswersReport, OpenRuns.AnswersUpTo}
+use Rattle.desk_commands.specs.{OpenRuns.CutsImport, OpenRuns.StaysSame, Runs.ServesEach, Told.report_output}
 use Rattle.desk_program.proofs.WaysOfRuns.{one_of_five}
-use Rattle.http_stream.specs.Answers.{Told}
+use Rattle.desk_program.specs.{Program.Done, Program.Failed, Program.ImportUnread, Program.Refused, Program.RunsAs}
+use Rattle.desk_program.specs.{Program.RunsAsked, Program.RunsImport, Program.RunsReport, Program.RunsServing}
+use Rattle.desk_program.specs.{Ways.Ways, Ways.ways_when_closed}
+use Rattle.desk_words.specs.CommandLine.{AsksForAudit}
 use Rattle.gateway_http.specs.Reports.{report_of}
-use Rattle.headline.specs.Calls.{AnswersByTheList, Call, Feeds, ImportEnded, Imports}
-use Rattle.headline.specs.Calls.Call.{asked, fed, imported}
-use Rattle.headline.specs.Closed.{connections_of, run_of}
-use Rattle.headline.specs.Runs.{as_one}
-use Rattle.headline.specs.Whole.{GoesOn, MakesCalls}
-use Rattle.headline.proofs.ProgramRuns.{is_whole_run, serves_each}
-use Rattle.headline.proofs.RunsInTurn.{OursFirst, Same, are_one, joins}
+use Rattle.headline.proofs.{ProgramRuns.is_whole_run, ProgramRuns.serves_each, RunsInTurn.are_one, RunsInTurn.joins}
+use Rattle.headline.proofs.{RunsInTurn.OursFirst, RunsInTurn.Same}
+use Rattle.headline.specs.{Calls.AnswersByTheList, Calls.Call, Calls.Feeds, Calls.ImportEnded, Calls.Imports}
+use Rattle.headline.specs.{Calls.Call.asked, Calls.Call.fed, Calls.Call.imported, Closed.connections_of}
+use Rattle.headline.specs.{Closed.run_of, Runs.as_one, Whole.GoesOn, Whole.MakesCalls}
+use Rattle.http_stream.specs.Answers.{Told}
+use Rattle.imports.specs.declared.import.Import.{Import}
+use Rattle.sqlite_disk.specs.declared.Files.{Files}
+use Rattle.sqlite_disk.specs.declared.Disk as disk
+use Rattle.sqlite_disk.specs.declared.start.Start as start
 
 module _ (ours : OursFirst) (same : Same) {T D R W E : Type 0} (first : start.Ghosts T) (g : disk.Ghosts D) (files : Files D) (holds : List ℕ → Option (List ℕ)) (may_fail : List ℕ → Type 0) (serves : ℕ → Serving → Type 0)
     (reads : R → Option (List ℕ)) (writes : W → Option (List ℕ)) (tells : E → Option (List ℕ)) (words : List (List ℕ)) (input input' : Wire R) (output output' : Wire W) (errors errors' : Wire E) where

@@ -1,13 +1,10 @@
 -- Portions answered one after another.
-use Rattle.std.proofs.Common.{◌≡◌, ◌∙◌, ◌+◌, ℕ, Bool, true, false, cond, List, [], ◌∷◌, ◌++◌, sym, ap, refl, subst, Option, append-nil, length, length-append, arith, count_by}
-use Rattle.std.specs.List.{flat_map}
-use Rattle.std.proofs.lemmas.Grind.{flat_map-append, common_steps}
-use Rattle.std.specs.Io.KnownBytes.{Appends}
-use Rattle.std.proofs.KnownBytes.{Appends-trans}
-use Rattle.desk_types.specs.History.{History}
+use Rattle.desk_types.proofs.Common.{[], ◌++◌, ◌+◌, ◌∙◌, ◌∷◌, ◌≡◌, ap, append-nil, Appends, Appends-trans, arith}
+use Rattle.desk_types.proofs.Common.{Bool, common_steps, cond, count_by, false, flat_map, flat_map-append, History}
+use Rattle.desk_types.proofs.Common.{length, length-append, List, Option, refl, subst, sym, true, ℕ}
 use Rattle.desk_answers.specs.declared.serving.Served.{Served}
 use Rattle.http_stream.specs.Cut.{Portion}
-use Rattle.http_stream.specs.Stream.{Rule, Answer, Answered, answer, answers, list_after}
+use Rattle.http_stream.specs.Stream.{Answer, answer, Answered, answers, list_after, Rule}
 
 abbrev pub is_refused : Answer → Bool
 is_refused a = a.refused

@@ -1,9 +1,9 @@
 -- Bytes taken as a body.
-use Rattle.std.proofs.Common.{◌≡◌, ◌∙◌, ◌<◌, ◌≤◌, ◌+◌, ℕ, List, [], ◌∷◌, ◌++◌, sym, ap, take, drop, length, length-append, Option, Some, None, arith, append_assoc, append-nil}
-use Rattle.std.proofs.lemmas.List.{length-take, take-append-drop, take-append-le}
-use Rattle.std.specs.Io.KnownBytes.{prepend_known, Consumes}
-use borrow.Rule.Slice.PartMut.{put_mid, post_of}
-use Rattle.std.proofs.Math.Seq.{take-append-add}
+use Rattle.desk_types.proofs.Common.{[], ◌++◌, ◌+◌, ◌<◌, ◌∙◌, ◌∷◌, ◌≡◌, ◌≤◌, ap, append-nil, append_assoc, arith}
+use Rattle.desk_types.proofs.Common.{Consumes, drop, length, length-append, length-take, List, None, Option}
+use Rattle.desk_types.proofs.Common.{prepend_known, Some, sym, take, take-append-add, take-append-drop}
+use Rattle.desk_types.proofs.Common.{take-append-le, ℕ}
+use borrow.Rule.Slice.PartMut.{post_of, put_mid}
 
 pub split_front : (bytes pend front rest : List ℕ) (n : ℕ) → bytes ≡ pend → front ≡ take n bytes → rest ≡ drop n pend → pend ≡ front ++ rest
 split_front bytes pend front rest n same first left =

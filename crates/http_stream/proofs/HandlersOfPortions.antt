@@ -1,12 +1,9 @@
 -- A handler whose portions are answered one after another.
-use Rattle.std.proofs.Common.{ℕ, List, [], ◌++◌, Option, IfSome, sym, subst}
-use Rattle.std.proofs.KnownBytes.{Appends-nil}
-use Rattle.desk_answers.specs.Ledger.{Ledger, ForLists}
-use Rattle.desk_answers.specs.Counts.{none_served}
-use Rattle.desk_answers.specs.declared.serving.Served.{Served}
-use Rattle.http_stream.specs.Cut.{Portion, IsPortion, Leads}
-use Rattle.http_stream.specs.Stream.{RuleBy, AnsweredInto, Breaks, Serves}
-use Rattle.http_stream.proofs.AnsweredPortions.{none_answered, answered_more}
+use Rattle.desk_types.proofs.Common.{[], ◌++◌, Appends-nil, IfSome, List, Option, subst, sym, ℕ}
+use Rattle.desk_answers.specs.{Counts.none_served, Ledger.ForLists, Ledger.Ledger, declared.serving.Served.Served}
+use Rattle.http_stream.proofs.AnsweredPortions.{answered_more, none_answered}
+use Rattle.http_stream.specs.{Cut.IsPortion, Cut.Leads, Cut.Portion, Stream.AnsweredInto, Stream.Breaks}
+use Rattle.http_stream.specs.{Stream.RuleBy, Stream.Serves}
 
 -- The portions were answered.
 abbrev pub Goes : {S : Type 0} → RuleBy → (S → Ledger → Type 0) → (S → Type 0) → List Portion → S → Option (List ℕ) → Served → S → Option (List ℕ) → Served → Type 0

@@ -1,14 +1,9 @@
 -- Values under a name, line by line, and the number in a text of digits.
-use Rattle.std.proofs.Common.{◌≡◌, ◌∙◌, ◌+◌, ◌*◌, ◌-◌, ◌≤◌, ℕ, Bool, true, false, ◌||◌, ◌&&◌, codes, cond, List, [], ◌∷◌, ◌++◌, refl, sym, ap, arith}
-use Rattle.std.specs.List.{list_any}
-use Rattle.std.proofs.lemmas.Bool.Decides.{nat_tests}
-use Rattle.std.proofs.lemmas.List.Folds.{list_any-append}
-use Rattle.std.proofs.lemmas.Grind.{common_steps}
-use Rattle.std.specs.Char.{digit_value}
-use Rattle.std.specs.Str.{str_eq_ignore_ascii_case}
-use Rattle.std.specs.Str.Parse.{digits_value_after}
-use Rattle.http_stream.specs.Heads.{values_of, has_close}
-use Rattle.http_stream.specs.Looks.{after_header, closes_by}
+use Rattle.desk_types.proofs.Common.{[], ◌&&◌, ◌*◌, ◌++◌, ◌+◌, ◌-◌, ◌||◌, ◌∙◌, ◌∷◌, ◌≡◌, ◌≤◌, ap, arith, Bool, codes}
+use Rattle.desk_types.proofs.Common.{common_steps, cond, false, List, list_any, list_any-append, nat_tests, refl, sym}
+use Rattle.desk_types.proofs.Common.{true, ℕ}
+use Rattle.http_stream.specs.{Heads.has_close, Heads.values_of, Looks.after_header, Looks.closes_by}
+use Rattle.std.specs.{Char.digit_value, Str.str_eq_ignore_ascii_case, Str.Parse.digits_value_after}
 
 cond_cons : (b : Bool) (v : List ℕ) (us vs : List (List ℕ)) (c : Bool) (w : List ℕ)
     → cond b (v ∷ cond c (us ++ w ∷ []) us) (cond c (us ++ w ∷ []) us) ≡ cond c (cond b (v ∷ us) us ++ w ∷ []) (cond b (v ∷ us) us)

@@ -1,17 +1,18 @@
 -- The portion at the start of a stream, from the searched bytes.
-use Rattle.std.proofs.Common.{◌≡◌, ◌∙◌, ◌<◌, ◌≤◌, ℕ, true, false, List, [], ◌∷◌, ◌++◌, min, sym, ap, refl, subst, take, drop, length, length-append, Option, Some, None, IfSome, Ok, Err, arith, inl, inr, append_assoc, append-nil}
-use Rattle.std.proofs.lemmas.List.{length-take, take-append-drop, take-append-le, take-take, take_min, drop-append-le}
-use Rattle.std.specs.Io.KnownBytes.{prepend_known, Consumes, Keeps, IsAtEnd}
-use Rattle.httparse.specs.Grammar.{RequestHead, ReadsRequest, HasNoRequest, NeverHasRequest, print_request}
-use Rattle.httparse.specs.Spans.{RequestOverflows, RequestExceeds}
-use Rattle.http_stream.specs.declared.head.Head.{Head}
-use Rattle.http_stream.specs.declared.head.LengthFault.{LengthFault}
-use Rattle.desk_types.specs.declared.limits.TheConstants.{HEAD_LIMIT, MOST_HEADERS}
-use Rattle.http_stream.specs.Heads.{window, TakesHead, IsBadHead, IsUnfinished}
-use Rattle.http_stream.specs.Looks.{IsHeadOf}
-use Rattle.http_stream.specs.Bodies.{ReadsFewer}
-use Rattle.http_stream.specs.Cut.{Portion, whole, bad_head, head_too_large, unread, starved, IsPortion, EndsInside, ReadsInside, TakesPortion, PortionsGone, Leads, IsCut, is_last}
-use Rattle.httparse.specs.Spans.{span_bytes}
+use Rattle.desk_types.proofs.Common.{[], ◌++◌, ◌<◌, ◌∙◌, ◌∷◌, ◌≡◌, ◌≤◌, ap, append-nil, append_assoc, arith, Consumes}
+use Rattle.desk_types.proofs.Common.{drop, Err, false, HEAD_LIMIT, IfSome, inl, inr, IsAtEnd, length, length-append}
+use Rattle.desk_types.proofs.Common.{length-take, List, min, None, Ok, Option, prepend_known, refl, Some, subst, sym}
+use Rattle.desk_types.proofs.Common.{take, take-append-drop, take-append-le, true, ℕ}
+use Rattle.desk_types.specs.declared.limits.TheConstants.{MOST_HEADERS}
+use Rattle.http_stream.specs.{Bodies.ReadsFewer, Cut.bad_head, Cut.EndsInside, Cut.head_too_large, Cut.is_last}
+use Rattle.http_stream.specs.{Cut.IsCut, Cut.IsPortion, Cut.Leads, Cut.Portion, Cut.PortionsGone, Cut.ReadsInside}
+use Rattle.http_stream.specs.{Cut.starved, Cut.TakesPortion, Cut.unread, Cut.whole, Heads.IsBadHead}
+use Rattle.http_stream.specs.{Heads.IsUnfinished, Heads.TakesHead, Heads.window, Looks.IsHeadOf}
+use Rattle.http_stream.specs.{declared.head.Head.Head, declared.head.LengthFault.LengthFault}
+use Rattle.httparse.specs.{Grammar.HasNoRequest, Grammar.NeverHasRequest, Grammar.print_request, Grammar.ReadsRequest}
+use Rattle.httparse.specs.{Grammar.RequestHead, Spans.RequestExceeds, Spans.RequestOverflows, Spans.span_bytes}
+use Rattle.std.proofs.lemmas.List.{drop-append-le, take-take, take_min}
+use Rattle.std.specs.Io.KnownBytes.{Keeps}
 
 pub window_is : (bytes pend : List ℕ) (n : ℕ) → bytes ≡ pend → n ≡ min HEAD_LIMIT (length bytes) → take n bytes ≡ window pend
 window_is bytes pend n same least = ap (λ k. take k bytes) least ∙ take_min HEAD_LIMIT bytes ∙ ap (take HEAD_LIMIT) same
@@ -183,11 +184,6 @@ pub end_comes : (a b : Option (List ℕ)) (ps : List Portion) → PortionsGone a
 end_comes None b ps g end = tt
 end_comes (Some xs) None ps g end = absurd g
 end_comes (Some xs) (Some ys) ps g end = cut_end xs ys ps g end
-
-pub gone_first : (a b c : Option (List ℕ)) (ps : List Portion) → PortionsGone a ps b → ReadsInside b c → IfSome a (λ bytes. (left : List ℕ) × Leads bytes ps left × ReadsInside (Some left) c)
-gone_first None b c ps g r = tt
-gone_first (Some xs) None c ps g r = absurd g
-gone_first (Some xs) (Some ys) c ps g r = (ys, g, r)
 
 pub next_first : (a b c : Option (List ℕ)) (ps : List Portion) (p : Portion) → PortionsGone a ps b → TakesPortion b p c
     → IfSome a (λ bytes. (left : List ℕ) × (rest : List ℕ) × Leads bytes ps left × IsPortion left p rest)

@@ -1,14 +1,15 @@
 -- A stream starts with exactly one portion, outside one open case.
-use Rattle.std.proofs.Common.{◌≡◌, ◌∙◌, ◌<◌, ◌+◌, ◌-◌, ℕ, Bool, true, false, List, [], ◌∷◌, ◌++◌, sym, ap, refl, subst, take, length, length-append, Result, Ok, Err, arith, inl, inr, ◌⊎◌, append-nil}
-use Rattle.std.proofs.lemmas.List.{take_all, append_cancel_left}
-use Rattle.std.proofs.Math.Seq.{take-append-add, take-append_seam}
-use Rattle.httparse.specs.Grammar.{RequestHead, ReadsRequest, print_request}
+use Rattle.desk_types.proofs.Common.{[], ◌++◌, ◌+◌, ◌-◌, ◌<◌, ◌∙◌, ◌∷◌, ◌≡◌, ◌⊎◌, ap, append-nil, arith, Bool, Err}
+use Rattle.desk_types.proofs.Common.{false, HEAD_LIMIT, inl, inr, length, length-append, List, Ok, refl, Result}
+use Rattle.desk_types.proofs.Common.{subst, sym, take, take-append-add, take_all, true, ℕ}
+use Rattle.http_stream.specs.{Cut.bad_head, Cut.EndsInside, Cut.head_too_large, Cut.is_last, Cut.IsCut, Cut.IsPortion}
+use Rattle.http_stream.specs.{Cut.Portion, Cut.Request, Cut.starved, Cut.unread, Cut.whole, Heads.body_length}
+use Rattle.http_stream.specs.{Heads.closes, Heads.headers_of, Heads.IsBadHead, Heads.IsUnfinished, Heads.TakesHead}
+use Rattle.http_stream.specs.{Heads.window, Unique.is_starved, Unique.IsClear, Unique.IsOnePortion, Unique.IsOpen}
+use Rattle.http_stream.specs.{Unique.NoneStarved, declared.head.LengthFault.LengthFault}
 use Rattle.httparse.proofs.GrammarLemmas.{request_unique}
-use Rattle.http_stream.specs.declared.head.LengthFault.{LengthFault}
-use Rattle.desk_types.specs.declared.limits.TheConstants.{HEAD_LIMIT}
-use Rattle.http_stream.specs.Heads.{window, TakesHead, IsBadHead, IsUnfinished, headers_of, body_length, closes}
-use Rattle.http_stream.specs.Cut.{Request, Portion, whole, bad_head, head_too_large, unread, starved, IsPortion, IsCut, EndsInside, is_last}
-use Rattle.http_stream.specs.Unique.{IsOpen, is_starved, IsOnePortion, NoneStarved, IsClear}
+use Rattle.httparse.specs.Grammar.{print_request, ReadsRequest, RequestHead}
+use Rattle.std.proofs.{Math.Seq.take-append_seam, lemmas.List.append_cancel_left}
 
 in_window : (input : List ℕ) (h : RequestHead) (rest : List ℕ) → TakesHead input h rest → ReadsRequest (window input) h (take (HEAD_LIMIT - length (print_request h)) rest)
 in_window input h rest t =

@@ -1,12 +1,13 @@
 -- If no portion is marked and no repeat ends its connection, removing the repeats keeps the final
 -- history.
-use Rattle.std.proofs.Common.{◌≡◌, ◌∙◌, ◌⊎◌, ℕ, Bool, true, false, if◌then◌else◌, List, [], ◌∷◌, ◌++◌, refl, sym, ap, subst, inl, inr, append_assoc}
-use Rattle.std.proofs.lemmas.List.{append_cancel_right}
-use Rattle.desk_types.specs.History.{History}
+use Rattle.desk_types.proofs.Common.{[], ◌++◌, ◌∙◌, ◌∷◌, ◌≡◌, ◌⊎◌, ap, append_assoc, Bool, false, History}
+use Rattle.desk_types.proofs.Common.{if◌then◌else◌, inl, inr, List, refl, subst, sym, true, ℕ}
+use Rattle.http_stream.specs.{Cut.bad_head, Cut.EndsInside, Cut.head_too_large, Cut.is_last, Cut.IsCut, Cut.IsPortion}
+use Rattle.http_stream.specs.{Cut.Portion, Cut.starved, Cut.unread, Cut.whole, Repeats.after_all}
+use Rattle.http_stream.specs.{Repeats.after_portion, Repeats.is_repeat, Repeats.IsCutWithout, Repeats.LeavesTheList}
+use Rattle.http_stream.specs.{Repeats.NoRepeatEnds, Repeats.Repeats, Repeats.without_repeats, Stream.Rule}
 use Rattle.httparse.specs.Grammar.{print_request}
-use Rattle.http_stream.specs.Cut.{Portion, whole, bad_head, head_too_large, unread, starved, is_last, IsPortion, IsCut, EndsInside}
-use Rattle.http_stream.specs.Repeats.{Repeats, LeavesTheList, NoRepeatEnds, IsCutWithout, is_repeat, after_portion, after_all, without_repeats}
-use Rattle.http_stream.specs.Stream.{Rule}
+use Rattle.std.proofs.lemmas.List.{append_cancel_right}
 
 -- ---- the history
 

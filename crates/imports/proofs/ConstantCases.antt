@@ -1,6 +1,6 @@
 -- Worked cases of the limits of files.
-use Rattle.std.specs.Prelude.{◌≡◌, Some, None, [], ◌∷◌, codes, refl}
-use Rattle.imports.specs.File.{quantity_of, designators_of}
+use Rattle.desk_types.proofs.Common.{[], ◌∷◌, ◌≡◌, codes, None, refl, Some}
+use Rattle.imports.specs.File.{designators_of, quantity_of}
 
 -- ---- quantities at their limits
 

@@ -1,9 +1,9 @@
 -- Reading rows one after another.
-use Rattle.std.proofs.Common.{◌≡◌, refl, sym, ap, ◌∙◌, ℕ, suc, ◌+◌, ◌<◌, List, [], ◌∷◌, ◌++◌, length, map, take, drop, get_or, take-append-drop, append_assoc, Result, Ok, Err, arith}
-use Rattle.std.proofs.lemmas.List.{take_more, map-append, length-map, length-take-le}
-use Rattle.cfx_profile.proofs.Readings.{first_of_each, both, both-nothing, both-first}
-use Rattle.imports.specs.declared.fault.ImportFault.{ImportFault}
-use Rattle.imports.specs.File.{Record, row_at, each}
+use Rattle.desk_types.proofs.Common.{[], ◌++◌, ◌+◌, ◌<◌, ◌∙◌, ◌∷◌, ◌≡◌, ap, append_assoc, arith, drop, Err, get_or}
+use Rattle.desk_types.proofs.Common.{length, length-map, length-take-le, List, map, map-append, Ok, refl, Result, suc}
+use Rattle.desk_types.proofs.Common.{sym, take, take-append-drop, take_more, ℕ}
+use Rattle.cfx_profile.proofs.Readings.{both, both-first, both-nothing, first_of_each}
+use Rattle.imports.specs.{File.each, File.Record, File.row_at, declared.fault.ImportFault.ImportFault}
 
 each-append : {X : Type 0} (reading : ℕ → Record → Result X ImportFault) (line : ℕ) (rs ss : List Record)
     → each reading line (rs ++ ss) ≡ both (each reading line rs) (each reading (line + length rs) ss)

@@ -1,13 +1,13 @@
 -- Worked cases of files.
-use Rattle.std.specs.Prelude.{◌≡◌, ◌++◌, ◌∷◌, [], ⊤, Ok, Err, codes, refl}
-use Rattle.std.specs.Str.{is_utf8, chars}
-use Rattle.std.proofs.Math.Utf8.{encode}
-use Rattle.csv.specs.Records.{field_at}
-use Rattle.csv.proofs.OnLiterals.{csv_on_literals}
-use Rattle.desk_types.specs.declared.command.Command.TheVariants.{SheetDefined, CountsTaken}
+use Rattle.desk_types.proofs.Common.{[], ⊤, ◌++◌, ◌∷◌, ◌≡◌, codes, CountsTaken, Err, is_utf8, Ok, refl, SheetDefined}
 use Rattle.cfx_profile.specs.Forms.{id_of, is_printable}
-use Rattle.imports.specs.declared.fault.ImportFault.TheVariants.{BadHeader, BadRow, BadField}
-use Rattle.imports.specs.File.{two_texts, three_texts, designators_of, quantity_of, sheet_row, count_row, file_rows, setup_said, counts_said}
+use Rattle.csv.proofs.OnLiterals.{csv_on_literals}
+use Rattle.csv.specs.Records.{field_at}
+use Rattle.imports.specs.File.{count_row, counts_said, designators_of, file_rows, quantity_of, setup_said, sheet_row}
+use Rattle.imports.specs.File.{three_texts, two_texts}
+use Rattle.imports.specs.declared.fault.ImportFault.TheVariants.{BadField, BadHeader, BadRow}
+use Rattle.std.proofs.Math.Utf8.{encode}
+use Rattle.std.specs.Str.{chars}
 
 unfoldable on_files : ⊤
 unfolding csv_on_literals field_at is_utf8 chars encode id_of is_printable two_texts three_texts designators_of quantity_of sheet_row count_row file_rows setup_said counts_said

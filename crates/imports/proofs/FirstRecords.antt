@@ -1,9 +1,8 @@
 -- Records read one by one are the first of all records.
-use Rattle.std.proofs.Common.{◌≡◌, ◌≤◌, ℕ, zero, suc, refl, sym, ap, ◌∙◌, subst, List, [], ◌∷◌, length, None, arith, ◌⊎◌, inl, inr}
-use Rattle.csv.specs.Machine.{next_record}
-use Rattle.csv.specs.Reading.{Reached, records_from, records_next}
-use Rattle.csv.specs.declared.parser.Config.{Config}
-use Rattle.csv.specs.declared.parser.State.{State}
+use Rattle.desk_types.proofs.Common.{[], ◌∙◌, ◌∷◌, ◌≡◌, ◌≤◌, ◌⊎◌, ap, arith, inl, inr, length, List, None, refl}
+use Rattle.desk_types.proofs.Common.{subst, suc, sym, zero, ℕ}
+use Rattle.csv.specs.{Machine.next_record, Reading.Reached, Reading.records_from, Reading.records_next}
+use Rattle.csv.specs.{declared.parser.Config.Config, declared.parser.State.State}
 
 pub first-of_reached : (cfg : Config) (n : ℕ) (s : State) (xs : List ℕ) (rows : List (List (List ℕ))) (s2 : State) (ys : List ℕ)
     → length rows ≤ n → Reached cfg s xs rows s2 ys → (next_record cfg s2 [] [] ys ≡ None) ⊎ (length rows ≡ n) → rows ≡ records_from cfg n s xs

@@ -1,18 +1,14 @@
 -- Later records don't change the content of a file.
-use Rattle.std.proofs.Common.{◌≡◌, ◌≤◌, ◌<◌, ◌+◌, ◌++◌, ◌⊎◌, ◌∙◌, ℕ, zero, suc, Bool, refl, ap, List, [], ◌∷◌, length, Option, Some, None, Result, Ok, Err, inl, inr, arith}
-use Rattle.std.specs.Prelude.{nat_le, if◌then◌else◌}
-use Rattle.std.proofs.lemmas.Bool.{cases_Bool}
-use Rattle.std.proofs.lemmas.Bool.Decides.{nat_tests}
-use Rattle.csv.specs.Machine.{Read, next_record}
-use Rattle.csv.specs.Reading.{records_from, records_next}
-use Rattle.csv.specs.declared.parser.Config.{Config}
-use Rattle.csv.specs.declared.parser.State.{State}
+use Rattle.desk_types.proofs.Common.{[], ◌++◌, ◌+◌, ◌<◌, ◌∙◌, ◌∷◌, ◌≡◌, ◌≤◌, ◌⊎◌, ap, arith, Bool, cases_Bool, Err}
+use Rattle.desk_types.proofs.Common.{if◌then◌else◌, inl, inr, length, List, nat_le, nat_tests, None, Ok, Option, refl}
+use Rattle.desk_types.proofs.Common.{Result, Some, suc, zero, ℕ}
 use Rattle.cfx_profile.specs.Fault.{◌>>=◌}
-use Rattle.imports.specs.declared.fault.ImportFault.{ImportFault}
-use Rattle.imports.specs.declared.fault.ImportFault.TheVariants.{BadHeader}
-use Rattle.imports.specs.declared.records.TheConstants.{MOST_RECORDS}
-use Rattle.imports.specs.declared.rows.TheConstants.{FIRST_ROW, LAST_ROW}
-use Rattle.imports.specs.File.{Record, row_at, each, some_rows, rows_of}
+use Rattle.csv.specs.{Machine.next_record, Machine.Read, Reading.records_from, Reading.records_next}
+use Rattle.csv.specs.{declared.parser.Config.Config, declared.parser.State.State}
+use Rattle.imports.specs.{File.each, File.Record, File.row_at, File.rows_of, File.some_rows}
+use Rattle.imports.specs.{declared.fault.ImportFault.ImportFault, declared.fault.ImportFault.TheVariants.BadHeader}
+use Rattle.imports.specs.{declared.records.TheConstants.MOST_RECORDS, declared.rows.TheConstants.FIRST_ROW}
+use Rattle.imports.specs.{declared.rows.TheConstants.LAST_ROW}
 
 front_of : (cfg : Config) (m n : ℕ) (s : State) (xs : List ℕ) → m ≤ n
     → (records_from cfg n s xs ≡ records_from cfg m s xs)

@@ -1,37 +1,29 @@
 -- Reading the file of a command gives that command.
-use Rattle.std.proofs.Common.{◌≡◌, ◌∙◌, refl, sym, ap, ℕ, zero, suc, ◌+◌, ◌≤◌, ◌<◌, ◌^◌, List, [], ◌∷◌, ◌++◌, length, map, All, Bool, true, false, Some, None, Ok, Result, arith, decimal, if◌then◌else◌}
-use Rattle.std.specs.Prelude.{nat_le, ◌==◌}
-use Rattle.std.specs.List.{join_with_byte}
-use Rattle.std.specs.Str.{is_utf8}
-use Rattle.std.proofs.lemmas.Bool.Decides.{nat_tests}
-use Rattle.std.proofs.lemmas.Fmt.{digits_decimal, digits_value-decimal, length-decimal-le, decimal_nonempty, IsAscii-decimal}
-use Rattle.std.proofs.lemmas.List.{length-map}
-use Rattle.std.proofs.lemmas.List.Elements.{All-nil, All-cons, All-head, All-tail, All-append, All-map}
-use Rattle.std.proofs.lemmas.List.Splits.{slice_split_none, slice_split_at}
-use Rattle.std.proofs.lemmas.List.Sums.{list_all-from_AllPass}
-use Rattle.std.proofs.lemmas.Str.{IsUtf8-from_ascii, is_utf8-from_IsUtf8}
-use Rattle.csv.specs.Machine.{next_record}
-use Rattle.csv.specs.Reading.{default_config, records_from, strip_bom}
-use Rattle.csv.specs.Records.{field_at}
-use Rattle.csv.specs.Writing.{default_writer, row_text}
+use Rattle.desk_types.proofs.Common.{[], ◌++◌, ◌+◌, ◌<◌, ◌==◌, ◌^◌, ◌∙◌, ◌∷◌, ◌≡◌, ◌≤◌, All, All-append, All-cons}
+use Rattle.desk_types.proofs.Common.{All-head, All-nil, All-tail, ap, arith, Bool, CountRow, decimal, false}
+use Rattle.desk_types.proofs.Common.{GREATEST_QUANTITY, if◌then◌else◌, is_designator_byte, is_utf8}
+use Rattle.desk_types.proofs.Common.{is_utf8-from_IsUtf8, IsCountRow, IsDesignator, IsId, IsListOf, IsSheetRow}
+use Rattle.desk_types.proofs.Common.{IsUtf8-from_ascii, join_with_byte, length, length-map, List, LONGEST_INPUT}
+use Rattle.desk_types.proofs.Common.{LONGEST_LIST, map, Name, nat_le, nat_tests, None, Ok, refl, Result, SheetRow}
+use Rattle.desk_types.proofs.Common.{slice_split_at, slice_split_none, Some, suc, sym, true, zero, ℕ}
+use Rattle.cfx_profile.proofs.Names.{designator_of-read, id_of-read}
+use Rattle.cfx_profile.specs.Forms.{designator_of, id_of, is_designator}
+use Rattle.csv.proofs.{OnLiterals.csv_on_literals, RoundTrip.read-write-many}
+use Rattle.csv.specs.{Machine.next_record, Reading.default_config, Reading.records_from, Reading.strip_bom}
+use Rattle.csv.specs.{Records.field_at, Writing.default_writer, Writing.row_text}
+use Rattle.desk_types.proofs.{Ascii.IsUtf8-printable, Ascii.printable-marks, Numerals.own}
+use Rattle.imports.specs.{File.count_row, File.counts_said, File.designators_of, File.each, File.file_rows}
+use Rattle.imports.specs.{File.is_counts_header, File.is_number, File.is_setup_header, File.quantity_of, File.Record}
+use Rattle.imports.specs.{File.records_of, File.setup_said, File.sheet_row, File.some_rows, File.three_texts}
+use Rattle.imports.specs.{File.two_texts, File.words_of, Written.count_fields, Written.counts_header}
+use Rattle.imports.specs.{Written.CountsAreSaid, Written.records_text, Written.sheet_fields, Written.sheet_header}
+use Rattle.imports.specs.{Written.SheetsAreSaid, declared.fault.ImportFault.ImportFault}
+use Rattle.imports.specs.{declared.records.TheConstants.MOST_RECORDS, declared.rows.TheConstants.FIRST_ROW}
+use Rattle.imports.specs.{declared.rows.TheConstants.LAST_ROW}
+use Rattle.std.proofs.{lemmas.Fmt.decimal_nonempty, lemmas.Fmt.digits_decimal, lemmas.Fmt.digits_value-decimal}
+use Rattle.std.proofs.{lemmas.Fmt.IsAscii-decimal, lemmas.Fmt.length-decimal-le, lemmas.List.Elements.All-map}
+use Rattle.std.proofs.{lemmas.List.Sums.list_all-from_AllPass}
 use Rattle.csv.specs.declared.parser.State.TheVariants as st
-use Rattle.csv.proofs.OnLiterals.{csv_on_literals}
-use Rattle.csv.proofs.RoundTrip.{read-write-many}
-use Rattle.desk_types.proofs.Ascii.{IsUtf8-printable, printable-marks}
-use Rattle.desk_types.specs.Command.{IsListOf, IsSheetRow, IsCountRow}
-use Rattle.desk_types.specs.Designator.{IsDesignator, is_designator_byte}
-use Rattle.desk_types.specs.Id.{Name, IsId}
-use Rattle.desk_types.specs.declared.count.CountRow.{CountRow}
-use Rattle.desk_types.specs.declared.limits.TheConstants.{GREATEST_QUANTITY, LONGEST_INPUT, LONGEST_LIST}
-use Rattle.desk_types.specs.declared.sheet.SheetRow.{SheetRow}
-use Rattle.cfx_profile.specs.Forms.{is_designator, id_of, designator_of}
-use Rattle.cfx_profile.proofs.Names.{id_of-read, designator_of-read}
-use Rattle.imports.specs.declared.fault.ImportFault.{ImportFault}
-use Rattle.imports.specs.declared.records.TheConstants.{MOST_RECORDS}
-use Rattle.imports.specs.declared.rows.TheConstants.{LAST_ROW, FIRST_ROW}
-use Rattle.imports.specs.File.{Record, two_texts, three_texts, words_of, is_number, designators_of, quantity_of, is_setup_header, is_counts_header, sheet_row, count_row, records_of, each, some_rows, file_rows, setup_said, counts_said}
-use Rattle.imports.specs.Written.{records_text, sheet_header, sheet_fields, counts_header, count_fields, SheetsAreSaid, CountsAreSaid}
-use Rattle.desk_types.proofs.Numerals.{own}
 
 -- ---- records
 

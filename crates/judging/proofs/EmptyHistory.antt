@@ -1,9 +1,6 @@
 -- An empty history has no front reels, no mounts and no reels.
-use Rattle.std.proofs.Common.{◌≡◌, None, [], ◌∷◌, refl}
-use Rattle.desk_types.specs.Id.{Name}
-use Rattle.desk_types.specs.History.{History, desk_minute}
-use Rattle.desk_types.specs.Front.{fronts_of}
-use Rattle.desk_types.specs.View.{reel_view, mounts_on}
+use Rattle.desk_types.proofs.Common.{[], ◌∷◌, ◌≡◌, desk_minute, History, Name, None, reel_view, refl}
+use Rattle.desk_types.specs.{Front.fronts_of, View.mounts_on}
 
 pub no-fronts : (H : History) (machine : Name) → desk_minute H ≡ None → fronts_of H machine ≡ []
 no-fronts [] machine none = refl

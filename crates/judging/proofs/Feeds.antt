@@ -1,27 +1,17 @@
 -- The state of a machine's slots after each piece.
-use Rattle.std.proofs.Common.{◌≡◌, ℕ, ◌+◌, ◌-◌, ◌<◌, ◌≤◌, Bool, true, false, cond, nat_lt, Option, Some, None, List, [], ◌∷◌, ◌++◌, refl, sym, ap, subst, ◌∙◌, arith}
-use Rattle.std.specs.Prelude.{IfSome, ◌==◌}
-use Rattle.std.specs.Option.{option_map, option_map_or}
-use Rattle.std.specs.List.{find, filter, AllByRecursion, IsDistinct}
-use Rattle.std.specs.BTreeMap.{BTreeMap}
-use Rattle.std.proofs.lemmas.Bool.{lt-ltb, le-ltb, eqb-true, eqb-false, or_parts, or_left, or_right}
-use Rattle.std.proofs.lemmas.List.{append_assoc}
-use Rattle.std.proofs.lemmas.List.Folds.{list_any-append}
-use Rattle.std.proofs.lemmas.Map.Views.{Contains-from_any}
-use Rattle.desk_types.specs.declared.rules.Rules.TheVariants.{Two}
-use Rattle.desk_types.specs.declared.take.Pick.{Pick}
-use Rattle.desk_types.specs.Id.{Name, same}
-use Rattle.desk_types.specs.History.{History}
-use Rattle.desk_types.specs.Pieces.{pieces_picked, left_of, live_on}
-use Rattle.desk_types.specs.Judged.{IsJudged}
-use Rattle.desk_types.proofs.Keys.{same-refl, same-true, name-changed}
-use Rattle.desk_laws.proofs.Distinct.{all-append}
-use Rattle.desk_laws.proofs.Mounts.{has}
-use Rattle.desk_laws.proofs.Picks.{pieces_picked-append}
-use Rattle.desk_laws.proofs.Places.{one-slot}
-use Rattle.judging.specs.declared.placing.Feed.{Feed}
-use Rattle.judging.specs.declared.placing.Given.TheVariants.{Reel, Nothing}
-use Rattle.judging.specs.Placing.{IsFed, IsFeeding, feed_at, one_less, given_by, live_past, live_next, reel_in_hand}
+use Rattle.desk_types.proofs.Common.{[], ◌++◌, ◌+◌, ◌-◌, ◌<◌, ◌==◌, ◌∙◌, ◌∷◌, ◌≡◌, ◌≤◌, AllByRecursion, ap}
+use Rattle.desk_types.proofs.Common.{append_assoc, arith, Bool, BTreeMap, cond, Contains-from_any, eqb-true, false}
+use Rattle.desk_types.proofs.Common.{History, IfSome, IsDistinct, IsJudged, left_of, List, list_any-append, live_on}
+use Rattle.desk_types.proofs.Common.{lt-ltb, Name, nat_lt, None, Option, option_map, option_map_or, or_left, or_parts}
+use Rattle.desk_types.proofs.Common.{or_right, Pick, pieces_picked, refl, same, same-refl, same-true, Some, subst}
+use Rattle.desk_types.proofs.Common.{sym, true, Two, ℕ}
+use Rattle.desk_laws.proofs.{Distinct.all-append, Mounts.has, Picks.pieces_picked-append, Places.one-slot}
+use Rattle.desk_types.proofs.Keys.{name-changed}
+use Rattle.judging.specs.{Placing.feed_at, Placing.given_by, Placing.IsFed, Placing.IsFeeding, Placing.live_next}
+use Rattle.judging.specs.{Placing.live_past, Placing.one_less, Placing.reel_in_hand, declared.placing.Feed.Feed}
+use Rattle.judging.specs.{declared.placing.Given.TheVariants.Nothing, declared.placing.Given.TheVariants.Reel}
+use Rattle.std.proofs.lemmas.Bool.{eqb-false, le-ltb}
+use Rattle.std.specs.List.{filter, find}
 
 -- ---- one more pick
 

@@ -1,25 +1,13 @@
 -- Free reels and their turns.
-use Rattle.std.proofs.Common.{◌≡◌, ℕ, Bool, true, false, not, cond, Option, Some, None, List, [], ◌∷◌, map, filter, filter_map, refl, ap, ◌∙◌}
-use Rattle.std.specs.Prelude.{◌&&◌, nat_lt, if◌then◌else◌}
-use Rattle.std.specs.BTreeSet.{insert_key}
-use Rattle.std.specs.List.{cons_option}
-use Rattle.std.specs.Option.{option_map, option_map_or}
-use Rattle.std.specs.Ordering.{match_ordering}
-use Rattle.std.specs.declared.cmp.Ordering.{Ordering}
-use Rattle.std.specs.declared.cmp.Ordering.TheVariants.{Less, Equal, Greater}
-use Rattle.desk_types.specs.declared.command.Receipt.{Receipt}
-use Rattle.desk_types.specs.declared.view.Left.{Left}
-use Rattle.desk_types.specs.declared.rules.Rules.TheVariants.{Two}
-use Rattle.desk_types.specs.Id.{Name}
-use Rattle.desk_types.specs.History.{History, now_of}
-use Rattle.desk_types.specs.Setup.{receipt_of, is_allowed}
-use Rattle.desk_types.specs.Pieces.{left_of, is_mounted}
-use Rattle.desk_types.specs.FloorLife.{is_unbaked, is_expired}
-use Rattle.desk_types.specs.Judged.{IsJudged}
-use Rattle.desk_types.specs.View.{part_of, view_of, reel_view}
-use Rattle.desk_types.specs.Free.{reels_received, is_free, by_turn, in_order}
+use Rattle.desk_types.proofs.Common.{[], ◌&&◌, ◌∙◌, ◌∷◌, ◌≡◌, ap, Bool, by_turn, cond, cons_option, Equal, false}
+use Rattle.desk_types.proofs.Common.{filter, filter_map, Greater, History, if◌then◌else◌, in_order, insert_key}
+use Rattle.desk_types.proofs.Common.{is_allowed, is_expired, is_free, is_mounted, is_unbaked, IsJudged, Left, left_of}
+use Rattle.desk_types.proofs.Common.{Less, List, map, match_ordering, Name, nat_lt, None, not, now_of, Option}
+use Rattle.desk_types.proofs.Common.{option_map, option_map_or, Ordering, Receipt, receipt_of, reel_view}
+use Rattle.desk_types.proofs.Common.{reels_received, refl, Some, true, Two, view_of, ℕ}
 use Rattle.desk_laws.proofs.Balance.{unreceived-empty}
-use Rattle.judging.specs.Turns.{turn_of, by_life, if_free}
+use Rattle.desk_types.specs.View.{part_of}
+use Rattle.judging.specs.Turns.{by_life, if_free, turn_of}
 
 none-left : (a b c d : Bool) (n : ℕ) → n ≡ 0 → (a && b && nat_lt 0 n && c && d) ≡ false
 none-left true true c d n is = ap (λ k. nat_lt 0 k && c && d) is

@@ -1,30 +1,15 @@
 -- The picks of commands: their reels and their number.
-use Rattle.std.proofs.Common.{◌≡◌, ℕ, ◌+◌, ◌-◌, ◌*◌, ◌^◌, ◌≤◌, min, nat_lt, Bool, true, false, Option, Some, None, List, [], ◌∷◌, ◌++◌, length, refl, ap, arith}
-use Rattle.std.specs.Prelude.{is_some, if◌then◌else◌}
-use Rattle.std.specs.Option.{option_and_then, option_map, option_to_list}
-use Rattle.std.specs.List.{AllByRecursion, find}
-use Rattle.std.proofs.lemmas.Bool.{lt-ltb, ltb-true, ltb-false}
-use Rattle.std.proofs.lemmas.List.Sums.{sum_by-append}
-use Rattle.desk_types.specs.declared.command.Command.{Command}
-use Rattle.desk_types.specs.declared.command.Command.TheVariants.{MaterialsInstalled, MaterialsScrapped, CountsTaken}
-use Rattle.desk_types.specs.declared.command.Receipt.{Receipt}
-use Rattle.desk_types.specs.declared.count.CountRow.{CountRow}
-use Rattle.desk_types.specs.declared.limits.TheConstants.{GREATEST_QUANTITY}
-use Rattle.desk_types.specs.declared.rules.Rules.TheVariants.{Two}
-use Rattle.desk_types.specs.declared.take.Pick.{Pick}
-use Rattle.desk_types.specs.declared.take.Purpose.{Purpose}
-use Rattle.desk_types.specs.declared.take.Purpose.TheVariants.{Placed, Rejected, Counted}
-use Rattle.desk_types.specs.Id.{Name}
-use Rattle.desk_types.specs.History.{History}
-use Rattle.desk_types.specs.Setup.{receipt_of}
-use Rattle.desk_types.specs.Tape.{tape_of}
-use Rattle.desk_types.specs.Pieces.{Bench, bench_of, left_of, pieces_picked, pieces_off, pick_for, install_picks, scrap_picks, count_picks, picks_of}
-use Rattle.desk_types.specs.Outcome.{pieces_of}
-use Rattle.desk_types.specs.Judged.{IsJudged}
-use Rattle.desk_laws.proofs.Balance.{unreceived-empty}
-use Rattle.desk_laws.proofs.Picks.{find-passes}
+use Rattle.desk_types.proofs.Common.{[], ◌*◌, ◌++◌, ◌+◌, ◌-◌, ◌^◌, ◌∷◌, ◌≡◌, ◌≤◌, AllByRecursion, ap, arith, Bench}
+use Rattle.desk_types.proofs.Common.{bench_of, Bool, Command, count_picks, Counted, CountRow, CountsTaken, false}
+use Rattle.desk_types.proofs.Common.{GREATEST_QUANTITY, History, if◌then◌else◌, install_picks, is_some, IsJudged}
+use Rattle.desk_types.proofs.Common.{left_of, length, List, lt-ltb, ltb-true, MaterialsInstalled, MaterialsScrapped}
+use Rattle.desk_types.proofs.Common.{min, Name, nat_lt, None, Option, option_and_then, option_map, option_to_list}
+use Rattle.desk_types.proofs.Common.{Pick, pick_for, picks_of, pieces_of, pieces_off, pieces_picked, Placed, Purpose}
+use Rattle.desk_types.proofs.Common.{Receipt, receipt_of, refl, Rejected, scrap_picks, Some, sum_by-append, tape_of}
+use Rattle.desk_types.proofs.Common.{true, Two, ℕ}
+use Rattle.desk_laws.proofs.{Balance.unreceived-empty, Picks.find-passes, Ranges.left-range, WholeInstalls.pieces-off}
 use Rattle.judging.specs.Facts.{IsKnownReel}
-use Rattle.desk_laws.proofs.Ranges.{left-range}
+use Rattle.std.specs.List.{find}
 
 -- ---- reels
 
@@ -74,22 +59,16 @@ install-some bench before (d ∷ ds) some =
     install-some bench (before ++ option_to_list (pick_for bench before d)) ds
     (some-append bench.pieces before _ some (pick-some bench before d))
 
-min-le : (n m : ℕ) → min n m ≤ m
-min-le n m = omega arith
-
 scrap-some : (pieces : Name → ℕ) (purpose : Purpose) (tape : List Name) (n : ℕ) → HaveSome pieces (scrap_picks pieces purpose tape n)
 scrap-some pieces purpose [] n = tt
 scrap-some pieces purpose (r ∷ rs) n =
-    some-append pieces (pieces_off r (min n (pieces r)) purpose) _ (off-some pieces r (min n (pieces r)) purpose (min-le n (pieces r))) (scrap-some pieces purpose rs (n - pieces r))
-
-less-le : (m n : ℕ) → m - n ≤ m
-less-le m n = omega arith
+    some-append pieces (pieces_off r (min n (pieces r)) purpose) _ (off-some pieces r (min n (pieces r)) purpose (omega arith)) (scrap-some pieces purpose rs (n - pieces r))
 
 count-some : (pieces : Name → ℕ) (rows : List CountRow) → HaveSome pieces (count_picks pieces rows)
 count-some pieces [] = tt
 count-some pieces (row ∷ rows) =
     some-append pieces (pieces_off row.reel (pieces row.reel - row.quantity) Counted) _
-    (off-some pieces row.reel (pieces row.reel - row.quantity) Counted (less-le (pieces row.reel) row.quantity)) (count-some pieces rows)
+    (off-some pieces row.reel (pieces row.reel - row.quantity) Counted (omega arith)) (count-some pieces rows)
 
 picks-some : (H : History) (command : Command) → HaveSome (left_of H) (picks_of H command)
 picks-some H (MaterialsInstalled machine board ds) = install-some (bench_of H machine board) [] ds tt
@@ -113,13 +92,6 @@ picks-known H command judged = known H (picks_of H command) judged (picks-some H
 
 -- ---- number
 
-off-pieces : (reel : Name) (n : ℕ) (purpose : Purpose) → pieces_of (pieces_off reel n purpose) ≡ n
-off-pieces reel n purpose = by (nat_lt 0 n) refl
-  where
-    by : (b : Bool) → nat_lt 0 n ≡ b → pieces_of (if◌then◌else◌ {A = List Pick} b (record { reel = reel; quantity = n; purpose = purpose } ∷ []) []) ≡ n
-    by true is = omega arith
-    by false is = let none = ltb-false 0 n is in omega (arith, none)
-
 pieces-append : (before after : List Pick) → pieces_of (before ++ after) ≡ pieces_of before + pieces_of after
 pieces-append before after = sum_by-append (λ (p : Pick). p.quantity) before after
 
@@ -127,7 +99,7 @@ scrap-within : (pieces : Name → ℕ) (purpose : Purpose) (tape : List Name) (n
 scrap-within pieces purpose [] n = omega arith
 scrap-within pieces purpose (r ∷ rs) n =
     let both = pieces-append (pieces_off r (min n (pieces r)) purpose) (scrap_picks pieces purpose rs (n - pieces r)) in
-    let first = off-pieces r (min n (pieces r)) purpose in
+    let first = pieces-off r (min n (pieces r)) purpose in
     let rest = scrap-within pieces purpose rs (n - pieces r) in
     omega (arith, both, first, rest)
 
@@ -136,7 +108,7 @@ count-within : (pieces : Name → ℕ) (rows : List CountRow) → ((r : Name) �
 count-within pieces [] few = omega arith
 count-within pieces (row ∷ rows) few =
     let both = pieces-append (pieces_off row.reel (pieces row.reel - row.quantity) Counted) (count_picks pieces rows) in
-    let first = off-pieces row.reel (pieces row.reel - row.quantity) Counted in
+    let first = pieces-off row.reel (pieces row.reel - row.quantity) Counted in
     let rest = count-within pieces rows few in
     omega (arith, both, first, rest, few row.reel)
 

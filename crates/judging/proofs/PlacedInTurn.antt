@@ -1,16 +1,11 @@
 -- Designators placed one after another.
-use Rattle.std.proofs.Common.{◌≡◌, ℕ, ◌+◌, ◌<◌, Bool, false, nat_lt, Option, Some, None, List, [], ◌∷◌, ◌++◌, take, drop, get_or, length, refl, sym, ap, ◌∙◌}
-use Rattle.std.specs.Option.{option_or, option_to_list}
+use Rattle.desk_types.proofs.Common.{[], ◌++◌, ◌+◌, ◌<◌, ◌∙◌, ◌∷◌, ◌≡◌, ap, Bench, Bool, designators_refusal, drop}
+use Rattle.desk_types.proofs.Common.{drop-next, false, get_or, install_picks, length, List, Name, nat_lt, None}
+use Rattle.desk_types.proofs.Common.{Option, option_or, option_to_list, Pick, pick_for, pieces_picked, ReelShort}
+use Rattle.desk_types.proofs.Common.{refl, Refusal, Some, sym, take, take-next, ℕ}
+use Rattle.desk_types.specs.Refusals.{designator_refusal}
+use Rattle.judging.specs.{Placing.Before, Placing.next_refusal, Placing.pick_of, declared.placing.Feeder.Feeder}
 use Rattle.std.specs.List.{find}
-use Rattle.desk_types.specs.declared.answer.Refusal.{Refusal}
-use Rattle.desk_types.specs.declared.answer.Refusal.TheVariants.{ReelShort}
-use Rattle.desk_types.specs.declared.take.Pick.{Pick}
-use Rattle.desk_types.specs.Id.{Name}
-use Rattle.desk_types.specs.Pieces.{Bench, pieces_picked, pick_for, install_picks}
-use Rattle.desk_types.specs.Refusals.{designator_refusal, designators_refusal}
-use Rattle.desk_types.proofs.LoopSteps.{take-next, drop-next}
-use Rattle.judging.specs.declared.placing.Feeder.{Feeder}
-use Rattle.judging.specs.Placing.{Before, next_refusal, pick_of}
 
 -- ---- one more designator
 

@@ -1,18 +1,12 @@
 -- Searching a slot's reels in order, including spent ones.
-use Rattle.std.proofs.Common.{◌≡◌, ℕ, ◌+◌, ◌-◌, ◌<◌, ◌≤◌, min, nat_lt, Bool, true, false, cond, Some, None, List, [], ◌∷◌, ◌++◌, length, drop, get_or, ◌⊎◌, inl, inr, refl, sym, ap, ◌∙◌, arith}
-use Rattle.std.specs.Prelude.{slice_get}
-use Rattle.std.specs.List.{find, filter, sum_by}
-use Rattle.std.proofs.lemmas.Bool.{lt-ltb, ltb-true, ltb-false}
-use Rattle.std.proofs.lemmas.List.{drop_all}
-use Rattle.std.proofs.lemmas.List.Sums.{sum_by-cons}
-use Rattle.std.proofs.lemmas.Option.{slice_get_cases, slice_get_within, get_or_from_slice_get}
-use Rattle.desk_types.specs.declared.take.Pick.{Pick}
-use Rattle.desk_types.specs.declared.take.Purpose.{Purpose}
-use Rattle.desk_types.specs.Id.{Name}
-use Rattle.desk_types.specs.History.{History}
-use Rattle.desk_types.specs.Tape.{tape_of}
-use Rattle.desk_types.specs.Pieces.{left_of, live_on, pieces_picked, pieces_off, scrap_picks}
-use Rattle.desk_types.proofs.LoopSteps.{drop-next}
+use Rattle.desk_types.proofs.Common.{[], ◌++◌, ◌+◌, ◌-◌, ◌<◌, ◌∙◌, ◌∷◌, ◌≡◌, ◌≤◌, ◌⊎◌, ap, arith, Bool, cond, drop}
+use Rattle.desk_types.proofs.Common.{drop-next, drop_all, false, get_or, History, inl, inr, left_of, length, List}
+use Rattle.desk_types.proofs.Common.{live_on, lt-ltb, ltb-false, ltb-true, min, Name, nat_lt, None, Pick, pieces_off}
+use Rattle.desk_types.proofs.Common.{pieces_picked, Purpose, refl, scrap_picks, slice_get, Some, sum_by, sum_by-cons}
+use Rattle.desk_types.proofs.Common.{sym, tape_of, true, ℕ}
+use Rattle.desk_laws.proofs.Lives.{scrap-filter}
+use Rattle.std.proofs.lemmas.Option.{get_or_from_slice_get, slice_get_cases, slice_get_within}
+use Rattle.std.specs.List.{filter, find}
 
 -- ---- one place further
 
@@ -61,26 +55,6 @@ find-kept keep test (x ∷ xs) only = by (keep x) refl (test x) refl (find-kept 
 off-none : (reel : Name) (n : ℕ) (purpose : Purpose) → n ≡ 0 → pieces_off reel n purpose ≡ []
 off-none reel n purpose none = ap (λ m. pieces_off reel m purpose) none
 
-min-none : (n m : ℕ) → m ≡ 0 → min n m ≡ 0
-min-none n m none = omega (arith, none)
-
-less-none : (n m : ℕ) → m ≡ 0 → n - m ≡ n
-less-none n m none = omega (arith, none)
-
-scrap-kept : (pieces : Name → ℕ) (purpose : Purpose) (reels : List Name) (n : ℕ) → scrap_picks pieces purpose (filter (λ r. nat_lt 0 (pieces r)) reels) n ≡ scrap_picks pieces purpose reels n
-scrap-kept pieces purpose [] n = refl
-scrap-kept pieces purpose (r ∷ rs) n = by (nat_lt 0 (pieces r)) refl (scrap-kept pieces purpose rs)
-  where
-    by : (b : Bool) → nat_lt 0 (pieces r) ≡ b → ((m : ℕ) → scrap_picks pieces purpose (filter (λ x. nat_lt 0 (pieces x)) rs) m ≡ scrap_picks pieces purpose rs m)
-        → scrap_picks pieces purpose (cond b (r ∷ filter (λ x. nat_lt 0 (pieces x)) rs) (filter (λ x. nat_lt 0 (pieces x)) rs)) n ≡ scrap_picks pieces purpose (r ∷ rs) n
-    by true some rest = ap (λ ps. pieces_off r (min n (pieces r)) purpose ++ ps) (rest (n - pieces r))
-    by false few rest =
-        let less = ltb-false 0 (pieces r) few in
-        let none : pieces r ≡ 0 = omega (arith, less) in
-        rest n
-        ∙ ap (scrap_picks pieces purpose rs) (sym (less-none n (pieces r) none))
-        ∙ ap (λ ps. ps ++ scrap_picks pieces purpose rs (n - pieces r)) (sym (off-none r (min n (pieces r)) purpose (min-none n (pieces r) none)))
-
 pub scrap-none : (pieces : Name → ℕ) (purpose : Purpose) (reels : List Name) → scrap_picks pieces purpose reels 0 ≡ []
 scrap-none pieces purpose [] = refl
 scrap-none pieces purpose (r ∷ rs) =
@@ -111,7 +85,7 @@ module _ (H : History) (machine slot : Name) (reels : List Name) (live : filter 
   pub scrap-live : (purpose : Purpose) (n : ℕ) → scrap_picks (left_of H) purpose reels n ≡ scrap_picks (left_of H) purpose (tape_of H machine slot) n
   unfolding live_on
   scrap-live purpose n =
-      sym (scrap-kept (left_of H) purpose reels n) ∙ ap (λ rs. scrap_picks (left_of H) purpose rs n) live ∙ scrap-kept (left_of H) purpose (tape_of H machine slot) n
+      sym (scrap-filter (left_of H) purpose reels n) ∙ ap (λ rs. scrap_picks (left_of H) purpose rs n) live ∙ scrap-filter (left_of H) purpose (tape_of H machine slot) n
 
   pub sum-live : sum_by (left_of H) (live_on H machine slot) ≡ sum_by (left_of H) reels
   sum-live = ap (sum_by (left_of H)) (sym live) ∙ sum-kept (left_of H) reels

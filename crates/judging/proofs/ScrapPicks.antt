@@ -1,19 +1,12 @@
 -- Scraps: taking pieces off a slot's reels one after another.
-use Rattle.std.proofs.Common.{◌≡◌, ℕ, ◌+◌, ◌-◌, ◌<◌, min, nat_lt, Bool, true, false, None, Some, List, ◌∷◌, [], ◌++◌, drop, refl, sym, ap, ◌∙◌, append_assoc, append-nil, arith}
-use Rattle.std.specs.Prelude.{slice_get}
-use Rattle.std.specs.List.{filter, sum_by}
-use Rattle.std.proofs.lemmas.Bool.{lt-ltb, ltb-true}
-use Rattle.std.proofs.lemmas.List.Sums.{sum_by-cons}
-use Rattle.desk_types.specs.declared.answer.Refusal.TheVariants.{SlotEmpty, ReelShort}
-use Rattle.desk_types.specs.declared.take.Pick.{Pick}
-use Rattle.desk_types.specs.declared.take.Purpose.{Purpose}
-use Rattle.desk_types.specs.Id.{Name}
-use Rattle.desk_types.specs.History.{History}
-use Rattle.desk_types.specs.Pieces.{left_of, live_on, pieces_off, scrap_picks}
-use Rattle.desk_types.specs.Refusals.{first_refusal, is_vacant, scrap_refusal}
-use Rattle.judging.specs.declared.scraps.Scrapping.{Scrapping}
-use Rattle.judging.specs.Scrapping.{IsScrapped}
+use Rattle.desk_types.proofs.Common.{[], ◌++◌, ◌+◌, ◌-◌, ◌<◌, ◌∙◌, ◌∷◌, ◌≡◌, ap, append-nil, append_assoc, arith}
+use Rattle.desk_types.proofs.Common.{Bool, drop, false, first_refusal, History, is_vacant, left_of, List, live_on}
+use Rattle.desk_types.proofs.Common.{lt-ltb, ltb-true, min, Name, nat_lt, None, Pick, pieces_off, Purpose, ReelShort}
+use Rattle.desk_types.proofs.Common.{refl, scrap_picks, scrap_refusal, slice_get, SlotEmpty, Some, sum_by}
+use Rattle.desk_types.proofs.Common.{sum_by-cons, sym, true, ℕ}
 use Rattle.judging.proofs.Reels.{drop-at, scrap-none, sum-live}
+use Rattle.judging.specs.{Scrapping.IsScrapped, declared.scraps.Scrapping.Scrapping}
+use Rattle.std.specs.List.{filter}
 
 -- ---- one more reel
 

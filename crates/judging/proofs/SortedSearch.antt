@@ -1,17 +1,11 @@
 -- Binary search in sorted names.
-use Rattle.std.proofs.Common.{◌≡◌, ◌⊎◌, inl, inr, ℕ, ◌<◌, ◌≤◌, false, Result, Ok, Err, List, [], length, get_or, sym, ap, ◌∙◌, arith}
-use Rattle.std.specs.Prelude.{is_ok, All}
-use Rattle.std.proofs.lemmas.Bool.{cases_lt}
-use Rattle.std.specs.List.{list_any}
-use Rattle.std.specs.List.Sorted.{IsSorted, IsBinarySearchResult, IsSearchInRange, IsPartitionPoint}
-use Rattle.std.specs.Ordering.{is_eq}
-use Rattle.std.specs.declared.cmp.Ordering.{Ordering}
-use Rattle.std.specs.declared.cmp.Ordering.TheVariants.{Less, Equal, Greater}
-use Rattle.std.proofs.lemmas.Cmp.{nat_list_cmp_total}
-use Rattle.std.proofs.lemmas.List.Sorted.{searchable_from_sorted}
+use Rattle.desk_types.proofs.Common.{[], ◌<◌, ◌∙◌, ◌≡◌, ◌≤◌, ◌⊎◌, All, ap, arith, by_name, cases_lt, Equal, Err}
+use Rattle.desk_types.proofs.Common.{false, get_or, Greater, inl, inr, is_at-by_name, is_eq, is_ok, length, Less}
+use Rattle.desk_types.proofs.Common.{List, list_any, Name, nat_list_cmp_total, Ok, Ordering, Result, same, same-sym}
+use Rattle.desk_types.proofs.Common.{sym, ℕ}
 use Rattle.std.proofs.lemmas.List.Folds.{list_any_at, list_any_none}
-use Rattle.desk_types.specs.Id.{Name, same, by_name}
-use Rattle.desk_types.proofs.Keys.{is_at-by_name, same-sym}
+use Rattle.std.proofs.lemmas.List.Sorted.{searchable_from_sorted}
+use Rattle.std.specs.List.Sorted.{IsBinarySearchResult, IsPartitionPoint, IsSearchInRange, IsSorted}
 
 ties : (x y : Name) (order : Ordering) → by_name y x ≡ order → same x y ≡ is_eq order
 ties x y order is = same-sym x y ∙ sym (is_at-by_name y x) ∙ ap is_eq is

@@ -1,29 +1,19 @@
 -- The result of a replay, in terms of the committed rows.
-use Rattle.std.proofs.Common.{◌≡◌, ◌∙◌, ◌==◌, ◌+◌, ◌≤◌, ◌⊎◌, inl, inr, IsTrue, ℕ, Bool, true, false, [], length, filter, sym, subst, arith}
-use Rattle.std.proofs.lemmas.Bool.{eqb-true, eq-eqb, true≢false}
-use Rattle.std.specs.List.Sorted.{IsPermutation}
-use Rattle.std.proofs.lemmas.List.Sorted.{IsPermutation-sym, IsPermutation-trans}
-use Rattle.sqlite.specs.Effect.{Database}
-use Rattle.sqlite.specs.State.{State, KeepsCommit}
-use Rattle.desk_types.specs.declared.rules.Rules.{Rules}
-use Rattle.desk_types.specs.History.{History, Basis}
-use Rattle.desk_types.specs.Judged.{IsJudged}
-use Rattle.line_tables.specs.Line.{IsOurs}
-use Rattle.line_tables.specs.Rows.{Holds, accepted_in}
-use Rattle.line_tables.specs.Calls.{Reads, has_number}
+use Rattle.desk_types.proofs.Common.{[], ◌+◌, ◌==◌, ◌∙◌, ◌≡◌, ◌≤◌, ◌⊎◌, arith, Basis, Bool, eq-eqb, eqb-true, false}
+use Rattle.desk_types.proofs.Common.{filter, History, inl, inr, IsJudged, IsPermutation, IsPermutation-sym}
+use Rattle.desk_types.proofs.Common.{IsPermutation-trans, IsTrue, length, Rules, subst, sym, true, true≢false, Two, ℕ}
+use Rattle.line_tables.proofs.Common.{accepted_in, Database, Ghosts, has_number, HasCleanDisk, Held, Holds, IsOurs}
+use Rattle.line_tables.proofs.Common.{KeepsCommit, Reads, ReadsOnly, State, state}
+use Rattle.line_replay.proofs.{ReadOfCommitted.reads_back, ReadOfCommitted.reads_two, RowsOfLists.are_rows}
+use Rattle.line_replay.proofs.{StopsOfRows.stops_short, StopsOfRows.stops_stuck}
+use Rattle.line_replay.specs.{Audit.ArePlaced, Expected.Expected, Listed.AreAt, Listed.StopsAt, Placed.HasBefore}
+use Rattle.line_replay.specs.{Replay.IsEnd, Replay.IsFaultOf, Replay.IsNumbered, Replay.IsReplayed, Replay.IsStop}
+use Rattle.line_replay.specs.{Replay.IsStuck, Replay.StandsListed, Replay.TakesAll, Rows.ledger_tables, Rows.rows_of}
+use Rattle.line_replay.specs.{declared.fault.ReplayFault.ReplayFault}
+use Rattle.line_replay.specs.{declared.fault.ReplayFault.TheVariants.NotLawful}
+use Rattle.line_replay.specs.{declared.fault.ReplayFault.TheVariants.Unavailable}
 use Rattle.line_tables.proofs.Keeps.{keeps_then}
-use Rattle.line_replay.specs.Audit.{ArePlaced}
-use Rattle.line_replay.specs.Placed.{HasBefore}
-use Rattle.line_replay.specs.Rows.{rows_of, ledger_tables}
-use Rattle.line_replay.specs.declared.fault.ReplayFault.{ReplayFault}
-use Rattle.line_replay.specs.declared.fault.ReplayFault.TheVariants.{NotLawful, Unavailable}
-use Rattle.line_replay.specs.Expected.{Expected}
-use Rattle.line_replay.specs.Listed.{AreAt, StopsAt}
-use Rattle.line_replay.specs.Replay.{IsReplayed, IsFaultOf, IsNumbered, IsStuck, IsTaken, IsEnd, IsStop}
-use Rattle.line_replay.proofs.ReadOfCommitted.{reads_two, reads_back}
-use Rattle.line_replay.proofs.RowsOfLists.{are_rows}
-use Rattle.line_replay.proofs.StopsOfRows.{stops_stuck, stops_short}
-use Rattle.desk_types.specs.declared.rules.Rules.TheVariants.{Two}
+use Rattle.state_rows.specs.{Lists.IsListed, declared.lists.TraceLists.TraceLists}
 
 pub stops_before : (rules : Rules) (greatest : ℕ) (old mid : State) (n : ℕ) → KeepsCommit old mid → Reads old (λ db. IsNumbered (accepted_in db)) → IsStop rules greatest mid n → IsFaultOf rules greatest old (NotLawful n)
 stops_before rules greatest old mid n kept numbered stop =
@@ -38,57 +28,70 @@ pub fault_before : (rules : Rules) (greatest : ℕ) (old mid : State) (f : Repla
 fault_before rules greatest old mid f kept numbered (inl is) = subst (IsFaultOf rules greatest old) (sym is) tt
 fault_before rules greatest old mid f kept numbered (inr stop) = subst (IsFaultOf rules greatest old) (sym stop.1) (stops_before rules greatest old mid stop.0 kept numbered stop.2)
 
-module _ {D : Type 0} (F : D → Basis → Type 0) (rules : Rules) (greatest : ℕ) (first mid last : State) (desk : D) (expected : Expected) (n : ℕ) (H : History) (Before After : Type 0)
-    (early : After → Before) (kept : After → KeepsCommit first mid) (kept_on : After → KeepsCommit mid last) (low : n ≤ greatest) (taken : IsTaken F rules Before mid.committed desk expected n H)
+-- What three reads, one after another, leave as it was: the state of the disk, and the committed contents.
+pub reads_through : {S : Type 0} (g : Ghosts S) (a b c d : Held S) → ReadsOnly g a b → ReadsOnly g b c → ReadsOnly g c d → HasCleanDisk (state g d)
+    → HasCleanDisk (state g b) × HasCleanDisk (state g c) × KeepsCommit (state g a) (state g b) × KeepsCommit (state g b) (state g c)
+reads_through g a b c d one two three clean =
+    let late : HasCleanDisk (state g c) = omega (arith, three.survives.clean, clean) in
+    let early : HasCleanDisk (state g b) = omega (arith, two.survives.clean, late) in
+    (early, late, one.kept early, two.kept late)
+
+module _ {D : Type 0} (F : D → Basis → Type 0) (rules : Rules) (greatest : ℕ) (first mid last : State) (it : D × TraceLists) (expected : Expected) (n : ℕ) (Early Before After : Type 0)
+    (on : After → Early × Before × KeepsCommit first mid × KeepsCommit mid last) (all : TakesAll (StandsListed F) rules greatest Before mid it expected n)
     (are : Bool) (counted : After → Reads last (λ db. are ≡ (n == length (accepted_in db)))) where
   same : After → mid.committed ≡ first.committed
-  same clean = (kept clean).committed ((kept_on clean).was_open (counted clean).was_open)
+  same clean = (on clean).2.committed ((on clean).3.was_open (counted clean).was_open)
 
-  here : After → IsOurs first.committed.schema → AreAt (accepted_in first.committed) H
-  here clean schema = subst (λ (db : Database). AreAt (accepted_in db) H) (same clean) (taken.rows (early clean) (subst (λ (db : Database). IsOurs db.schema) (sym (same clean)) schema))
+  here : After → IsOurs first.committed.schema → AreAt (accepted_in first.committed) all.history
+  here clean schema = subst (λ (db : Database). AreAt (accepted_in db) all.history) (same clean) (all.taken.rows (on clean).1 (subst (λ (db : Database). IsOurs db.schema) (sym (same clean)) schema))
 
   counted_first : After → Reads first (λ db. are ≡ (n == length (accepted_in db)))
-  counted_first clean = reads_back first last _ (keeps_then first mid last (kept clean) (kept_on clean)) (counted clean)
+  counted_first clean = reads_back first last _ (keeps_then first mid last (on clean).2 (on clean).3) (counted clean)
 
-  within : length H ≤ greatest
-  within = omega (arith, low, taken.counted)
+  within : length all.history ≤ greatest
+  within = omega (arith, all.within, all.taken.counted)
 
-  pub replayed : are ≡ true → IsReplayed F rules greatest After first desk expected n H
-  replayed is = record {
-    stands = taken.stands;
-    judged = taken.judged;
-    counted = taken.counted;
-    within = within;
-    rows = λ clean.
-        let r = counted_first clean in record {
-          was_open = r.was_open;
-          are = λ schema. are_rows rules greatest (accepted_in first.committed) H taken.judged (here clean schema) within (sym (eqb-true n _ (sym (r.are schema) ∙ is)) ∙ sym taken.counted);
-        };
-    others = record {
-      rows = taken.others.rows;
-      pieces = taken.others.pieces;
-      listed = taken.others.listed;
-      named = taken.others.named;
-      counted = taken.others.counted;
-      told = λ clean schema.
-          subst (λ (db : Database). ArePlaced db expected.placed.all taken.others.pieces) (same clean) (taken.others.told (early clean) (subst (λ (db : Database). IsOurs db.schema) (sym (same clean)) schema));
-      before = λ clean schema. subst (HasBefore expected.placed.end expected.placed.count) (same clean) (taken.others.before (early clean) (subst (λ (db : Database). IsOurs db.schema) (sym (same clean)) schema));
-    };
-  }
+  pub replayed : are ≡ true → (H : History) × IsReplayed F rules greatest After first it.0 expected n H × IsListed it.1 H
+  replayed is =
+      let taken = all.taken in (
+        all.history,
+        record {
+          stands = taken.stands.0;
+          judged = taken.judged;
+          counted = taken.counted;
+          within = within;
+          rows = λ clean.
+              let r = counted_first clean in record {
+                was_open = r.was_open;
+                are = λ schema. are_rows rules greatest (accepted_in first.committed) all.history taken.judged (here clean schema) within (sym (eqb-true n _ (sym (r.are schema) ∙ is)) ∙ sym taken.counted);
+              };
+          others = record {
+            rows = taken.others.rows;
+            pieces = taken.others.pieces;
+            listed = taken.others.listed;
+            named = taken.others.named;
+            counted = taken.others.counted;
+            told = λ clean schema.
+                subst (λ (db : Database). ArePlaced db expected.placed.all taken.others.pieces) (same clean) (taken.others.told (on clean).1 (subst (λ (db : Database). IsOurs db.schema) (sym (same clean)) schema));
+            before = λ clean schema. subst (HasBefore expected.placed.end expected.placed.count) (same clean) (taken.others.before (on clean).1 (subst (λ (db : Database). IsOurs db.schema) (sym (same clean)) schema));
+          };
+        },
+        taken.stands.1,
+      )
 
-  apart : (long : ℕ) → are ≡ (n == long) → are ≡ false → length H ≡ long → ⊥
-  apart long told not is = true≢false (sym (eq-eqb n long (sym taken.counted ∙ is)) ∙ sym told ∙ not)
+  apart : (long : ℕ) → are ≡ (n == long) → are ≡ false → length all.history ≡ long → ⊥
+  apart long told not is = true≢false (sym (eq-eqb n long (sym all.taken.counted ∙ is)) ∙ sym told ∙ not)
 
-  end_of : After → IsEnd greatest mid n → IsOurs first.committed.schema → (length H ≡ greatest) ⊎ (filter (has_number (length H + 1)) (accepted_in first.committed) ≡ [])
-  end_of clean (inl full) schema = inl (taken.counted ∙ full)
-  end_of clean (inr none) schema = inr (subst (λ m. filter (has_number (m + 1)) (accepted_in first.committed) ≡ []) (sym taken.counted) ((reads_back first mid _ (kept clean) none).are schema))
+  end_of : After → IsEnd greatest mid n → IsOurs first.committed.schema → (length all.history ≡ greatest) ⊎ (filter (has_number (length all.history + 1)) (accepted_in first.committed) ≡ [])
+  end_of clean (inl full) schema = inl (all.taken.counted ∙ full)
+  end_of clean (inr none) schema = inr (subst (λ m. filter (has_number (m + 1)) (accepted_in first.committed) ≡ []) (sym all.taken.counted) ((reads_back first mid _ (on clean).2 none).are schema))
 
-  pub too_few : are ≡ false → After → Reads first (λ db. IsNumbered (accepted_in db)) → IsEnd greatest mid n → IsFaultOf rules greatest first (NotLawful (n + 1))
-  too_few not clean numbered end =
+  pub too_few : are ≡ false → After → (Early → Reads first (λ db. IsNumbered (accepted_in db))) → IsFaultOf rules greatest first (NotLawful (n + 1))
+  too_few not clean numbered =
       let r = counted_first clean in record {
         was_open = r.was_open;
-        are = λ schema. subst (λ m. StopsAt rules greatest (accepted_in first.committed) (m + 1)) taken.counted
-            (stops_short rules greatest (accepted_in first.committed) H (numbered.are schema) taken.judged (here clean schema) within (end_of clean end schema) (apart _ (r.are schema) not));
+        are = λ schema. subst (λ m. StopsAt rules greatest (accepted_in first.committed) (m + 1)) all.taken.counted
+            (stops_short rules greatest (accepted_in first.committed) all.history ((numbered (on clean).0).are schema) all.taken.judged (here clean schema) within (end_of clean (all.ends (on clean).1) schema) (apart _ (r.are schema) not));
       }
 
 pub same_list : {D : Type 0} (F : D → Basis → Type 0) (rules : Rules) (greatest : ℕ) (Clean : Type 0) (old : State) (desk : D) (expected : Expected) (count : ℕ) (H G : History)

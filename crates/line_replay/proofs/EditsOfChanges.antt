@@ -1,19 +1,12 @@
 -- The effect of a change's edits on the tables of a history.
-use Rattle.std.proofs.Common.{◌≡◌, ◌∙◌, ◌+◌, ℕ, List, [], ◌∷◌, refl, ap, length}
-use Rattle.sqlite_value.specs.Order.{Row}
-use Rattle.desk_types.specs.declared.change.Change.{Change}
-use Rattle.desk_types.specs.declared.rules.Rules.TheVariants.{Two}
-use Rattle.desk_types.specs.Desk.{IsChange}
-use Rattle.desk_types.specs.History.{History, accept}
+use Rattle.desk_types.proofs.Common.{[], ◌+◌, ◌∙◌, ◌∷◌, ◌≡◌, accept, ap, Change, History, IsChange, length, List}
+use Rattle.desk_types.proofs.Common.{refl, RowEdit, Two, with_edit, with_edits, ℕ}
+use Rattle.line_tables.proofs.Common.{after_edits, AreNew, command_edits, Row, row_edits}
 use Rattle.desk_answers.specs.Texts.{accepted_text}
-use Rattle.line_tables.specs.declared.edit.Accepted.{Accepted}
-use Rattle.line_tables.specs.Edit.{row_edits, command_edits}
-use Rattle.line_tables.specs.Rows.{Tables, after_edits, AreNew, columns_of}
-use Rattle.desk_types.specs.declared.edit.RowEdit.{RowEdit}
-use Rattle.desk_types.specs.Tables.{Tables as StateTables, tables_of as state_of}
-use Rattle.desk_types.specs.Edits.{with_edit, with_edits, AreNew as AreNewRows}
-use Rattle.line_replay.specs.Rows.{columns, rows_of, ledger_tables}
+use Rattle.desk_types.specs.{Edits.AreNew as AreNewRows, Tables.Tables as StateTables, Tables.tables_of as state_of}
 use Rattle.line_replay.proofs.Judgements.{row_is}
+use Rattle.line_replay.specs.Rows.{columns, ledger_tables, rows_of}
+use Rattle.line_tables.specs.{Rows.columns_of, Rows.Tables, declared.edit.Accepted.Accepted}
 
 rows_edited : (rows : List RowEdit) (t : Tables) → after_edits (row_edits rows) t ≡ record t { state = with_edits rows t.state }
 rows_edited [] t = refl

@@ -1,23 +1,17 @@
 -- The entries of a set are those of its tables.
-use Rattle.std.proofs.Common.{◌≡◌, ◌∙◌, inl, inr, ℕ, Bool, true, false, Ordering, Less, Equal, is_eq, Option, Some, None, List, [], ◌∷◌, map, ◌||◌, ◌==◌, if◌then◌else◌, refl, sym, ap, ap₂, subst}
-use Rattle.std.specs.BTreeMap.{is_at}
-use Rattle.std.specs.List.{AllByRecursion}
-use Rattle.std.specs.List.Sorted.{IsStrictlySortedBy}
-use Rattle.std.specs.Map.{keys_of, lookup}
-use Rattle.std.proofs.lemmas.Map.Keys.{sorted_head, sorted_tail}
-use Rattle.state_rows.specs.Kept.{has_key, row_at, by_sheet_place, by_since, since_is, Lists, ListsKeys, ListsMounts}
+use Rattle.desk_types.proofs.Common.{[], ◌==◌, ◌||◌, ◌∙◌, ◌∷◌, ◌≡◌, AllByRecursion, and_parts, ap, ap₂, Bool, by_name}
+use Rattle.desk_types.proofs.Common.{by_pair, eqb-true, false, if◌then◌else◌, inl, inr, is_at, is_at-by_name}
+use Rattle.desk_types.proofs.Common.{is_at-by_pair, IsStrictlySortedBy, keys_of, List, lookup, map, MountRow, Name}
+use Rattle.desk_types.proofs.Common.{nat_cmp_total, nat_list_cmp_total, None, Option, ordering_then}
+use Rattle.desk_types.proofs.Common.{recursion_from_All, refl, same, same-true, Some, subst, sym, tied_itself, true}
+use Rattle.desk_types.proofs.Common.{ℕ}
+use Rattle.line_replay.specs.Alone.{AreApart, IsNamed, IsNew, Listed}
+use Rattle.line_tables.proofs.Numbers.{some_same}
 use Rattle.line_tables.specs.StateRows.{unit_if}
-use Rattle.std.specs.Ordering.{ordering_then}
-use Rattle.std.proofs.lemmas.Bool.{and_parts, eqb-true}
-use Rattle.std.proofs.lemmas.Cmp.{tied_itself, nat_cmp_total, nat_list_cmp_total}
-use Rattle.std.proofs.lemmas.List.Elements.{recursion_from_All}
-use Rattle.desk_types.specs.Id.{Name, same, by_name}
-use Rattle.desk_types.specs.Pair.{by_pair}
-use Rattle.desk_types.proofs.Keys.{same-true, is_at-by_name, is_at-by_pair}
-use Rattle.desk_types.specs.declared.row.MountRow.{MountRow}
 use Rattle.state_rows.proofs.RowLists.{is_at-by_sheet_place}
-use Rattle.line_replay.specs.Alone.{Listed, IsNew, AreApart, IsNamed}
-use Rattle.line_replay.proofs.SameRows.{some_same}
+use Rattle.state_rows.specs.Kept.{by_sheet_place, by_since, has_key, Lists, ListsKeys, ListsMounts, row_at, since_is}
+use Rattle.std.proofs.Common.{Equal, is_eq, Less, Ordering}
+use Rattle.std.proofs.lemmas.Map.Keys.{sorted_head, sorted_tail}
 
 less_equal : ◌≡◌ {A = Ordering} Less Equal → ⊥
 less_equal e = cc

@@ -1,34 +1,21 @@
 -- The expected rows of a history with one more entry.
-use Rattle.std.proofs.Common.{◌≡◌, ◌∙◌, ◌⊎◌, ◌↔◌, ◌+◌, inl, inr, ℕ, ◌<◌, take, get_or, sym, Bool, true, false, Option, Some, None, List, [], ◌∷◌, ◌++◌, length, map, refl, ap, ap₂, subst, if◌then◌else◌, ◌==◌, ◌&&◌, arith}
-use Rattle.std.specs.Bool.{⊤}
-use Rattle.std.specs.Option.{option_to_list, option_map}
-use Rattle.std.specs.List.{AllByRecursion, cons_option}
-use Rattle.std.proofs.lemmas.Bool.{eqb-true, eq-eqb}
-use Rattle.std.proofs.lemmas.List.Elements.{filter_map-append}
-use Rattle.sqlite.specs.Effect.{Database}
-use Rattle.sqlite.specs.State.{State, KeepsCommit}
-use Rattle.desk_types.specs.declared.command.Entry.{Entry}
-use Rattle.desk_types.specs.History.{History}
-use Rattle.desk_types.specs.Placements.{takes_of}
-use Rattle.desk_types.proofs.LoopSteps.{take-next}
-use Rattle.desk_types.specs.declared.edit.RowEdit.{RowEdit}
-use Rattle.desk_types.specs.declared.edit.RowEdit.TheVariants.{TakeSheetRow, TakeMount, PutPart, PutAlternate, PutSheetRow, PutSelected, PutReel, PutMount, PutBoard, PutPlacement, PutFound}
-use Rattle.desk_types.specs.declared.row.PlacementRow.{PlacementRow}
-use Rattle.desk_types.specs.Tables.{Tables, tables_of as state_of, placement_row}
-use Rattle.desk_types.specs.Edits.{with_edit, with_edits, IsNew, AreNew}
-use Rattle.state_rows.specs.Kept.{KeptRows, tables_in, but_placements, without_number, unnumbered}
-use Rattle.desk_types.specs.Id.{Name}
-use Rattle.desk_types.specs.declared.row.MountRow.{MountRow}
-use Rattle.line_replay.specs.declared.auditing.Placed.{Placed}
-use Rattle.line_tables.specs.Line.{IsOurs}
-use Rattle.line_tables.specs.Line as line
-use Rattle.line_tables.specs.StateRows.{has_piece, rows_in, placement_columns}
-use Rattle.line_replay.specs.Alone.{Listed, IsNamed, AreAlone, IsNew as IsNewPiece}
-use Rattle.line_replay.specs.Audit.{Pieces, AreByPiece, ArePlaced, piece_of}
-use Rattle.line_replay.specs.Placed.{HasBefore, HasMoreBefore}
-use Rattle.line_replay.specs.Judging.{Lead}
-use Rattle.line_replay.specs.Expected.{Expected, placement_by, placements_by, AreKept, AreExpected, HoldsAsRead, ArePlacedToo, LooksUp, Adds}
+use Rattle.desk_types.proofs.Common.{[], ◌&&◌, ◌++◌, ◌+◌, ◌<◌, ◌==◌, ◌↔◌, ◌∙◌, ◌∷◌, ◌≡◌, ◌⊎◌, AllByRecursion, ap, ap₂}
+use Rattle.desk_types.proofs.Common.{arith, Bool, cons_option, Entry, eq-eqb, eqb-true, false, filter_map-append}
+use Rattle.desk_types.proofs.Common.{get_or, History, if◌then◌else◌, inl, inr, length, List, map, MountRow, Name}
+use Rattle.desk_types.proofs.Common.{None, Option, option_map, option_to_list, placement_row, PlacementRow}
+use Rattle.desk_types.proofs.Common.{PutAlternate, PutBoard, PutFound, PutMount, PutPart, PutPlacement, PutReel}
+use Rattle.desk_types.proofs.Common.{PutSelected, PutSheetRow, refl, RowEdit, Some, subst, sym, Tables, take}
+use Rattle.desk_types.proofs.Common.{take-next, TakeMount, takes_of, TakeSheetRow, true, with_edit, with_edits, ℕ}
+use Rattle.line_tables.proofs.Common.{Database, has_piece, IsOurs, KeepsCommit, placement_columns, rows_in, State}
+use Rattle.desk_types.specs.{Edits.AreNew, Edits.IsNew, Tables.tables_of as state_of}
 use Rattle.line_replay.proofs.ReadOfCommitted.{reads_back}
+use Rattle.line_replay.specs.{Alone.AreAlone, Alone.IsNamed, Alone.IsNew as IsNewPiece, Alone.Listed}
+use Rattle.line_replay.specs.{Audit.AreByPiece, Audit.ArePlaced, Audit.piece_of, Audit.Pieces, Expected.Adds}
+use Rattle.line_replay.specs.{Expected.AreExpected, Expected.AreKept, Expected.ArePlacedToo, Expected.Expected}
+use Rattle.line_replay.specs.{Expected.HoldsAsRead, Expected.LooksUp, Expected.placement_by, Expected.placements_by}
+use Rattle.line_replay.specs.{Judging.Lead, Placed.HasBefore, Placed.HasMoreBefore, declared.auditing.Placed.Placed}
+use Rattle.state_rows.specs.Kept.{but_placements, KeptRows, tables_in, unnumbered, without_number}
+use Rattle.line_tables.specs.Line as line
 
 -- ---- the rows of the other tables
 
@@ -190,9 +177,9 @@ no_rows t is =
     by None p = refl
     by (Some m) p = cc
 
-pub none_expected : (Clean : Type 0) (db : Database) (rows : KeptRows) → unnumbered (tables_in rows) ≡ unnumbered (state_of []) → AreExpected Clean db (record { rows = rows; placed = record { all = true; count = 0; end = Some 0 } }) []
-none_expected Clean db rows is = record {
-  rows = no_rows (tables_in rows) is;
+pub none_expected : (Clean : Type 0) (db : Database) (read rows : KeptRows) → read ≡ rows → unnumbered (tables_in read) ≡ unnumbered (state_of []) → AreExpected Clean db (record { rows = rows; placed = record { all = true; count = 0; end = Some 0 } }) []
+none_expected Clean db read rows same is = record {
+  rows = subst (λ (x : KeptRows). AreKept x []) same (no_rows (tables_in read) is);
   pieces = [];
   listed = record { each = tt; all = λ key r is. let none = sym (none_placed key.0 key.1) ∙ is in cc; distinct = tt };
   named = tt;

@@ -1,26 +1,12 @@
 -- A row, judged again.
-use Rattle.std.proofs.Common.{◌≡◌, ◌∙◌, ◌+◌, ℕ, pos, List, length, Some, None, refl, sym, ap, subst}
-use Rattle.sqlite.specs.declared.types.Value.TheVariants.{Int, Text}
-use Rattle.sqlite_value.specs.Order.{Row, column}
-use Rattle.desk_types.specs.declared.answer.Refusal.{Refusal}
-use Rattle.desk_types.specs.declared.change.Change.{Change}
-use Rattle.desk_types.specs.declared.command.Entry.{Entry}
-use Rattle.desk_types.specs.declared.command.Stamped.{Stamped}
-use Rattle.desk_types.specs.declared.rules.Rules.{Rules}
-use Rattle.desk_types.specs.Command.{IsStamped}
-use Rattle.desk_types.specs.Number.{IsMinute}
-use Rattle.desk_types.specs.Desk.{IsChange}
-use Rattle.desk_types.specs.History.{History, entry_of, effective_minute}
-use Rattle.desk_types.specs.Judged.{IsNext}
-use Rattle.desk_types.specs.Outcome.{detail_of}
-use Rattle.desk_types.specs.Refusals.{refusal_of}
-use Rattle.desk_types.specs.StoredText.{stored_text}
-use Rattle.desk_answers.specs.Commands.{first_text}
-use Rattle.desk_answers.specs.Texts.{accepted_text}
+use Rattle.desk_types.proofs.Common.{◌+◌, ◌∙◌, ◌≡◌, ap, Change, detail_of, effective_minute, Entry, entry_of, History}
+use Rattle.desk_types.proofs.Common.{IsChange, IsMinute, IsNext, IsStamped, length, List, None, pos, refl, Refusal}
+use Rattle.desk_types.proofs.Common.{refusal_of, Rules, Some, Stamped, stored_text, subst, sym, ℕ}
+use Rattle.line_tables.proofs.Common.{column, Int, Row, Text}
+use Rattle.desk_answers.specs.{Commands.first_text, Texts.accepted_text}
+use Rattle.line_replay.proofs.RowsTellLists.{next_entry, stamped_same, TextsTell}
+use Rattle.line_replay.specs.{Judging.GoesOn, Judging.IsMessageOf, Rows.columns, Rows.entry_row}
 use Rattle.line_tables.proofs.Finds.{seven}
-use Rattle.line_replay.specs.Rows.{columns, entry_row}
-use Rattle.line_replay.specs.Judging.{IsMessageOf, GoesOn}
-use Rattle.line_replay.proofs.RowsTellLists.{TextsTell, stamped_same, next_entry}
 
 minute_is : (rules : Rules) (H : History) (s : Stamped) (change : Change) → IsChange rules H s change → change.minute ≡ effective_minute H s.minute
 minute_is rules H s change is = ap (λ (c : Change). c.minute) is.value

@@ -1,19 +1,9 @@
 -- The result of a look-up by a key.
-use Rattle.std.proofs.Common.{◌≡◌, ◌↔◌, Bool, IsTrue, ℕ, List, [], ◌∷◌, Some, filter, subst}
-use Rattle.std.specs.List.{list_all}
-use Rattle.std.specs.List.Sorted.{IsPermutation}
-use Rattle.std.proofs.lemmas.List.Sorted.{IsPermutation-sym}
-use Rattle.sqlite_value.specs.Order.{Row}
-use Rattle.sqlite_schema.specs.declared.schema.Table.{Table}
-use Rattle.sqlite.specs.Term.{Term, holds}
-use Rattle.sqlite.specs.Query.{output}
-use Rattle.sqlite_trees.specs.declared.store.Store.{Ghosts}
-use Rattle.sqlite.specs.Held.{Held, state}
-use Rattle.line_tables.specs.StateRows.{columns, rows_in}
-use Rattle.line_tables.specs.Line.{tree_in}
-use Rattle.line_tables.proofs.FindTexts.{IsSelectBy, rows_from}
-use Rattle.line_tables.proofs.Finds.{finds_rows, one_order}
-use Rattle.line_replay.specs.Alone.{ShowsOnly, FindsAlone}
+use Rattle.desk_types.proofs.Common.{[], ◌↔◌, ◌∷◌, ◌≡◌, Bool, filter, IsPermutation, IsPermutation-sym, IsTrue, List}
+use Rattle.desk_types.proofs.Common.{list_all, Some, subst, ℕ}
+use Rattle.line_tables.proofs.Common.{columns, Ghosts, Held, holds, output, Row, rows_in, state, Table, Term, tree_in}
+use Rattle.line_replay.specs.Alone.{FindsAlone, ShowsOnly}
+use Rattle.line_tables.proofs.{FindTexts.IsSelectBy, FindTexts.rows_from, Finds.finds_rows, Finds.one_order}
 
 alone_as : (passed shown : List Row) (row : Row) (b : Bool) → IsPermutation passed shown → (IsTrue b ↔ (shown ≡ row ∷ [])) → IsTrue b ↔ (passed ≡ row ∷ [])
 alone_as passed shown row b same is = (

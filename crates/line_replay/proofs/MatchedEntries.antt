@@ -1,26 +1,13 @@
 -- Entries that are looked up one after another.
-use Rattle.std.proofs.Common.{◌≡◌, ◌∙◌, ℕ, ◌+◌, ◌==◌, Bool, true, false, Option, Some, None, List, [], ◌∷◌, ◌++◌, length, map, refl, sym, ap, ap₂, subst, arith, true≢false}
-use Rattle.std.specs.List.{AllByRecursion}
-use Rattle.std.specs.Iterator.{AlwaysYields, Yields}
-use Rattle.std.specs.Map.Iter.{TakesFirst}
-use Rattle.std.proofs.lemmas.Iterator.Consumers.{YieldsList-from_rest}
-use Rattle.std.proofs.lemmas.Bool.{eqb-true, eq-eqb}
-use Rattle.std.proofs.lemmas.List.{length-append, map-append, append-nil}
-use Rattle.sqlite_keyed.proofs.ListLemmas.{all-append}
-use Rattle.sqlite_value.specs.Order.{Row}
-use Rattle.sqlite_schema.specs.declared.schema.Table.{Table}
-use Rattle.sqlite.specs.Effect.{Database}
-use Rattle.sqlite.specs.State.{State, KeepsCommit}
-use Rattle.line_tables.specs.Line.{IsOurs}
-use Rattle.line_tables.specs.Calls.{Reads}
-use Rattle.line_tables.specs.StateRows.{AreRows, rows_in}
-use Rattle.line_replay.specs.Alone.{FindsAlone, AreAlone, HasOneKey, AreMatched, Decides, Listed}
+use Rattle.desk_types.proofs.Common.{[], ◌++◌, ◌+◌, ◌==◌, ◌∙◌, ◌∷◌, ◌≡◌, AllByRecursion, ap, append-nil, ap₂, arith}
+use Rattle.desk_types.proofs.Common.{Bool, eq-eqb, eqb-true, false, length, length-append, List, map, map-append}
+use Rattle.desk_types.proofs.Common.{None, Option, refl, Some, subst, sym, true, true≢false, ℕ}
+use Rattle.line_tables.proofs.Common.{all-append, AreRows, Database, IsOurs, KeepsCommit, Row, rows_in, State, Table}
 use Rattle.line_replay.proofs.SameRows.{same_rows}
-
-pub reads_before : (old mid : State) → KeepsCommit old mid → (Is : Database → Type 0) → Reads mid Is → Reads old Is
-reads_before old mid kept Is r =
-    let same = kept.committed r.was_open in
-    record { was_open = kept.was_open r.was_open; are = λ schema. subst Is same (r.are (subst (λ (db : Database). IsOurs db.schema) (sym same) schema)) }
+use Rattle.line_replay.specs.Alone.{AreAlone, AreMatched, Decides, FindsAlone, HasOneKey, Listed}
+use Rattle.line_tables.proofs.Keeps.{reads_before}
+use Rattle.std.proofs.lemmas.Iterator.Consumers.{YieldsList-from_rest}
+use Rattle.std.specs.{Iterator.AlwaysYields, Iterator.Yields, Map.Iter.TakesFirst}
 
 middle : {X : Type 0} (P : X → Type 0) (xs ys : List X) (x : X) → AllByRecursion P (xs ++ x ∷ ys) → P x
 middle P [] ys x h = h.0

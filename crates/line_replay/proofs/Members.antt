@@ -1,10 +1,9 @@
 -- If the rows of all entries are in the table, and the table has no more rows, each is the only one with its key.
-use Rattle.std.proofs.Common.{◌≡◌, ◌∙◌, ◌⊎◌, inl, inr, ◌≤◌, Bool, true, false, not, List, [], ◌∷◌, length, filter, if◌then◌else◌, refl, sym, ap, arith, true≢false}
-use Rattle.std.specs.List.{AllByRecursion}
-use Rattle.sqlite_rules.specs.Lists.{Has}
-use Rattle.sqlite_value.specs.Order.{Row}
-use Rattle.line_replay.specs.Alone.{AreAlone, IsNew, AreApart}
-use Rattle.line_replay.proofs.SameRows.{without, others, lengths}
+use Rattle.desk_types.proofs.Common.{[], ◌∙◌, ◌∷◌, ◌≡◌, ◌≤◌, ◌⊎◌, AllByRecursion, ap, arith, Bool, false, filter}
+use Rattle.desk_types.proofs.Common.{if◌then◌else◌, inl, inr, length, List, not, refl, sym, true, true≢false}
+use Rattle.line_tables.proofs.Common.{Has, Row}
+use Rattle.line_replay.proofs.SameRows.{lengths, others, without}
+use Rattle.line_replay.specs.Alone.{AreAlone, AreApart, IsNew}
 
 in_filter : (test : Row → Bool) (rows : List Row) (x : Row) → Has rows x → test x ≡ true → Has (filter test rows) x
 in_filter test [] x h passed = absurd h

@@ -1,63 +1,31 @@
 -- One more row is taken.
-use Rattle.std.proofs.Common.{◌≡◌, ◌∙◌, ◌⊎◌, ◌+◌, ◌≤◌, inl, inr, ℕ, true, false, true≢false, Option, Some, [], ◌∷◌, length, filter, sym, ap, subst, arith}
-use Rattle.std.specs.List.{list_any}
-use Rattle.sqlite_value.specs.Order.{Row}
-use Rattle.sqlite.specs.Effect.{Database}
-use Rattle.sqlite.specs.State.{State, KeepsCommit}
-use Rattle.desk_types.specs.declared.rules.Rules.{Rules}
-use Rattle.desk_types.specs.History.{History, Basis}
-use Rattle.desk_types.specs.declared.command.Entry.{Entry}
-use Rattle.line_tables.specs.Rows.{accepted_in}
-use Rattle.line_tables.specs.Calls.{Reads, has_number, is_before, only}
-use Rattle.line_replay.specs.Judging.{GoesOn}
-use Rattle.line_replay.specs.Rows.{entry_row}
-use Rattle.line_replay.specs.Listed.{IsAt}
-use Rattle.line_replay.specs.Expected.{Expected, AreExpected}
-use Rattle.line_replay.specs.declared.fault.ReplayFault.{ReplayFault}
-use Rattle.line_replay.specs.declared.fault.ReplayFault.TheVariants.{NotLawful, Unavailable}
-use Rattle.line_replay.specs.Replay.{StandsListed, Goes, IsStuck, IsStop, IsTaken, TakesAll}
-use Rattle.state_rows.specs.declared.lists.TraceLists.{TraceLists}
-use Rattle.line_replay.proofs.ExpectedRows.{expected_more}
-use Rattle.line_replay.proofs.ReadOfCommitted.{reads_back, reads_two}
+use Rattle.desk_types.proofs.Common.{[], ◌+◌, ◌∙◌, ◌∷◌, ◌≡◌, ◌≤◌, ◌⊎◌, ap, arith, Basis, Entry, false, filter}
+use Rattle.desk_types.proofs.Common.{History, inl, inr, length, list_any, Option, Rules, Some, sym, true, true≢false}
+use Rattle.desk_types.proofs.Common.{ℕ}
+use Rattle.line_tables.proofs.Common.{accepted_in, Database, has_number, is_before, KeepsCommit, only, Reads, Row}
+use Rattle.line_tables.proofs.Common.{State}
+use Rattle.line_replay.proofs.{ExpectedRows.expected_more, ReadOfCommitted.reads_back, ReadOfCommitted.reads_two}
+use Rattle.line_replay.specs.{Expected.Expected, Judging.GoesOn, Listed.IsAt, Replay.Goes, Replay.IsStop}
+use Rattle.line_replay.specs.{Replay.IsStuck, Replay.IsTaken, Rows.entry_row, declared.fault.ReplayFault.ReplayFault}
+use Rattle.line_replay.specs.{declared.fault.ReplayFault.TheVariants.NotLawful}
+use Rattle.line_replay.specs.{declared.fault.ReplayFault.TheVariants.Unavailable}
 
-module _ {D : Type 0} (F : D → Basis → Type 0) (rules : Rules) (old mid : State) (Before After : Type 0) (early : After → Before) (kept : Before → KeepsCommit old mid)
-    (desk new : D) (before after : Expected) (count : ℕ) (H : History) (taken : IsTaken F rules Before old.committed desk before count H) where
+module _ {D : Type 0} (F : D → Basis → Type 0) (B : Basis) (old mid : State) (Before After : Type 0) (early : After → Before) (kept : Before → KeepsCommit old mid)
+    (desk new : D) (before after : Expected) (count : ℕ) (taken : IsTaken F B Before old.committed desk before count) where
   at_first : (P : Database → Type 0) → After → Reads mid P → Reads old P
   at_first P clean r = reads_back old mid P (kept (early clean)) r
 
-  pub taken_more : Goes F rules After mid H before new after true → (G : History) × IsTaken F rules After old.committed new after (count + 1) G
+  pub taken_more : Goes F B After mid before new after true → (H : History) × IsTaken F (record B { history = H }) After old.committed new after (count + 1)
   taken_more went = (
-    went.entry ∷ H,
+    went.entry ∷ B.history,
     record {
       stands = went.stands;
       judged = (went.next, taken.judged);
       counted = omega (arith, taken.counted);
       rows = λ clean schema. ((at_first _ clean (went.row clean)).are schema, taken.rows (early clean) schema);
-      others = expected_more Before After old mid went.edits before after H went.entry early (λ clean. kept (early clean)) taken.others went.lead went.adds;
+      others = expected_more Before After old mid went.edits before after B.history went.entry early (λ clean. kept (early clean)) taken.others went.lead went.adds;
     },
   )
-
-  pub taken_end : Goes F rules After mid H before new after false → (greatest : ℕ) → count ≤ greatest → TakesAll F rules greatest After old new after count
-  taken_end went greatest low = record {
-    history = H;
-    within = low;
-    taken = record {
-      stands = went.0;
-      judged = taken.judged;
-      counted = taken.counted;
-      rows = λ clean schema. taken.rows (early clean) schema;
-      others = subst (λ (x : Expected). AreExpected After old.committed x H) (sym went.2) (record {
-        rows = taken.others.rows;
-        pieces = taken.others.pieces;
-        listed = taken.others.listed;
-        named = taken.others.named;
-        counted = taken.others.counted;
-        told = λ clean. taken.others.told (early clean);
-        before = λ clean. taken.others.before (early clean);
-      });
-    };
-    ends = λ clean. inr (at_first _ clean (subst (λ (n : ℕ). Reads mid (λ db. filter (has_number (n + 1)) (accepted_in db) ≡ [])) taken.counted (went.1 clean)));
-  }
 
 pub row_taken : (old first : State) (o : Option Row) (row : Row) (H : History) (e : Entry) (number : ℕ) → KeepsCommit old first → o ≡ Some row → length H + 1 ≡ number → row ≡ entry_row H e
     → Reads old (λ db. filter (has_number number) (accepted_in db) ≡ only o) → Reads first (λ db. list_any (is_before e.stamped.uid number) (accepted_in db) ≡ false) → Reads old (λ db. IsAt (accepted_in db) H e)
@@ -94,14 +62,10 @@ pub fault_stuck : (rules : Rules) (old first : State) (o : Option Row) (row : Ro
 fault_stuck rules old first o row H number kept is numbered found f (inl none) = inl none
 fault_stuck rules old first o row H number kept is numbered found f (inr stop) = inr (stop.0, row_stuck rules old first o row H number kept is numbered found stop.1)
 
-pub fault_taken : {D : Type 0} (F : D → Basis → Type 0) (rules : Rules) (greatest : ℕ) (old mid : State) (Clean : Type 0) (desk : D) (expected : Expected) (count : ℕ) (H : History) → Clean → KeepsCommit old mid
-    → IsTaken F rules Clean old.committed desk expected count H → count + 1 ≤ greatest → (f : ReplayFault) → (f ≡ Unavailable) ⊎ ((f ≡ NotLawful (count + 1)) × Reads mid (λ db. IsStuck rules H (accepted_in db)))
-    → (f ≡ Unavailable) ⊎ ((n : ℕ) × (f ≡ NotLawful n) × IsStop rules greatest old n)
-fault_taken F rules greatest old mid Clean desk expected count H clean kept taken low f (inl none) = inl none
-fault_taken F rules greatest old mid Clean desk expected count H clean kept taken low f (inr stop) =
+pub fault_taken : {D : Type 0} (F : D → Basis → Type 0) (B : Basis) (greatest : ℕ) (old mid : State) (Clean : Type 0) (desk : D) (expected : Expected) (count : ℕ) → Clean → KeepsCommit old mid
+    → IsTaken F B Clean old.committed desk expected count → count + 1 ≤ greatest → (f : ReplayFault) → (f ≡ Unavailable) ⊎ ((f ≡ NotLawful (count + 1)) × Reads mid (λ db. IsStuck B.rules B.history (accepted_in db)))
+    → (f ≡ Unavailable) ⊎ ((n : ℕ) × (f ≡ NotLawful n) × IsStop B.rules greatest old n)
+fault_taken F B greatest old mid Clean desk expected count clean kept taken low f (inl none) = inl none
+fault_taken F B greatest old mid Clean desk expected count clean kept taken low f (inr stop) =
     let stuck = reads_back old mid _ kept stop.1 in
-    inr (count + 1, stop.0, (H, taken.judged, omega (arith, taken.counted), low, record { was_open = stuck.was_open; are = λ schema. (taken.rows clean schema, stuck.are schema) }))
-
-pub desk-taken : {D : Type 0} {F : D → Basis → Type 0} {rules : Rules} {Clean : Type 0} {db : Database} {desk : D} {lists : TraceLists} {expected : Expected} {count : ℕ} {H : History}
-    → IsTaken (StandsListed F) rules Clean db (desk, lists) expected count H → IsTaken F rules Clean db desk expected count H
-desk-taken taken = record { stands = taken.stands.0; judged = taken.judged; counted = taken.counted; rows = taken.rows; others = taken.others }
+    inr (count + 1, stop.0, (B.history, taken.judged, omega (arith, taken.counted), low, record { was_open = stuck.was_open; are = λ schema. (taken.rows clean schema, stuck.are schema) }))

@@ -1,34 +1,20 @@
 -- The ends of the table of placements.
-use Rattle.std.proofs.Common.{◌≡◌, ◌∙◌, ◌⊎◌, inl, inr, ℕ, ℤ, pos, Bool, true, Option, Some, None, List, [], ◌∷◌, codes, length, map, filter, if◌then◌else◌, refl, sym, ap, subst, arith}
-use Rattle.std.specs.Ordering.{is_ge}
-use Rattle.std.specs.List.{AllByRecursion}
-use Rattle.std.specs.List.Sorted.{IsPermutation}
-use Rattle.std.proofs.lemmas.List.{length-map}
-use Rattle.std.proofs.lemmas.List.Elements.{All-from_recursion, recursion_from_All}
-use Rattle.std.proofs.lemmas.List.Sorted.{All-permutation, IsPermutation-map, IsPermutation-sym, length_permutation}
-use Rattle.sqlite_keyed.proofs.ListLemmas.{all_weaker}
+use Rattle.desk_types.proofs.Common.{[], ◌∙◌, ◌∷◌, ◌≡◌, ◌⊎◌, All-from_recursion, All-permutation, AllByRecursion, ap}
+use Rattle.desk_types.proofs.Common.{arith, Bool, codes, filter, if◌then◌else◌, inl, inr, IsPermutation}
+use Rattle.desk_types.proofs.Common.{IsPermutation-map, IsPermutation-sym, length, length-map, length_permutation}
+use Rattle.desk_types.proofs.Common.{List, map, None, Option, pos, recursion_from_All, refl, Some, subst, sym, true}
+use Rattle.desk_types.proofs.Common.{ℕ, ℤ}
+use Rattle.line_tables.proofs.Common.{all_weaker, Binary, col, column, columns, Compare, Database, everything, Ge}
+use Rattle.line_tables.proofs.Common.{Ghosts, Held, Int, IsAnswer, IsLeast, kept_in, lit, op2, Output, output}
+use Rattle.line_tables.proofs.Common.{overlay, Query, Reads, Row, rowid, rows_in, Selects, state, understood}
+use Rattle.line_tables.proofs.Common.{value_cmp}
+use Rattle.line_replay.proofs.RowidRanges.{at_most, from_is, from_lower}
+use Rattle.line_replay.specs.Placed.{HasBefore, is_from}
+use Rattle.line_tables.proofs.FindTexts.{IsSelect, least_from, rows_from}
+use Rattle.line_tables.proofs.Finds.{and_true, answer_of, shown_is, shown_of, whole}
 use Rattle.sqlite_value.specs.declared.value.Value.{Value}
-use Rattle.sqlite.specs.declared.types.Value.TheVariants.{Int}
-use Rattle.sqlite_value.specs.Order.{Row, column, value_cmp}
-use Rattle.sqlite_trees.specs.Tree.{rowid}
-use Rattle.sqlite.specs.Collation.TheVariants.{Binary}
-use Rattle.sqlite_sql.specs.declared.ops.BinaryOp.TheVariants.{Compare}
-use Rattle.sqlite_sql.specs.declared.ops.CompareOp.TheVariants.{Ge}
-use Rattle.sqlite.specs.Term.{col, lit, op2}
-use Rattle.sqlite.specs.Query.{Query, IsAnswer, output, Output}
-use Rattle.sqlite.specs.Listing.{understood}
-use Rattle.sqlite_tied.specs.Compute.{everything}
-use Rattle.sqlite_trees.specs.declared.store.Store.{Ghosts}
-use Rattle.sqlite.specs.Effect.{Database}
-use Rattle.sqlite.specs.Held.{Held, state}
-use Rattle.sqlite.specs.Program.{overlay}
+use Rattle.std.specs.Ordering.{is_ge}
 use Rattle.line_tables.specs.Line as line
-use Rattle.line_tables.specs.Calls.{Selects, Reads, IsLeast}
-use Rattle.line_tables.specs.StateRows.{columns, kept_in, rows_in}
-use Rattle.line_tables.proofs.FindTexts.{IsSelect, rows_from, least_from}
-use Rattle.line_tables.proofs.Finds.{answer_of, shown_of, shown_is, whole, and_true}
-use Rattle.line_replay.specs.Placed.{is_from, HasBefore}
-use Rattle.line_replay.proofs.RowidRanges.{from_is, at_most, from_lower}
 
 -- ---- the least rowid
 

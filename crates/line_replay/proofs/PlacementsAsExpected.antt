@@ -1,24 +1,13 @@
 -- Whether the placements are the expected ones.
-use Rattle.std.proofs.Common.{◌≡◌, ◌∙◌, ◌&&◌, ◌==◌, ℕ, Bool, true, false, Option, List, [], ◌∷◌, ◌++◌, length, refl, sym, ap, ap₂, subst}
-use Rattle.std.specs.List.{AllByRecursion}
-use Rattle.std.proofs.lemmas.Bool.{and_parts, eqb-true, eq-eqb}
-use Rattle.sqlite.specs.Effect.{Database}
-use Rattle.sqlite.specs.State.{State, KeepsCommit}
-use Rattle.desk_types.specs.declared.row.PlacementRow.{PlacementRow}
+use Rattle.desk_types.proofs.Common.{[], ◌&&◌, ◌==◌, ◌∙◌, ◌∷◌, ◌≡◌, and_parts, ap, ap₂, Bool, eq-eqb, eqb-true, false}
+use Rattle.desk_types.proofs.Common.{length, Option, PlacementRow, refl, subst, sym, true, ℕ}
+use Rattle.line_tables.proofs.Common.{Database, has_piece, IsOurs, KeepsCommit, placement_columns, Reads, rows_in}
+use Rattle.line_tables.proofs.Common.{State}
+use Rattle.line_replay.proofs.{Members.alone_by_count, Members.AreTrue, SameRows.same_rows}
+use Rattle.line_replay.specs.{Alone.AreAlone, Alone.Decides, Audit.AreByPiece, Audit.ArePlaced, Audit.HasPlacements}
+use Rattle.line_replay.specs.{Audit.IsExpected, Audit.Pieces, Placed.HasBefore, declared.auditing.Placed.Placed}
+use Rattle.line_tables.proofs.Keyed.{one_piece, own_piece as piece_true}
 use Rattle.line_tables.specs.Line as line
-use Rattle.line_tables.specs.Line.{IsOurs}
-use Rattle.line_tables.specs.StateRows.{rows_in, has_piece, placement_columns}
-use Rattle.line_tables.proofs.Keyed.{one_piece, own_int}
-use Rattle.line_tables.specs.Calls.{Reads}
-use Rattle.line_replay.specs.declared.auditing.Placed.{Placed}
-use Rattle.line_replay.specs.Alone.{Decides, AreAlone}
-use Rattle.line_replay.specs.Placed.{HasBefore}
-use Rattle.line_replay.specs.Audit.{Pieces, AreByPiece, ArePlaced, HasPlacements, IsExpected}
-use Rattle.line_replay.proofs.SameRows.{same_rows}
-use Rattle.line_replay.proofs.Members.{AreTrue, alone_by_count}
-
-pub piece_true : (p : PlacementRow) → has_piece (p.number, p.place) (placement_columns p) ≡ true
-piece_true p = ap₂ (λ a b. a && b) (own_int p.number) (own_int p.place)
 
 pieces_true : (es : Pieces) → AreByPiece es → AreTrue has_piece (λ _ row. placement_columns row) one_piece es
 pieces_true [] h = tt
@@ -59,11 +48,3 @@ expected_after old mid kept looked es f e = record {
       let same = kept.committed open_mid in
       subst (HasBefore looked.end looked.count) (sym same) (e.before (kept.was_open open_mid) (subst (λ (db : Database). IsOurs db.schema) same schema));
 }
-
-left : {X : Type 0} (P : X → Type 0) (xs ys : List X) → AllByRecursion P (xs ++ ys) → AllByRecursion P xs
-left P [] ys h = tt
-left P (x ∷ xs) ys h = (h.0, left P xs ys h.1)
-
-right : {X : Type 0} (P : X → Type 0) (xs ys : List X) → AllByRecursion P (xs ++ ys) → AllByRecursion P ys
-right P [] ys h = h
-right P (x ∷ xs) ys h = right P xs ys h.1

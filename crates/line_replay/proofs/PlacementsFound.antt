@@ -1,35 +1,19 @@
 -- Placements that are looked up, and those that a query shows.
-use Rattle.std.proofs.Common.{◌≡◌, ◌∙◌, ◌⊎◌, ◌&&◌, inl, inr, ℕ, pos, ◌+◌, ◌<◌, ◌≤◌, Bool, true, false, Some, List, [], ◌∷◌, codes, length, map, filter, get_or, if◌then◌else◌, refl, sym, ap, ap₂, subst, arith, true≢false}
-use Rattle.std.specs.List.{AllByRecursion}
-use Rattle.std.specs.List.Sorted.{IsPermutation}
-use Rattle.std.proofs.lemmas.List.Elements.{All-from_recursion, recursion_from_All}
-use Rattle.std.proofs.lemmas.List.{length-map}
-use Rattle.std.proofs.lemmas.List.Sorted.{All-permutation, length_permutation}
-use Rattle.sqlite_rules.specs.Lists.{Has}
-use Rattle.sqlite.specs.declared.types.Value.TheVariants.{Int}
-use Rattle.sqlite_value.specs.Order.{Row, column}
-use Rattle.sqlite.specs.Collation.TheVariants.{Binary}
-use Rattle.sqlite_sql.specs.declared.ops.BinaryOp.TheVariants.{Compare}
-use Rattle.sqlite_sql.specs.declared.ops.CompareOp.TheVariants.{Ge, Lt}
-use Rattle.sqlite.specs.Term.{Term, col, op2}
-use Rattle.sqlite.specs.Listing.{understood}
-use Rattle.sqlite_tied.specs.Compute.{everything}
-use Rattle.sqlite_trees.specs.declared.store.Store.{Ghosts}
-use Rattle.sqlite.specs.Effect.{Database}
-use Rattle.sqlite.specs.Held.{Held, state}
-use Rattle.sqlite.specs.Program.{overlay}
-use Rattle.desk_types.specs.declared.row.PlacementRow.{PlacementRow}
+use Rattle.desk_types.proofs.Common.{[], ◌&&◌, ◌+◌, ◌<◌, ◌∙◌, ◌∷◌, ◌≡◌, ◌≤◌, ◌⊎◌, All-from_recursion, All-permutation}
+use Rattle.desk_types.proofs.Common.{AllByRecursion, ap, ap₂, arith, Bool, codes, false, filter, get_or}
+use Rattle.desk_types.proofs.Common.{if◌then◌else◌, inl, inr, IsPermutation, length, length-map, length_permutation}
+use Rattle.desk_types.proofs.Common.{List, map, PlacementRow, pos, recursion_from_All, refl, Some, subst, sym, true}
+use Rattle.desk_types.proofs.Common.{true≢false, ℕ}
+use Rattle.line_tables.proofs.Common.{Binary, col, column, columns, Compare, Database, everything, Ge, Ghosts, Has}
+use Rattle.line_tables.proofs.Common.{has_piece, has_text, Held, Int, Lt, op2, overlay, placement_columns, Reads, Row}
+use Rattle.line_tables.proofs.Common.{rows_in, Selects, state, Term, understood}
+use Rattle.line_replay.proofs.RowidRanges.{in_range, range_is, range_more}
+use Rattle.line_replay.specs.{Alone.AreAlone, Audit.ArePlaced, Audit.piece_of, Placed.AreHere, Placed.has_placement}
+use Rattle.line_replay.specs.{Placed.HasMoreBefore, Placed.is_from, Placed.IsRange}
+use Rattle.line_tables.proofs.{Between.placement_places, Between.shown-in, FindTexts.IsSelect, FindTexts.rows_from}
+use Rattle.line_tables.proofs.{Finds.answer_of, Finds.rows_answer, Finds.shown_is, Finds.shown_of, Finds.whole}
+use Rattle.line_tables.proofs.{Keyed.own_text}
 use Rattle.line_tables.specs.Line as line
-use Rattle.line_tables.specs.Calls.{Selects, Reads}
-use Rattle.line_tables.specs.StateRows.{rows_in, columns, has_text, has_piece, placement_columns}
-use Rattle.line_tables.proofs.FindTexts.{IsSelect, rows_from}
-use Rattle.line_tables.proofs.Finds.{answer_of, rows_answer, shown_of, shown_is, whole}
-use Rattle.line_tables.proofs.Keyed.{own_text}
-use Rattle.line_tables.proofs.Between.{placement_places, shown-in}
-use Rattle.line_replay.specs.Alone.{AreAlone}
-use Rattle.line_replay.specs.Audit.{ArePlaced, piece_of}
-use Rattle.line_replay.specs.Placed.{has_placement, AreHere, is_from, HasMoreBefore, IsRange}
-use Rattle.line_replay.proofs.RowidRanges.{range_is, in_range, range_more}
 
 -- ---- rows that a query shows are in its table
 

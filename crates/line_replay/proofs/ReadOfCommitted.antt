@@ -1,9 +1,6 @@
 -- Reads, in terms of the earlier committed contents.
-use Rattle.std.proofs.Common.{subst, sym}
-use Rattle.sqlite.specs.Effect.{Database}
-use Rattle.sqlite.specs.State.{State, KeepsCommit}
-use Rattle.line_tables.specs.Calls.{Reads}
-use Rattle.line_tables.specs.Line.{IsOurs}
+use Rattle.desk_types.proofs.Common.{subst, sym}
+use Rattle.line_tables.proofs.Common.{Database, IsOurs, KeepsCommit, Reads, State}
 
 pub reads_as : (old : State) (P Q : Database → Type 0) → ((db : Database) → P db → Q db) → Reads old P → Reads old Q
 reads_as old P Q f p = record { was_open = p.was_open; are = λ schema. f old.committed (p.are schema) }

@@ -1,23 +1,20 @@
 -- Rows that a query shows by a range of rowids.
-use Rattle.std.proofs.Common.{◌≡◌, ◌∙◌, ◌&&◌, ◌<◌, ◌≤◌, ◌+◌, ℕ, pos, Bool, true, false, true≢false, not, Some, is_gt, is_lt, Ordering, Less, Equal, Greater, List, [], ◌∷◌, length, filter, if◌then◌else◌, refl, sym, ap, arith}
-use Rattle.std.specs.Ordering.{is_ge, ordering_reverse, int_cmp}
-use Rattle.std.proofs.Math.Facts.{ltb_yes}
-use Rattle.std.proofs.lemmas.Cmp.{upto, int_ranked}
-use Rattle.sqlite_value.specs.declared.value.Value.{Value}
-use Rattle.sqlite_value.specs.declared.value.Value.TheVariants.{Null, Int, Real, Text, Blob}
-use Rattle.sqlite_value.specs.Order.{Row, column, value_cmp}
-use Rattle.sqlite_value.proofs.OrderLemmas.{value_cmp_total, value_cmp-Int, value_cmp-Null}
-use Rattle.sqlite.specs.Collation.TheVariants.{Binary}
-use Rattle.sqlite_sql.specs.Ops.{binary, is_true, from_truth}
-use Rattle.sqlite_sql.specs.declared.ops.BinaryOp.TheVariants.{Compare}
-use Rattle.sqlite_sql.specs.declared.ops.CompareOp.TheVariants.{Ge, Lt}
+use Rattle.desk_types.proofs.Common.{[], ◌&&◌, ◌+◌, ◌<◌, ◌∙◌, ◌∷◌, ◌≡◌, ◌≤◌, ap, arith, Bool, false, filter}
+use Rattle.desk_types.proofs.Common.{if◌then◌else◌, int_ranked, is_gt, is_lt, length, List, not, ordering_reverse}
+use Rattle.desk_types.proofs.Common.{pos, refl, Some, sym, true, true≢false, ℕ}
+use Rattle.line_tables.proofs.Common.{Binary, binary, column, Compare, Ge, is_true, Lt, Row, value_cmp, value_cmp-Int}
+use Rattle.line_tables.proofs.Common.{value_cmp_total}
 use Rattle.line_replay.specs.Placed.{is_from}
+use Rattle.line_tables.proofs.Keyed.{truth_told as test_is}
+use Rattle.sqlite_sql.specs.Ops.{from_truth}
+use Rattle.sqlite_value.{proofs.OrderLemmas.value_cmp-Null, specs.declared.value.Value.Value}
+use Rattle.sqlite_value.{specs.declared.value.Value.TheVariants.Blob, specs.declared.value.Value.TheVariants.Int}
+use Rattle.sqlite_value.{specs.declared.value.Value.TheVariants.Null, specs.declared.value.Value.TheVariants.Real}
+use Rattle.sqlite_value.{specs.declared.value.Value.TheVariants.Text}
+use Rattle.std.{proofs.Common.Equal, proofs.Common.Greater, proofs.Common.Less, proofs.Common.Ordering}
+use Rattle.std.{proofs.Math.Facts.ltb_yes, proofs.lemmas.Cmp.upto, specs.Ordering.int_cmp, specs.Ordering.is_ge}
 
 -- ---- a comparison in SQL, by the order of values
-
-test_is : (b : Bool) → is_true (from_truth (Some b)) ≡ b
-test_is true = refl
-test_is false = refl
 
 pub from_is : (v : Value) (n : ℕ) → is_true (binary (Compare Ge Binary) v (Int (pos n))) ≡ is_ge (value_cmp v (Int (pos n)))
 unfolding binary

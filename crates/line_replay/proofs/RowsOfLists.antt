@@ -1,29 +1,19 @@
 -- The rows of a history whose entries have their rows in a table.
-use Rattle.std.proofs.Common.{◌≡◌, ◌∙◌, ◌+◌, ◌<◌, ◌≤◌, inl, inr, not, ℕ, ℤ, Bool, true, false, ◌||◌, List, [], ◌∷◌, ◌++◌, length, map, filter, is_gt, refl, sym, ap, subst, subst₂, if◌then◌else◌, arith, append-nil, length-append, Some}
-use Rattle.std.proofs.lemmas.Bool.{cases_Bool}
-use Rattle.std.specs.List.{AllByRecursion, IsDistinct, list_any}
-use Rattle.std.specs.List.Sorted.{IsPermutation}
-use Rattle.std.proofs.lemmas.List.Elements.{filter-append, All-from_recursion, recursion_from_All}
-use Rattle.std.proofs.lemmas.List.Sorted.{length_permutation, All-permutation, IsPermutation-refl, IsPermutation-sym, IsPermutation-trans, IsPermutation-append_right, IsPermutation-middle, IsPermutation-filter_both}
-use Rattle.std.proofs.lemmas.Map.Keys.{IsDistinct-cons}
-use Rattle.sqlite_trees.proofs.ListLemmas.{filter_none, IsPermutation-filter}
-use Rattle.sqlite.proofs.Callers.{one_permutation}
-use Rattle.sqlite.specs.declared.types.Value.TheVariants.{Int}
-use Rattle.sqlite.specs.Collation.TheVariants.{Binary}
+use Rattle.desk_types.proofs.Common.{[], ◌++◌, ◌+◌, ◌<◌, ◌||◌, ◌∙◌, ◌∷◌, ◌≡◌, ◌≤◌, All-from_recursion}
+use Rattle.desk_types.proofs.Common.{All-permutation, AllByRecursion, ap, append-nil, arith, Bool, cases_Bool, Entry}
+use Rattle.desk_types.proofs.Common.{false, filter, filter-append, History, if◌then◌else◌, inl, inr, is_gt}
+use Rattle.desk_types.proofs.Common.{IsDistinct, IsJudged, IsLawful, IsPermutation, IsPermutation-refl}
+use Rattle.desk_types.proofs.Common.{IsPermutation-sym, IsPermutation-trans, length, length-append}
+use Rattle.desk_types.proofs.Common.{length_permutation, List, list_any, map, not, recursion_from_All, refl, Rules}
+use Rattle.desk_types.proofs.Common.{same, same-sym, Some, subst, subst₂, sym, true, ℕ, ℤ}
+use Rattle.line_tables.proofs.Common.{Binary, collated, filter_none, has_number, Int, is_before, IsLeast}
+use Rattle.line_tables.proofs.Common.{IsPermutation-filter, one_permutation, Row}
+use Rattle.line_replay.proofs.{RowsTellLists.rows-length, Tests.before_test, Tests.neither_less}
+use Rattle.line_replay.proofs.{Tests.not_below_itself, Tests.other_number}
+use Rattle.line_replay.specs.{Listed.AreAt, Listed.AreRowsOf, Rows.entry_row, Rows.rows_of}
 use Rattle.sqlite_value.specs.declared.value.Value.{Value}
-use Rattle.sqlite_value.specs.Keys.{collated}
-use Rattle.sqlite_value.specs.Order.{Row}
-use Rattle.desk_types.specs.declared.command.Entry.{Entry}
-use Rattle.desk_types.specs.declared.rules.Rules.{Rules}
-use Rattle.desk_types.specs.History.{History}
-use Rattle.desk_types.specs.Id.{same}
-use Rattle.desk_types.specs.Judged.{IsJudged, IsLawful}
-use Rattle.desk_types.proofs.Keys.{same-sym}
-use Rattle.line_tables.specs.Calls.{has_number, is_before, IsLeast}
-use Rattle.line_replay.specs.Rows.{entry_row, rows_of}
-use Rattle.line_replay.proofs.RowsTellLists.{rows-length}
-use Rattle.line_replay.specs.Listed.{AreAt, AreRowsOf}
-use Rattle.line_replay.proofs.Tests.{other_number, before_test, not_below_itself, neither_less}
+use Rattle.std.proofs.{lemmas.List.Sorted.IsPermutation-append_right, lemmas.List.Sorted.IsPermutation-filter_both}
+use Rattle.std.proofs.{lemmas.List.Sorted.IsPermutation-middle, lemmas.Map.Keys.IsDistinct-cons}
 
 -- ---- the least number
 
@@ -40,7 +30,7 @@ one_least rows m n h k = neither_less m n (least_below _ h.0 m n k.0 h.1 h.2 k.1
 
 -- ---- the rows of the entries, and others
 
-none_numbered : (rules : Rules) (H : History) (n : ℕ) → IsJudged rules H → length H < n → AllByRecursion (λ r. has_number n r ≡ false) (rows_of H)
+pub none_numbered : (rules : Rules) (H : History) (n : ℕ) → IsJudged rules H → length H < n → AllByRecursion (λ r. has_number n r ≡ false) (rows_of H)
 none_numbered rules [] n judged h = tt
 none_numbered rules (e ∷ H) n judged h = (other_number n H e (omega (arith, judged.0.number, h)), none_numbered rules H n judged.1 (omega (arith, h)))
 
@@ -112,7 +102,7 @@ others_uids rules uid n rows (e ∷ H) none judged at low = (one, others_uids ru
       | inr other ↦ other
     ]
 
-none_yet : IsDistinct same []
+pub none_yet : IsDistinct same []
 unfolding IsDistinct
 none_yet = tt
 

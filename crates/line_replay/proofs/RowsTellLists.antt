@@ -1,22 +1,11 @@
 -- The rows of a history determine it.
-use Rattle.std.proofs.Common.{◌≡◌, ◌∙◌, ◌==◌, ◌+◌, ◌<◌, ℕ, pos, not, Bool, true, false, List, [], ◌∷◌, length, filter, refl, sym, ap, ap₂, subst₂, if◌then◌else◌, arith}
-use Rattle.std.proofs.lemmas.Bool.Decides.{nat_tests}
-use Rattle.std.specs.List.{AllByRecursion}
-use Rattle.std.specs.List.Sorted.{IsPermutation}
-use Rattle.std.proofs.lemmas.List.Sorted.{length_permutation}
-use Rattle.sqlite_trees.proofs.ListLemmas.{filter_none, filter_all, IsPermutation-filter}
-use Rattle.sqlite.proofs.Callers.{one_permutation}
-use Rattle.sqlite.specs.declared.types.Value.TheVariants.{Int}
-use Rattle.sqlite_value.specs.Order.{Row}
-use Rattle.desk_types.specs.declared.command.Command.{Command}
-use Rattle.desk_types.specs.declared.command.Entry.{Entry}
-use Rattle.desk_types.specs.declared.command.Stamped.{Stamped}
-use Rattle.desk_types.specs.declared.rules.Rules.{Rules}
-use Rattle.desk_types.specs.Command.{IsCommand}
-use Rattle.desk_types.specs.History.{History, entry_of}
-use Rattle.desk_types.specs.Judged.{IsJudged, IsNext}
-use Rattle.desk_types.specs.StoredText.{stored_text}
+use Rattle.desk_types.proofs.Common.{[], ◌+◌, ◌<◌, ◌==◌, ◌∙◌, ◌∷◌, ◌≡◌, AllByRecursion, ap, ap₂, arith, Bool, Command}
+use Rattle.desk_types.proofs.Common.{Entry, entry_of, false, filter, History, if◌then◌else◌, IsCommand, IsJudged}
+use Rattle.desk_types.proofs.Common.{IsNext, IsPermutation, length, length_permutation, List, nat_tests, not, pos}
+use Rattle.desk_types.proofs.Common.{refl, Rules, Stamped, stored_text, subst₂, sym, true, ℕ}
+use Rattle.line_tables.proofs.Common.{filter_none, Int, IsPermutation-filter, one_permutation, Row}
 use Rattle.line_replay.specs.Rows.{entry_row, rows_of}
+use Rattle.sqlite_trees.proofs.ListLemmas.{filter_all}
 
 pub stamped_same : (a b : Stamped) → a.uid ≡ b.uid → a.source ≡ b.source → a.minute ≡ b.minute → a.command ≡ b.command → a ≡ b
 stamped_same a b u s m c =

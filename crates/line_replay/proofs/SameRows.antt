@@ -1,15 +1,11 @@
 -- If each entry's row is the only one with its key, and there are as many entries as rows, the rows are those of the
 -- map.
-use Rattle.std.proofs.Common.{◌≡◌, ◌∙◌, ◌↔◌, inl, inr, ◌+◌, Bool, true, false, not, IsTrue, Option, Some, None, List, [], ◌∷◌, length, filter, if◌then◌else◌, refl, sym, ap, subst, arith, true≢false}
-use Rattle.std.specs.Option.{option_map, option_to_list}
-use Rattle.std.specs.List.{AllByRecursion}
-use Rattle.sqlite_value.specs.Order.{Row}
-use Rattle.sqlite_keyed.proofs.ListLemmas.{all_weaker}
-use Rattle.line_tables.specs.StateRows.{AreRows}
-use Rattle.line_replay.specs.Alone.{IsNew, AreApart, IsNamed, Listed, AreAlone}
-
-pub some_same : {X : Type 0} {a b : X} → ◌≡◌ {A = Option X} (Some a) (Some b) → a ≡ b
-some_same e = cc
+use Rattle.desk_types.proofs.Common.{[], ◌+◌, ◌↔◌, ◌∙◌, ◌∷◌, ◌≡◌, AllByRecursion, ap, arith, Bool, false, filter}
+use Rattle.desk_types.proofs.Common.{if◌then◌else◌, inl, inr, IsTrue, length, List, None, not, Option, option_map}
+use Rattle.desk_types.proofs.Common.{option_to_list, refl, Some, subst, sym, true, true≢false}
+use Rattle.line_tables.proofs.Common.{all_weaker, AreRows, Row}
+use Rattle.line_replay.specs.Alone.{AreAlone, AreApart, IsNamed, IsNew, Listed}
+use Rattle.line_tables.proofs.Numbers.{some_same}
 
 module _ {K R : Type 0} (has : K → Row → Bool) (columns : K → R → Row) (one_key : (k l : K) (row : Row) → has k row ≡ true → has l row ≡ true → k ≡ l) where
   abbrev pub without : K → List Row → List Row

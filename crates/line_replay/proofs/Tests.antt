@@ -1,36 +1,17 @@
 -- SQL's tests of the columns of an entry's row.
-use Rattle.std.proofs.Common.{◌≡◌, ◌∙◌, ◌&&◌, ◌<◌, ℕ, ℤ, pos, Bool, true, false, List, Some, Ordering, Less, Equal, Greater, is_lt, is_gt, is_eq, int_cmp, refl, sym, ap, ap₂, arith}
-use Rattle.std.proofs.lemmas.Bool.Decides.{nat_tests}
-use Rattle.std.proofs.lemmas.Int.{ints}
-use Rattle.std.proofs.lemmas.Cmp.{tied_itself, int_ranked, int_cmp_total}
-use Rattle.std.specs.Ordering.{ordering_reverse}
-use Rattle.std.specs.Cmp.Lexicographic.{texts_ties}
-use Rattle.sqlite.specs.declared.types.Value.TheVariants.{Int, Text}
-use Rattle.sqlite_value.specs.Order.{value_cmp}
-use Rattle.sqlite_value.specs.Keys.{collated}
-use Rattle.sqlite_value.proofs.OrderLemmas.{value_cmp_total, value_cmp-Int, value_cmp-Text}
-use Rattle.sqlite_schema.specs.Rules.{equal}
-use Rattle.sqlite_sql.specs.Ops.{binary, is_true, from_truth}
-use Rattle.sqlite_sql.specs.declared.ops.BinaryOp.TheVariants.{Compare}
-use Rattle.sqlite_sql.specs.declared.ops.CompareOp.TheVariants.{Lt}
-use Rattle.sqlite.specs.Collation.TheVariants.{Binary}
-use Rattle.desk_types.specs.declared.command.Entry.{Entry}
-use Rattle.desk_types.specs.History.{History}
-use Rattle.desk_types.specs.Id.{same}
-use Rattle.line_tables.specs.Calls.{has_uid, has_number, is_before}
+use Rattle.desk_types.proofs.Common.{◌&&◌, ◌<◌, ◌∙◌, ◌≡◌, ap, ap₂, arith, Entry, false, History, int_cmp, int_ranked}
+use Rattle.desk_types.proofs.Common.{is_gt, is_lt, List, nat_tests, ordering_reverse, pos, refl, same, sym}
+use Rattle.desk_types.proofs.Common.{texts_ties, tied_itself, true, ℕ, ℤ}
+use Rattle.line_tables.proofs.Common.{Binary, binary, collated, Compare, equal, has_number, has_uid, Int, is_before}
+use Rattle.line_tables.proofs.Common.{is_true, Lt, Text, value_cmp, value_cmp-Int, value_cmp-Text, value_cmp_total}
 use Rattle.line_replay.specs.Rows.{entry_row}
-
-truth_told : (b : Bool) → is_true (from_truth (Some b)) ≡ b
-truth_told true = refl
-truth_told false = refl
+use Rattle.line_tables.proofs.Keyed.{number_test, truth_told}
+use Rattle.std.proofs.{Common.Equal, Common.Greater, Common.is_eq, Common.Less, Common.Ordering}
+use Rattle.std.proofs.{lemmas.Cmp.int_cmp_total, lemmas.Int.ints}
 
 text_test : (a b : List ℕ) → equal Binary (Text a) (Text b) ≡ is_eq (value_cmp (Text a) (Text b))
 unfolding binary
 text_test a b = truth_told _
-
-number_test : (a b : ℕ) → equal Binary (Int (pos a)) (Int (pos b)) ≡ is_eq (value_cmp (Int (pos a)) (Int (pos b)))
-unfolding binary
-number_test a b = truth_told _
 
 lower_test : (a b : ℕ) → is_true (binary (Compare Lt Binary) (Int (pos a)) (Int (pos b))) ≡ is_lt (value_cmp (Int (pos a)) (Int (pos b)))
 unfolding binary

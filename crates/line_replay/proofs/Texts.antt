@@ -1,35 +1,24 @@
 -- The meaning and the results of the texts.
-use Rattle.std.proofs.Common.{◌≡◌, ◌&&◌, ◌++◌, ◌<◌, ℕ, Bool, true, false, List, [], ◌∷◌, Result, Ok, Err, IfOk, codes, refl, ap, pos, inl, inr}
-use Rattle.sqlite.specs.Term.{Term, col, op2}
-use Rattle.sqlite.specs.Collation.TheVariants.{Binary}
-use Rattle.sqlite_sql.specs.declared.ops.BinaryOp.TheVariants.{Compare}
-use Rattle.sqlite_sql.specs.declared.ops.CompareOp.TheVariants.{Eq}
-use Rattle.sqlite.specs.declared.types.Value.TheVariants.{Int, Text}
-use Rattle.sqlite.specs.declared.error.Error.{Error}
-use Rattle.sqlite.specs.Listing.{understood, listing_schema}
-use Rattle.sqlite_tied.specs.Compute.{everything}
-use Rattle.sqlite_value.specs.Order.{Row}
-use Rattle.sqlite_trees.specs.declared.store.Store.{Ghosts}
-use Rattle.sqlite.specs.Held.{Held, state}
-use Rattle.desk_types.specs.Id.{Name}
-use Rattle.desk_types.specs.declared.row.PlacementRow.{PlacementRow}
-use Rattle.line_tables.specs.Line as line
-use Rattle.line_tables.specs.Line.{tree_in}
-use Rattle.line_tables.specs.Calls.{Selects}
-use Rattle.line_tables.specs.declared.reading.TheConstants.{MOST_COUNTED}
-use Rattle.line_tables.specs.StateRows.{columns, has_text, has_int, has_pair, has_sheet_place}
-use Rattle.line_tables.proofs.FindTexts.{IsSelect, IsSelectBy, rows_from, count_from}
-use Rattle.line_tables.proofs.Finds.{and_true}
-use Rattle.line_tables.proofs.Between.{placement_places}
-use Rattle.line_tables.proofs.Numbers.{finds_count}
-use Rattle.line_replay.specs.Alone.{ShowsOnly, FindsAlone, Counts}
+use Rattle.desk_types.proofs.Common.{[], ◌&&◌, ◌++◌, ◌<◌, ◌∷◌, ◌≡◌, ap, Bool, codes, Err, IfOk, inl, inr, List, Name}
+use Rattle.desk_types.proofs.Common.{Ok, One, PlacementRow, pos, refl, Result, Two, ℕ}
+use Rattle.line_tables.proofs.Common.{Binary, col, columns, Compare, Eq, Error, everything, Ghosts, has_pair}
+use Rattle.line_tables.proofs.Common.{has_sheet_place, has_text, Held, Indexed, Int, op2, Plain, Row, Selects, state}
+use Rattle.line_tables.proofs.Common.{Term, Text, tree_in, understood}
+use Rattle.line_replay.proofs.LookUpsByKey.{finds_alone}
+use Rattle.line_replay.specs.Alone.{Counts, FindsAlone, ShowsOnly}
 use Rattle.line_replay.specs.Placed.{has_placement}
 use Rattle.line_replay.specs.TableNames.{name_of, table_of}
 use Rattle.line_replay.specs.declared.table.StateTable.{StateTable}
-use Rattle.line_replay.specs.declared.table.StateTable.TheVariants.{Part, Alternate, SheetRow, Selected, Reel, Mount, Board, Placement, Found}
-use Rattle.line_replay.proofs.LookUpsByKey.{finds_alone}
-use Rattle.desk_types.specs.declared.rules.Rules.TheVariants.{One, Two}
-use Rattle.line_tables.specs.Line.Layout.{Indexed, Plain}
+use Rattle.line_replay.specs.declared.table.StateTable.TheVariants.{Alternate, Board, Found, Mount, Part, Placement}
+use Rattle.line_replay.specs.declared.table.StateTable.TheVariants.{Reel, Selected, SheetRow}
+use Rattle.line_tables.proofs.Between.{placement_places}
+use Rattle.line_tables.proofs.FindTexts.{count_from, IsSelect, IsSelectBy, rows_from}
+use Rattle.line_tables.proofs.Finds.{and_true}
+use Rattle.line_tables.proofs.Numbers.{finds_count}
+use Rattle.line_tables.specs.StateRows.{has_int}
+use Rattle.line_tables.specs.declared.reading.TheConstants.{MOST_COUNTED}
+use Rattle.sqlite.specs.Listing.{listing_schema}
+use Rattle.line_tables.specs.Line as line
 
 abbrev is_param : ℕ → ℕ → Term
 is_param at param = op2 (Compare Eq Binary) (col 1 at) (col 0 param)

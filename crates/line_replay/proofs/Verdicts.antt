@@ -1,15 +1,10 @@
 -- The verdict over all tables.
-use Rattle.std.proofs.Common.{◌≡◌, None, List, [], ◌∷◌, ◌++◌, ℕ, ◌+◌, ◌<◌, length, take, drop, get_or, zero, suc, refl, ap, arith}
-use Rattle.std.specs.List.{AllByRecursion}
-use Rattle.std.proofs.lemmas.List.{take_more}
-use Rattle.sqlite_keyed.proofs.ListLemmas.{all-append}
-use Rattle.sqlite.specs.Effect.{Database}
-use Rattle.desk_types.specs.declared.rules.Rules.{Rules}
-use Rattle.desk_types.specs.declared.rules.Rules.TheVariants.{One, Two}
-use Rattle.desk_types.specs.Id.{Name}
+use Rattle.desk_types.proofs.Common.{[], ◌++◌, ◌+◌, ◌<◌, ◌∷◌, ◌≡◌, AllByRecursion, ap, arith, drop, get_or, length}
+use Rattle.desk_types.proofs.Common.{List, Name, None, One, refl, Rules, suc, take, take_more, Two, zero, ℕ}
+use Rattle.line_tables.proofs.Common.{all-append, Database}
 use Rattle.desk_types.specs.Tables.{Tables as StateTables}
-use Rattle.line_tables.specs.StateRows.{HoldsStateBy, HoldsFoundBy}
-use Rattle.line_replay.specs.Audit.{state_tables, found_table, HoldsTable}
+use Rattle.line_replay.specs.Audit.{found_table, HoldsTable, state_tables}
+use Rattle.line_tables.specs.StateRows.{HoldsFoundBy, HoldsStateBy}
 
 -- The rows of `found` are right too: under rules One there is no such table.
 pub found_right : (rules : Rules) (db : Database) (t : StateTables) → (rules ≡ One → (reel : Name) → t.found reel ≡ None) → AllByRecursion (HoldsTable db t) (found_table rules) → HoldsFoundBy rules db t

@@ -17,8 +17,7 @@ use Rattle.line_replay.specs.Listed.{IsAt, AreAt, StopsAt, AreRowsOf}
 use Rattle.line_replay.specs.Expected.{Expected, AreExpected, Adds}
 use Rattle.line_replay.specs.Judging.{GoesOn, Lead}
 use Rattle.desk_types.specs.Edits.{with_edits}
-use Rattle.desk_types.specs.Tables.{tables_of}
-use Rattle.state_rows.specs.Kept.{KeptRows, tables_in, but_placements, unnumbered}
+use Rattle.state_rows.specs.Kept.{KeptRows, tables_in, but_placements}
 use Rattle.desk_types.specs.declared.edit.RowEdit.{RowEdit}
 use Rattle.state_rows.specs.declared.lists.TraceLists.{TraceLists}
 use Rattle.state_rows.specs.Lists.{IsListed}
@@ -47,14 +46,6 @@ IsFaultOf rules greatest old Unavailable = ⊤
 abbrev pub StandsListed : {D : Type 0} → (D → Basis → Type 0) → D × TraceLists → Basis → Type 0
 StandsListed StandsFor it B = StandsFor it.0 B × IsListed it.1 B.history
 
--- The desk and its trace indexes are those of an empty history, and so are the rows that it keeps.
-pub record IsFresh {D : Type 0} (StandsFor : D → Basis → Type 0) (desk : D) (lists : TraceLists)
-    (rows : KeptRows) : Type 0 where
-  pub rules : Rules
-  pub stands : StandsFor desk (basis rules [])
-  pub listed : IsListed lists []
-  pub empty : unnumbered (tables_in rows) ≡ unnumbered (tables_of [])
-
 -- There is no row, or the least number is 1.
 abbrev pub IsNumbered : List Row → Type 0
 IsNumbered rows = (rows ≡ []) ⊎ IsLeast rows (Some (pos 1))
@@ -67,46 +58,45 @@ pub record IsStuck (rules : Rules) (H : History) (rows : List Row) : Type 0 wher
 
 -- A row was taken with these edits of the state tables: the desk represents the history with its entry, and no row of a
 -- lower number has its UniqueID.
-pub record Accepts {D : Type 0} (StandsFor : D → Basis → Type 0) (rules : Rules) (Clean : Type 0)
-    (old : State) (number : ℕ) (row : Row) (H : History) (desk : D) (edits : List RowEdit)
+pub record Accepts {D : Type 0} (StandsFor : D → Basis → Type 0) (B : Basis) (Clean : Type 0)
+    (old : State) (number : ℕ) (row : Row) (desk : D) (edits : List RowEdit)
     (before after : KeptRows) : Type 0 where
   pub entry : Entry
-  pub stands : StandsFor desk (basis rules (entry ∷ H))
-  pub goes : GoesOn rules H row entry
-  pub lead : Lead edits H entry
+  pub stands : StandsFor desk (record B { history = entry ∷ B.history })
+  pub goes : GoesOn B.rules B.history row entry
+  pub lead : Lead edits B.history entry
   pub rows : tables_in after
       ≡ but_placements (with_edits edits (tables_in before)) (tables_in before)
   pub first : Clean → Reads old
       (λ db. list_any (is_before entry.stamped.uid number) (accepted_in db) ≡ false)
 
 -- One more entry is taken.
-pub record Takes {D : Type 0} (StandsFor : D → Basis → Type 0) (rules : Rules) (Clean : Type 0)
-    (old : State) (H : History) (desk : D) (before after : Expected) : Type 0 where
+pub record Takes {D : Type 0} (StandsFor : D → Basis → Type 0) (B : Basis) (Clean : Type 0)
+    (old : State) (desk : D) (before after : Expected) : Type 0 where
   pub entry : Entry
-  pub stands : StandsFor desk (basis rules (entry ∷ H))
-  pub next : IsNext rules H entry
-  pub row : Clean → Reads old (λ db. IsAt (accepted_in db) H entry)
+  pub stands : StandsFor desk (record B { history = entry ∷ B.history })
+  pub next : IsNext B.rules B.history entry
+  pub row : Clean → Reads old (λ db. IsAt (accepted_in db) B.history entry)
   pub edits : List RowEdit
-  pub lead : Lead edits H entry
+  pub lead : Lead edits B.history entry
   pub adds : Adds Clean old edits before after
 
 -- A row was taken, or there is no row of the next number, and the desk represents the history.
-abbrev pub Goes : {D : Type 0} → (D → Basis → Type 0) → Rules → Type 0 → State → History
-    → Expected → D → Expected → Bool → Type 0
-Goes StandsFor rules Clean old H before desk after true =
-    Takes StandsFor rules Clean old H desk before after
-Goes StandsFor rules Clean old H before desk after false = StandsFor desk (basis rules H) × (Clean
-    → Reads old (λ db. filter (has_number (length H + 1)) (accepted_in db) ≡ [])) × (after ≡ before)
+abbrev pub Goes : {D : Type 0} → (D → Basis → Type 0) → Basis → Type 0 → State → Expected
+    → D → Expected → Bool → Type 0
+Goes StandsFor B Clean old before desk after true = Takes StandsFor B Clean old desk before after
+Goes StandsFor B Clean old before desk after false = StandsFor desk B × (Clean → Reads old
+    (λ db. filter (has_number (length B.history + 1)) (accepted_in db) ≡ [])) × (after ≡ before)
 
 -- The desk represents a judged history of this length, and the expected rows are the history's. On a clean disk each
 -- entry has its row in our schema's table.
-pub record IsTaken {D : Type 0} (StandsFor : D → Basis → Type 0) (rules : Rules) (Clean : Type 0)
-    (db : Database) (desk : D) (expected : Expected) (count : ℕ) (H : History) : Type 0 where
-  pub stands : StandsFor desk (basis rules H)
-  pub judged : IsJudged rules H
-  pub counted : length H ≡ count
-  pub rows : Clean → IsOurs db.schema → AreAt (accepted_in db) H
-  pub others : AreExpected Clean db expected H
+pub record IsTaken {D : Type 0} (StandsFor : D → Basis → Type 0) (B : Basis) (Clean : Type 0)
+    (db : Database) (desk : D) (expected : Expected) (count : ℕ) : Type 0 where
+  pub stands : StandsFor desk B
+  pub judged : IsJudged B.rules B.history
+  pub counted : length B.history ≡ count
+  pub rows : Clean → IsOurs db.schema → AreAt (accepted_in db) B.history
+  pub others : AreExpected Clean db expected B.history
 
 -- All numbers are taken, or there is no row of the next one.
 abbrev pub IsEnd : ℕ → State → ℕ → Type 0
@@ -124,5 +114,5 @@ pub record TakesAll {D : Type 0} (StandsFor : D → Basis → Type 0) (rules : R
     (Clean : Type 0) (old : State) (desk : D) (expected : Expected) (count : ℕ) : Type 0 where
   pub history : History
   pub within : count ≤ greatest
-  pub taken : IsTaken StandsFor rules Clean old.committed desk expected count history
+  pub taken : IsTaken StandsFor (basis rules history) Clean old.committed desk expected count
   pub ends : Clean → IsEnd greatest old count

@@ -1,6 +1,6 @@
 //! A row, judged again by a desk.
 
-ghost use Rattle.std.specs.Prelude.{◌≡◌, ◌+◌, ◌⊎◌, IfOk, IfErr, OnOk, ◌∷◌, length};
+ghost use Rattle.std.specs.Prelude.{◌≡◌, ◌+◌, ◌⊎◌, IfOk, IfErr, ◌∷◌, length};
 ghost use Rattle.desk_types.specs.declared.command.Entry.{Entry};
 ghost use Rattle.desk_types.specs.History.{Basis};
 ghost use Rattle.desk_types.specs.Desk.{HasRoom};

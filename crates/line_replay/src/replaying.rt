@@ -48,10 +48,7 @@ pub fn replay<S: Alter, D: KeepsRows + Drop>(
     ensures reads { ReadsOnly S.Store conn.old conn.new }
 {
     least_is_one(conn)?;
-    let mut desk = D::fresh(alloc, rules);
-    let mut lists = TraceLists::new(alloc);
-    let _empty = desk.rows();
-    let (count, placed) = take_rows(alloc, conn, &mut desk, &mut lists, greatest)?;
+    let (desk, lists, count, placed) = take_rows(alloc, conn, rules, greatest)?;
     let all = are_all(conn, count)?;
     if !all {
         return Err(ReplayFault::NotLawful(count + 1));

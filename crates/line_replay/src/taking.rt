@@ -1,13 +1,13 @@
 //! Rows taken one after another, by number.
 
-ghost use Rattle.std.specs.Prelude.{◌≡◌, ◌==◌, ◌+◌, ◌≤◌, ◌⊎◌, ⊤, ℕ, [], true, IfOk, IfErr, OnOk, length};
+ghost use Rattle.std.specs.Prelude.{◌≡◌, ◌==◌, ◌+◌, ◌≤◌, ◌⊎◌, ⊤, ℕ, true, IfOk, IfErr, OnOk, length};
 ghost use Rattle.std.specs.List.{list_any};
 ghost use Rattle.sqlite.specs.State.{HasCleanDisk};
 ghost use Rattle.sqlite.specs.Held.{state};
 ghost use Rattle.desk_types.specs.declared.command.Entry.{Entry};
 ghost use Rattle.desk_types.specs.declared.limits.TheConstants.{MOST_ENTRIES};
 ghost use Rattle.desk_types.specs.declared.rules.Rules.{Rules};
-ghost use Rattle.desk_types.specs.History.{Basis, basis};
+ghost use Rattle.desk_types.specs.History.{Basis};
 ghost use Rattle.desk_types.specs.Desk.{HasRoom};
 ghost use Rattle.line_tables.specs.Rows.{accepted_in};
 ghost use Rattle.line_tables.specs.Calls.{Reads, is_before};
@@ -15,14 +15,14 @@ ghost use Rattle.line_tables.specs.Frames.{ReadsOnly};
 ghost use Rattle.line_replay.specs.Judging.{GoesOn};
 ghost use Rattle.line_replay.specs.declared.fault.ReplayFault.TheVariants.{NotLawful, Unavailable};
 ghost use Rattle.line_replay.specs.Expected.{kept_with};
-ghost use Rattle.line_replay.specs.Replay.{IsFaultOf, IsNumbered, IsStuck, StandsListed, IsFresh, Accepts, Goes, TakesAll, IsStop};
+ghost use Rattle.line_replay.specs.Replay.{IsFaultOf, IsNumbered, IsStuck, StandsListed, Accepts, Goes, TakesAll, IsStop};
 
 use crate::auditing::Placed;
 use crate::fault::ReplayFault;
 use crate::judging::{Taken, accept_row};
 use crate::placed::look_up;
 use crate::row_fault::RowFault;
-use desk_types::RowEdits;
+use desk_types::{RowEdits, Rules};
 use line_tables::{count, is_repeat, least_number, row_at};
 use sqlite::{Alter, Connection, Row};
 use state_rows::{KeepsRows, TraceLists};
@@ -57,39 +57,38 @@ pub fn are_all<S: Alter>(conn: &mut Connection<S>, taken: u32) -> Result<bool, R
 }
 
 /// Takes row after row, up to the greatest number, into a new desk with its trace indexes, and looks up their
-/// placements. Returns the number of rows, and the result of the look-ups.
-pub fn take_rows<S: Alter, D: KeepsRows>(
+/// placements. Returns the desk, its indexes, the number of rows, and the result of the look-ups.
+pub fn take_rows<S: Alter, D: KeepsRows + Drop>(
     alloc: Global,
     conn: &mut Connection<S>,
-    desk: &mut D,
-    lists: &mut TraceLists,
+    rules: Rules,
     greatest: u32,
-) -> Result<(u32, Placed), ReplayFault>
-    requires start { IsFresh D.Stands desk.old lists.old (D.kept_rows desk.old) }
+) -> Result<(D, TraceLists, u32, Placed), ReplayFault>
     requires bound { greatest ≤ MOST_ENTRIES }
-    ensures taken { (rules : Rules) → D.Stands desk.old (basis rules []) → IfOk result
-        (λ r. TakesAll (StandsListed D.Stands) rules greatest
-        (HasCleanDisk (state S.Store conn.new)) (state S.Store conn.old) (desk.new, lists.new)
-        (kept_with (D.kept_rows desk.new) r.1) r.0) }
-    ensures err { (rules : Rules) → D.Stands desk.old (basis rules [])
-        → HasCleanDisk (state S.Store conn.new)
+    ensures taken { IfOk result (λ r. TakesAll (StandsListed D.Stands) rules greatest
+        (HasCleanDisk (state S.Store conn.new)) (state S.Store conn.old) (r.0, r.1)
+        (kept_with (D.kept_rows r.0) r.3) r.2) }
+    ensures err { HasCleanDisk (state S.Store conn.new)
         → IfErr result (λ f. (f ≡ Unavailable)
         ⊎ ((n : ℕ) × (f ≡ NotLawful n)
         × IsStop rules greatest (state S.Store conn.old) n)) }
     ensures reads { ReadsOnly S.Store conn.old conn.new }
 {
+    let mut desk = D::fresh(alloc, rules);
+    let mut lists = TraceLists::new(alloc);
+    let _empty = desk.rows();
     let mut placed = Placed {
         all: true,
         count: 0,
         end: Some(0),
     };
     for number in 0..greatest {
-        let taken = take_row(alloc, conn, desk, lists, &mut placed, number + 1)?;
+        let taken = take_row(alloc, conn, &mut desk, &mut lists, &mut placed, number + 1)?;
         if !taken {
-            return Ok((number, placed));
+            return Ok((desk, lists, number, placed));
         }
     }
-    Ok((greatest, placed))
+    Ok((desk, lists, greatest, placed))
 }
 
 fn take_row<S: Alter, D: KeepsRows>(
@@ -103,12 +102,9 @@ fn take_row<S: Alter, D: KeepsRows>(
     requires room { HasRoom D.Stands desk.old 1 }
     ensures ok { (B : Basis) → StandsListed D.Stands (desk.old, lists.old) B
         → length B.history + 1 ≡ number
-        → IfOk result
-        (Goes (StandsListed D.Stands) B.rules
-        (HasCleanDisk (state S.Store conn.new))
-        (state S.Store conn.old) B.history (kept_with (D.kept_rows desk.old) placed.old)
-        (desk.new, lists.new)
-        (kept_with (D.kept_rows desk.new) placed.new)) }
+        → IfOk result (Goes (StandsListed D.Stands) B (HasCleanDisk (state S.Store conn.new))
+        (state S.Store conn.old) (kept_with (D.kept_rows desk.old) placed.old)
+        (desk.new, lists.new) (kept_with (D.kept_rows desk.new) placed.new)) }
     ensures err { (B : Basis) → D.Stands desk.old B → length B.history + 1 ≡ number
         → HasCleanDisk (state S.Store conn.new)
         → IfErr result (λ f. (f ≡ Unavailable)
@@ -140,11 +136,9 @@ fn accept_first<S: Alter, D: KeepsRows>(
     requires room { HasRoom D.Stands desk.old 1 }
     ensures ok { (B : Basis) → StandsListed D.Stands (desk.old, lists.old) B
         → length B.history + 1 ≡ number
-        → IfOk result
-        (λ edits. Accepts (StandsListed D.Stands) B.rules
-        (HasCleanDisk (state S.Store conn.new))
-        (state S.Store conn.old) number row.now B.history (desk.new, lists.new) edits
-        (D.kept_rows desk.old) (D.kept_rows desk.new)) }
+        → IfOk result (λ edits. Accepts (StandsListed D.Stands) B
+        (HasCleanDisk (state S.Store conn.new)) (state S.Store conn.old) number row.now
+        (desk.new, lists.new) edits (D.kept_rows desk.old) (D.kept_rows desk.new)) }
     ensures err { (B : Basis) → D.Stands desk.old B → length B.history + 1 ≡ number
         → HasCleanDisk (state S.Store conn.new)
         → IfErr result (λ f. (f ≡ Unavailable)

@@ -1,17 +1,13 @@
 -- The rows of the desk after the edits that were committed.
-use Rattle.std.proofs.Common.{◌≡◌, ◌∙◌, ℕ, List, [], ◌∷◌, Option, Some, None, IfSome, refl, sym, ap, subst}
-use Rattle.desk_types.specs.declared.edit.RowEdit.{RowEdit}
-use Rattle.desk_types.specs.Edits.{with_edit, with_edits}
-use Rattle.desk_types.specs.History.{History}
+use Rattle.desk_types.proofs.Common.{[], ◌∙◌, ◌∷◌, ◌≡◌, ap, History, IfSome, List, None, Option, refl, RowEdit, Some}
+use Rattle.desk_types.proofs.Common.{subst, sym, with_edit, with_edits, ℕ}
+use Rattle.line_tables.proofs.Common.{after_edits, command_edits, row_edits}
 use Rattle.desk_types.specs.Tables.{tables_of as state_of}
-use Rattle.state_rows.specs.Kept.{KeptRows, tables_in, but_placements}
-use Rattle.line_traces.specs.declared.working.Working.{Working}
-use Rattle.line_tables.specs.declared.edit.Accepted.{Accepted}
-use Rattle.line_tables.specs.Edit.{row_edits, command_edits}
-use Rattle.line_tables.specs.Rows.{Tables, after_edits, columns_of}
-use Rattle.line_replay.specs.Rows.{rows_of, ledger_tables}
-use Rattle.line_replay.specs.Expected.{AreKept}
 use Rattle.line_replay.proofs.ExpectedRows.{kept_more}
+use Rattle.line_replay.specs.{Expected.AreKept, Rows.ledger_tables, Rows.rows_of}
+use Rattle.line_tables.specs.{Rows.columns_of, Rows.Tables, declared.edit.Accepted.Accepted}
+use Rattle.line_traces.specs.declared.working.Working.{Working}
+use Rattle.state_rows.specs.Kept.{but_placements, KeptRows, tables_in}
 
 state_edited : (edits : List RowEdit) (t : Tables) → (after_edits (row_edits edits) t).state ≡ with_edits edits t.state
 state_edited [] t = refl

@@ -1,23 +1,18 @@
 -- The history after an answer to a command, and the tables that a crash may leave.
-use Rattle.std.proofs.Common.{◌≡◌, ◌∙◌, ◌⊎◌, ◌<◌, length, inl, inr, Bool, true, false, Option, Some, None, is_some, MatchBool, Result, Ok, Err, IfOk, OnOk, refl, sym, ap, subst, [], ◌∷◌, if◌then◌else◌, unwrap_or}
-use Rattle.sqlite_trees.specs.Tree.{Trees}
-use Rattle.desk_types.specs.declared.answer.Reply.{Reply}
-use Rattle.desk_types.specs.declared.answer.Reply.TheVariants as reply
-use Rattle.desk_types.specs.declared.change.Change.{Change}
-use Rattle.desk_types.specs.declared.command.Stamped.{Stamped}
-use Rattle.desk_types.specs.declared.rules.Rules.TheVariants.{Two}
-use Rattle.desk_types.specs.Desk.{IsChange}
-use Rattle.desk_types.specs.History.{History, accept}
-use Rattle.desk_types.specs.Id.{same}
-use Rattle.desk_types.specs.Outcome.{reply_to}
-use Rattle.desk_answers.specs.declared.answer.Answer.{Answer}
-use Rattle.desk_answers.specs.declared.answer.Answer.TheVariants.{Accepted, Refused, IdReused, DeskFull, Unavailable}
-use Rattle.desk_answers.specs.Commands.{answer_under, earlier_answer, judged_answer, is_full, command_answer, command_after}
+use Rattle.desk_types.proofs.Common.{[], ◌<◌, ◌∙◌, ◌∷◌, ◌≡◌, ◌⊎◌, accept, ap, Bool, Change, Err, false, History, IfOk}
+use Rattle.desk_types.proofs.Common.{if◌then◌else◌, inl, inr, is_some, IsChange, length, MatchBool, None, Ok, OnOk}
+use Rattle.desk_types.proofs.Common.{Option, refl, Reply, reply_to, Result, same, Some, Stamped, subst, sym, true}
+use Rattle.desk_types.proofs.Common.{Two, unwrap_or}
+use Rattle.line_tables.proofs.Common.{HoldsAt, Trees}
+use Rattle.desk_answers.specs.Commands.{answer_under, command_after, command_answer, earlier_answer, is_full}
+use Rattle.desk_answers.specs.Commands.{judged_answer}
 use Rattle.desk_answers.specs.Repeats.{is_same}
-use Rattle.line_tables.specs.Rows.{HoldsAt}
+use Rattle.desk_answers.specs.declared.answer.Answer.{Answer}
+use Rattle.desk_answers.specs.declared.answer.Answer.TheVariants.{Accepted, DeskFull, IdReused, Refused, Unavailable}
 use Rattle.line_replay.specs.Rows.{ledger_tables}
+use Rattle.line_schema.specs.Stands.{answer_in, Kept, kept_after, Leaves, NewlyLeaves}
 use Rattle.line_schema.specs.declared.unavailable.Unavailable.{Unavailable as Fault}
-use Rattle.line_schema.specs.Stands.{Kept, kept_after, answer_in, NewlyLeaves, Leaves}
+use Rattle.desk_types.specs.declared.answer.Reply.TheVariants as reply
 
 -- ---- the definition never answers Unavailable
 

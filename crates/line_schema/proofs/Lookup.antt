@@ -1,23 +1,12 @@
 -- The answer by the row that has the UniqueID.
-use Rattle.std.proofs.Common.{◌≡◌, ◌∙◌, IsTrue, inl, inr, Bool, true, false, [], ◌∷◌, Option, Some, None, filter, refl, sym, ap, if◌then◌else◌}
-use Rattle.std.proofs.lemmas.Bool.{cases_Bool}
-use Rattle.sqlite_value.specs.Order.{Row}
-use Rattle.sqlite.specs.State.{State}
-use Rattle.desk_types.specs.declared.command.Entry.{Entry}
-use Rattle.desk_types.specs.declared.command.Stamped.{Stamped}
-use Rattle.desk_types.specs.declared.rules.Rules.{Rules}
-use Rattle.desk_types.specs.Command.{IsEntry}
-use Rattle.desk_types.specs.History.{History}
-use Rattle.desk_types.specs.Id.{same}
-use Rattle.desk_types.specs.Judged.{IsJudged}
-use Rattle.desk_types.proofs.Keys.{same-true}
+use Rattle.desk_types.proofs.Common.{[], ◌∙◌, ◌∷◌, ◌≡◌, ap, Bool, cases_Bool, Entry, false, filter, History}
+use Rattle.desk_types.proofs.Common.{if◌then◌else◌, inl, inr, IsJudged, IsTrue, None, Option, refl, Rules, same}
+use Rattle.desk_types.proofs.Common.{same-true, Some, Stamped, sym, true}
+use Rattle.line_tables.proofs.Common.{accepted_in, has_uid, Holds, Reads, Row, row_of, State}
 use Rattle.desk_answers.specs.Commands.{answer_under, earlier_answer}
-use Rattle.line_tables.specs.declared.edit.Accepted.{Accepted}
-use Rattle.line_tables.specs.Rows.{Holds, accepted_in}
-use Rattle.line_tables.specs.Calls.{Reads, has_uid, row_of}
-use Rattle.line_tables.proofs.Holding.{row_held}
-use Rattle.line_replay.specs.Rows.{entry_row, rows_of, ledger_tables}
-use Rattle.line_replay.proofs.Tests.{uid_test}
+use Rattle.desk_types.specs.Command.{IsEntry}
+use Rattle.line_replay.{proofs.Tests.uid_test, specs.Rows.entry_row, specs.Rows.ledger_tables, specs.Rows.rows_of}
+use Rattle.line_tables.{proofs.Holding.row_held, specs.declared.edit.Accepted.Accepted}
 
 -- The place of an entry with the UniqueID.
 pub record Stood (H : History) (s : Stamped) (row : Row) : Type 0 where

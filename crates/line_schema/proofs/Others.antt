@@ -1,17 +1,11 @@
 -- The file and other people's tables in it, over each step of a command.
-use Rattle.std.proofs.Common.{◌≡◌, List, inl, inr, IsTrue, Result, Ok, Err, OnOk, OnErr, refl, sym, subst, arith}
-use Rattle.std.specs.Prelude.{⊤}
-use Rattle.sqlite_trees.specs.Tree.{Trees}
-use Rattle.sqlite.specs.Effect.{Database}
-use Rattle.sqlite.specs.State.{State, HasCleanDisk, KeepsCommit, Survives}
-use Rattle.sqlite.proofs.StateLemmas.{survives_then, survives_weaker}
-use Rattle.sqlite_trees.specs.declared.store.Store.{Ghosts}
-use Rattle.sqlite.specs.Held.{Held, state}
-use Rattle.line_tables.specs.Edit.{Edit}
-use Rattle.line_tables.specs.Frames.{ReadsOnly}
-use Rattle.line_tables.specs.Calls.{KeepsOthers, LeavesEdited}
-use Rattle.line_tables.proofs.Beside.{others_stay, others_stay_then}
+use Rattle.desk_types.proofs.Common.{⊤, ◌≡◌, arith, Err, inl, inr, IsTrue, List, Ok, OnOk, refl, Result, subst, sym}
+use Rattle.line_tables.proofs.Common.{Database, Edit, Ghosts, HasCleanDisk, Held, KeepsCommit, KeepsOthers}
+use Rattle.line_tables.proofs.Common.{LeavesEdited, ReadsOnly, State, state, Survives, survives_then, Trees}
 use Rattle.line_schema.specs.Frames.{LeavesFile, LeavesOthers, LetsOthersBe}
+use Rattle.line_tables.proofs.Beside.{others_stay, others_stay_then}
+use Rattle.sqlite.proofs.StateLemmas.{survives_weaker}
+use Rattle.std.proofs.Common.{OnErr}
 
 pub let_be : (s : State) → LetsOthersBe s s
 let_be s = record { was_open = λ clean is. is; rows = λ clean is. others_stay s.committed; crash = λ clean trees may. inl may }

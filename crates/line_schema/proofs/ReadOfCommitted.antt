@@ -1,44 +1,28 @@
 -- Reads of the version and of the history, in terms of the earlier committed contents.
-use Rattle.std.proofs.Common.{◌≡◌, ◌≢◌, ◌≤◌, ◌∙◌, ◌⊎◌, inl, inr, ℕ, ℤ, pos, true, IsTrue, IfErr, Result, Ok, Err, Option, Some, None, refl, sym, ap, subst}
-use Rattle.std.specs.Prelude.{if◌then◌else◌, ◌==◌}
-use Rattle.sqlite.specs.Effect.{Database}
-use Rattle.sqlite_trees.specs.declared.store.Store.{Ghosts}
-use Rattle.sqlite.specs.Held.{Held}
-use Rattle.sqlite.specs.State.{State, KeepsCommit}
-use Rattle.desk_types.specs.declared.rules.Rules.{Rules}
-use Rattle.desk_types.specs.declared.rules.Rules.TheVariants.{One, Two}
-use Rattle.desk_types.specs.declared.limits.TheConstants.{MOST_ENTRIES}
-use Rattle.desk_types.specs.History.{History, Basis, basis}
-use Rattle.desk_types.specs.Id.{Name}
-use Rattle.desk_types.specs.Judged.{IsJudged, IsLawful}
+use Rattle.desk_types.proofs.Common.{◌==◌, ◌∙◌, ◌≡◌, ◌≢◌, ◌≤◌, ◌⊎◌, ap, Basis, basis, Err, found_row, History, IfErr}
+use Rattle.desk_types.proofs.Common.{if◌then◌else◌, inl, inr, IsJudged, IsLawful, IsTrue, MOST_ENTRIES, Name, None}
+use Rattle.desk_types.proofs.Common.{Ok, One, Option, placement_row, PlacementRow, pos, refl, Result, Rules, Some}
+use Rattle.desk_types.proofs.Common.{subst, sym, true, Two, ℕ, ℤ}
+use Rattle.line_tables.proofs.Common.{Database, Ghosts, has_state, Held, HoldsBy, is_ours, KeepsCommit, Reads}
+use Rattle.line_tables.proofs.Common.{ReadsOnly, State, version_in}
 use Rattle.desk_laws.proofs.RulesOne.{nothing-found}
-use Rattle.line_tables.specs.declared.version.Version.{Version}
-use Rattle.desk_types.specs.declared.row.PlacementRow.{PlacementRow}
-use Rattle.desk_types.specs.Tables.{Tables as StateTables, tables_of as state_of, placement_row, found_row}
-use Rattle.state_rows.specs.Kept.{tables_in}
-use Rattle.line_tables.specs.Line.{is_ours}
-use Rattle.line_tables.specs.Names.{has_state}
-use Rattle.line_tables.specs.Rowids.{AreAllApartBy}
-use Rattle.line_replay.specs.declared.table.StateTable.{StateTable}
-use Rattle.line_replay.specs.Audit.{Pieces, IsExpected, IsVerdict, state_tables, with_placements}
-use Rattle.line_replay.proofs.PlacementsAsExpected.{expected_after}
-use Rattle.line_replay.proofs.Verdicts.{all_right}
-use Rattle.line_replay.specs.Expected.{Expected, AreExpected}
-use Rattle.line_tables.specs.Rows.{HoldsBy, version_in, version_of}
-use Rattle.line_tables.specs.Calls.{Reads, IsVersionOf}
-use Rattle.line_tables.specs.Frames.{ReadsOnly}
-use Rattle.line_tables.proofs.Frames.{reads_then}
-use Rattle.line_tables.proofs.Ours.{ours_is, ours_whole}
-use Rattle.line_replay.specs.Rows.{ledger_tables}
-use Rattle.line_replay.specs.declared.fault.ReplayFault.{ReplayFault}
+use Rattle.desk_types.specs.Tables.{Tables as StateTables, tables_of as state_of}
+use Rattle.line_replay.proofs.{PlacementsAsExpected.expected_after, ReadOfCommitted.reads_as}
+use Rattle.line_replay.proofs.{ReadOfCommitted.reads_back, Verdicts.all_right}
+use Rattle.line_replay.specs.{Audit.IsExpected, Audit.IsVerdict, Audit.Pieces, Audit.state_tables}
+use Rattle.line_replay.specs.{Audit.with_placements, Expected.AreExpected, Expected.Expected}
+use Rattle.line_replay.specs.{Replay.IsFaultOf as IsReplayFault, Replay.IsReplayed, Rows.ledger_tables}
+use Rattle.line_replay.specs.{declared.fault.ReplayFault.ReplayFault, declared.table.StateTable.StateTable}
+use Rattle.line_schema.specs.{Opening.IsFaultBy, Opening.IsGreatest, Opening.IsNamedBy, Opening.IsNoDeskBy}
+use Rattle.line_schema.specs.{Opening.IsOpened, Opening.IsVersion, Opening.opening_fault}
+use Rattle.line_schema.specs.{declared.fault.OpenFault.OpenFault, declared.fault.OpenFault.TheVariants.NotADesk}
+use Rattle.line_schema.specs.{declared.fault.OpenFault.TheVariants.OtherVersion}
+use Rattle.line_schema.specs.{declared.fault.OpenFault.TheVariants.TableDiffers, declared.opening.Opened.Opened}
+use Rattle.line_tables.proofs.{Frames.reads_then, Ours.ours_is, Ours.ours_whole}
+use Rattle.line_tables.specs.{Calls.IsVersionOf, Rowids.AreAllApartBy, Rows.version_of}
+use Rattle.line_tables.specs.{declared.version.Version.Version}
+use Rattle.state_rows.specs.{Kept.tables_in, Lists.IsListed}
 use Rattle.line_replay.specs.declared.fault.ReplayFault.TheVariants as replay
-use Rattle.line_replay.specs.Replay.{IsReplayed, IsFaultOf as IsReplayFault}
-use Rattle.line_replay.proofs.ReadOfCommitted.{reads_as, reads_back}
-use Rattle.state_rows.specs.Lists.{IsListed}
-use Rattle.line_schema.specs.declared.fault.OpenFault.{OpenFault}
-use Rattle.line_schema.specs.declared.fault.OpenFault.TheVariants.{NotADesk, OtherVersion, TableDiffers}
-use Rattle.line_schema.specs.declared.opening.Opened.{Opened}
-use Rattle.line_schema.specs.Opening.{IsGreatest, IsVersion, IsNoDeskBy, IsFaultBy, IsOpened, IsNamedBy, opening_fault}
 
 -- ---- the row of `version`
 

@@ -1,48 +1,27 @@
 -- The history that a store represents after a call.
-use Rattle.std.proofs.Common.{◌≡◌, ◌∙◌, ◌+◌, ◌<◌, ◌≤◌, ◌⊎◌, Bool, inl, inr, refl, IsTrue, IfSome, IsSomeAnd, Option, Some, None, is_some, Result, Ok, Err, IfOk, OnOk, OnErr, List, [], map, length, false, true, true≢false, ◌||◌, if◌then◌else◌, sym, ap, subst, arith}
-use Rattle.std.specs.List.{IsDistinct}
-use Rattle.std.proofs.lemmas.Map.Keys.{IsDistinct-cons}
-use Rattle.sqlite_trees.specs.declared.store.Store.{Ghosts}
-use Rattle.sqlite_trees.specs.Tree.{Trees}
-use Rattle.sqlite.specs.Effect.{Database}
-use Rattle.sqlite.specs.State.{State, HasCleanDisk, KeepsCommit, Survives}
-use Rattle.sqlite.proofs.StateLemmas.{survives_weaker}
-use Rattle.sqlite.specs.Held.{state}
-use Rattle.desk_types.specs.declared.change.Change.{Change}
-use Rattle.desk_types.specs.declared.command.Entry.{Entry}
-use Rattle.desk_types.specs.declared.command.Stamped.{Stamped}
-use Rattle.desk_types.specs.declared.rules.Rules.{Rules}
-use Rattle.desk_types.specs.declared.rules.Rules.TheVariants.{Two}
-use Rattle.desk_types.specs.Command.{IsStamped}
-use Rattle.desk_types.specs.Number.{IsMinute}
-use Rattle.desk_types.specs.Desk.{IsChange}
-use Rattle.desk_types.specs.History.{History, Basis, basis, accept}
-use Rattle.desk_types.specs.Id.{same}
-use Rattle.desk_types.specs.Judged.{IsJudged, IsLawful}
-use Rattle.desk_types.specs.declared.answer.Reply.TheVariants.{Accepted, Refused}
-use Rattle.desk_types.specs.Outcome.{after_command, reply_to, change_of}
-use Rattle.std.specs.Option.{option_map_or}
-use Rattle.desk_laws.proofs.JudgedLists.{consistent}
-use Rattle.desk_answers.specs.declared.answer.Answer.{Answer}
-use Rattle.desk_answers.specs.Commands.{earlier_answer, judged_answer, is_full, command_after}
+use Rattle.desk_types.proofs.Common.{◌+◌, ◌<◌, ◌||◌, ◌∙◌, ◌≡◌, ◌≤◌, ◌⊎◌, accept, Accepted, after_command, ap, arith}
+use Rattle.desk_types.proofs.Common.{Basis, basis, Bool, Change, change_of, Entry, Err, false, History, IfOk, IfSome}
+use Rattle.desk_types.proofs.Common.{if◌then◌else◌, inl, inr, is_some, IsChange, IsJudged, IsLawful, IsMinute}
+use Rattle.desk_types.proofs.Common.{IsSomeAnd, IsStamped, IsTrue, length, List, map, None, Ok, OnOk, Option}
+use Rattle.desk_types.proofs.Common.{option_map_or, refl, Refused, reply_to, Result, Rules, same, Some, Stamped}
+use Rattle.desk_types.proofs.Common.{subst, sym, true, true≢false, Two}
+use Rattle.line_tables.proofs.Common.{after_edits, AreNew, Database, Edit, Edits, Ghosts, HasCleanDisk, Holds}
+use Rattle.line_tables.proofs.Common.{HoldsAt, KeepsCommit, LeavesEdited, ReadsOnly, State, state, Survives, Trees}
 use Rattle.desk_answers.proofs.FirstTime.{first-uid}
-use Rattle.line_tables.specs.Edit.{Edit}
-use Rattle.line_tables.specs.Rows.{Tables, Holds, HoldsAt, AreNew, after_edits}
-use Rattle.line_tables.specs.Calls.{Edits, LeavesEdited}
-use Rattle.line_tables.specs.Frames.{ReadsOnly}
-use Rattle.line_replay.specs.Rows.{ledger_tables}
+use Rattle.desk_answers.specs.{Commands.command_after, Commands.earlier_answer, Commands.is_full}
+use Rattle.desk_answers.specs.{Commands.judged_answer, declared.answer.Answer.Answer}
+use Rattle.desk_laws.proofs.JudgedLists.{consistent}
 use Rattle.line_replay.proofs.Judgements.{next_is, stamped_is}
-use Rattle.line_replay.specs.Expected.{AreKept}
-use Rattle.line_schema.specs.declared.store.LineStore.{LineStore}
-use Rattle.line_schema.specs.declared.unavailable.Unavailable.{Unavailable as Fault}
-use Rattle.line_schema.specs.Answered.{AnswersOrFails, Commits}
-use Rattle.line_schema.specs.Stands.{HasRows, Kept, Stands, StaysOpen, ShowsTables, WorksFor, with_command}
-use Rattle.state_rows.specs.Kept.{KeptRows}
-use Rattle.line_schema.specs.Frames.{ReadsStore}
-use Rattle.state_rows.specs.declared.lists.TraceLists.{TraceLists}
-use Rattle.state_rows.specs.Lists.{IsListed}
-use Rattle.line_traces.specs.declared.working.Working.{Working}
-use Rattle.line_traces.specs.Working.{IsWorking}
+use Rattle.line_replay.specs.{Expected.AreKept, Rows.ledger_tables}
+use Rattle.line_schema.specs.{Answered.AnswersOrFails, Answered.Commits, Frames.ReadsStore, Stands.HasRows}
+use Rattle.line_schema.specs.{Stands.Kept, Stands.ShowsTables, Stands.Stands, Stands.StaysOpen, Stands.with_command}
+use Rattle.line_schema.specs.{Stands.WorksFor, declared.store.LineStore.LineStore}
+use Rattle.line_schema.specs.{declared.unavailable.Unavailable.Unavailable as Fault}
+use Rattle.line_tables.specs.Rows.{Tables}
+use Rattle.line_traces.specs.{Working.IsWorking, declared.working.Working.Working}
+use Rattle.sqlite.proofs.StateLemmas.{survives_weaker}
+use Rattle.state_rows.specs.{Kept.KeptRows, Lists.IsListed, declared.lists.TraceLists.TraceLists}
+use Rattle.std.proofs.{Common.OnErr, lemmas.Map.Keys.IsDistinct-cons}
 
 pub judged_for : {D : Type 0} (F : D → Basis → Type 0) (o : Option (Working D)) (H : History) (change : Change)
     → IsSomeAnd o (λ w. (B : Basis) → F w.desk B → IsChange B.rules B.history change.stamped change) → WorksFor F o H → IsChange Two H change.stamped change
@@ -51,10 +30,6 @@ judged_for F (Some w) H change h works = h (basis Two H) works.stands
 
 pub works_for : {D : Type 0} (F : D → Basis → Type 0) (o : Option (Working D)) (w : Working D) (H : History) → o ≡ Some w → WorksFor F o H → IsWorking F w (basis Two H)
 works_for F o w H is works = subst (λ o. WorksFor F o H) is works
-
-pub none_yet : IsDistinct same []
-unfolding IsDistinct
-none_yet = tt
 
 lawful_on : (greatest : _) (H : History) (s : Stamped) → IsLawful Two greatest H → IsJudged Two (accept H s) → earlier_answer H s ≡ None → length H < greatest → IsLawful Two greatest (accept H s)
 lawful_on greatest H s lawful judged none room = record {

@@ -1,17 +1,11 @@
 -- The result of a trace, for the history that a store represents.
-use Rattle.std.proofs.Common.{◌≡◌, IsTrue, IfSome, Option, Some, None, [], ◌∷◌, refl, sym, subst, arith}
-use Rattle.std.specs.List.{AllZip}
-use Rattle.sqlite_trees.specs.declared.store.Store.{Ghosts}
-use Rattle.sqlite.specs.State.{State, HasCleanDisk, Survives}
-use Rattle.sqlite.specs.Held.{state}
-use Rattle.desk_types.specs.declared.rules.Rules.TheVariants.{Two}
-use Rattle.desk_types.specs.History.{History, Basis, basis}
+use Rattle.desk_types.proofs.Common.{[], ◌∷◌, ◌≡◌, AllZip, arith, Basis, basis, History, IfSome, IsTrue, None, Option}
+use Rattle.desk_types.proofs.Common.{refl, Some, subst, sym, Two}
+use Rattle.line_tables.proofs.Common.{Ghosts, HasCleanDisk, State, state, Survives}
 use Rattle.line_replay.specs.Rows.{rows_of}
-use Rattle.line_traces.specs.declared.working.Working.{Working}
-use Rattle.line_traces.specs.Working.{FindsOfBoth, IsWorking}
+use Rattle.line_schema.specs.{Stands.Kept, Stands.Stands, Stands.WorksFor, declared.store.LineStore.LineStore}
 use Rattle.line_traces.proofs.Minutes.{IsRowOf, list-held}
-use Rattle.line_schema.specs.declared.store.LineStore.{LineStore}
-use Rattle.line_schema.specs.Stands.{Kept, Stands, WorksFor}
+use Rattle.line_traces.specs.{Working.FindsOfBoth, Working.IsWorking, declared.working.Working.Working}
 
 rows-are : (H : History) → AllZip IsRowOf H (rows_of H)
 rows-are [] = tt

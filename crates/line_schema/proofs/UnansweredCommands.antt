@@ -1,25 +1,19 @@
 -- The tables that a crash may leave after commands that were answered Unavailable.
-use Rattle.std.proofs.Common.{◌≡◌, ◌⊎◌, inl, inr, IsTrue, List, [], ◌∷◌, Bool, true, false, Some, is_some, MatchBool, ◌||◌, if◌then◌else◌, sym, ap, subst}
+use Rattle.desk_types.proofs.Common.{[], ◌||◌, ◌∷◌, ◌≡◌, ◌⊎◌, accept, after_command, ap, Basis, Bool, entry_of, false}
+use Rattle.desk_types.proofs.Common.{History, if◌then◌else◌, inl, inr, is_some, IsTrue, List, MatchBool, same-refl}
+use Rattle.desk_types.proofs.Common.{Some, Stamped, subst, sym, true, Two}
+use Rattle.line_tables.proofs.Common.{Ghosts, HasCleanDisk, Trees}
+use Rattle.desk_answers.specs.{Commands.answer_under, Commands.command_after, Commands.earlier_answer}
+use Rattle.desk_answers.specs.{Commands.is_full, declared.answer.Answer.TheVariants.Unavailable}
+use Rattle.line_schema.specs.{Stands.Kept, Stands.Stands, Stands.state_of, Unanswered.GoUnanswered}
+use Rattle.line_schema.specs.{Unanswered.HoldsOneMore, declared.store.LineStore.LineStore}
 use Rattle.std.proofs.lemmas.List.Elements.{Contains-append_left, Contains-append_right, Contains-push}
-use Rattle.sqlite_trees.specs.declared.store.Store.{Ghosts}
-use Rattle.sqlite_trees.specs.Tree.{Trees}
-use Rattle.sqlite.specs.State.{HasCleanDisk}
-use Rattle.desk_types.proofs.Keys.{same-refl}
-use Rattle.desk_types.specs.declared.command.Stamped.{Stamped}
-use Rattle.desk_types.specs.declared.rules.Rules.TheVariants.{Two}
-use Rattle.desk_types.specs.History.{History, Basis, accept, entry_of}
-use Rattle.desk_types.specs.Outcome.{after_command}
-use Rattle.desk_answers.specs.declared.answer.Answer.TheVariants.{Unavailable}
-use Rattle.desk_answers.specs.Commands.{answer_under, command_after, earlier_answer, is_full}
-use Rattle.line_schema.specs.declared.store.LineStore.{LineStore}
-use Rattle.line_schema.specs.Stands.{Kept, Stands, state_of}
-use Rattle.line_schema.specs.Unanswered.{GoUnanswered, HoldsOneMore}
 
 pub again : (greatest : _) (H : History) (s : Stamped) → command_after Two greatest (accept H s) s ≡ accept H s
 again greatest H s =
     ap (λ (b : Bool). if is_some (if b then Some (answer_under H (entry_of H s) s) else earlier_answer H s) || is_full greatest (accept H s) then accept H s else after_command Two (accept H s) s) (same-refl s.uid)
 
-left : (b : Bool) (P Q : Type 0) → MatchBool b P (P ⊎ Q) → P ⊎ Q
+pub left : (b : Bool) (P Q : Type 0) → MatchBool b P (P ⊎ Q) → P ⊎ Q
 left true P Q h = inl h
 left false P Q h = h
 

@@ -1,20 +1,12 @@
 -- A file that was migrated from version 1 to version 2.
-use Rattle.std.proofs.Common.{◌≡◌, ◌∙◌, IsTrue, map, sym, ap, subst}
-use Rattle.sqlite_trees.specs.Tree.{Trees}
-use Rattle.sqlite.specs.Effect.{Database}
-use Rattle.sqlite.specs.State.{State, HasCleanDisk, KeepsCommit, Survives}
-use Rattle.sqlite.proofs.StateLemmas.{survives_then}
-use Rattle.desk_types.specs.declared.rules.Rules.TheVariants.{One}
-use Rattle.desk_types.specs.History.{History, Basis}
+use Rattle.desk_types.proofs.Common.{◌∙◌, ◌≡◌, ap, Basis, History, IsTrue, map, One, subst, sym}
+use Rattle.line_tables.proofs.Common.{accepted_columns, accepted_in, Database, HasCleanDisk, HoldsBy, IsOurs}
+use Rattle.line_tables.proofs.Common.{KeepsCommit, LeavesMigrated, Migrated, Reads, State, Survives, survives_then}
+use Rattle.line_tables.proofs.Common.{Trees}
 use Rattle.desk_types.proofs.BothRules.{judged-by-two}
-use Rattle.line_tables.specs.Line.{IsOurs}
-use Rattle.line_tables.specs.Rows.{HoldsBy, accepted_columns, accepted_in}
-use Rattle.line_tables.specs.Calls.{Reads, Migrated, LeavesMigrated}
 use Rattle.line_replay.specs.Rows.{ledger_tables}
-use Rattle.line_schema.specs.declared.opening.Opened.{Opened}
-use Rattle.line_schema.specs.Opening.{IsOpened, IsNamedBy}
-use Rattle.line_schema.specs.Versions.{IsMigrated}
-use Rattle.line_schema.proofs.ReadOfCommitted.{opened_holds}
+use Rattle.line_schema.{proofs.ReadOfCommitted.opened_holds, specs.Opening.IsNamedBy, specs.Opening.IsOpened}
+use Rattle.line_schema.{specs.Versions.IsMigrated, specs.declared.opening.Opened.Opened}
 
 -- The tables that a crash may leave, by the commit before calls that kept it.
 left_before : (old mid : State) (trees : Trees) → KeepsCommit old mid → LeavesMigrated mid trees → LeavesMigrated old trees

@@ -1,32 +1,17 @@
 -- The effect of each kind of statement on the rows of its table.
-use Rattle.std.proofs.Common.{◌≡◌, ◌∙◌, ap₂, subst₂, drop, inl, inr, ℕ, List, [], ◌∷◌, map, filter, not, length, ◌&&◌, Bool, true, false, IsTrue, refl, sym, ap, subst, arith}
-use Rattle.std.specs.List.Sorted.{IsPermutation}
-use Rattle.std.proofs.lemmas.Bool.{cases_Bool}
-use Rattle.std.proofs.lemmas.List.Sorted.{IsPermutation-refl, IsPermutation-map, IsPermutation-cons, IsPermutation-trans, IsPermutation-sym}
-use Rattle.sqlite_trees.proofs.ListLemmas.{IsPermutation-filter}
-use Rattle.sqlite.proofs.Callers.{one_permutation}
-use Rattle.sqlite_value.specs.Order.{Row}
-use Rattle.sqlite.specs.Term.{Term}
-use Rattle.sqlite.specs.Cast.{cast_row}
-use Rattle.sqlite.specs.Rowids.TheVariants.{Chosen}
-use Rattle.sqlite.specs.Effect.{Database}
-use Rattle.sqlite_schema.specs.declared.schema.Table.{Table}
-use Rattle.sqlite_rules.specs.Edit.{with_rowid, is_taken, without_all, put_all, are_fresh}
-use Rattle.sqlite_rules.specs.Calls.{ids_of}
-use Rattle.sqlite_rules.specs.Lists.{Has}
+use Rattle.desk_types.proofs.Common.{[], ◌&&◌, ◌∙◌, ◌∷◌, ◌≡◌, ap, ap₂, arith, Bool, cases_Bool, drop, false, filter}
+use Rattle.desk_types.proofs.Common.{inl, inr, IsPermutation, IsPermutation-cons, IsPermutation-map}
+use Rattle.desk_types.proofs.Common.{IsPermutation-refl, IsPermutation-sym, IsPermutation-trans, IsTrue, length, List}
+use Rattle.desk_types.proofs.Common.{map, not, refl, subst, subst₂, sym, true, Two, ℕ}
+use Rattle.line_tables.proofs.Common.{AreApart, cast_row, Chosen, columns, Database, Has, ids_of, is_int, is_taken}
+use Rattle.line_tables.proofs.Common.{IsPermutation-filter, Layout, one_permutation, put_all, put_row, Row, rowid}
+use Rattle.line_tables.proofs.Common.{schema_of, State, Table, Term, with_rowid, without_all}
+use Rattle.line_tables.proofs.{Altering.Alters, Altering.IsKept, Altering.put_in, Altering.rows_at, Altering.Steps}
+use Rattle.line_tables.proofs.{Altering.without, Apart.apart_filter, Apart.apart_put, Apart.taken, Changes.Changed}
+use Rattle.line_tables.proofs.{Changes.passing, Changes.renewed, Changes.shows_of, Inserts.Inserted, Puts.not_taken}
+use Rattle.line_tables.proofs.{Puts.put_permutes}
 use Rattle.sqlite_rules.proofs.ListLemmas.{has_filtered}
-use Rattle.sqlite_trees.specs.Tree.{rowid, put_row}
-use Rattle.sqlite_trees.specs.View.{is_int}
-use Rattle.sqlite.specs.State.{State}
-use Rattle.desk_types.specs.declared.rules.Rules.TheVariants.{Two}
-use Rattle.line_tables.specs.Line.{schema_of, Layout}
-use Rattle.line_tables.specs.StateRows.{columns}
-use Rattle.line_tables.specs.Rowids.{AreApart}
-use Rattle.line_tables.proofs.Apart.{apart_put, apart_filter, taken}
-use Rattle.line_tables.proofs.Altering.{without, put_in, rows_at, IsKept, Steps, Alters}
-use Rattle.line_tables.proofs.Inserts.{Inserted}
-use Rattle.line_tables.proofs.Changes.{Changed, passing, shows_of, renewed}
-use Rattle.line_tables.proofs.Puts.{put_permutes, not_taken}
+use Rattle.sqlite_rules.specs.Edit.{are_fresh}
 
 pub left_of : (columns_in : Row → Row) (m k : Row → Bool) → ((r : Row) → m r ≡ k (columns_in r)) → (rows : List Row) → map columns_in (filter (λ r. not (m r)) rows) ≡ filter (λ r. not (k r)) (map columns_in rows)
 left_of columns_in m k is [] = refl

@@ -1,30 +1,21 @@
 -- A change of one table, and its effect on the set of all tables.
-use Rattle.std.proofs.Common.{◌≡◌, ◌≢◌, ◌∙◌, inl, inr, ℕ, List, [], ◌∷◌, map, filter, Bool, true, false, not, ◌&&◌, ◌==◌, IsTrue, Option, None, refl, sym, ap, subst}
-use Rattle.std.specs.Option.{option_map, option_to_list}
-use Rattle.std.specs.List.{AllByRecursion, list_all}
-use Rattle.std.specs.List.Sorted.{IsPermutation}
-use Rattle.std.proofs.lemmas.List.Sorted.{IsPermutation-refl}
-use Rattle.std.proofs.lemmas.Bool.{cases_Bool, and_parts, and_from, eq-eqb, eqb-true}
-use Rattle.sqlite_value.specs.Order.{Row}
-use Rattle.sqlite_schema.specs.declared.schema.Table.{Table}
-use Rattle.sqlite.specs.Effect.{Database, IsDatabase}
-use Rattle.sqlite_trees.specs.Tree.{Trees}
-use Rattle.sqlite.specs.State.{State}
-use Rattle.desk_types.specs.Placements.{takes_of}
-use Rattle.desk_types.specs.Pieces.{found_of}
-use Rattle.desk_types.specs.declared.rules.Rules.{Rules}
-use Rattle.desk_types.specs.declared.rules.Rules.TheVariants.{One, Two}
-use Rattle.desk_types.specs.declared.edit.RowEdit.{RowEdit}
-use Rattle.desk_types.specs.Tables.{Tables as StateTables}
-use Rattle.desk_types.specs.Edits.{with_edit as state_with, IsNew as IsNewRow}
-use Rattle.line_tables.specs.Line.{schema_of, schema_tables, tree_in, version, accepted, part, alternate, sheet_row, selected, reel, mount, board, placement, found, found_by, found_tree, Layout, others_in, nothing as no_others}
-use Rattle.line_tables.specs.StateRows.{AreRows, rows_in, kept_in, columns, HoldsState, HoldsParts, HoldsAlternates, HoldsSheets, HoldsSelected, HoldsReels, HoldsMounts, HoldsBoards, HoldsPlacements, HoldsFound}
-use Rattle.line_tables.specs.Rowids.{AreApart, AreAllApart, changed_tables}
-use Rattle.line_tables.specs.Rows.{Tables, Holds, blank, version_columns, accepted_columns, version_row}
-use Rattle.line_tables.specs.Calls.{WritesRow}
-use Rattle.line_tables.proofs.Apart.{apart_none}
-use Rattle.line_tables.proofs.Beside.{is_low, far_kept}
-use Rattle.line_tables.specs.Line.Layout.{Indexed, Plain}
+use Rattle.desk_types.proofs.Common.{[], ◌&&◌, ◌==◌, ◌∙◌, ◌∷◌, ◌≡◌, ◌≢◌, AllByRecursion, and_from, and_parts, ap}
+use Rattle.desk_types.proofs.Common.{Bool, cases_Bool, eq-eqb, eqb-true, false, filter, found_of, inl, inr}
+use Rattle.desk_types.proofs.Common.{IsPermutation, IsPermutation-refl, IsTrue, List, list_all, map, None, not, One}
+use Rattle.desk_types.proofs.Common.{Option, option_map, option_to_list, refl, RowEdit, Rules, subst, sym, takes_of}
+use Rattle.desk_types.proofs.Common.{true, Two, ℕ}
+use Rattle.line_tables.proofs.Common.{accepted, accepted_columns, alternate, AreApart, AreRows, blank, board}
+use Rattle.line_tables.proofs.Common.{changed_tables, columns, Database, found, found_tree, Holds, Indexed}
+use Rattle.line_tables.proofs.Common.{IsDatabase, kept_in, Layout, mount, others_in, part, placement, Plain, reel}
+use Rattle.line_tables.proofs.Common.{Row, rows_in, schema_of, schema_tables, selected, sheet_row, State, Table}
+use Rattle.line_tables.proofs.Common.{tree_in, Trees, version, version_columns}
+use Rattle.desk_types.specs.{Edits.IsNew as IsNewRow, Edits.with_edit as state_with, Tables.Tables as StateTables}
+use Rattle.line_tables.proofs.{Apart.apart_none, Beside.far_kept, Beside.is_low}
+use Rattle.line_tables.specs.{Calls.WritesRow, Line.found_by, Line.nothing as no_others, Rowids.AreAllApart}
+use Rattle.line_tables.specs.{Rows.Tables, Rows.version_row, StateRows.HoldsAlternates, StateRows.HoldsBoards}
+use Rattle.line_tables.specs.{StateRows.HoldsFound, StateRows.HoldsMounts, StateRows.HoldsParts}
+use Rattle.line_tables.specs.{StateRows.HoldsPlacements, StateRows.HoldsReels, StateRows.HoldsSelected}
+use Rattle.line_tables.specs.{StateRows.HoldsSheets, StateRows.HoldsState}
 
 abbrev pub state_tables : Layout → List Table
 state_tables indexed = part ∷ alternate ∷ sheet_row ∷ selected ∷ reel ∷ mount ∷ board ∷ placement ∷ found_by indexed ∷ []

@@ -1,21 +1,14 @@
 -- Rows with distinct rowids, and the rows that remain after those found by a query are removed.
-use Rattle.std.proofs.Common.{◌≡◌, inl, inr, ℤ, List, [], ◌∷◌, map, filter, not, ◌||◌, ◌&&◌, Bool, true, false, IsTrue, Ordering, Less, Equal, Greater, refl, sym, ap, subst, ◌∙◌}
-use Rattle.std.specs.List.{list_any}
-use Rattle.std.specs.List.Sorted.{IsPermutation}
-use Rattle.std.specs.Ordering.{is_eq}
-use Rattle.std.proofs.lemmas.Bool.{cases_Bool}
-use Rattle.std.proofs.lemmas.Cmp.{tied_itself, tied_back}
-use Rattle.std.proofs.lemmas.List.Sorted.{list_any-IsPermutation}
-use Rattle.sqlite_value.specs.Order.{Row, value_cmp}
-use Rattle.sqlite_value.proofs.OrderLemmas.{value_cmp_total}
-use Rattle.sqlite_trees.specs.Tree.{rowid, has_rowid, without_rowid, put_row}
-use Rattle.sqlite_trees.specs.View.{is_int}
-use Rattle.sqlite_rules.specs.Lists.{Has}
-use Rattle.sqlite_rules.specs.Edit.{id_in, without_all, is_taken}
-use Rattle.sqlite_rules.specs.Calls.{ids_of}
-use Rattle.sqlite_rules.proofs.ListLemmas.{some_has, some_from, has_filtered, has_kept}
-use Rattle.sqlite_rules.proofs.TableLemmas.{int_is, put_has}
-use Rattle.line_tables.specs.Rowids.{AreApart}
+use Rattle.desk_types.proofs.Common.{[], ◌&&◌, ◌||◌, ◌∙◌, ◌∷◌, ◌≡◌, ap, Bool, cases_Bool, false, filter, inl, inr}
+use Rattle.desk_types.proofs.Common.{is_eq, IsPermutation, IsTrue, List, list_any, list_any-IsPermutation, map, not}
+use Rattle.desk_types.proofs.Common.{refl, subst, sym, tied_itself, true, ℤ}
+use Rattle.line_tables.proofs.Common.{AreApart, Has, ids_of, is_int, is_taken, put_row, Row, rowid, value_cmp}
+use Rattle.line_tables.proofs.Common.{value_cmp_total, without_all}
+use Rattle.sqlite_rules.proofs.{ListLemmas.has_filtered, ListLemmas.has_kept, ListLemmas.some_from}
+use Rattle.sqlite_rules.proofs.{ListLemmas.some_has, TableLemmas.int_is, TableLemmas.put_has}
+use Rattle.sqlite_rules.specs.Edit.{id_in}
+use Rattle.sqlite_trees.specs.Tree.{has_rowid, without_rowid}
+use Rattle.std.proofs.{Common.Equal, Common.Greater, Common.Less, Common.Ordering, lemmas.Cmp.tied_back}
 
 pub apart_none : AreApart []
 apart_none = record { keyed = λ a h. absurd h; apart = λ a b h k tie. absurd h }

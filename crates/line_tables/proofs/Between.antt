@@ -1,28 +1,14 @@
 -- Placements within a range of rowids.
-use Rattle.std.proofs.Common.{◌≡◌, inl, inr, ℕ, Bool, true, false, List, [], ◌∷◌, ◌++◌, codes, map, if◌then◌else◌, refl}
-use Rattle.std.specs.List.{AllByRecursion, flat_map, list_all}
-use Rattle.std.specs.List.Sorted.{IsPermutation}
-use Rattle.std.proofs.lemmas.List.Elements.{All-from_recursion, recursion_from_All}
-use Rattle.std.proofs.lemmas.List.Sorted.{All-permutation}
-use Rattle.sqlite_keyed.proofs.ListLemmas.{all_weaker}
-use Rattle.sqlite_rules.specs.Lists.{Has}
-use Rattle.sqlite_value.specs.Order.{Row}
-use Rattle.sqlite.specs.Collation.TheVariants.{Binary}
-use Rattle.sqlite_sql.specs.declared.ops.BinaryOp.TheVariants.{Compare}
-use Rattle.sqlite_sql.specs.declared.ops.CompareOp.TheVariants.{Ge, Le}
-use Rattle.sqlite.specs.Term.{Term, col, op2, holds}
-use Rattle.sqlite.specs.Query.{Query, output, Output}
-use Rattle.sqlite.specs.Listing.{understood}
-use Rattle.sqlite_tied.specs.Compute.{everything}
-use Rattle.sqlite_trees.specs.declared.store.Store.{Ghosts}
-use Rattle.sqlite.specs.Held.{Held, state}
-use Rattle.sqlite.specs.Program.{overlay}
+use Rattle.desk_types.proofs.Common.{[], ◌++◌, ◌∷◌, ◌≡◌, All-from_recursion, All-permutation, AllByRecursion, Bool}
+use Rattle.desk_types.proofs.Common.{codes, false, flat_map, if◌then◌else◌, inl, inr, IsPermutation, List, list_all}
+use Rattle.desk_types.proofs.Common.{map, recursion_from_All, refl, true, ℕ}
+use Rattle.line_tables.proofs.Common.{all_weaker, Binary, col, columns, Compare, everything, Ge, Ghosts, Has, Held}
+use Rattle.line_tables.proofs.Common.{holds, op2, Output, output, overlay, Query, Reads, Row, rows_in, Selects, state}
+use Rattle.line_tables.proofs.Common.{Term, understood}
+use Rattle.line_tables.{proofs.FindTexts.IsSelect, proofs.FindTexts.rows_from, proofs.Finds.answer_of}
+use Rattle.line_tables.{proofs.Finds.rows_answer, proofs.Finds.shown_of, specs.Shown.AreOf}
+use Rattle.sqlite_sql.specs.declared.ops.CompareOp.TheVariants.{Le}
 use Rattle.line_tables.specs.Line as line
-use Rattle.line_tables.specs.Calls.{Selects, Reads}
-use Rattle.line_tables.specs.StateRows.{columns, rows_in}
-use Rattle.line_tables.specs.Shown.{AreOf}
-use Rattle.line_tables.proofs.FindTexts.{IsSelect, rows_from}
-use Rattle.line_tables.proofs.Finds.{answer_of, rows_answer, shown_of}
 
 pub shown-in : (q : Query) (params : Row) (columns : Row → Row) → ((r : Row) → (output q (params ∷ r ∷ [])).1 ≡ columns r) → (rows : List Row) → AllByRecursion (Has (map columns rows)) (shown_of q params rows)
 shown-in q params columns out [] = tt

@@ -1,36 +1,19 @@
 -- The effect of a DELETE and an UPDATE with tests, for any table whose rows each have a rowid.
-use Rattle.std.proofs.Common.{◌≡◌, ◌≢◌, ◌∙◌, inl, inr, ℕ, List, [], ◌∷◌, map, filter, drop, Bool, length, slice_get, None, Some, Ok, unwrap_or, nat_le, ◌^◌, refl, sym, ap, subst, true}
-use Rattle.std.specs.List.{AllByRecursion, list_all}
-use Rattle.std.specs.List.Sorted.{IsPermutation}
-use Rattle.std.proofs.lemmas.Bool.{cases_Bool}
-use Rattle.std.proofs.lemmas.List.{length-map}
-use Rattle.sqlite.specs.declared.types.Value.TheVariants.{Null}
-use Rattle.sqlite.specs.Order.{Row}
-use Rattle.sqlite.specs.Term.{Term, holds}
-use Rattle.sqlite.specs.Table.{Table}
-use Rattle.sqlite.specs.Schema.{Schema}
-use Rattle.sqlite.specs.Query.{IsAnswer, output}
-use Rattle.sqlite.specs.Program.{overlay}
-use Rattle.sqlite.specs.declared.run.Mode.{Mode}
-use Rattle.sqlite_schema.specs.declared.program.Program.{Program}
-use Rattle.sqlite.specs.Command.TheVariants.{Delete, Update}
-use Rattle.sqlite.specs.Cast.{cast_row}
-use Rattle.sqlite.specs.Edit.{edit_of, taken_by, without_all, put_all, are_fresh}
-use Rattle.sqlite.specs.Rowids.TheVariants.{Given}
-use Rattle.sqlite_schema.specs.declared.schema.Keys.TheVariants.{Enforced}
-use Rattle.sqlite_rules.specs.Action.{works}
-use Rattle.sqlite_rules.specs.Calls.{ids_of}
+use Rattle.desk_types.proofs.Common.{[], ◌^◌, ◌∙◌, ◌∷◌, ◌≡◌, ◌≢◌, AllByRecursion, ap, Bool, cases_Bool, drop, filter}
+use Rattle.desk_types.proofs.Common.{inl, inr, IsPermutation, length, length-map, List, list_all, map, nat_le, None}
+use Rattle.desk_types.proofs.Common.{Ok, refl, slice_get, Some, subst, sym, true, unwrap_or, ℕ}
+use Rattle.line_tables.proofs.Common.{cast_row, command_of, Database, Enforced, holds, ids_of, IsAnswer, IsDatabase}
+use Rattle.line_tables.proofs.Common.{IsPlain, Null, output, overlay, runs_as, Schema, State, statement_of, Tally}
+use Rattle.line_tables.proofs.Common.{Term, understood, Update, works}
+use Rattle.line_tables.proofs.{FindTexts.rows_from, Finds.overlay_none, Finds.rows_answer, Finds.shown_is, Finds.whole}
+use Rattle.line_tables.proofs.{Inserts.concludes_as, Inserts.same_value, Inserts.went}
+use Rattle.sqlite.proofs.Callers.{one_step, through}
+use Rattle.sqlite.specs.{Command.TheVariants.Delete, Does.AtPlace, Does.Concludes, Does.Does, Does.OnRows}
+use Rattle.sqlite.specs.{Edit.are_fresh, Edit.edit_of, Edit.put_all, Edit.taken_by, Edit.without_all, Effect.Answers}
+use Rattle.sqlite.specs.{Order.Row, Rowids.TheVariants.Given, Rows.Deletes, Rows.Edited, Rows.Task, Rows.Updates}
+use Rattle.sqlite.specs.{Rows.Written, State.Executes, State.mode_of, Table.Table, Tree.Trees, declared.run.Mode.Mode}
 use Rattle.sqlite_rules.proofs.PlaceLemmas.{given}
-use Rattle.sqlite.specs.Tree.{Trees}
-use Rattle.sqlite.specs.Effect.{Database, IsDatabase, Answers}
-use Rattle.sqlite.specs.Does.{Tally, Does, OnRows, AtPlace, Concludes}
-use Rattle.sqlite.specs.Rows.{Written, Task, Deletes, Updates, Edited}
-use Rattle.sqlite.specs.Listing.{understood}
-use Rattle.sqlite.specs.State.{State, mode_of, Executes}
-use Rattle.sqlite.proofs.Callers.{IsPlain, command_of, statement_of, runs_as, one_step, through}
-use Rattle.line_tables.proofs.Inserts.{went, same_value, concludes_as}
-use Rattle.line_tables.proofs.FindTexts.{rows_from}
-use Rattle.line_tables.proofs.Finds.{rows_answer, shown_is, whole}
+use Rattle.sqlite_schema.specs.declared.program.Program.{Program}
 
 abbrev pub passing : List Term → Row → Row → Bool
 passing tests params r = list_all (holds (params ∷ r ∷ [])) tests
@@ -38,14 +21,11 @@ passing tests params r = list_all (holds (params ∷ r ∷ [])) tests
 abbrev pub shows_of : ℕ → List Term → List Term → Row → Row → Row
 shows_of tree tests project params r = (output (rows_from tree tests project) (params ∷ r ∷ [])).1
 
-overlaid : (db : Trees) (tree : ℕ) → overlay db [] tree ≡ db tree
-overlaid db tree = elim (cases_Bool (nat_le (2 ^ 31) tree)) [ inl high ↦ rw high refl | inr low ↦ rw low refl ]
-
 found_rows : (tree : ℕ) (tests project : List Term) (db : Trees) (params : Row) (rows : List Row) → IsAnswer (rows_from tree tests project) (overlay db []) params rows
     → IsPermutation (map (shows_of tree tests project params) (filter (passing tests params) (db tree))) rows
 found_rows tree tests project db params rows a =
     let show = shows_of tree tests project params in
-    let is = shown_is (rows_from tree tests project) params (λ r. r) show (passing tests params) (λ r. refl) (λ r. refl) (overlay db [] tree) ∙ ap (λ l. map show (filter (passing tests params) l)) (whole (overlay db [] tree) ∙ overlaid db tree) in
+    let is = shown_is (rows_from tree tests project) params (λ r. r) show (passing tests params) (λ r. refl) (λ r. refl) (overlay db [] tree) ∙ ap (λ l. map show (filter (passing tests params) l)) (whole (overlay db [] tree) ∙ overlay_none db tree) in
     subst (λ l. IsPermutation l rows) is (rows_answer tree tests project (overlay db []) params rows a)
 
 -- The rows found, and the table after the statement.

@@ -1,21 +1,19 @@
 -- The meaning of the texts that create the tables.
-use Rattle.std.proofs.Common.{◌≡◌, List, ℕ, [], ◌∷◌, pos, Ok, refl}
-use Rattle.sqlite.specs.Compile.{table_defined_by}
-use Rattle.sqlite.specs.Command.TheVariants.{CreateTable, Insert, Update}
-use Rattle.sqlite.specs.Source.TheVariants.{Values}
-use Rattle.sqlite.specs.Term.{Term, lit, col}
-use Rattle.sqlite.specs.declared.types.Value.TheVariants.{Null, Int}
-use Rattle.sqlite.specs.Listing.{understood}
-use Rattle.sqlite_tied.specs.Compute.{everything}
-use Rattle.sqlite.specs.Schema.{Schema}
-use Rattle.sqlite.specs.Table.{Table}
-use Rattle.sqlite.proofs.Callers.{IsPlain, command_of, statement_of}
+use Rattle.desk_types.proofs.Common.{[], ◌∷◌, ◌≡◌, List, Ok, One, pos, refl, Two, ℕ}
+use Rattle.line_tables.proofs.Common.{accepted, alone, alternate, board, col, command_of, everything, Indexed, Insert}
+use Rattle.line_tables.proofs.Common.{Int, IsPlain, Layout, lit, mount, Null, part, placement, Plain, reel, Schema}
+use Rattle.line_tables.proofs.Common.{schema_of, selected, sheet_row, statement_of, Term, understood, Update, Values}
+use Rattle.line_tables.proofs.Common.{version}
 use Rattle.line_tables.proofs.FindTexts.{rows_from}
-use Rattle.desk_types.specs.declared.rules.Rules.TheVariants.{One, Two}
-use Rattle.line_tables.specs.Line.{version, accepted, part, alternate, sheet_row, selected, reel, mount, board, placement, found_by, first_of_line, line_schema, schema_of, Layout, alone}
-use Rattle.line_tables.specs.Line.Layout.{Indexed, Plain}
-use Rattle.line_tables.specs.declared.making.TheConstants.{CREATE_ACCEPTED, CREATE_ALTERNATE, CREATE_BOARD, CREATE_FOUND, CREATE_MOUNT, CREATE_PART, CREATE_PLACEMENT, CREATE_REEL, CREATE_SELECTED, CREATE_SHEET_ROW, CREATE_VERSION, INSERT_VERSION}
+use Rattle.line_tables.specs.Line.{first_of_line, found_by, line_schema}
+use Rattle.line_tables.specs.declared.making.TheConstants.{CREATE_ACCEPTED, CREATE_ALTERNATE, CREATE_BOARD}
+use Rattle.line_tables.specs.declared.making.TheConstants.{CREATE_FOUND, CREATE_MOUNT, CREATE_PART, CREATE_PLACEMENT}
+use Rattle.line_tables.specs.declared.making.TheConstants.{CREATE_REEL, CREATE_SELECTED, CREATE_SHEET_ROW}
+use Rattle.line_tables.specs.declared.making.TheConstants.{CREATE_VERSION, INSERT_VERSION}
 use Rattle.line_tables.specs.declared.migrating.TheConstants.{UPDATE_VERSION}
+use Rattle.sqlite.specs.Command.TheVariants.{CreateTable}
+use Rattle.sqlite.specs.Compile.{table_defined_by}
+use Rattle.sqlite.specs.Table.{Table}
 
 -- In a database of the schema, the text creates this table, except for its tree.
 abbrev pub IsCreate : Schema → List ℕ → Table → Type 0

@@ -1,31 +1,28 @@
 -- The effect of CREATE TABLE and CREATE INDEX, for any schema that gives the text a meaning.
-use Rattle.std.proofs.Common.{◌≡◌, ◌≢◌, ◌∷◌, ◌++◌, ◌==◌, not, true, pos, map, ℕ, List, [], false, None, Ok, Result, refl, sym, ap, subst, ◌∙◌}
-use Rattle.std.specs.List.{AllByRecursion, list_all}
-use Rattle.sqlite.specs.Table.{Table}
-use Rattle.sqlite.specs.Schema.{Schema}
-use Rattle.sqlite.specs.Command.TheVariants.{CreateTable}
-use Rattle.sqlite.specs.Change.{created, next_tree, KeepsRows}
-use Rattle.sqlite.specs.Does.{Tally, lacks_sequence}
-use Rattle.sqlite.specs.Effect.{Database, IsDatabase}
-use Rattle.sqlite.specs.State.{State, Writes}
-use Rattle.sqlite.proofs.Callers.{runs_as}
-use Rattle.line_tables.proofs.Inserts.{went, same_value, insert_does}
-use Rattle.std.proofs.lemmas.Bool.{and_parts}
-use Rattle.line_tables.proofs.Altering.{state_tables, other_tree, holds_blank}
-use Rattle.sqlite.specs.declared.types.Value.TheVariants.{Null, Int}
-use Rattle.sqlite.specs.Cast.{cast_row}
-use Rattle.sqlite_trees.specs.Tree.{Trees, put_row}
-use Rattle.sqlite_rules.specs.Edit.{with_rowid}
-use Rattle.sqlite.specs.Rowids.TheVariants.{Chosen}
-use Rattle.line_tables.proofs.Puts.{cast_int, cast_null}
+use Rattle.desk_types.proofs.Common.{[], ◌++◌, ◌==◌, ◌∙◌, ◌∷◌, ◌≡◌, ◌≢◌, AllByRecursion, and_parts, ap, false, List}
+use Rattle.desk_types.proofs.Common.{list_all, map, None, not, Ok, One, pos, refl, Result, subst, sym, true, Two, ℕ}
+use Rattle.line_tables.proofs.Common.{accepted, alone, alternate, blank, board, cast_row, Chosen, Database}
+use Rattle.line_tables.proofs.Common.{found_tree, Holds, Indexed, Int, IsDatabase, Layout, mount, no_schema, Null}
+use Rattle.line_tables.proofs.Common.{part, placement, Plain, put_row, reel, Runs, runs_as, Schema, schema_of}
+use Rattle.line_tables.proofs.Common.{selected, sheet_row, State, Tally, Trees, version, version_columns, with_rowid}
+use Rattle.line_tables.proofs.Altering.{holds_blank, other_tree, state_tables}
 use Rattle.line_tables.proofs.Beside.{quiet}
-use Rattle.line_tables.proofs.CreateTexts.{IsCreate, version_is, accepted_is, part_is, alternate_is, sheet_row_is, selected_is, reel_is, mount_is, board_is, placement_is, found_is, version_terms, insert_version_is}
-use Rattle.desk_types.specs.declared.rules.Rules.TheVariants.{One, Two}
-use Rattle.line_tables.specs.Line.{no_schema, line_schema, schema_of, first_of_line, found_tree, found_by, version, accepted, part, alternate, sheet_row, selected, reel, mount, board, placement, Layout, alone, nothing as no_others}
-use Rattle.line_tables.specs.Rows.{Holds, blank, version_columns}
-use Rattle.line_tables.specs.Calls.{Runs, Makes, IsBare, Extends, Grows, AddsFound}
-use Rattle.line_tables.specs.Line.Layout.{Indexed, Plain}
-use Rattle.line_tables.specs.declared.making.TheConstants.{CREATE_ACCEPTED, CREATE_ALTERNATE, CREATE_BOARD, CREATE_FOUND, CREATE_MOUNT, CREATE_PART, CREATE_PLACEMENT, CREATE_REEL, CREATE_SELECTED, CREATE_SHEET_ROW, CREATE_VERSION, INSERT_VERSION}
+use Rattle.line_tables.proofs.CreateTexts.{accepted_is, alternate_is, board_is, found_is, insert_version_is, IsCreate}
+use Rattle.line_tables.proofs.CreateTexts.{mount_is, part_is, placement_is, reel_is, selected_is, sheet_row_is}
+use Rattle.line_tables.proofs.CreateTexts.{version_is, version_terms}
+use Rattle.line_tables.proofs.Inserts.{insert_does, same_value, went}
+use Rattle.line_tables.proofs.Puts.{cast_int, cast_null}
+use Rattle.line_tables.specs.Calls.{AddsFound, Extends, Grows, IsBare, Makes}
+use Rattle.line_tables.specs.Line.{first_of_line, found_by, line_schema, nothing as no_others}
+use Rattle.line_tables.specs.declared.making.TheConstants.{CREATE_ACCEPTED, CREATE_ALTERNATE, CREATE_BOARD}
+use Rattle.line_tables.specs.declared.making.TheConstants.{CREATE_FOUND, CREATE_MOUNT, CREATE_PART, CREATE_PLACEMENT}
+use Rattle.line_tables.specs.declared.making.TheConstants.{CREATE_REEL, CREATE_SELECTED, CREATE_SHEET_ROW}
+use Rattle.line_tables.specs.declared.making.TheConstants.{CREATE_VERSION, INSERT_VERSION}
+use Rattle.sqlite.specs.Change.{created, KeepsRows, next_tree}
+use Rattle.sqlite.specs.Command.TheVariants.{CreateTable}
+use Rattle.sqlite.specs.Does.{lacks_sequence}
+use Rattle.sqlite.specs.State.{Writes}
+use Rattle.sqlite.specs.Table.{Table}
 
 pub extends_then : (a b c : Schema) (old mid new : State) → Extends a b old mid → Extends b c mid new → Extends a c old new
 extends_then a b c old mid new p q = record { was_open = p.was_open; bare = λ h. q.bare (p.bare h) }

@@ -1,23 +1,14 @@
 -- The meaning of the texts that read.
-use Rattle.std.proofs.Common.{◌≡◌, ◌⊎◌, inl, is_ok, Bool, List, ℕ, [], ◌∷◌, codes, refl, false, None, Some, pos, negsuc}
-use Rattle.sqlite.specs.Command.TheVariants.{Select}
-use Rattle.sqlite.specs.Term.{Term, lit, col, op2}
-use Rattle.sqlite.specs.Query.{Query, inner, end}
-use Rattle.sqlite.specs.Collation.TheVariants.{Binary}
+use Rattle.desk_types.proofs.Common.{[], ◌∷◌, ◌≡◌, ◌⊎◌, Bool, codes, false, inl, is_ok, List, negsuc, None, pos, refl}
+use Rattle.desk_types.proofs.Common.{Rules, Some, ℕ}
+use Rattle.line_tables.proofs.Common.{ascending, Binary, col, command_of, Compare, end, Eq, everything, inner, Int}
+use Rattle.line_tables.proofs.Common.{IsPlain, Layout, lit, Lt, Null, op2, Query, Schema, schema_of, Term, understood}
+use Rattle.line_tables.specs.{declared.reading.TheConstants.SELECT_BEFORE, declared.reading.TheConstants.SELECT_COUNT}
+use Rattle.line_tables.specs.{declared.reading.TheConstants.SELECT_LEAST, declared.reading.TheConstants.SELECT_NUMBER}
+use Rattle.line_tables.specs.{declared.reading.TheConstants.SELECT_UID, declared.version.TheConstants.SELECT_VERSION}
+use Rattle.sqlite.specs.{Command.TheVariants.Select, Listing.reads_listing}
 use Rattle.sqlite_sql.specs.Group.{Grouping}
 use Rattle.sqlite_sql.specs.declared.aggregate.AggregateOp.TheVariants as by
-use Rattle.sqlite_sql.specs.declared.ops.BinaryOp.TheVariants.{Compare}
-use Rattle.sqlite_sql.specs.declared.ops.CompareOp.TheVariants.{Eq, Lt}
-use Rattle.sqlite.specs.declared.types.Value.TheVariants.{Null, Int}
-use Rattle.sqlite_value.specs.Keys.{ascending}
-use Rattle.sqlite.specs.Listing.{understood, reads_listing}
-use Rattle.sqlite_tied.specs.Compute.{everything}
-use Rattle.sqlite.proofs.Callers.{IsPlain, command_of}
-use Rattle.sqlite.specs.Schema.{Schema}
-use Rattle.desk_types.specs.declared.rules.Rules.{Rules}
-use Rattle.line_tables.specs.Line.{schema_of, Layout}
-use Rattle.line_tables.specs.declared.reading.TheConstants.{SELECT_BEFORE, SELECT_COUNT, SELECT_LEAST, SELECT_NUMBER, SELECT_UID}
-use Rattle.line_tables.specs.declared.version.TheConstants.{SELECT_VERSION}
 
 -- The rows of one table that pass the tests, unsorted: no group, no DISTINCT, no ORDER BY, no LIMIT.
 abbrev pub rows_from : ℕ → List Term → List Term → Query

@@ -1,36 +1,25 @@
 -- The results of the queries.
-use Rattle.std.proofs.Common.{◌≡◌, ◌∙◌, inl, inr, is_ok, IsTrue, Some, None, Option, Result, Ok, Err, IfOk, Vec, String, Global, ℕ, pos, List, [], ◌∷◌, ◌++◌, length, map, filter, Bool, true, false, not, ◌&&◌, ◌||◌, ◌==◌, if◌then◌else◌, unwrap_or, nat_le, ◌^◌, refl, sym, ap, ap₂, subst, subst₂, arith, true≢false}
-use Rattle.std.specs.List.{flat_map, list_all, list_any}
-use Rattle.std.specs.List.Sorted.{IsPermutation}
-use Rattle.std.proofs.Math.Dec.{eqb-suc-zero}
-use Rattle.std.specs.Str.{IsUtf8}
+use Rattle.desk_types.proofs.Common.{[], ◌&&◌, ◌++◌, ◌==◌, ◌^◌, ◌||◌, ◌∙◌, ◌∷◌, ◌≡◌, ap, ap₂, arith, Bool, Err, false}
+use Rattle.desk_types.proofs.Common.{filter, flat_map, Global, IfOk, if◌then◌else◌, inl, inr, is_ok, IsPermutation}
+use Rattle.desk_types.proofs.Common.{IsPermutation-map, IsPermutation-sym, IsTrue, IsUtf8, length, length-map}
+use Rattle.desk_types.proofs.Common.{length_permutation, List, list_all, list_any, map, nat_le, None, not, Ok, Option}
+use Rattle.desk_types.proofs.Common.{pos, refl, Result, Some, subst, subst₂, sym, true, true≢false, unwrap_or, Vec, ℕ}
+use Rattle.line_tables.proofs.Common.{accepted_columns, accepted_in, column, Database, Error, Ghosts, has_number}
+use Rattle.line_tables.proofs.Common.{has_uid, Held, holds, Int, is_before, IsAnswer, IsOurs, Null, one_permutation}
+use Rattle.line_tables.proofs.Common.{only, Output, output, overlay, Query, Reads, Row, Schema, schema_of, Selects}
+use Rattle.line_tables.proofs.Common.{State, state, Term, Text, Trees, understood, version_columns, version_in}
+use Rattle.line_tables.proofs.{FindTexts.accepted_names, FindTexts.before_query, FindTexts.IsSelect}
+use Rattle.line_tables.proofs.{FindTexts.IsSelectBy, FindTexts.IsSelectIn, FindTexts.number_query}
+use Rattle.line_tables.proofs.{FindTexts.rows_from, FindTexts.select_before_is, FindTexts.select_number_is}
+use Rattle.line_tables.proofs.{FindTexts.select_uid_is, FindTexts.select_version_is, FindTexts.uid_query}
+use Rattle.line_tables.proofs.{FindTexts.version_query, Keeps.shown_open}
+use Rattle.line_tables.specs.{Calls.IsVersionOf, declared.reading.TheConstants.SELECT_BEFORE}
+use Rattle.line_tables.specs.{declared.reading.TheConstants.SELECT_NUMBER, declared.reading.TheConstants.SELECT_UID}
+use Rattle.line_tables.specs.{declared.version.TheConstants.SELECT_VERSION, declared.version.Version.Version}
+use Rattle.sqlite.proofs.Callers.{reads_as}
+use Rattle.sqlite.specs.{Command.TheVariants.Select, State.Shown}
+use Rattle.std.proofs.{Common.String, Math.Dec.eqb-suc-zero, lemmas.Str.IsUtf8-string_bytes}
 use Rattle.std.specs.String.{string_bytes}
-use Rattle.std.proofs.lemmas.List.{length-map}
-use Rattle.std.proofs.lemmas.Str.{IsUtf8-string_bytes}
-use Rattle.std.proofs.lemmas.List.Sorted.{IsPermutation-map, IsPermutation-sym, length_permutation}
-use Rattle.sqlite.specs.declared.types.Value.TheVariants.{Null, Int, Text}
-use Rattle.sqlite_value.specs.Order.{Row, column}
-use Rattle.sqlite_trees.specs.Tree.{Trees}
-use Rattle.sqlite.specs.Term.{Term, holds}
-use Rattle.sqlite.specs.Effect.{Database}
-use Rattle.sqlite.specs.Query.{Query, IsAnswer, output, Output}
-use Rattle.sqlite.specs.Listing.{understood}
-use Rattle.sqlite.specs.Program.{overlay}
-use Rattle.sqlite.specs.Command.TheVariants.{Select}
-use Rattle.sqlite_trees.specs.declared.store.Store.{Ghosts}
-use Rattle.sqlite.specs.Held.{Held, state}
-use Rattle.sqlite.specs.State.{State, Shown}
-use Rattle.sqlite.specs.declared.error.Error.{Error}
-use Rattle.line_tables.proofs.Keeps.{shown_open}
-use Rattle.sqlite.proofs.Callers.{reads_as, one_permutation}
-use Rattle.line_tables.specs.declared.version.Version.{Version}
-use Rattle.sqlite.specs.Schema.{Schema}
-use Rattle.line_tables.specs.Line.{IsOurs, schema_of}
-use Rattle.line_tables.specs.Rows.{accepted_columns, version_columns, accepted_in, version_in}
-use Rattle.line_tables.specs.Calls.{Selects, Reads, has_uid, has_number, is_before, only, IsVersionOf}
-use Rattle.line_tables.proofs.FindTexts.{IsSelect, IsSelectBy, IsSelectIn, rows_from, uid_query, select_uid_is, number_query, select_number_is, before_query, select_before_is, version_query, select_version_is, accepted_names}
-use Rattle.line_tables.specs.declared.reading.TheConstants.{SELECT_BEFORE, SELECT_NUMBER, SELECT_UID}
-use Rattle.line_tables.specs.declared.version.TheConstants.{SELECT_VERSION}
 
 answer_in : {S : Type 0} (g : Ghosts S) (schema : Schema) (sql : List ℕ) (q : Query) (names : List (List ℕ)) → IsSelectIn schema sql q names → (params : Row) (old : Held S) (rows : List Row) → Selects g sql params old rows → (state g old).committed.schema ≡ schema
     → IsAnswer q (overlay (state g old).committed.trees []) params rows

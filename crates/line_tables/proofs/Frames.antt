@@ -1,11 +1,8 @@
 -- One call after another.
-use Rattle.std.proofs.Common.{◌∙◌, inl, refl, arith}
-use Rattle.sqlite_trees.specs.declared.store.Store.{Ghosts}
+use Rattle.desk_types.proofs.Common.{◌∙◌, arith, inl, refl}
+use Rattle.line_tables.proofs.Common.{Ghosts, Held, ReadsOnly, state, survives_then}
+use Rattle.line_tables.{proofs.Keeps.keeps_same, proofs.Keeps.keeps_then, specs.Frames.InTransaction}
 use Rattle.sqlite.specs.declared.transaction.Transaction.{Transaction}
-use Rattle.sqlite.specs.Held.{Held, state}
-use Rattle.sqlite.proofs.StateLemmas.{survives_then}
-use Rattle.line_tables.specs.Frames.{ReadsOnly, InTransaction}
-use Rattle.line_tables.proofs.Keeps.{keeps_same, keeps_then}
 
 pub reads_same : {S : Type 0} (g : Ghosts S) (held : Held S) → ReadsOnly g held held
 reads_same g held = record {

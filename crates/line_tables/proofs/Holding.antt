@@ -1,21 +1,12 @@
 -- Reads of the tables that a database holds.
-use Rattle.std.proofs.Common.{◌≡◌, ◌∙◌, Bool, filter, Option, Some, None, ap₂, sym, subst}
-use Rattle.std.specs.List.Sorted.{IsPermutation}
-use Rattle.std.proofs.lemmas.List.Sorted.{IsPermutation-sym}
-use Rattle.sqlite_trees.proofs.ListLemmas.{IsPermutation-filter}
-use Rattle.sqlite_value.specs.Order.{Row}
-use Rattle.sqlite_trees.specs.Tree.{Trees}
+use Rattle.desk_types.proofs.Common.{◌∙◌, ◌≡◌, ap₂, Bool, filter, IsPermutation, IsPermutation-sym, None, Option}
+use Rattle.desk_types.proofs.Common.{Some, subst, sym, Two}
+use Rattle.line_tables.proofs.Common.{accepted_in, Database, Holds, HoldsAt, IsDatabase, IsPermutation-filter, only}
+use Rattle.line_tables.proofs.Common.{Reads, Row, row_of, Schema, State, Trees}
+use Rattle.line_tables.{proofs.Finds.one_order, specs.Rows.columns_of, specs.Rows.Tables}
+use Rattle.line_tables.{specs.declared.edit.Accepted.Accepted}
+use Rattle.sqlite_catalog.{proofs.ReadLemmas.lists_once, specs.Listing.Lists}
 use Rattle.sqlite_trees.specs.Objects.{catalog_tree}
-use Rattle.sqlite_catalog.specs.Listing.{Lists}
-use Rattle.sqlite_catalog.proofs.ReadLemmas.{lists_once}
-use Rattle.sqlite.specs.Schema.{Schema}
-use Rattle.sqlite.specs.Effect.{Database, IsDatabase}
-use Rattle.sqlite.specs.State.{State}
-use Rattle.desk_types.specs.declared.rules.Rules.TheVariants.{Two}
-use Rattle.line_tables.specs.declared.edit.Accepted.{Accepted}
-use Rattle.line_tables.specs.Rows.{Tables, Holds, HoldsAt, accepted_in, columns_of}
-use Rattle.line_tables.specs.Calls.{Reads, only, row_of}
-use Rattle.line_tables.proofs.Finds.{one_order}
 
 pub held_at : (t : Tables) (trees : Trees) → HoldsAt t trees → (db : Database) → IsDatabase db → db.trees ≡ trees → Holds db t
 held_at t trees (left, holds, sound, is) db found same =

@@ -1,17 +1,22 @@
 -- A statement inside a transaction leaves the last commit unchanged.
-use Rattle.std.proofs.Common.{◌≡◌, ◌⊎◌, ◌∙◌, inl, inr, ℕ, List, Option, None, Some, Result, Ok, Err, Bool, true, if◌then◌else◌, IsTrue, IfOk, IfErr, Vec, Global, refl, subst}
-use Rattle.sqlite.specs.declared.error.Error.{Error}
-use Rattle.sqlite_value.specs.Order.{Row}
-use Rattle.sqlite_schema.specs.declared.command.Returning.{Returning}
+use Rattle.desk_types.proofs.Common.{◌∙◌, ◌≡◌, ◌⊎◌, Bool, Err, Global, IfErr, IfOk, if◌then◌else◌, inl, inr, IsTrue}
+use Rattle.desk_types.proofs.Common.{List, None, Ok, Option, refl, Result, Some, subst, sym, true, Vec, ℕ}
+use Rattle.line_tables.proofs.Common.{Database, Error, IsOurs, KeepsCommit, Reads, Row, State}
 use Rattle.sqlite.specs.Clock.{timed}
-use Rattle.sqlite.specs.Effect.{Database}
-use Rattle.sqlite.specs.State.{State, Shows, Shown, ShowsRows, IsTooLate, IsUnchanged, KeepsCommit, IsRolledBack, FailsToQuery, IsNotRun, FailsToShow, ExecutesInside}
+use Rattle.sqlite.specs.State.{ExecutesInside, FailsToQuery, FailsToShow, IsNotRun, IsRolledBack, IsTooLate}
+use Rattle.sqlite.specs.State.{IsUnchanged, Shown, Shows, ShowsRows}
+use Rattle.sqlite_schema.specs.declared.command.Returning.{Returning}
 
 pub keeps_same : (s : State) → KeepsCommit s s
 keeps_same s = record { was_open = λ is. is; committed = λ _. refl }
 
 pub keeps_then : (a b c : State) → KeepsCommit a b → KeepsCommit b c → KeepsCommit a c
 keeps_then a b c p q = record { was_open = λ is. p.was_open (q.was_open is); committed = λ is. q.committed is ∙ p.committed (q.was_open is) }
+
+pub reads_before : (old mid : State) → KeepsCommit old mid → (Is : Database → Type 0) → Reads mid Is → Reads old Is
+reads_before old mid kept Is r =
+    let same = kept.committed r.was_open in
+    record { was_open = kept.was_open r.was_open; are = λ ours. subst Is same (r.are (subst (λ (db : Database). IsOurs db.schema) (sym same) ours)) }
 
 shows_keep : (old new : State) (now : Database) (mode : Bool) → Shows old new now old.committed mode → KeepsCommit old new
 shows_keep old new now mode h = record { was_open = λ _. h.was_open; committed = λ _. h.committed_is }

@@ -1,28 +1,27 @@
 -- Rows of a table by key: each key has at most one row, and a change at one key changes the map at that key.
-use Rattle.std.proofs.Common.{◌≡◌, ◌∙◌, ◌||◌, ◌&&◌, ◌==◌, ℕ, ℤ, pos, Bool, true, false, not, if◌then◌else◌, Ordering, Less, Equal, Greater, is_eq, Option, Some, None, List, [], ◌∷◌, ◌++◌, filter, refl, sym, ap, ap₂, subst, arith, true≢false}
-use Rattle.std.specs.Option.{option_map, option_to_list}
-use Rattle.std.specs.List.{AllByRecursion}
-use Rattle.std.specs.List.Sorted.{IsPermutation}
-use Rattle.std.specs.Cmp.Lexicographic.{texts_ties}
-use Rattle.std.proofs.lemmas.Bool.{and_parts, and_from, eqb-true, eq-eqb}
-use Rattle.std.proofs.lemmas.Cmp.{int_ranked, tied_itself}
-use Rattle.std.proofs.lemmas.List.Elements.{All-from_recursion, recursion_from_All}
-use Rattle.std.proofs.lemmas.List.Sorted.{IsPermutation-sym, length_permutation, All-permutation}
-use Rattle.sqlite_trees.proofs.ListLemmas.{IsPermutation-filter}
-use Rattle.sqlite.proofs.Callers.{one_permutation}
-use Rattle.sqlite.specs.declared.types.Value.{Value}
-use Rattle.sqlite.specs.declared.types.Value.TheVariants.{Null, Int, Text}
-use Rattle.sqlite_value.specs.Order.{Row, column, value_cmp}
-use Rattle.sqlite_value.proofs.OrderLemmas.{value_cmp_total, value_cmp-Int, value_cmp-Text}
-use Rattle.sqlite_schema.specs.Rules.{equal}
-use Rattle.sqlite_sql.specs.Ops.{binary, is_null, is_true, from_truth}
-use Rattle.sqlite.specs.Collation.TheVariants.{Binary}
-use Rattle.desk_types.specs.Id.{Name, same}
-use Rattle.desk_types.proofs.Keys.{same-true, same-refl}
-use Rattle.line_tables.specs.StateRows.{AreRows, has_text, has_int, has_pair, has_sheet_place, has_piece}
-use Rattle.line_tables.proofs.Altering.{without}
+use Rattle.desk_types.proofs.Common.{[], ◌&&◌, ◌++◌, ◌==◌, ◌||◌, ◌∙◌, ◌∷◌, ◌≡◌, All-from_recursion, All-permutation}
+use Rattle.desk_types.proofs.Common.{AllByRecursion, and_from, and_parts, ap, ap₂, arith, Bool, eq-eqb, eqb-true}
+use Rattle.desk_types.proofs.Common.{false, filter, if◌then◌else◌, int_ranked, IsPermutation, IsPermutation-sym}
+use Rattle.desk_types.proofs.Common.{length_permutation, List, Name, None, not, Option, option_map, option_to_list}
+use Rattle.desk_types.proofs.Common.{PlacementRow, pos, recursion_from_All, refl, same, same-refl, same-true, Some}
+use Rattle.desk_types.proofs.Common.{subst, sym, texts_ties, tied_itself, true, true≢false, ℕ, ℤ}
+use Rattle.line_tables.proofs.Common.{AreRows, Binary, binary, column, equal, has_pair, has_piece, has_sheet_place}
+use Rattle.line_tables.proofs.Common.{has_text, Int, is_true, IsPermutation-filter, Null, one_permutation}
+use Rattle.line_tables.proofs.Common.{placement_columns, Row, Text, Value, value_cmp, value_cmp-Int, value_cmp-Text}
+use Rattle.line_tables.proofs.Common.{value_cmp_total}
+use Rattle.line_tables.{proofs.Altering.without, specs.StateRows.has_int}
+use Rattle.sqlite_sql.specs.Ops.{from_truth, is_null}
+use Rattle.std.proofs.Common.{Equal, Greater, is_eq, Less, Ordering}
 
 -- ---- values that SQL considers equal
+
+pub truth_told : (b : Bool) → is_true (from_truth (Some b)) ≡ b
+truth_told true = refl
+truth_told false = refl
+
+pub number_test : (a b : ℕ) → equal Binary (Int (pos a)) (Int (pos b)) ≡ is_eq (value_cmp (Int (pos a)) (Int (pos b)))
+unfolding binary
+number_test a b = truth_told _
 
 tied : (v a : Value) → equal Binary v a ≡ true → value_cmp v a ≡ Equal
 unfolding binary
@@ -34,7 +33,7 @@ tied v a e = go (is_null v || is_null a) (value_cmp v a) e
     go false Equal h = refl
     go false Greater h = absurd (true≢false (sym h))
 
-tied_twice : (v a b : Value) → equal Binary v a ≡ true → equal Binary v b ≡ true → value_cmp a b ≡ Equal
+pub tied_twice : (v a b : Value) → equal Binary v a ≡ true → equal Binary v b ≡ true → value_cmp a b ≡ Equal
 tied_twice v a b p q = sym (value_cmp_total.congr v a b (tied v a p)) ∙ tied v b q
 
 equal_itself : (v : Value) → is_null v ≡ false → equal Binary v v ≡ true
@@ -81,6 +80,9 @@ one_piece a b row p q =
     let x = and_parts _ _ p in
     let y = and_parts _ _ q in
     ap₂ (λ (m n : ℕ). (m, n)) (one_int 0 a.0 b.0 row x.0 y.0) (one_int 1 a.1 b.1 row x.1 y.1)
+
+pub own_piece : (p : PlacementRow) → has_piece (p.number, p.place) (placement_columns p) ≡ true
+own_piece p = and_from _ _ (own_int p.number) (own_int p.place)
 
 abbrev pub same_pair : Name × Name → Name × Name → Bool
 same_pair a b = same a.0 b.0 && same a.1 b.1

@@ -1,19 +1,11 @@
 -- What a transaction of its own commits, and what may remain after a crash that follows.
-use Rattle.std.proofs.Common.{◌≡◌, ◌∙◌, ℕ, List, true, false, [], IsTrue, Result, OnOk, refl, sym, ap, subst, arith}
-use Rattle.std.proofs.lemmas.Result.{on_ok_weaker}
-use Rattle.sqlite_trees.specs.Tree.{Trees}
-use Rattle.sqlite_trees.specs.declared.store.Store.{Ghosts}
-use Rattle.sqlite.specs.declared.error.Error.{Error}
-use Rattle.sqlite.specs.Effect.{Database}
-use Rattle.sqlite.specs.Held.{Held, state}
-use Rattle.sqlite.specs.State.{HasCleanDisk, Survives, Shows, KeepsCounts}
-use Rattle.sqlite.proofs.StateLemmas.{survives_then}
-use Rattle.sqlite.proofs.Callers.{survives_begin}
-use Rattle.line_tables.specs.Edit.{Edit}
-use Rattle.desk_types.specs.declared.rules.Rules.TheVariants.{One}
-use Rattle.line_tables.specs.Rows.{Holds, HoldsBy}
-use Rattle.line_tables.specs.Line.{no_schema}
-use Rattle.line_tables.specs.Calls.{KeepsOthers, Edited, Writes, HoldsBlank, Makes, Migrated, Migrates, LeavesEdited, LeavesBlank, LeavesMigrated}
+use Rattle.desk_types.proofs.Common.{[], ◌∙◌, ◌≡◌, ap, arith, false, IsTrue, List, on_ok_weaker, One, OnOk, refl}
+use Rattle.desk_types.proofs.Common.{Result, subst, sym, true, ℕ}
+use Rattle.line_tables.proofs.Common.{Database, Edit, Error, Ghosts, HasCleanDisk, Held, Holds, HoldsBy, KeepsOthers}
+use Rattle.line_tables.proofs.Common.{LeavesEdited, LeavesMigrated, Migrated, no_schema, state, Survives}
+use Rattle.line_tables.proofs.Common.{survives_then, Trees, Writes}
+use Rattle.line_tables.specs.Calls.{Edited, HoldsBlank, LeavesBlank, Makes, Migrates}
+use Rattle.sqlite.{proofs.Callers.survives_begin, specs.State.KeepsCounts, specs.State.Shows}
 
 -- After Ok this is committed, and a crash may leave only that. Before, it may also leave the earlier contents.
 pub record Ends {S A : Type 0} (g : Ghosts S) (old new : Held S) (r : Result A Error) (Done : Database → Type 0) (Leaves : Trees → Type 0) : Type 0 where

@@ -25,3 +25,4 @@ pub mod Rising
 pub mod Placing
 pub mod Beside
 pub mod Between
+pub mod Common

@@ -1,34 +1,19 @@
 -- A database of version 1 becomes one of version 2.
-use Rattle.std.proofs.Common.{◌≡◌, ◌≢◌, ◌∙◌, ◌++◌, IsTrue, inl, inr, ℕ, ℤ, List, [], ◌∷◌, map, filter, drop, not, ◌==◌, Bool, true, false, pos, refl, sym, ap, ap₂, subst}
-use Rattle.std.specs.List.{AllByRecursion, list_all}
-use Rattle.std.specs.List.Sorted.{IsPermutation}
-use Rattle.std.proofs.lemmas.Bool.{and_parts}
-use Rattle.sqlite.proofs.Callers.{one_permutation}
-use Rattle.sqlite.specs.declared.types.Value.TheVariants.{Null, Int}
-use Rattle.sqlite_value.specs.Order.{Row, column}
-use Rattle.sqlite_schema.specs.declared.schema.Table.{Table}
-use Rattle.sqlite.specs.Cast.{cast_row}
-use Rattle.sqlite_trees.specs.Tree.{Trees, rowid}
-use Rattle.sqlite_trees.specs.View.{is_int}
+use Rattle.desk_types.proofs.Common.{[], ◌++◌, ◌==◌, ◌∙◌, ◌∷◌, ◌≡◌, ◌≢◌, AllByRecursion, and_parts, ap, ap₂, Bool}
+use Rattle.desk_types.proofs.Common.{drop, false, filter, inl, inr, IsPermutation, IsTrue, List, list_all, map, not}
+use Rattle.desk_types.proofs.Common.{One, pos, refl, subst, sym, true, Two, ℕ, ℤ}
+use Rattle.line_tables.proofs.Common.{accepted_columns, alone, alternate, AreApart, board, cast_row, column, found}
+use Rattle.line_tables.proofs.Common.{found_tree, Holds, HoldsBy, ids_of, Indexed, Int, is_int, kept_in, Layout}
+use Rattle.line_tables.proofs.Common.{mount, Null, one_permutation, others_in, part, placement, Plain, put_all, reel}
+use Rattle.line_tables.proofs.Common.{Row, rowid, Runs, schema_of, schema_tables, selected, sheet_row, State, Table}
+use Rattle.line_tables.proofs.Common.{Trees, version, version_columns, version_in, without_all}
+use Rattle.line_tables.proofs.{Alterations.one_of_map, Altering.found_kept, Altering.nothing, Altering.other_tree}
+use Rattle.line_tables.proofs.{Altering.stays, Apart.apart_none, Apart.taken, Beside.quiet, Changes.Changed}
+use Rattle.line_tables.proofs.{Changes.passing, Changes.renewed, Changes.shows_of, Changes.update_does}
+use Rattle.line_tables.proofs.{CreateTexts.update_version_is, CreateTexts.version_renewed, Creates.version_cast}
+use Rattle.line_tables.specs.{Calls.AddsFound, Calls.Grows, Calls.Migrates, Line.found_by, Rows.Tables}
+use Rattle.line_tables.specs.{Rows.version_row, declared.migrating.TheConstants.UPDATE_VERSION}
 use Rattle.sqlite_catalog.specs.Change.{KeepsRows}
-use Rattle.sqlite_rules.specs.Edit.{without_all, put_all}
-use Rattle.sqlite_rules.specs.Calls.{ids_of}
-use Rattle.sqlite.specs.State.{State}
-use Rattle.desk_types.specs.declared.rules.Rules.TheVariants.{One, Two}
-use Rattle.line_tables.specs.Line.{schema_of, schema_tables, version, part, alternate, sheet_row, selected, reel, mount, board, placement, found, found_by, found_tree, Layout, alone, others_in}
-use Rattle.line_tables.specs.Rowids.{AreApart}
-use Rattle.line_tables.specs.Rows.{Tables, Holds, HoldsBy, version_columns, accepted_columns, version_row, version_in}
-use Rattle.line_tables.specs.Calls.{Runs, AddsFound, Grows, Migrates}
-use Rattle.line_tables.proofs.Apart.{apart_none, taken}
-use Rattle.line_tables.proofs.Altering.{other_tree, found_kept, stays, nothing}
-use Rattle.line_tables.specs.StateRows.{kept_in}
-use Rattle.line_tables.proofs.Alterations.{one_of_map}
-use Rattle.line_tables.proofs.Changes.{Changed, passing, shows_of, renewed, update_does}
-use Rattle.line_tables.proofs.Creates.{version_cast}
-use Rattle.line_tables.proofs.Beside.{quiet}
-use Rattle.line_tables.proofs.CreateTexts.{version_renewed, update_version_is}
-use Rattle.line_tables.specs.Line.Layout.{Indexed, Plain}
-use Rattle.line_tables.specs.declared.migrating.TheConstants.{UPDATE_VERSION}
 
 -- The tables of version 1 except `version`.
 abbrev rest : Layout → List Table

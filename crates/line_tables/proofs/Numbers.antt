@@ -1,36 +1,22 @@
 -- The least number, and the number of rows.
-use Rattle.std.proofs.Common.{◌≡◌, ◌∙◌, IsTrue, Some, None, Option, Result, Ok, Err, IfOk, ℕ, ℤ, pos, zero, suc, min, List, [], ◌∷◌, ◌++◌, length, map, Bool, true, false, ◌<◌, ◌+◌, Ordering, Less, Equal, Greater, is_lt, is_gt, refl, sym, ap, ap₂, subst, subst₂, arith}
-use Rattle.std.specs.List.{flat_map, AllByRecursion, AllZip}
-use Rattle.std.specs.List.{All}
-use Rattle.std.specs.List.Sorted.{IsPermutation, IsSorted}
-use Rattle.std.specs.Cmp.{IsTotalOrder}
-use Rattle.std.specs.Ordering.{ordering_reverse, ordering_then}
-use Rattle.std.proofs.lemmas.Cmp.{upto}
-use Rattle.std.proofs.lemmas.List.{length-map}
-use Rattle.std.proofs.lemmas.List.Elements.{All-from_recursion, recursion_from_All}
-use Rattle.std.proofs.lemmas.List.Sorted.{IsPermutation-map, length_permutation, All-permutation}
-use Rattle.sqlite.specs.Collation.TheVariants.{Binary}
-use Rattle.sqlite_value.specs.Keys.{collated}
-use Rattle.sqlite.specs.declared.types.Value.TheVariants.{Null, Int}
-use Rattle.sqlite.specs.declared.types.Value.{Value}
-use Rattle.sqlite_value.specs.Order.{Row, column}
-use Rattle.sqlite_trees.specs.Tree.{Trees}
-use Rattle.sqlite.specs.Schema.{Schema}
+use Rattle.desk_types.proofs.Common.{[], ◌++◌, ◌+◌, ◌<◌, ◌∙◌, ◌∷◌, ◌≡◌, All-from_recursion, All-permutation}
+use Rattle.desk_types.proofs.Common.{AllByRecursion, AllZip, ap, ap₂, arith, Bool, Err, false, flat_map, IfOk, is_gt}
+use Rattle.desk_types.proofs.Common.{is_lt, IsPermutation, IsPermutation-map, IsTotalOrder, IsTrue, length}
+use Rattle.desk_types.proofs.Common.{length-map, length_permutation, List, map, min, None, Ok, Option}
+use Rattle.desk_types.proofs.Common.{ordering_reverse, ordering_then, pos, recursion_from_All, refl, Result, Some}
+use Rattle.desk_types.proofs.Common.{subst, subst₂, suc, sym, true, zero, ℕ, ℤ}
+use Rattle.line_tables.proofs.Common.{accepted_columns, accepted_in, all_weaker, Binary, collated, column, Error}
+use Rattle.line_tables.proofs.Common.{Ghosts, Held, Int, IsAnswer, IsLeast, Null, one_permutation, Output, output}
+use Rattle.line_tables.proofs.Common.{output_cmp, output_cmp_total, overlay, Query, Reads, Row, Schema, Selects}
+use Rattle.line_tables.proofs.Common.{state, Trees, Value}
+use Rattle.line_tables.proofs.{FindTexts.count_all, FindTexts.count_from, FindTexts.IsSelect, FindTexts.IsSelectBy}
+use Rattle.line_tables.proofs.{FindTexts.least_from, FindTexts.least_query, FindTexts.select_count_is}
+use Rattle.line_tables.proofs.{Finds.answer_by, Finds.answer_of, Finds.overlay_none}
+use Rattle.line_tables.specs.{Calls.number_row, declared.reading.TheConstants.SELECT_COUNT}
 use Rattle.sqlite.specs.Term.{Env}
-use Rattle.sqlite_sql.specs.Group.{Summarizes, IsSummary, value_over}
-use Rattle.sqlite.specs.Query.{Query, IsAnswer, output, output_cmp, Output}
-use Rattle.sqlite_sql.proofs.QueryLemmas.{output_cmp_total}
-use Rattle.sqlite_keyed.proofs.ListLemmas.{all_weaker}
-use Rattle.sqlite.specs.Program.{overlay}
-use Rattle.sqlite.specs.declared.error.Error.{Error}
-use Rattle.sqlite_trees.specs.declared.store.Store.{Ghosts}
-use Rattle.sqlite.specs.Held.{Held, state}
-use Rattle.sqlite.proofs.Callers.{one_permutation}
-use Rattle.line_tables.specs.Rows.{accepted_columns, accepted_in}
-use Rattle.line_tables.specs.Calls.{Selects, Reads, number_row, IsLeast}
-use Rattle.line_tables.proofs.FindTexts.{least_from, least_query, IsSelect, IsSelectBy, count_from, count_all, select_count_is}
-use Rattle.line_tables.proofs.Finds.{answer_of, answer_by, overlay_none}
-use Rattle.line_tables.specs.declared.reading.TheConstants.{SELECT_COUNT}
+use Rattle.sqlite_sql.specs.Group.{IsSummary, Summarizes, value_over}
+use Rattle.std.proofs.{Common.Equal, Common.Greater, Common.Less, Common.Ordering, lemmas.Cmp.upto}
+use Rattle.std.specs.{List.All, List.Sorted.IsSorted}
 
 module _ {X : Type 0} (cmp : X → X → Ordering) (total : IsTotalOrder cmp) where
   abbrev AtMost : X → X → Type 0
@@ -116,7 +102,7 @@ finds_least g sql tree names means columns first old rows o h is = record {
 abbrev counted : ℕ → Value
 counted n = Int (pos (min n 9223372036854775807))
 
-some_same : {X : Type 0} {a b : X} → ◌≡◌ {A = Option X} (Some a) (Some b) → a ≡ b
+pub some_same : {X : Type 0} {a b : X} → ◌≡◌ {A = Option X} (Some a) (Some b) → a ≡ b
 some_same e = cc
 
 one_value : (order : List Env) (n : ℕ) → length order ≡ n → (values : Row) → AllZip (λ a v. value_over order a ≡ Some v) count_all.aggregates values → values ≡ counted n ∷ []

@@ -1,20 +1,14 @@
 -- The test of a schema, and facts about our schema.
-use Rattle.std.proofs.Common.{◌≡◌, ◌∙◌, ◌++◌, [], inl, inr, Bool, true, false, ◌&&◌, length, take, drop, refl, sym, ap, ap₂, subst, true≢false}
-use Rattle.std.proofs.lemmas.Bool.{eqb-true, eq-eqb, or_cases, or_left, or_right, and_from}
-use Rattle.std.proofs.lemmas.List.{take-append-drop}
-use base.Stored.{Gv, gnil, gnum, gcons}
-use Rattle.sqlite.specs.Schema.{Schema}
-use Rattle.sqlite_schema.specs.Names.{same_name}
+use Rattle.desk_types.proofs.Common.{[], ◌&&◌, ◌++◌, ◌∙◌, ◌≡◌, and_from, and_parts, ap, ap₂, drop, eq-eqb, eqb-true}
+use Rattle.desk_types.proofs.Common.{false, inl, inr, length, One, or_left, or_right, refl, Rules, subst, sym, take}
+use Rattle.desk_types.proofs.Common.{take-append-drop, true, true≢false, Two}
+use Rattle.line_tables.proofs.Common.{are_quiet, has_state, Indexed, is_ours, IsOurs, Layout, no_schema, Plain}
+use Rattle.line_tables.proofs.Common.{same_name, Schema, schema_of}
+use Rattle.line_tables.specs.Line.{begins_with, first_behind, is_blank, is_same_code, is_same_schema}
+use Rattle.line_tables.specs.Line.{nothing as no_others}
 use Rattle.sqlite_schema.specs.contracts.schema.Schema.{the_row}
-use Rattle.desk_types.specs.declared.rules.Rules.{Rules}
-use Rattle.desk_types.specs.declared.rules.Rules.TheVariants.{One, Two}
-use Rattle.line_tables.specs.Line.{schema_of, IsOurs, no_schema, is_ours, is_blank, is_same_schema, is_same_code, Layout, begins_with, are_quiet, first_behind, nothing as no_others}
-use Rattle.line_tables.specs.Names.{has_state}
-use Rattle.line_tables.specs.Line.Layout.{Indexed, Plain}
-
-both : (a b : Bool) → (a && b) ≡ true → (a ≡ true) × (b ≡ true)
-both true b h = (refl, h)
-both false b h = absurd (true≢false (sym h))
+use Rattle.std.proofs.lemmas.Bool.{or_cases}
+use base.Stored.{gcons, gnil, gnum, Gv}
 
 same_is : (a b : Gv) → is_same_code a b ≡ true → a ≡ b
 same_is gnil gnil h = refl
@@ -25,7 +19,7 @@ same_is (gnum m) (gnum n) h = ap gnum (eqb-true m n h)
 same_is (gnum m) (gcons c d) h = absurd (true≢false (sym h))
 same_is (gcons a b) gnil h = absurd (true≢false (sym h))
 same_is (gcons a b) (gnum n) h = absurd (true≢false (sym h))
-same_is (gcons a b) (gcons c d) h = let p = both _ _ h in ap₂ gcons (same_is a c p.0) (same_is b d p.1)
+same_is (gcons a b) (gcons c d) h = let p = and_parts _ _ h in ap₂ gcons (same_is a c p.0) (same_is b d p.1)
 
 same_itself : (a : Gv) → is_same_code a a ≡ true
 same_itself gnil = refl
@@ -40,7 +34,7 @@ same_schema a b h = the_row.coded.inj a b (same_is _ _ h)
 begun : (bare : Layout) (schema : Schema) → begins_with bare schema ≡ true → (h : are_quiet (first_behind bare) (drop 11 schema.tables) ≡ true)
     × (schema.tables ≡ (schema_of Two bare).tables ++ drop 11 schema.tables) × (schema.indexes ≡ (schema_of Two bare).indexes ++ drop (length (schema_of Two bare).indexes) schema.indexes)
 begun bare schema h =
-    let p = both _ _ h in
+    let p = and_parts _ _ h in
     let n = length (schema_of Two bare).indexes in
     let same = same_schema (record { tables = take 11 schema.tables; indexes = take n schema.indexes; views = [] }) (schema_of Two bare) p.0 in
     (p.1, sym (take-append-drop 11 schema.tables) ∙ ap (λ (s : Schema). s.tables ++ drop 11 schema.tables) same, sym (take-append-drop n schema.indexes) ∙ ap (λ (s : Schema). s.indexes ++ drop n schema.indexes) same)

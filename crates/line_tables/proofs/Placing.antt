@@ -1,34 +1,22 @@
 -- The effect of the statements on `placement`: they insert rows with their own rowids, one or eight at once.
-use Rattle.std.proofs.Common.{◌≡◌, ◌∙◌, ◌&&◌, ◌==◌, ◌<◌, ◌≤◌, ◌+◌, ◌++◌, if◌then◌else◌, ℕ, pos, Bool, List, [], ◌∷◌, map, take, get_or, length, not, true, false, IsTrue, Option, Some, refl, ap, ap₂, subst, sym, arith}
-use Rattle.std.specs.List.{flat_map}
-use Rattle.std.specs.List.Sorted.{IsPermutation}
-use Rattle.std.proofs.lemmas.Bool.{and_parts, and_from}
-use Rattle.std.proofs.lemmas.List.{map_more, map-append, flat_map_more, length-map, length-take-le}
-use Rattle.std.proofs.lemmas.List.Sorted.{IsPermutation-map}
-use Rattle.sqlite_value.specs.Order.{Row}
-use Rattle.sqlite.specs.Cast.{cast_row}
-use Rattle.sqlite.specs.Rowids.TheVariants.{Chosen}
-use Rattle.sqlite_rules.specs.Edit.{numbered, with_rowid, put_all, are_fresh}
-use Rattle.sqlite_trees.specs.Tree.{put_row}
-use Rattle.sqlite.specs.State.{State}
-use Rattle.desk_types.specs.declared.row.PlacementRow.{PlacementRow}
-use Rattle.desk_types.specs.declared.rules.Rules.TheVariants.{Two}
-use Rattle.line_tables.specs.Line.{schema_of, placement, Layout}
-use Rattle.line_tables.specs.Rowids.{placement_id}
-use Rattle.line_tables.specs.StateRows.{AreRows, columns, has_piece, placement_columns, flag}
-use Rattle.line_tables.specs.Placing.{placement_edit, placement_kept, ArePlacing}
-use Rattle.desk_types.specs.declared.edit.RowEdit.{RowEdit}
-use Rattle.desk_types.specs.declared.edit.RowEdit.TheVariants.{PutPlacement}
-use Rattle.line_tables.specs.Edit.{Edit, EditRow, row_edits}
-use Rattle.line_tables.specs.Rows.{Tables, Holds, AreNew, with_edit, after_edits, version_columns, accepted_columns}
-use Rattle.line_tables.specs.Calls.{Runs, Writes}
-use Rattle.line_tables.proofs.Inserts.{Inserted, insert_does}
-use Rattle.line_tables.proofs.Puts.{cast_int, put_permutes}
-use Rattle.line_tables.proofs.Altering.{IsElsewhere, others_hold, all_apart_but, other_tree}
-use Rattle.line_tables.proofs.Keyed.{added, one_piece, own_int, same_piece, tells_piece}
-use Rattle.line_tables.proofs.RowTexts.{placement_terms, insert_placement_is, placements_terms, insert_placements_is}
-use Rattle.line_tables.proofs.Beside.{quiet, others_behind}
-use Rattle.line_tables.specs.declared.pieces.TheConstants.{INSERT_PLACEMENT, INSERT_PLACEMENTS}
+use Rattle.desk_types.proofs.Common.{[], ◌&&◌, ◌++◌, ◌+◌, ◌<◌, ◌==◌, ◌∙◌, ◌∷◌, ◌≡◌, ◌≤◌, and_from, and_parts, ap, ap₂}
+use Rattle.desk_types.proofs.Common.{arith, flat_map, get_or, if◌then◌else◌, IsPermutation, IsPermutation-map, IsTrue}
+use Rattle.desk_types.proofs.Common.{length, length-map, length-take-le, List, map, map-append, map_more, Option}
+use Rattle.desk_types.proofs.Common.{PlacementRow, pos, PutPlacement, refl, RowEdit, Some, subst, sym, take, true}
+use Rattle.desk_types.proofs.Common.{Two, ℕ}
+use Rattle.line_tables.proofs.Common.{accepted_columns, after_edits, AreNew, ArePlacing, AreRows, cast_row, Chosen}
+use Rattle.line_tables.proofs.Common.{columns, Edit, flag, has_piece, Holds, INSERT_PLACEMENTS, Layout, placement}
+use Rattle.line_tables.proofs.Common.{placement_columns, put_all, put_row, Row, row_edits, Runs, schema_of, State}
+use Rattle.line_tables.proofs.Common.{version_columns, with_rowid, Writes}
+use Rattle.line_tables.proofs.{Altering.all_apart_but, Altering.IsElsewhere, Altering.other_tree}
+use Rattle.line_tables.proofs.{Altering.others_hold, Beside.others_behind, Beside.quiet, Inserts.insert_does}
+use Rattle.line_tables.proofs.{Inserts.Inserted, Keyed.added, Keyed.one_piece, Keyed.own_int, Keyed.same_piece}
+use Rattle.line_tables.proofs.{Keyed.tells_piece, Puts.cast_int, Puts.put_permutes, RowTexts.insert_placement_is}
+use Rattle.line_tables.proofs.{RowTexts.insert_placements_is, RowTexts.placement_terms, RowTexts.placements_terms}
+use Rattle.line_tables.specs.{Edit.EditRow, Placing.placement_edit, Placing.placement_kept, Rowids.placement_id}
+use Rattle.line_tables.specs.{Rows.Tables, Rows.with_edit, declared.pieces.TheConstants.INSERT_PLACEMENT}
+use Rattle.sqlite_rules.specs.Edit.{are_fresh, numbered}
+use Rattle.std.proofs.{lemmas.Bool.not-true, lemmas.List.flat_map_more}
 
 placement_cast : (row : PlacementRow) → cast_row placement (placement_kept row) ≡ placement_kept row
 placement_cast row = rw (cast_int (pos (placement_id row.number row.place)), cast_int (pos row.number), cast_int (pos row.place), cast_int (flag row.overdue)) refl
@@ -48,10 +36,6 @@ edits_of : (rows : List PlacementRow) (t : Tables) → after_edits (map placemen
 edits_of [] t = refl
 edits_of (row ∷ rows) t = edits_of rows (with_edit t (placement_edit row))
 
-is_false : (b : Bool) → not b ≡ true → b ≡ false
-is_false false h = refl
-is_false true h = absurd (cc)
-
 abbrev HasPieces : List Row → (ℕ → ℕ → Option PlacementRow) → Type 0
 HasPieces db f = AreRows has_piece (λ _ row. placement_columns row) (map (columns placement) db) (λ piece. f piece.0 piece.1)
 
@@ -60,7 +44,7 @@ pieces_in : (rows : List PlacementRow) (db : List Row) (t : Tables) → HasPiece
 pieces_in [] db t was fresh new = was
 pieces_in (row ∷ rows) db t was fresh new =
     let free = and_parts _ _ fresh in
-    let one = IsPermutation-map (columns placement) _ _ (put_permutes db (placement_kept row) (is_false _ free.0)) in
+    let one = IsPermutation-map (columns placement) _ _ (put_permutes db (placement_kept row) (not-true _ free.0)) in
     pieces_in rows (put_row (placement_kept row) db) (with_edit t (placement_edit row))
     (added has_piece (λ _ row. placement_columns row) one_piece same_piece tells_piece (row.number, row.place) row _ _ (λ piece. t.state.placements piece.0 piece.1) _ new.0 (and_from _ _ (own_int row.number) (own_int row.place)) (λ l. refl) one was) free.1 new.1
 

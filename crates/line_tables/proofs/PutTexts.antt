@@ -1,14 +1,7 @@
 -- The meaning of the texts that write.
-use Rattle.std.proofs.Common.{◌≡◌, Bool, List, ℕ, [], ◌∷◌, codes, refl}
-use Rattle.sqlite.specs.Command.TheVariants.{Insert}
-use Rattle.sqlite.specs.Source.TheVariants.{Values}
-use Rattle.sqlite.specs.Term.{Term, lit, col}
-use Rattle.sqlite.specs.declared.types.Value.TheVariants.{Null}
-use Rattle.sqlite.specs.Listing.{understood}
-use Rattle.sqlite_tied.specs.Compute.{everything}
-use Rattle.sqlite.proofs.Callers.{IsPlain, command_of}
-use Rattle.desk_types.specs.declared.rules.Rules.TheVariants.{Two}
-use Rattle.line_tables.specs.Line.{schema_of, Layout}
+use Rattle.desk_types.proofs.Common.{[], ◌∷◌, ◌≡◌, Bool, codes, List, refl, Two, ℕ}
+use Rattle.line_tables.proofs.Common.{col, command_of, everything, Insert, IsPlain, Layout, lit, Null, schema_of}
+use Rattle.line_tables.proofs.Common.{Term, understood, Values}
 use Rattle.line_tables.specs.declared.writing.TheConstants.{INSERT_ACCEPTED}
 
 abbrev pub accepted_terms : List Term

@@ -1,36 +1,19 @@
 -- The effect of the writes on the tables.
-use Rattle.std.proofs.Common.{◌≡◌, ℕ, ℤ, pos, List, [], ◌∷◌, ◌++◌, map, length, take, drop, ◌==◌, not, ◌||◌, ◌&&◌, Bool, true, false, cond, refl, sym, ap, subst, ◌∙◌, arith}
-use Rattle.std.specs.List.{flat_map, filter_map}
-use Rattle.std.specs.List.Sorted.{IsPermutation}
-use Rattle.std.specs.Ordering.{is_eq, match_ordering}
-use Rattle.std.specs.declared.cmp.Ordering.TheVariants.{Less, Equal, Greater}
-use Rattle.std.proofs.lemmas.List.{take-append-drop}
-use Rattle.std.proofs.lemmas.List.Sums.{fold-append}
-use Rattle.std.proofs.lemmas.List.Sorted.{IsPermutation-refl, IsPermutation-cons, IsPermutation-trans, IsPermutation-map, IsPermutation-swap}
-use Rattle.sqlite.specs.declared.types.Value.TheVariants.{Null, Int}
-use Rattle.sqlite.specs.declared.types.Value.{Value}
-use Rattle.sqlite.specs.Order.{Row}
-use Rattle.sqlite.specs.Ops.{unary}
-use Rattle.sqlite.specs.Cast.{cast, cast_row}
-use Rattle.sqlite.specs.Kind.TheVariants.{Integer}
-use Rattle.sqlite_value.specs.Order.{value_cmp}
-use Rattle.sqlite_trees.specs.Tree.{rowid, put_row}
-use Rattle.sqlite_rules.specs.Edit.{is_taken, with_rowid}
-use Rattle.sqlite.specs.Rowids.TheVariants.{Chosen}
-use Rattle.sqlite.specs.State.{State}
-use Rattle.sqlite.specs.Effect.{Database}
-use Rattle.line_tables.specs.declared.edit.Accepted.{Accepted}
-use Rattle.line_tables.specs.Edit.{Edit}
-use Rattle.line_tables.specs.Edit.{PutAccepted}
-use Rattle.desk_types.specs.declared.rules.Rules.TheVariants.{Two}
-use Rattle.line_tables.specs.Line.{schema_of, schema_tables, accepted, Layout}
-use Rattle.line_tables.specs.Rows.{Tables, Holds, AreNew, columns_of, accepted_columns, with_edit, after_edits}
-use Rattle.line_tables.specs.Calls.{Runs, Edits, Writes}
-use Rattle.line_tables.proofs.Inserts.{Inserted, insert_does}
-use Rattle.line_tables.proofs.Altering.{list_grows}
-use Rattle.line_tables.proofs.Beside.{quiet, others_behind}
-use Rattle.line_tables.proofs.PutTexts.{accepted_terms, insert_accepted_is}
-use Rattle.line_tables.specs.declared.writing.TheConstants.{INSERT_ACCEPTED}
+use Rattle.desk_types.proofs.Common.{[], ◌&&◌, ◌++◌, ◌==◌, ◌||◌, ◌∙◌, ◌∷◌, ◌≡◌, ap, arith, Bool, cond, drop, Equal}
+use Rattle.desk_types.proofs.Common.{false, flat_map, Greater, is_eq, IsPermutation, IsPermutation-cons}
+use Rattle.desk_types.proofs.Common.{IsPermutation-map, IsPermutation-refl, IsPermutation-trans, length, Less, List}
+use Rattle.desk_types.proofs.Common.{map, match_ordering, not, pos, refl, subst, sym, take, take-append-drop, true}
+use Rattle.desk_types.proofs.Common.{Two, ℕ, ℤ}
+use Rattle.line_tables.proofs.Common.{accepted, accepted_columns, after_edits, AreNew, cast_row, Chosen, Database}
+use Rattle.line_tables.proofs.Common.{Edit, Edits, Holds, Int, is_taken, Layout, Null, put_row, rowid, Runs}
+use Rattle.line_tables.proofs.Common.{schema_of, schema_tables, State, Value, value_cmp, with_rowid, Writes}
+use Rattle.line_tables.proofs.{Altering.list_grows, Beside.others_behind, Beside.quiet, Inserts.insert_does}
+use Rattle.line_tables.proofs.{Inserts.Inserted, PutTexts.accepted_terms, PutTexts.insert_accepted_is}
+use Rattle.line_tables.specs.{Edit.PutAccepted, Rows.columns_of, Rows.Tables, Rows.with_edit}
+use Rattle.line_tables.specs.{declared.edit.Accepted.Accepted, declared.writing.TheConstants.INSERT_ACCEPTED}
+use Rattle.sqlite.specs.{Cast.cast, Kind.TheVariants.Integer, Ops.unary, Order.Row}
+use Rattle.std.proofs.{lemmas.List.Sorted.IsPermutation-swap, lemmas.List.Sums.fold-append}
+use Rattle.std.specs.List.{filter_map}
 
 either : (b : Bool) (x : Value) → cond b x x ≡ x
 either true x = refl

@@ -1,43 +1,24 @@
 -- Increasing rowids are distinct.
-use Rattle.std.specs.Prelude.{⊤}
-use Rattle.std.proofs.Common.{◌≡◌, ◌∙◌, suc, drop-cons, inl, inr, ℕ, ℤ, ◌≤◌, ◌<◌, ◌+◌, List, [], ◌∷◌, ◌++◌, codes, map, filter, length, take, drop, get_or, Bool, true, false, ◌&&◌, if◌then◌else◌, IsTrue, Option, None, Some, Ordering, Less, Equal, Greater, is_eq, int_cmp, int_lt, cond, refl, sym, ap, subst, arith, true≢false}
-use Rattle.std.specs.List.{AllByRecursion}
-use Rattle.std.specs.List.Sorted.{IsPermutation}
-use Rattle.std.proofs.lemmas.Bool.{and_parts}
-use Rattle.std.proofs.lemmas.Cmp.{tied_itself, tied_back, int_cmp_total}
-use Rattle.std.proofs.lemmas.List.{take_more}
-use Rattle.std.proofs.lemmas.List.Elements.{All-from_recursion, recursion_from_All}
-use Rattle.std.proofs.lemmas.List.Sorted.{IsPermutation-sym, IsPermutation-map, length_permutation, All-permutation}
-use Rattle.sqlite_trees.proofs.ListLemmas.{IsPermutation-filter}
-use Rattle.sqlite_keyed.proofs.ListLemmas.{all-append, all_weaker}
+use Rattle.desk_types.proofs.Common.{[], ⊤, ◌&&◌, ◌++◌, ◌+◌, ◌<◌, ◌∙◌, ◌∷◌, ◌≡◌, ◌≤◌, All-from_recursion}
+use Rattle.desk_types.proofs.Common.{All-permutation, AllByRecursion, and_parts, ap, arith, Bool, codes, cond, drop}
+use Rattle.desk_types.proofs.Common.{false, filter, get_or, if◌then◌else◌, inl, inr, int_cmp, IsPermutation}
+use Rattle.desk_types.proofs.Common.{IsPermutation-map, IsPermutation-sym, IsTrue, length, length_permutation, List}
+use Rattle.desk_types.proofs.Common.{map, None, One, Option, recursion_from_All, refl, Rules, Some, subst, suc, sym}
+use Rattle.desk_types.proofs.Common.{take, take_more, tied_itself, true, true≢false, Two, ℕ, ℤ}
+use Rattle.line_tables.proofs.Common.{all-append, all_weaker, AreApart, changed_tables, column, found, Ghosts, Has}
+use Rattle.line_tables.proofs.Common.{Held, Indexed, Int, is_int, IsAnswer, IsAscending, IsBefore, IsOurs, IsPast}
+use Rattle.line_tables.proofs.Common.{IsPermutation-filter, KeepsCommit, kept_in, Output, output, Reads, Row, rowid}
+use Rattle.line_tables.proofs.Common.{Schema, State, state, Table, tree_in, Trees, Value, value_cmp, value_cmp-Int}
+use Rattle.line_tables.proofs.Common.{value_cmp_total}
+use Rattle.line_tables.proofs.{FindTexts.IsSelectBy, Finds.answer_by, Finds.overlay_none, Finds.shown_of}
+use Rattle.line_tables.proofs.{Keeps.keeps_same, Keeps.keeps_then, Keeps.reads_before, RowidTexts.found_is}
+use Rattle.line_tables.proofs.{RowidTexts.IsRowids, RowidTexts.rowids_from}
+use Rattle.line_tables.specs.{Line.found_tables, Line.nothing as no_others, Rising.AreApartWhere, Rising.AreRising}
+use Rattle.line_tables.specs.{Rising.IsFoundApartWhere, Rising.Shows, Rowids.AreAllApartBy, Rowids.changed_of}
 use Rattle.sqlite_catalog.proofs.ListFacts.{ascending_push}
-use Rattle.sqlite_rules.specs.Lists.{Has}
 use Rattle.sqlite_rules.proofs.ListLemmas.{all_has}
-use Rattle.sqlite.specs.declared.types.Value.{Value}
-use Rattle.sqlite.specs.declared.types.Value.TheVariants.{Int}
-use Rattle.sqlite_value.specs.Order.{Row, column, value_cmp}
-use Rattle.sqlite_value.proofs.OrderLemmas.{value_cmp_total, value_cmp-Int}
-use Rattle.sqlite_trees.specs.Tree.{Trees, rowid, IsAscending}
-use Rattle.sqlite_trees.specs.View.{is_int}
-use Rattle.sqlite_trees.specs.declared.store.Store.{Ghosts}
-use Rattle.sqlite_schema.specs.declared.schema.Table.{Table}
-use Rattle.sqlite.specs.Effect.{Database}
-use Rattle.sqlite.specs.Schema.{Schema}
-use Rattle.sqlite.specs.Held.{Held, state}
-use Rattle.sqlite.specs.Query.{IsAnswer, Output, output}
-use Rattle.sqlite.specs.State.{State, KeepsCommit}
-use Rattle.line_tables.specs.Calls.{Reads}
-use Rattle.desk_types.specs.declared.rules.Rules.{Rules}
-use Rattle.desk_types.specs.declared.rules.Rules.TheVariants.{One, Two}
-use Rattle.line_tables.specs.Line.{IsOurs, tree_in, found, found_tables, nothing as no_others}
-use Rattle.line_tables.specs.StateRows.{kept_in}
-use Rattle.line_tables.specs.Rowids.{AreApart, AreAllApartBy, changed_tables, changed_of}
-use Rattle.line_tables.specs.Rising.{AreRising, IsBefore, IsPast, Shows, AreApartWhere, IsFoundApartWhere}
-use Rattle.line_tables.proofs.Finds.{answer_by, shown_of, overlay_none}
-use Rattle.line_tables.proofs.FindTexts.{IsSelectBy}
-use Rattle.line_tables.proofs.Keeps.{keeps_same, keeps_then}
-use Rattle.line_tables.proofs.RowidTexts.{rowids_from, IsRowids, found_is}
-use Rattle.line_tables.specs.Line.Layout.{Indexed}
+use Rattle.std.proofs.{Common.drop-cons, Common.Equal, Common.Greater, Common.int_lt, Common.is_eq, Common.Less}
+use Rattle.std.proofs.{Common.Ordering, lemmas.Cmp.int_cmp_total, lemmas.Cmp.tied_back}
 
 -- ---- one more row
 
@@ -199,11 +180,6 @@ module _ {S : Type 0} (g : Ghosts S) (old : Held S) where
 
   pub tells_found : (b : Bool) → Shows g (codes "SELECT rowid FROM found ORDER BY rowid") old b → IsFoundApartWhere Two b (state g old)
   tells_found b h = let t = tells_by _ (tree_in found) _ found_is b h in record { was_open = t.was_open; are = λ ours told. (t.are ours told, tt) }
-
-reads_before : (old mid : State) → KeepsCommit old mid → (Is : Database → Type 0) → Reads mid Is → Reads old Is
-reads_before old mid kept Is r =
-    let same = kept.committed r.was_open in
-    record { was_open = kept.was_open r.was_open; are = λ ours. subst Is same (r.are (subst (λ (db : Database). IsOurs db.schema) (sym same) ours)) }
 
 told_more : (old mid : State) → KeepsCommit old mid → (table : Table) (tables : List Table) (a b : Bool) → Reads old (λ db. IsTrue a → AreApart (kept_in table db)) → Reads mid (AreApartWhere b tables) → Reads old (AreApartWhere (a && b) (table ∷ tables))
 told_more old mid kept table tables a b first others = record {

@@ -1,58 +1,52 @@
 -- The effect of the statements on the state tables.
-use Rattle.std.proofs.Common.{◌≡◌, ◌∙◌, ◌+◌, inl, inr, ◌||◌, ◌&&◌, ◌==◌, not, if◌then◌else◌, ◌/◌, ℕ, ℤ, pos, Bool, List, [], ◌∷◌, map, drop, length, slice_get, true, false, IsTrue, Option, Some, None, refl, ap, ap₂, subst, sym}
-use Rattle.std.proofs.lemmas.Bool.{and_parts, and_from}
-use Rattle.sqlite.specs.declared.types.Value.TheVariants.{Null, Int, Real, Text, Blob}
-use Rattle.std.proofs.lemmas.Simd.{map-map}
-use Rattle.sqlite.specs.Values.{bound, bound_value}
-use Rattle.sqlite_value.specs.declared.value.ValueRef.{ValueRef}
-use Rattle.sqlite_value.specs.Value.{owned}
-use Rattle.sqlite.specs.declared.types.Value.{Value}
-use Rattle.sqlite.specs.Ops.{binary}
-use Rattle.sqlite.specs.Collation.TheVariants.{Binary}
-use Rattle.sqlite_value.specs.Order.{Row, column, value_cmp}
-use Rattle.sqlite_schema.specs.Rules.{equal}
-use Rattle.sqlite.specs.Cast.{cast_row}
-use Rattle.sqlite_rules.specs.Edit.{with_rowid, next_rowid, id_in}
-use Rattle.sqlite.specs.Rowids.TheVariants.{Chosen}
-use Rattle.sqlite_rules.specs.Action.{works}
-use Rattle.sqlite_schema.specs.declared.schema.Keys.TheVariants.{Enforced}
-use Rattle.sqlite_schema.specs.declared.schema.Table.{Table}
-use Rattle.sqlite_rules.proofs.TableLemmas.{int_is}
-use Rattle.sqlite_trees.specs.Tree.{rowid}
-use Rattle.sqlite_trees.specs.View.{is_int}
-use Rattle.sqlite.specs.Term.{Term, col}
-use Rattle.sqlite.specs.State.{State}
-use Rattle.sqlite.specs.Effect.{Database, value_rows}
-use Rattle.sqlite.specs.Command.TheVariants.{Update}
-use Rattle.sqlite.specs.Listing.{understood}
-use Rattle.sqlite.proofs.Callers.{IsPlain, command_of}
-use Rattle.line_tables.specs.Rowids.{AreApart}
-use Rattle.line_tables.proofs.FindTexts.{rows_from}
-use Rattle.sqlite.specs.Held.{state}
-use Rattle.sqlite_trees.specs.declared.store.Store.{Ghosts}
-use Rattle.desk_types.specs.Id.{Name, same}
-use Rattle.desk_types.specs.declared.sheet.SheetRow.{SheetRow}
-use Rattle.desk_types.specs.declared.edit.RowEdit.TheVariants.{TakeSheetRow, TakeMount, PutPart, PutAlternate, PutSheetRow, PutSelected, PutReel, PutMount, PutBoard, PutFound}
-use Rattle.desk_types.specs.declared.row.ReelRow.{ReelRow}
-use Rattle.desk_types.specs.declared.row.MountRow.{MountRow}
-use Rattle.desk_types.specs.declared.row.BoardRow.{BoardRow}
-use Rattle.desk_types.specs.declared.rules.Rules.TheVariants.{Two}
-use Rattle.line_tables.specs.Line.{schema_of, schema_tables, part, alternate, sheet_row, selected, reel, mount, board, found, found_by, found_tree, Layout}
-use Rattle.line_tables.specs.StateRows.{values_of, AreRows, columns, rows_in, has_text, has_pair, has_sheet_place, unit_if, part_columns, alternate_columns, sheet_columns, selected_columns, reel_columns, mount_columns, board_columns, found_columns, since_or_none, flag}
-use Rattle.line_tables.specs.Calls.{Runs, Changes, ChangesOrPuts, WritesRow}
-use Rattle.line_tables.proofs.Inserts.{Inserted, insert_does}
-use Rattle.line_tables.proofs.Beside.{quiet, is_low, found_low}
-use Rattle.line_tables.proofs.Puts.{cast_int, cast_null}
-use Rattle.line_tables.proofs.Changes.{Changed, renewed, shows_of, passing, delete_does, update_does}
-use Rattle.line_tables.proofs.Finds.{and_true}
-use Rattle.line_tables.proofs.Altering.{without, put_in, rows_at, found_kept, far_from_found, Alters, alters_then, alters_writes}
-use Rattle.line_tables.proofs.Keyed.{changed, added, one_text, one_pair, one_sheet_place, own_text, own_int, same_pair, same_sheet_place, tells_text, tells_pair, tells_sheet_place}
+use Rattle.desk_types.proofs.Common.{[], ◌&&◌, ◌+◌, ◌==◌, ◌||◌, ◌∙◌, ◌∷◌, ◌≡◌, and_from, and_parts, ap, ap₂, BoardRow}
+use Rattle.desk_types.proofs.Common.{Bool, drop, false, if◌then◌else◌, inl, inr, IsTrue, length, List, map, MountRow}
+use Rattle.desk_types.proofs.Common.{Name, None, not, Option, pos, PutAlternate, PutBoard, PutFound, PutMount}
+use Rattle.desk_types.proofs.Common.{PutPart, PutReel, PutSelected, PutSheetRow, ReelRow, refl, same, SheetRow}
+use Rattle.desk_types.proofs.Common.{slice_get, Some, subst, sym, TakeMount, TakeSheetRow, true, Two, ℕ, ℤ}
+use Rattle.line_tables.proofs.Common.{alternate, AreApart, AreRows, Binary, board, bound, cast_row, Chosen, col}
+use Rattle.line_tables.proofs.Common.{column, columns, command_of, Database, Enforced, equal, flag, found, found_tree}
+use Rattle.line_tables.proofs.Common.{Ghosts, has_pair, has_sheet_place, has_text, Indexed, Int, is_int, IsPlain}
+use Rattle.line_tables.proofs.Common.{Layout, mount, Null, owned, part, Plain, reel, reel_columns, Row, rowid}
+use Rattle.line_tables.proofs.Common.{rows_in, Runs, schema_of, schema_tables, selected, sheet_row, State, state}
+use Rattle.line_tables.proofs.Common.{Table, Term, Text, understood, Update, Value, value_cmp, values_of, with_rowid}
+use Rattle.line_tables.proofs.Common.{works}
 use Rattle.line_tables.proofs.Alterations.{deletes, inserts, updates_none, updates_one}
-use Rattle.line_tables.proofs.RowTexts.{IsInsert, row_terms, changed_terms, delete_part_is, alternate_tests, delete_alternate_is, sheet_row_tests, delete_sheet_row_is, mount_tests, delete_mount_is, insert_part_is, insert_alternate_is, insert_sheet_row_is, insert_selected_is, insert_reel_is, insert_board_is, insert_found_is, mount_terms, insert_mount_is, key_tests, update_selected_is, update_reel_is, update_board_is, update_found_is}
-use Rattle.line_tables.specs.Line.Layout.{Indexed, Plain}
-use Rattle.line_tables.specs.declared.floor.TheConstants.{DELETE_MOUNT, INSERT_BOARD, INSERT_MOUNT, INSERT_REEL, UPDATE_BOARD, UPDATE_REEL}
+use Rattle.line_tables.proofs.Altering.{Alters, alters_then, alters_writes, far_from_found, found_kept, put_in}
+use Rattle.line_tables.proofs.Altering.{rows_at, without}
+use Rattle.line_tables.proofs.Beside.{found_low, is_low, quiet}
+use Rattle.line_tables.proofs.Changes.{Changed, delete_does, passing, renewed, shows_of, update_does}
+use Rattle.line_tables.proofs.FindTexts.{rows_from}
+use Rattle.line_tables.proofs.Finds.{and_true}
+use Rattle.line_tables.proofs.Inserts.{insert_does, Inserted}
+use Rattle.line_tables.proofs.Keyed.{added, changed, one_pair, one_sheet_place, one_text, own_int, own_text}
+use Rattle.line_tables.proofs.Keyed.{same_pair, same_sheet_place, tells_pair, tells_sheet_place, tells_text}
+use Rattle.line_tables.proofs.Puts.{cast_int, cast_null}
+use Rattle.line_tables.proofs.RowTexts.{alternate_tests, changed_terms, delete_alternate_is, delete_mount_is}
+use Rattle.line_tables.proofs.RowTexts.{delete_part_is, delete_sheet_row_is, insert_alternate_is, insert_board_is}
+use Rattle.line_tables.proofs.RowTexts.{insert_found_is, insert_mount_is, insert_part_is, insert_reel_is}
+use Rattle.line_tables.proofs.RowTexts.{insert_selected_is, insert_sheet_row_is, IsInsert, key_tests, mount_terms}
+use Rattle.line_tables.proofs.RowTexts.{mount_tests, row_terms, sheet_row_tests, update_board_is, update_found_is}
+use Rattle.line_tables.proofs.RowTexts.{update_reel_is, update_selected_is}
+use Rattle.line_tables.specs.Calls.{Changes, ChangesOrPuts, WritesRow}
+use Rattle.line_tables.specs.Line.{found_by}
+use Rattle.line_tables.specs.StateRows.{alternate_columns, board_columns, found_columns, mount_columns, part_columns}
+use Rattle.line_tables.specs.StateRows.{selected_columns, sheet_columns, since_or_none, unit_if}
+use Rattle.line_tables.specs.declared.floor.TheConstants.{DELETE_MOUNT, INSERT_BOARD, INSERT_MOUNT, INSERT_REEL}
+use Rattle.line_tables.specs.declared.floor.TheConstants.{UPDATE_BOARD, UPDATE_REEL}
 use Rattle.line_tables.specs.declared.pieces.TheConstants.{INSERT_FOUND, UPDATE_FOUND}
-use Rattle.line_tables.specs.declared.setup.TheConstants.{DELETE_ALTERNATE, DELETE_PART, DELETE_SHEET_ROW, INSERT_ALTERNATE, INSERT_PART, INSERT_SELECTED, INSERT_SHEET_ROW, UPDATE_SELECTED}
+use Rattle.line_tables.specs.declared.setup.TheConstants.{DELETE_ALTERNATE, DELETE_PART, DELETE_SHEET_ROW}
+use Rattle.line_tables.specs.declared.setup.TheConstants.{INSERT_ALTERNATE, INSERT_PART, INSERT_SELECTED}
+use Rattle.line_tables.specs.declared.setup.TheConstants.{INSERT_SHEET_ROW, UPDATE_SELECTED}
+use Rattle.sqlite.specs.Effect.{value_rows}
+use Rattle.sqlite.specs.Ops.{binary}
+use Rattle.sqlite.specs.Values.{bound_value}
+use Rattle.sqlite.specs.declared.types.Value.TheVariants.{Blob, Real}
+use Rattle.sqlite_rules.proofs.TableLemmas.{int_is}
+use Rattle.sqlite_rules.specs.Edit.{id_in, next_rowid}
+use Rattle.sqlite_value.specs.declared.value.ValueRef.{ValueRef}
+use Rattle.std.proofs.Common.{◌/◌}
+use Rattle.std.proofs.lemmas.Simd.{map-map}
 
 -- Values are bound unchanged, except a NaN.
 pub bound_as : (lent : List ValueRef) (row : Row) → values_of lent ≡ row → bound lent ≡ map bound_value row

@@ -1,23 +1,16 @@
 -- The meaning of the texts that write the state tables.
-use Rattle.std.proofs.Common.{◌≡◌, List, ℕ, [], ◌∷◌, map, refl}
-use Rattle.std.specs.List.{range_with_len}
-use Rattle.sqlite.specs.Command.TheVariants.{Insert, Update, Delete}
-use Rattle.sqlite.specs.Source.TheVariants.{Values}
-use Rattle.sqlite.specs.Term.{Term, lit, col, op2}
-use Rattle.sqlite.specs.Collation.TheVariants.{Binary}
-use Rattle.sqlite_sql.specs.declared.ops.BinaryOp.TheVariants.{Compare}
-use Rattle.sqlite_sql.specs.declared.ops.CompareOp.TheVariants.{Eq}
-use Rattle.sqlite.specs.declared.types.Value.TheVariants.{Null}
-use Rattle.sqlite.specs.Listing.{understood}
-use Rattle.sqlite_tied.specs.Compute.{everything}
-use Rattle.sqlite.proofs.Callers.{IsPlain, command_of}
-use Rattle.desk_types.specs.declared.rules.Rules.TheVariants.{Two}
-use Rattle.line_tables.specs.Line.{schema_of, found_tree, Layout}
+use Rattle.desk_types.proofs.Common.{[], ◌∷◌, ◌≡◌, List, map, range_with_len, refl, Two, ℕ}
+use Rattle.line_tables.proofs.Common.{Binary, col, command_of, Compare, Eq, everything, found_tree, Indexed, Insert}
+use Rattle.line_tables.proofs.Common.{INSERT_PLACEMENTS, IsPlain, Layout, lit, Null, op2, Plain, schema_of, Term}
+use Rattle.line_tables.proofs.Common.{understood, Update, Values}
 use Rattle.line_tables.proofs.FindTexts.{rows_from}
-use Rattle.line_tables.specs.Line.Layout.{Indexed, Plain}
-use Rattle.line_tables.specs.declared.floor.TheConstants.{DELETE_MOUNT, INSERT_BOARD, INSERT_MOUNT, INSERT_REEL, UPDATE_BOARD, UPDATE_REEL}
-use Rattle.line_tables.specs.declared.pieces.TheConstants.{INSERT_FOUND, INSERT_PLACEMENT, INSERT_PLACEMENTS, UPDATE_FOUND}
-use Rattle.line_tables.specs.declared.setup.TheConstants.{DELETE_ALTERNATE, DELETE_PART, DELETE_SHEET_ROW, INSERT_ALTERNATE, INSERT_PART, INSERT_SELECTED, INSERT_SHEET_ROW, UPDATE_SELECTED}
+use Rattle.line_tables.specs.declared.floor.TheConstants.{DELETE_MOUNT, INSERT_BOARD, INSERT_MOUNT, INSERT_REEL}
+use Rattle.line_tables.specs.declared.floor.TheConstants.{UPDATE_BOARD, UPDATE_REEL}
+use Rattle.line_tables.specs.declared.pieces.TheConstants.{INSERT_FOUND, INSERT_PLACEMENT, UPDATE_FOUND}
+use Rattle.line_tables.specs.declared.setup.TheConstants.{DELETE_ALTERNATE, DELETE_PART, DELETE_SHEET_ROW}
+use Rattle.line_tables.specs.declared.setup.TheConstants.{INSERT_ALTERNATE, INSERT_PART, INSERT_SELECTED}
+use Rattle.line_tables.specs.declared.setup.TheConstants.{INSERT_SHEET_ROW, UPDATE_SELECTED}
+use Rattle.sqlite.specs.Command.TheVariants.{Delete}
 
 -- In either layout the text deletes the rows that pass the tests, from the table at this place with this tree.
 abbrev pub IsDelete : List ℕ → ℕ → ℕ → List Term → Type 0

@@ -1,16 +1,10 @@
 -- The meaning of the texts that read rowids.
-use Rattle.std.proofs.Common.{inl, inr, List, ℕ, [], ◌∷◌, codes, refl, true, false, None, pos, negsuc}
-use Rattle.sqlite.specs.Term.{lit, col}
-use Rattle.sqlite.specs.Query.{Query, inner, end}
-use Rattle.sqlite.specs.Collation.TheVariants.{Binary}
-use Rattle.sqlite.specs.declared.types.Value.TheVariants.{Int}
-use Rattle.sqlite_value.specs.Keys.{ascending}
-use Rattle.sqlite.specs.Listing.{understood, listing_schema}
-use Rattle.sqlite_tied.specs.Compute.{everything}
-use Rattle.desk_types.specs.declared.rules.Rules.TheVariants.{One, Two}
-use Rattle.line_tables.specs.Line.{found, tree_in}
+use Rattle.desk_types.proofs.Common.{[], ◌∷◌, codes, false, inl, inr, List, negsuc, None, One, pos, refl, true, Two}
+use Rattle.desk_types.proofs.Common.{ℕ}
+use Rattle.line_tables.proofs.Common.{ascending, Binary, col, end, everything, found, Indexed, inner, Int, lit, Plain}
+use Rattle.line_tables.proofs.Common.{Query, tree_in, understood}
 use Rattle.line_tables.proofs.FindTexts.{IsSelect, IsSelectBy}
-use Rattle.line_tables.specs.Line.Layout.{Indexed, Plain}
+use Rattle.sqlite.specs.Listing.{listing_schema}
 
 abbrev pub rowids_from : ℕ → Query
 rowids_from tree = record { from = inner tree end; filter = []; group = None; project = col 1 0 ∷ []; distinct = false; collations = []; order = (col 1 0, ascending Binary) ∷ []; limit = lit (Int (negsuc 0)); offset = lit (Int (pos 0)) }

@@ -1,37 +1,23 @@
 -- The result of the query for the boards of a lot.
-use Rattle.std.proofs.Common.{◌≡◌, ◌∙◌, Bool, List, [], ◌∷◌, map, filter, refl, sym, ap, subst, Less}
-use Rattle.std.specs.Prelude.{◌&&◌, if◌then◌else◌}
-use Rattle.std.specs.List.{flat_map, list_all}
-use Rattle.std.specs.List.Sorted.{IsPermutation, IsStrictlySortedBy}
-use Rattle.std.proofs.lemmas.List.Sorted.{IsPermutation-trans, IsPermutation-sym}
-use Rattle.sqlite_trees.specs.Tree.{IsAscending}
-use Rattle.sqlite_trees.proofs.ListLemmas.{flat_map-map, IsPermutation-flat_map}
-use Rattle.sqlite_keyed.proofs.ListLemmas.{all_weaker, map-map, ascending-map, ascending_weaker}
-use Rattle.sqlite_keyed.proofs.SortLemmas.{sorted_unique}
-use Rattle.sqlite.specs.declared.types.Value.TheVariants.{Text}
-use Rattle.sqlite_value.specs.Order.{Row, column}
-use Rattle.sqlite.specs.Term.{holds}
-use Rattle.sqlite.specs.Query.{IsAnswer, output, output_cmp, Output}
-use Rattle.sqlite.specs.Program.{overlay}
-use Rattle.sqlite.specs.Effect.{Database}
-use Rattle.sqlite_sql.proofs.QueryLemmas.{output_cmp_total}
-use Rattle.sqlite_trees.specs.declared.store.Store.{Ghosts}
-use Rattle.sqlite.specs.Held.{Held, state}
-use Rattle.desk_types.specs.declared.placement.Placement.{Placement}
-use Rattle.desk_types.specs.Id.{Name, same, by_name}
-use Rattle.desk_types.specs.History.{History}
-use Rattle.desk_types.specs.Placements.{placements_of, boards_of}
+use Rattle.desk_types.proofs.Common.{[], ◌&&◌, ◌∙◌, ◌∷◌, ◌≡◌, ap, boards_of, Bool, by_name, filter, flat_map, History}
+use Rattle.desk_types.proofs.Common.{if◌then◌else◌, IsPermutation, IsPermutation-sym, IsPermutation-trans}
+use Rattle.desk_types.proofs.Common.{IsStrictlySortedBy, List, list_all, map, Name, Placement, placements_of, refl}
+use Rattle.desk_types.proofs.Common.{same, subst, sym}
+use Rattle.line_tables.proofs.Common.{all_weaker, column, columns, Database, flat_map-map, Ghosts, has_text, Held}
+use Rattle.line_tables.proofs.Common.{holds, IsAnswer, IsAscending, map-map, Output, output, output_cmp}
+use Rattle.line_tables.proofs.Common.{output_cmp_total, overlay, reel_columns, Row, rows_in, Selects, state, Text}
+use Rattle.desk_laws.proofs.NameSets.{set-ordered}
+use Rattle.line_tables.proofs.Finds.{and_true, answer_of}
+use Rattle.line_traces.proofs.{Columns.equal-text, DistinctNames.by-shown, DistinctNames.kept-set}
+use Rattle.line_traces.proofs.{DistinctNames.shown_name, FoundPieces.is_reel, Joins.found-of, Joins.map-pair}
+use Rattle.line_traces.proofs.{Joins.pair-one, Joins.paired, Joins.pairing, Joins.swapped, PlacedColumns.IsKnown}
+use Rattle.line_traces.proofs.{PlacedColumns.piece_row, PlacedColumns.pieces-known, PlacedColumns.pieces-listed}
+use Rattle.line_traces.proofs.{Texts.names_query, Texts.select_names, Texts.select_names_is}
+use Rattle.line_traces.specs.Committed.{FindsOfList, HoldsList, name_row}
+use Rattle.sqlite_keyed.proofs.{ListLemmas.ascending-map, ListLemmas.ascending_weaker, SortLemmas.sorted_unique}
+use Rattle.sqlite_trees.proofs.ListLemmas.{IsPermutation-flat_map}
+use Rattle.std.proofs.Common.{Less}
 use Rattle.line_tables.specs.Line as line
-use Rattle.line_tables.specs.Calls.{Selects}
-use Rattle.line_tables.specs.StateRows.{columns, rows_in, reel_columns, has_text}
-use Rattle.line_tables.proofs.Finds.{answer_of, and_true}
-use Rattle.line_traces.specs.Committed.{HoldsList, FindsOfList, name_row}
-use Rattle.line_traces.proofs.Columns.{equal-text}
-use Rattle.line_traces.proofs.Joins.{paired, pairing, pair-one, map-pair, swapped, found-of}
-use Rattle.line_traces.proofs.PlacedColumns.{piece_row, pieces-listed, IsKnown, pieces-known}
-use Rattle.line_traces.proofs.DistinctNames.{shown_name, by-shown, kept-set, set-sorted}
-use Rattle.line_traces.proofs.Texts.{select_names, names_query, select_names_is}
-use Rattle.line_traces.proofs.FoundPieces.{is_reel}
 
 in-order : (names : List Name) → IsStrictlySortedBy by_name names → IsAscending (λ a b. by_name a b ≡ Less) names
 unfolding IsStrictlySortedBy
@@ -79,7 +65,7 @@ module _ (lot : Name) where
       let kept : IsPermutation a.kept (map shown_name (boards_of H lot)) =
       kept-set (names_of H) (map (output names_query) a.staged) a.kept (subst (λ l. IsPermutation l (map shown_name (names_of H))) (sym (all-shown db rows a)) (all-listed db H held)) a.distinct in
       let up : IsAscending (λ x y. output_cmp names_query x y ≡ Less) (map shown_name (boards_of H lot)) =
-      ascending-map (λ x y. output_cmp names_query x y ≡ Less) shown_name (boards_of H lot) (ascending_weaker (λ a b. by_name a b ≡ Less) _ (λ a b less. by-shown a b ∙ less) (boards_of H lot) (in-order (boards_of H lot) (set-sorted (names_of H)))) in
+      ascending-map (λ x y. output_cmp names_query x y ≡ Less) shown_name (boards_of H lot) (ascending_weaker (λ a b. by_name a b ≡ Less) _ (λ a b less. by-shown a b ∙ less) (boards_of H lot) (in-order (boards_of H lot) (set-ordered (names_of H)))) in
       let ordered : a.ordered ≡ map shown_name (boards_of H lot) =
       sorted_unique (output_cmp names_query) (output_cmp_total names_query) _ a.ordered up (IsPermutation-trans _ _ _ (IsPermutation-sym _ _ kept) a.same) a.sorted in
       a.shown ∙ ap (map (λ (o : Output). o.1)) ordered ∙ map-map (λ (o : Output). o.1) shown_name (boards_of H lot)

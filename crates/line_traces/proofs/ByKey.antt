@@ -1,22 +1,13 @@
 -- The pieces of a list by their keys.
-use Rattle.std.proofs.Common.{◌≡◌, ◌∙◌, ◌==◌, ◌&&◌, Bool, true, false, Some, List, [], ◌∷◌, map, filter, find, refl, sym, ap, ap₂, true≢false, is_eq}
-use Rattle.std.specs.List.{AllByRecursion}
-use Rattle.std.specs.List.Sorted.{IsStrictlySortedBy}
-use Rattle.std.specs.Map.{keys_of}
-use Rattle.std.proofs.lemmas.Bool.{eqb-true, eq-eqb}
-use Rattle.sqlite_keyed.proofs.ListLemmas.{all_both, all-filter}
-use Rattle.desk_types.specs.declared.placement.Placement.{Placement}
-use Rattle.desk_types.specs.declared.rules.Rules.TheVariants.{Two}
-use Rattle.desk_types.specs.History.{History}
-use Rattle.desk_types.specs.Judged.{IsJudged}
-use Rattle.desk_types.specs.Placements.{placements_of}
-use Rattle.state_rows.specs.Kept.{by_piece}
-use Rattle.state_rows.proofs.PlacedRows.{entry_of, pieces-ascend}
-use Rattle.state_rows.specs.Lists.{Key, keys_where}
-use Rattle.line_traces.specs.Pieces.{pieces_where, piece_at}
-use Rattle.line_traces.proofs.PlacedColumns.{both, itself}
-use Rattle.line_traces.proofs.FoundPieces.{IsBefore, before-all}
-use Rattle.line_traces.proofs.TwoCalls.{all-placed_columns}
+use Rattle.desk_types.proofs.Common.{[], ◌&&◌, ◌==◌, ◌∙◌, ◌∷◌, ◌≡◌, AllByRecursion, and_parts, ap, ap₂, Bool, eq-eqb}
+use Rattle.desk_types.proofs.Common.{eqb-true, false, filter, find, History, IsJudged, IsStrictlySortedBy, keys_of}
+use Rattle.desk_types.proofs.Common.{List, map, Placement, placements_of, refl, Some, sym, true, true≢false, Two}
+use Rattle.line_traces.{proofs.FoundPieces.before-all, proofs.FoundPieces.IsBefore, proofs.PlacedColumns.itself}
+use Rattle.line_traces.{proofs.TwoCalls.all-placed_columns, specs.Pieces.piece_at, specs.Pieces.pieces_where}
+use Rattle.sqlite_keyed.proofs.ListLemmas.{all-filter, all_both}
+use Rattle.state_rows.{proofs.PlacedRows.entry_of, proofs.PlacedRows.pieces-ascend, specs.Kept.by_piece}
+use Rattle.state_rows.{specs.Lists.Key, specs.Lists.keys_where}
+use Rattle.std.proofs.Common.{is_eq}
 
 -- ---- look-ups
 
@@ -34,7 +25,7 @@ other-key p q less = by (has_key (its_key q) p) refl
   where
     by : (b : Bool) → has_key (its_key q) p ≡ b → has_key (its_key q) p ≡ false
     by true is =
-        let two = both (p.number == q.number) (p.place == q.place) is in
+        let two = and_parts (p.number == q.number) (p.place == q.place) is in
         let one : its_key p ≡ its_key q = ap₂ (λ m n. (m, n)) (eqb-true p.number q.number two.0) (eqb-true p.place q.place two.1) in
         absurd (true≢false (sym (itself (its_key q)) ∙ ap is_eq (ap (λ k. by_piece k (its_key q)) (sym one) ∙ less)))
     by false is = is

@@ -1,24 +1,13 @@
 -- Values of rows, and their equality.
-use Rattle.std.proofs.Common.{◌≡◌, ◌≢◌, ◌∙◌, ℕ, pos, Bool, true, false, Some, length, map, refl, sym, ap, subst, arith, Ordering, Less, Equal, Greater, is_eq, int_cmp}
-use Rattle.std.specs.Prelude.{◌||◌, ◌<◌, if◌then◌else◌}
-use Rattle.std.specs.List.{range_with_len}
-use Rattle.std.proofs.lemmas.List.{same_lists, get_or_default}
-use Rattle.std.proofs.lemmas.List.FromFn.{get_or-map-range_with_len, length-map-range_with_len}
-use Rattle.std.proofs.lemmas.Cmp.{tied_back, tied_itself}
-use Rattle.std.proofs.lemmas.Bool.Decides.{nat_tests}
-use Rattle.sqlite.specs.declared.types.Value.{Value}
-use Rattle.sqlite.specs.declared.types.Value.TheVariants.{Null, Int, Text}
-use Rattle.sqlite.specs.Collation.TheVariants.{Binary}
-use Rattle.sqlite_value.specs.Order.{Row, column, value_cmp}
-use Rattle.sqlite_value.proofs.OrderLemmas.{value_cmp_total, value_cmp-Int, value_cmp-Text}
-use Rattle.sqlite_schema.specs.Rules.{equal}
-use Rattle.sqlite_sql.specs.Ops.{binary, is_null, is_true, from_truth}
-use Rattle.desk_types.specs.Id.{Name, same}
-use Rattle.desk_types.proofs.Keys.{same-true, is_at-by_name}
-use Rattle.desk_types.specs.declared.placement.Placement.{Placement}
-use Rattle.desk_types.specs.declared.row.PlacementRow.{PlacementRow}
-use Rattle.line_tables.specs.StateRows.{flag, placement_columns}
+use Rattle.desk_types.proofs.Common.{◌<◌, ◌∙◌, ◌≡◌, ◌≢◌, ap, arith, Bool, false, int_cmp, is_at-by_name, length, map}
+use Rattle.desk_types.proofs.Common.{Name, nat_tests, Placement, PlacementRow, pos, range_with_len, same, same-true}
+use Rattle.desk_types.proofs.Common.{subst, sym, true, ℕ}
+use Rattle.line_tables.proofs.Common.{Binary, binary, column, equal, flag, Int, Null, placement_columns, Row, Text}
+use Rattle.line_tables.proofs.Common.{Value, value_cmp-Int, value_cmp-Text}
+use Rattle.line_tables.proofs.Keyed.{tied_twice, truth_told}
 use Rattle.line_traces.specs.Committed.{placed_columns}
+use Rattle.std.proofs.{Common.Equal, Common.is_eq, lemmas.List.get_or_default, lemmas.List.same_lists}
+use Rattle.std.proofs.{lemmas.List.FromFn.get_or-map-range_with_len, lemmas.List.FromFn.length-map-range_with_len}
 
 -- ---- rows
 
@@ -36,46 +25,22 @@ no_flag_in_row row none p is = none p.overdue (ap (λ r. column r 7) is)
 
 -- ---- equality
 
-told : (b : Bool) → is_true (from_truth (Some b)) ≡ b
-told true = refl
-told false = refl
-
 pub equal-text : (a b : Name) → equal Binary (Text a) (Text b) ≡ same a b
 unfolding binary
-equal-text a b = told _ ∙ ap is_eq (value_cmp-Text a b) ∙ is_at-by_name a b
+equal-text a b = truth_told _ ∙ ap is_eq (value_cmp-Text a b) ∙ is_at-by_name a b
 
 pub equal-flag : (b : Bool) → equal Binary (Int (flag b)) (Int (pos 1)) ≡ b
 unfolding binary
-equal-flag true = told _ ∙ ap is_eq (value_cmp-Int (pos 1) (pos 1))
-equal-flag false = told _ ∙ ap is_eq (value_cmp-Int (pos 0) (pos 1))
+equal-flag true = truth_told _ ∙ ap is_eq (value_cmp-Int (pos 1) (pos 1))
+equal-flag false = truth_told _ ∙ ap is_eq (value_cmp-Int (pos 0) (pos 1))
 
 -- ---- keys
-
-tied : (o : Ordering) → is_eq o ≡ true → o ≡ Equal
-tied Less holds = cc
-tied Equal holds = refl
-tied Greater holds = cc
-
-equal-tied : (v w : Value) → equal Binary v w ≡ true → value_cmp v w ≡ Equal
-unfolding binary
-equal-tied v w is = by (is_null v || is_null w) is
-  where
-    by : (b : Bool) → is_true (if b then Null else from_truth (Some (is_eq (value_cmp v w)))) ≡ true → value_cmp v w ≡ Equal
-    by true holds = cc
-    by false holds = tied (value_cmp v w) (sym (told _) ∙ holds)
-
-both-tied : (v a b : Value) → equal Binary v a ≡ true → equal Binary v b ≡ true → value_cmp a b ≡ Equal
-both-tied v a b first second = value_cmp_total.congr a v b (tied_back value_cmp_total v a (equal-tied v a first)) ∙ equal-tied v b second
 
 one-pos : (m n : ℕ) → int_cmp (pos m) (pos n) ≡ Equal → m ≡ n
 one-pos m n is = grind (arith, nat_tests)
 
 pub one-int : (v : Value) (m n : ℕ) → equal Binary v (Int (pos m)) ≡ true → equal Binary v (Int (pos n)) ≡ true → m ≡ n
-one-int v m n first second = one-pos m n (sym (value_cmp-Int (pos m) (pos n)) ∙ both-tied v (Int (pos m)) (Int (pos n)) first second)
+one-int v m n first second = one-pos m n (sym (value_cmp-Int (pos m) (pos n)) ∙ tied_twice v (Int (pos m)) (Int (pos n)) first second)
 
 pub one-text : (v : Value) (m n : Name) → equal Binary v (Text m) ≡ true → equal Binary v (Text n) ≡ true → m ≡ n
-one-text v m n first second = same-true m n (sym (is_at-by_name m n) ∙ ap is_eq (sym (value_cmp-Text m n) ∙ both-tied v (Text m) (Text n) first second))
-
-pub equal-itself : (n : ℕ) → equal Binary (Int (pos n)) (Int (pos n)) ≡ true
-unfolding binary
-equal-itself n = told _ ∙ ap is_eq (tied_itself value_cmp_total (Int (pos n)))
+one-text v m n first second = same-true m n (sym (is_at-by_name m n) ∙ ap is_eq (sym (value_cmp-Text m n) ∙ tied_twice v (Text m) (Text n) first second))

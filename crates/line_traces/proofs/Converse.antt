@@ -1,36 +1,18 @@
 -- The two traces agree.
-use Rattle.std.proofs.Common.{◌≡◌, ◌∙◌, ◌↔◌, Bool, true, false, Contains, Option, Some, None, List, [], ◌∷◌, ◌++◌, map, filter, refl, sym, ap}
-use Rattle.std.specs.Prelude.{if◌then◌else◌, unwrap_or}
-use Rattle.std.specs.List.{list_any}
-use Rattle.std.specs.Option.{option_map_or}
-use Rattle.std.specs.Cmp.Lexicographic.{nat_list_eq_equiv}
-use Rattle.std.proofs.lemmas.Bool.{or_right}
-use Rattle.std.proofs.lemmas.List.{append_assoc}
-use Rattle.std.proofs.lemmas.List.Elements.{recursion_from_All}
-use Rattle.std.proofs.lemmas.List.Folds.{list_any-append}
-use Rattle.std.proofs.lemmas.Map.Views.{Contains-from_any, list_any-from_Contains}
-use Rattle.sqlite_trees.proofs.ListLemmas.{filter_none}
-use Rattle.sqlite_keyed.proofs.ListLemmas.{all_weaker}
-use Rattle.desk_types.specs.declared.command.Command.TheVariants.{MaterialsInstalled}
-use Rattle.desk_types.specs.declared.command.Entry.{Entry}
-use Rattle.desk_types.specs.declared.placement.Placement.{Placement}
-use Rattle.desk_types.specs.declared.rules.Rules.TheVariants.{Two}
-use Rattle.desk_types.specs.Id.{Name, same}
-use Rattle.desk_types.specs.History.{History, IsPrefix}
-use Rattle.desk_types.specs.Judged.{IsJudged}
-use Rattle.desk_types.specs.Placements.{placements_of, set_of, boards_of}
-use Rattle.desk_types.specs.Refusals.{command_refusal, install_refusal}
-use Rattle.desk_types.specs.Work.{in_work_on, is_in_work_on}
-use Rattle.desk_types.proofs.Keys.{same-refl, same-true}
+use Rattle.desk_types.proofs.Common.{[], ◌++◌, ◌↔◌, ◌∙◌, ◌∷◌, ◌≡◌, ap, append_assoc, boards_of, Bool, command_refusal}
+use Rattle.desk_types.proofs.Common.{Contains, Contains-from_any, Entry, false, filter, History, if◌then◌else◌}
+use Rattle.desk_types.proofs.Common.{in_work_on, install_refusal, is_in_work_on, IsJudged, IsPrefix, List, list_any}
+use Rattle.desk_types.proofs.Common.{list_any-append, list_any-from_Contains, map, MaterialsInstalled, Name}
+use Rattle.desk_types.proofs.Common.{nat_list_eq_equiv, None, Option, option_map_or, or_right, Placement}
+use Rattle.desk_types.proofs.Common.{placements_of, recursion_from_All, refl, same, same-refl, same-true, set_of}
+use Rattle.desk_types.proofs.Common.{Some, sym, true, Two, unwrap_or}
+use Rattle.line_tables.proofs.Common.{all_weaker, filter_none}
+use Rattle.desk_laws.proofs.{Accepted.next-accepted, BoardsInWork.work-product, InstalledPieces.rightly-placed}
+use Rattle.desk_laws.proofs.{Judgements.judged-prefix, Mounts.has, NameSets.has-set, NameSets.traces-agree}
 use Rattle.desk_laws.specs.Verified.{IsRightlyPlaced}
-use Rattle.desk_laws.proofs.Accepted.{next-accepted}
-use Rattle.desk_laws.proofs.Judgements.{judged-prefix}
-use Rattle.desk_laws.proofs.Mounts.{has}
-use Rattle.desk_laws.proofs.NameSets.{has-set, traces-agree}
-use Rattle.desk_laws.proofs.InstalledPieces.{rightly-placed}
-use Rattle.desk_laws.proofs.BoardsInWork.{work-product}
-use Rattle.line_traces.specs.Pieces.{pieces_on, is_board, is_lot, board_trace, lot_board_names, receives, starts, AreConverse}
 use Rattle.line_traces.proofs.StartedAndReceived.{board-started, receipt-lot}
+use Rattle.line_traces.specs.Pieces.{AreConverse, board_trace, is_board, is_lot, lot_board_names, pieces_on, receives}
+use Rattle.line_traces.specs.Pieces.{starts}
 
 -- ---- every history
 
@@ -101,7 +83,7 @@ none-named H judged name knows each n unknown =
         by true is = let one = ap knows (same-true (name p) n is) in let its = each p right in cc
         by false is = is
 
-told-all : {X : Type 0} (b : Bool) (xs : List X) → (b ≡ false → xs ≡ []) → unwrap_or (if b then Some xs else None) [] ≡ xs
+pub told-all : {X : Type 0} (b : Bool) (xs : List X) → (b ≡ false → xs ≡ []) → unwrap_or (if b then Some xs else None) [] ≡ xs
 told-all true xs none = refl
 told-all false xs none = sym (none refl)
 

@@ -1,61 +1,22 @@
 -- The names that DISTINCT keeps are a set.
-use Rattle.std.proofs.Common.{◌≡◌, ◌∙◌, ◌≢◌, Bool, true, false, Some, List, [], ◌∷◌, ◌++◌, map, filter, cond, refl, sym, ap, ap₂, subst, Ordering, Less, Equal, Greater, is_eq, IsTrue}
-use Rattle.std.specs.Prelude.{◌||◌, if◌then◌else◌}
-use Rattle.std.specs.Option.{option_map, option_to_list}
-use Rattle.std.specs.List.{list_any, flat_map, AllByRecursion}
-use Rattle.std.specs.List.Sorted.{IsPermutation, IsStrictlySortedBy}
-use Rattle.std.specs.Map.{keys_of}
-use Rattle.std.specs.BTreeSet.{insert_key}
-use Rattle.std.specs.Ordering.{match_ordering, ordering_reverse, on}
-use Rattle.std.proofs.lemmas.Cmp.{nat_list_cmp_total, tied_itself}
-use Rattle.std.proofs.lemmas.List.Elements.{All-from_recursion, recursion_from_All}
-use Rattle.std.proofs.lemmas.List.Folds.{list_any-append}
-use Rattle.std.proofs.lemmas.List.Sorted.{All-permutation, list_any-IsPermutation, IsPermutation-sym}
-use Rattle.sqlite_trees.specs.Tree.{IsAscending}
-use Rattle.sqlite_keyed.proofs.ListLemmas.{all_weaker, all-map, map-map}
-use Rattle.sqlite.specs.declared.types.Value.TheVariants.{Text}
-use Rattle.sqlite.specs.Collation.TheVariants.{Binary}
-use Rattle.sqlite_value.specs.Order.{column, value_cmp}
-use Rattle.sqlite_value.specs.Keys.{collated_cmp}
-use Rattle.sqlite_value.proofs.OrderLemmas.{value_cmp-Text, then-Equal}
-use Rattle.sqlite_sql.specs.Group.{members, IsDistinctOf}
-use Rattle.sqlite.specs.Query.{Output}
-use Rattle.desk_types.specs.Id.{Name, same, by_name}
-use Rattle.desk_types.specs.Placements.{set_of}
-use Rattle.desk_types.proofs.Keys.{same-refl, same-sym, same-true, is_at-by_name}
-use Rattle.desk_laws.proofs.Mounts.{has}
-use Rattle.desk_laws.proofs.NameSets.{has-set}
+use Rattle.desk_types.proofs.Common.{[], ◌++◌, ◌||◌, ◌∙◌, ◌∷◌, ◌≡◌, ◌≢◌, All-from_recursion, All-permutation}
+use Rattle.desk_types.proofs.Common.{AllByRecursion, ap, ap₂, Bool, by_name, cond, false, filter, flat_map}
+use Rattle.desk_types.proofs.Common.{if◌then◌else◌, is_at-by_name, IsPermutation, IsPermutation-sym}
+use Rattle.desk_types.proofs.Common.{IsStrictlySortedBy, IsTrue, keys_of, List, list_any, list_any-append}
+use Rattle.desk_types.proofs.Common.{list_any-IsPermutation, map, Name, nat_list_cmp_total, option_map}
+use Rattle.desk_types.proofs.Common.{option_to_list, recursion_from_All, refl, same, same-refl, same-sym, same-true}
+use Rattle.desk_types.proofs.Common.{set_of, Some, subst, sym, tied_itself, true}
+use Rattle.line_tables.proofs.Common.{all_weaker, Binary, column, has_text, IsAscending, map-map, Output, Text}
+use Rattle.line_tables.proofs.Common.{value_cmp, value_cmp-Text}
+use Rattle.desk_laws.{proofs.Mounts.has, proofs.NameSets.has-set, proofs.NameSets.set-ordered}
+use Rattle.line_traces.{proofs.Columns.equal-text, proofs.Columns.one-text, proofs.RowsByKey.rows-listed}
+use Rattle.sqlite_keyed.proofs.ListLemmas.{all-map}
+use Rattle.sqlite_sql.specs.Group.{IsDistinctOf, members}
+use Rattle.sqlite_value.{proofs.OrderLemmas.then-Equal, specs.Keys.collated_cmp}
 use Rattle.state_rows.specs.Kept.{row_at}
-use Rattle.line_tables.specs.StateRows.{has_text}
-use Rattle.line_traces.proofs.Columns.{equal-text, one-text}
-use Rattle.line_traces.proofs.RowsByKey.{rows-listed}
+use Rattle.std.{proofs.Common.Equal, proofs.Common.is_eq, proofs.Common.Ordering, specs.Ordering.on}
 
 -- ---- a set is in ascending order
-
-all-put : (P : Name → Type 0) (names : List Name) (x : Name) → AllByRecursion P names → P x → AllByRecursion P (insert_key by_name names x)
-all-put P [] x all one = (one, tt)
-all-put P (y ∷ ys) x (first, all) one = by (by_name x y) (all-put P ys x all one)
-  where
-    by : (order : Ordering) → AllByRecursion P (insert_key by_name ys x) → AllByRecursion P (match_ordering order (x ∷ y ∷ ys) (y ∷ ys) (y ∷ insert_key by_name ys x))
-    by Less rest = (one, (first, all))
-    by Equal rest = (first, all)
-    by Greater rest = (first, rest)
-
-sorted-put : (names : List Name) (x : Name) → IsStrictlySortedBy by_name names → IsStrictlySortedBy by_name (insert_key by_name names x)
-unfolding IsStrictlySortedBy
-sorted-put [] x up = (tt, tt)
-sorted-put (y ∷ ys) x (first, up) = by (by_name x y) refl (sorted-put ys x up)
-  where
-    by : (order : Ordering) → by_name x y ≡ order → IsStrictlySortedBy by_name (insert_key by_name ys x)
-        → IsStrictlySortedBy by_name (match_ordering order (x ∷ y ∷ ys) (y ∷ ys) (y ∷ insert_key by_name ys x))
-    by Less is rest = ((is, all_weaker (λ z. by_name y z ≡ Less) (λ z. by_name x z ≡ Less) (λ z less. nat_list_cmp_total.trans x y z is less) ys first), (first, up))
-    by Equal is rest = (first, up)
-    by Greater is rest = (all-put (λ z. by_name y z ≡ Less) ys x first (nat_list_cmp_total.antisymm y x ∙ ap ordering_reverse is), rest)
-
-pub set-sorted : (names : List Name) → IsStrictlySortedBy by_name (set_of names)
-unfolding IsStrictlySortedBy
-set-sorted [] = tt
-set-sorted (x ∷ xs) = sorted-put (set_of xs) x (set-sorted xs)
 
 -- ---- the first elements of groups
 
@@ -168,7 +129,7 @@ pub kept-set : (names : List Name) (all kept : List Output) → IsPermutation al
 kept-set names all kept are distinct =
     subst (IsPermutation kept) (map-map (λ (e : Name × Unit {0}). shown_name e.0) (λ n. (n, tt)) (set_of names)) (
     rows-listed by_name shows (λ k _. shown_name k) (λ k. is_at-by_name k k ∙ same-refl k) (λ k l is. same-true k l (sym (is_at-by_name k l) ∙ is)) apart (entries_of (set_of names)) kept
-    (subst (IsStrictlySortedBy by_name) (sym (keys-are (set_of names))) (set-sorted names)) found keyed)
+    (subst (IsStrictlySortedBy by_name) (sym (keys-are (set_of names))) (set-ordered names)) found keyed)
   where
     apart : (k l : Name) (o : Output) → shows k o ≡ true → shows l o ≡ true → k ≡ l
     apart k l o first second = one-text (column o.1 0) k l first second

@@ -1,47 +1,29 @@
 -- The results of the queries for pieces.
-use Rattle.std.proofs.Common.{◌≡◌, ◌∙◌, ℕ, pos, Bool, List, [], ◌∷◌, map, filter, refl, sym, ap, subst₂, Less, nat_cmp, arith}
-use Rattle.std.specs.Prelude.{◌&&◌, if◌then◌else◌}
-use Rattle.std.specs.List.{flat_map, list_all, AllByRecursion}
-use Rattle.std.specs.List.Sorted.{IsPermutation, IsStrictlySortedBy}
-use Rattle.std.specs.Map.{keys_of}
-use Rattle.std.specs.Ordering.{ordering_then}
-use Rattle.std.proofs.lemmas.Bool.Decides.{nat_tests}
-use Rattle.std.proofs.lemmas.List.Sorted.{IsPermutation-trans, IsPermutation-sym}
-use Rattle.sqlite_trees.specs.Tree.{IsAscending}
-use Rattle.sqlite_trees.proofs.ListLemmas.{flat_map-map, IsPermutation-flat_map}
-use Rattle.sqlite_keyed.proofs.ListLemmas.{all_weaker, map-map, ascending-map, ascending-filter, ascending_weaker}
-use Rattle.sqlite_keyed.proofs.SortLemmas.{sorted_unique}
-use Rattle.sqlite.specs.declared.types.Value.TheVariants.{Int, Text}
-use Rattle.sqlite.specs.Collation.TheVariants.{Binary}
-use Rattle.sqlite_value.specs.Order.{Row, column, value_cmp}
-use Rattle.sqlite_value.proofs.OrderLemmas.{value_cmp-Int, then-Equal}
-use Rattle.sqlite_schema.specs.Rules.{equal}
-use Rattle.sqlite.specs.Term.{Term, holds}
-use Rattle.sqlite.specs.Query.{IsAnswer, output, output_cmp, Output}
-use Rattle.sqlite.specs.Program.{overlay}
-use Rattle.sqlite.specs.Effect.{Database}
-use Rattle.sqlite_sql.proofs.QueryLemmas.{output_cmp_total}
-use Rattle.sqlite_trees.specs.declared.store.Store.{Ghosts}
-use Rattle.sqlite.specs.Held.{Held, state}
-use Rattle.desk_types.specs.declared.placement.Placement.{Placement}
-use Rattle.desk_types.specs.Id.{Name, same}
-use Rattle.desk_types.specs.History.{History}
-use Rattle.desk_types.specs.Placements.{placements_of, overdue_of}
-use Rattle.desk_types.specs.declared.row.ReelRow.{ReelRow}
-use Rattle.state_rows.specs.Kept.{by_piece}
-use Rattle.state_rows.proofs.PlacedRows.{entry_of, pieces-ascend}
-use Rattle.line_tables.specs.Line as line
-use Rattle.line_tables.specs.Rows.{accepted_columns, accepted_in}
-use Rattle.line_tables.specs.Calls.{Selects}
-use Rattle.line_tables.specs.StateRows.{columns, rows_in, reel_columns, has_text}
+use Rattle.desk_types.proofs.Common.{[], ◌&&◌, ◌∙◌, ◌∷◌, ◌≡◌, AllByRecursion, ap, arith, Bool, filter, flat_map}
+use Rattle.desk_types.proofs.Common.{History, if◌then◌else◌, IsPermutation, IsPermutation-sym, IsPermutation-trans}
+use Rattle.desk_types.proofs.Common.{IsStrictlySortedBy, keys_of, List, list_all, map, Name, nat_tests, ordering_then}
+use Rattle.desk_types.proofs.Common.{overdue_of, Placement, placements_of, pos, ReelRow, refl, same, subst₂, sym, ℕ}
+use Rattle.line_tables.proofs.Common.{accepted_columns, accepted_in, all_weaker, Binary, column, columns, Database}
+use Rattle.line_tables.proofs.Common.{equal, flat_map-map, Ghosts, has_text, Held, holds, Int, IsAnswer, IsAscending}
+use Rattle.line_tables.proofs.Common.{map-map, Output, output, output_cmp, output_cmp_total, overlay, reel_columns}
+use Rattle.line_tables.proofs.Common.{Row, rows_in, Selects, state, Term, Text, value_cmp, value_cmp-Int}
 use Rattle.line_tables.proofs.FindTexts.{IsSelect}
-use Rattle.line_tables.proofs.Finds.{answer_of, and_true}
-use Rattle.line_traces.specs.Pieces.{pieces_where, pieces_on, pieces_of_lot}
-use Rattle.line_traces.specs.Committed.{HoldsList, FindsOfList, placed_columns}
-use Rattle.line_traces.proofs.Columns.{equal-text, equal-flag}
-use Rattle.line_traces.proofs.Joins.{joined, join, join-one, join-by, map-join, found-of}
-use Rattle.line_traces.proofs.PlacedColumns.{piece_row, pieces-listed, IsKnown, pieces-known}
-use Rattle.line_traces.proofs.Texts.{pieces_query, select_on, on_board, select_on_is, select_of_lot, of_lot, select_of_lot_is, select_overdue, is_overdue, select_overdue_is}
+use Rattle.line_tables.proofs.Finds.{and_true, answer_of}
+use Rattle.line_traces.proofs.Columns.{equal-flag, equal-text}
+use Rattle.line_traces.proofs.Joins.{found-of, join, join-by, join-one, joined, map-join}
+use Rattle.line_traces.proofs.PlacedColumns.{IsKnown, piece_row, pieces-known, pieces-listed}
+use Rattle.line_traces.proofs.Texts.{is_overdue, of_lot, on_board, pieces_query, select_of_lot, select_of_lot_is}
+use Rattle.line_traces.proofs.Texts.{select_on, select_on_is, select_overdue, select_overdue_is}
+use Rattle.line_traces.specs.Committed.{FindsOfList, HoldsList, placed_columns}
+use Rattle.line_traces.specs.Pieces.{pieces_of_lot, pieces_on, pieces_where}
+use Rattle.sqlite_keyed.proofs.ListLemmas.{ascending-filter, ascending-map, ascending_weaker}
+use Rattle.sqlite_keyed.proofs.SortLemmas.{sorted_unique}
+use Rattle.sqlite_trees.proofs.ListLemmas.{IsPermutation-flat_map}
+use Rattle.sqlite_value.proofs.OrderLemmas.{then-Equal}
+use Rattle.state_rows.proofs.PlacedRows.{entry_of, pieces-ascend}
+use Rattle.state_rows.specs.Kept.{by_piece}
+use Rattle.std.proofs.Common.{Less, nat_cmp}
+use Rattle.line_tables.specs.Line as line
 
 -- ---- the shown values
 

@@ -1,31 +1,15 @@
 -- Whether a query finds a row.
-use Rattle.std.proofs.Common.{◌≡◌, ◌∙◌, ℕ, Bool, not, List, [], ◌∷◌, length, map, filter, refl, ap, subst}
-use Rattle.std.specs.Prelude.{◌==◌}
-use Rattle.std.specs.List.{list_all}
-use Rattle.std.specs.List.Sorted.{IsPermutation}
-use Rattle.std.proofs.lemmas.List.{length-map}
-use Rattle.std.proofs.lemmas.List.Sorted.{length_permutation}
-use Rattle.sqlite_value.specs.Order.{Row, column}
-use Rattle.sqlite.specs.Term.{Term, holds}
-use Rattle.sqlite.specs.Query.{output}
-use Rattle.sqlite.specs.Program.{overlay}
-use Rattle.sqlite_trees.specs.declared.store.Store.{Ghosts}
-use Rattle.sqlite.specs.Held.{Held, state}
-use Rattle.sqlite_schema.specs.declared.schema.Table.{Table}
-use Rattle.sqlite.specs.Effect.{Database}
-use Rattle.desk_types.specs.Id.{Name}
-use Rattle.desk_types.specs.History.{History}
-use Rattle.sqlite.specs.declared.types.Value.TheVariants.{Text}
-use Rattle.line_tables.specs.Line as line
-use Rattle.line_tables.specs.Calls.{Selects}
-use Rattle.line_tables.specs.StateRows.{has_text, columns, rows_in}
-use Rattle.line_tables.specs.Line.{tree_in}
+use Rattle.desk_types.proofs.Common.{[], ◌==◌, ◌∙◌, ◌∷◌, ◌≡◌, ap, Bool, filter, History, IsPermutation, length}
+use Rattle.desk_types.proofs.Common.{length-map, length_permutation, List, list_all, map, Name, not, refl, subst, ℕ}
+use Rattle.line_tables.proofs.Common.{column, columns, Database, Ghosts, has_text, Held, holds, output, overlay, Row}
+use Rattle.line_tables.proofs.Common.{rows_in, Selects, state, Table, Term, Text, tree_in}
 use Rattle.line_tables.proofs.FindTexts.{IsSelectBy, rows_from}
-use Rattle.line_tables.proofs.Finds.{answer_by, rows_answer, shown_of, shown_is, and_true, overlay_none}
-use Rattle.line_traces.specs.Pieces.{is_board, is_lot}
-use Rattle.line_traces.specs.Committed.{HoldsList, FindsOfList}
-use Rattle.line_traces.proofs.StartedAndReceived.{is_any, board-named, lot-named}
+use Rattle.line_tables.proofs.Finds.{and_true, answer_by, overlay_none, rows_answer, shown_is, shown_of}
+use Rattle.line_traces.proofs.StartedAndReceived.{board-named, is_any, lot-named}
 use Rattle.line_traces.proofs.Texts.{select_board, select_board_is, select_reels, select_reels_is}
+use Rattle.line_traces.specs.Committed.{FindsOfList, HoldsList}
+use Rattle.line_traces.specs.Pieces.{is_board, is_lot}
+use Rattle.line_tables.specs.Line as line
 
 any-shown : (show : Row → Row) (passing rows : List Row) → IsPermutation (map show passing) rows → (b : Bool) → b ≡ (length rows == 0) → not b ≡ is_any passing
 any-shown show passing rows same b is = ap not is ∙ ap (λ n. not (n == 0)) (length_permutation _ _ same ∙ length-map passing show)

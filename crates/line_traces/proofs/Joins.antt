@@ -1,11 +1,12 @@
 -- Joins of two and of three tables, when each row of one table matches one row of each other.
-use Rattle.std.proofs.Common.{◌≡◌, ◌∙◌, Bool, true, false, List, [], ◌∷◌, ◌++◌, map, filter, refl, sym, ap, ap₂, subst₂}
-use Rattle.std.specs.Prelude.{◌&&◌, if◌then◌else◌}
-use Rattle.std.specs.List.{flat_map, AllByRecursion}
-use Rattle.std.specs.List.Sorted.{IsPermutation}
-use Rattle.std.proofs.lemmas.List.{append_assoc, append-nil}
-use Rattle.std.proofs.lemmas.List.Sorted.{IsPermutation-refl, IsPermutation-trans, IsPermutation-append_left, IsPermutation-append_right, IsPermutation-append_comm}
-use Rattle.sqlite_trees.proofs.ListLemmas.{map-flat_map, flat_map-map, flat_map_same_on, flat_map_none, flat_map-filter, IsPermutation-same}
+use Rattle.desk_types.proofs.Common.{[], ◌&&◌, ◌++◌, ◌∙◌, ◌∷◌, ◌≡◌, AllByRecursion, ap, append-nil, append_assoc, ap₂}
+use Rattle.desk_types.proofs.Common.{Bool, false, filter, flat_map, if◌then◌else◌, IsPermutation, IsPermutation-refl}
+use Rattle.desk_types.proofs.Common.{IsPermutation-trans, List, map, refl, subst₂, sym, true}
+use Rattle.line_tables.proofs.Common.{flat_map-map}
+use Rattle.sqlite_trees.proofs.ListLemmas.{flat_map-filter, flat_map_none, flat_map_same_on, IsPermutation-same}
+use Rattle.sqlite_trees.proofs.ListLemmas.{map-flat_map}
+use Rattle.std.proofs.lemmas.List.Sorted.{IsPermutation-append_comm, IsPermutation-append_left}
+use Rattle.std.proofs.lemmas.List.Sorted.{IsPermutation-append_right}
 
 -- ---- pairs of lists
 

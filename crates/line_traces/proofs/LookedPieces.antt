@@ -1,19 +1,12 @@
 -- Pieces that the trace indexes locate.
-use Rattle.std.proofs.Common.{◌≡◌, ◌∙◌, ℕ, zero, suc, ◌+◌, ◌<◌, Bool, ◌++◌, Option, Some, List, [], ◌∷◌, length, map, take, get_or, sym, ap, ap₂, append_assoc, arith}
-use Rattle.std.specs.List.{AllByRecursion}
-use Rattle.std.proofs.lemmas.List.{map-append}
-use Rattle.sqlite.specs.State.{State}
-use Rattle.desk_types.specs.declared.placement.Placement.{Placement}
-use Rattle.desk_types.specs.Id.{Name}
-use Rattle.desk_types.specs.History.{History, Basis}
-use Rattle.desk_types.specs.Placements.{set_of, boards_of}
-use Rattle.desk_types.proofs.LoopSteps.{take-next}
-use Rattle.state_rows.specs.declared.lists.PieceKey.{PieceKey}
-use Rattle.state_rows.specs.Lists.{IsListed, Key, key_of, keys_where}
-use Rattle.line_traces.specs.Pieces.{pieces_where, pieces_of_lot, piece_at}
-use Rattle.line_traces.specs.declared.working.Working.{Working}
-use Rattle.line_traces.specs.Working.{FindsOfBoth}
-use Rattle.line_traces.proofs.ByKey.{listed-pieces}
+use Rattle.desk_types.proofs.Common.{[], ◌++◌, ◌+◌, ◌<◌, ◌∙◌, ◌∷◌, ◌≡◌, AllByRecursion, ap, append_assoc, ap₂, arith}
+use Rattle.desk_types.proofs.Common.{Basis, boards_of, Bool, get_or, History, length, List, map, map-append, Name}
+use Rattle.desk_types.proofs.Common.{Option, Placement, set_of, Some, suc, sym, take, take-next, zero, ℕ}
+use Rattle.line_tables.proofs.Common.{State}
+use Rattle.line_traces.{proofs.ByKey.listed-pieces, specs.Pieces.piece_at, specs.Pieces.pieces_of_lot}
+use Rattle.line_traces.{specs.Pieces.pieces_where, specs.Working.FindsOfBoth, specs.declared.working.Working.Working}
+use Rattle.state_rows.{specs.Lists.IsListed, specs.Lists.Key, specs.Lists.key_of, specs.Lists.keys_where}
+use Rattle.state_rows.{specs.declared.lists.PieceKey.PieceKey}
 
 -- ---- one run after another
 

@@ -1,35 +1,18 @@
 -- The piece that a row of `placement` describes, with its reel's view and its entry's minute.
-use Rattle.std.proofs.Common.{◌≡◌, ◌∙◌, inl, inr, ◌==◌, ◌&&◌, ℕ, ◌+◌, Bool, true, false, Option, Some, None, List, [], ◌∷◌, ◌++◌, length, find, refl, sym, ap, ap₂, subst, arith}
-use Rattle.std.specs.Prelude.{if◌then◌else◌}
-use Rattle.std.specs.Option.{option_map, option_to_list}
-use Rattle.std.specs.List.{AllByRecursion}
-use Rattle.std.proofs.lemmas.Bool.{eq-eqb, ne_eqb}
-use Rattle.std.proofs.lemmas.List.{length-append}
-use Rattle.std.proofs.lemmas.List.Elements.{recursion_from_All}
-use Rattle.sqlite_rules.specs.Lists.{Has}
+use Rattle.desk_types.proofs.Common.{[], ◌++◌, ◌+◌, ◌==◌, ◌∙◌, ◌∷◌, ◌≡◌, AllByRecursion, ap, arith, Bool, Entry}
+use Rattle.desk_types.proofs.Common.{eq-eqb, false, find, History, if◌then◌else◌, inl, inr, IsJudged, length}
+use Rattle.desk_types.proofs.Common.{length-append, List, ne_eqb, None, Option, option_map, option_to_list, Placement}
+use Rattle.desk_types.proofs.Common.{placement_row, PlacementRow, placements_of, recursion_from_All, reel_view}
+use Rattle.desk_types.proofs.Common.{ReelView, refl, Some, subst, sym, true, Two, view_of, ℕ}
+use Rattle.line_tables.proofs.Common.{Database, flag, Has, has_piece, placement_columns, rows_in}
+use Rattle.desk_laws.{proofs.InstalledPieces.rightly-placed, specs.Verified.IsRightlyPlaced}
+use Rattle.desk_types.specs.Tables.{placement_columns as columns_of_piece}
+use Rattle.line_tables.proofs.Keyed.{own_piece}
+use Rattle.line_traces.{proofs.ByKey.has_key, proofs.PlacedColumns.receipt-there, proofs.TwoCalls.one-flag}
+use Rattle.line_traces.{specs.Committed.HoldsList, specs.Pieces.piece_at}
 use Rattle.sqlite_rules.proofs.ListLemmas.{has_kept}
-use Rattle.sqlite.specs.Effect.{Database}
-use Rattle.desk_types.specs.declared.command.Entry.{Entry}
-use Rattle.desk_types.specs.declared.placement.Placement.{Placement}
-use Rattle.desk_types.specs.declared.rules.Rules.TheVariants.{Two}
-use Rattle.desk_types.specs.declared.view.ReelView.{ReelView}
-use Rattle.desk_types.specs.History.{History}
-use Rattle.desk_types.specs.Judged.{IsJudged}
-use Rattle.desk_types.specs.View.{view_of, reel_view}
-use Rattle.desk_types.specs.Placements.{placements_of}
-use Rattle.desk_laws.specs.Verified.{IsRightlyPlaced}
-use Rattle.desk_laws.proofs.InstalledPieces.{rightly-placed}
-use Rattle.desk_types.specs.declared.row.PlacementRow.{PlacementRow}
-use Rattle.desk_types.specs.Tables.{placement_row, placement_columns as columns_of_piece}
-use Rattle.line_tables.specs.Line as line
-use Rattle.line_tables.specs.StateRows.{flag, has_piece, placement_columns, rows_in}
 use Rattle.state_rows.specs.Lists.{minute_of}
-use Rattle.line_traces.specs.Pieces.{piece_at}
-use Rattle.line_traces.specs.Committed.{HoldsList}
-use Rattle.line_traces.proofs.ByKey.{has_key}
-use Rattle.line_traces.proofs.Columns.{equal-itself}
-use Rattle.line_traces.proofs.PlacedColumns.{receipt-there}
-use Rattle.line_traces.proofs.TwoCalls.{one-flag}
+use Rattle.line_tables.specs.Line as line
 
 -- ---- the row of a piece
 
@@ -55,9 +38,6 @@ row-one p q is =
       overdue = overdue j;
     }
 
-its-key : (p : PlacementRow) → has_piece (p.number, p.place) (placement_columns p) ≡ true
-its-key p = ap₂ (λ a b. a && b) (equal-itself p.number) (equal-itself p.place)
-
 one-row : (o : Option PlacementRow) (p : PlacementRow) → Has (option_to_list (option_map placement_columns o)) (placement_columns p) → o ≡ Some p
 one-row None p h = absurd h
 one-row (Some q) p (inl same) = ap Some (sym (row-one p q same))
@@ -67,7 +47,7 @@ row-there : (db : Database) (H : History) → HoldsList db H → (p : PlacementR
 row-there db H held p here =
     one-row (placement_row H p.number p.place) p (
     subst (λ rows. Has rows (placement_columns p)) (held.state.placements.found (p.number, p.place)) (
-    has_kept (has_piece (p.number, p.place)) (rows_in line.placement db) (placement_columns p) here (its-key p)))
+    has_kept (has_piece (p.number, p.place)) (rows_in line.placement db) (placement_columns p) here (own_piece p)))
 
 found-all : {A : Type 0} (P : A → Type 0) (test : A → Bool) (xs : List A) (x : A) → AllByRecursion P xs → find test xs ≡ Some x → P x
 found-all P test [] x all is = cc

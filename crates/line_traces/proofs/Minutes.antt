@@ -1,27 +1,12 @@
 -- The rows of `accepted` give the minutes of the entries. This meets the premise of the calls.
-use Rattle.std.proofs.Common.{◌≡◌, ◌∙◌, ℕ, ◌<◌, ◌≤◌, pos, Bool, true, false, List, [], ◌∷◌, filter, length, refl, ap, subst, arith}
-use Rattle.std.specs.List.{AllByRecursion, AllZip}
-use Rattle.std.specs.List.Sorted.{IsPermutation}
-use Rattle.std.proofs.lemmas.List.Elements.{All-from_recursion}
-use Rattle.std.proofs.lemmas.List.Sorted.{IsPermutation-sym}
-use Rattle.sqlite.specs.declared.types.Value.TheVariants.{Int}
-use Rattle.sqlite.specs.Collation.TheVariants.{Binary}
-use Rattle.sqlite_value.specs.Order.{Row, column}
-use Rattle.sqlite_schema.specs.Rules.{equal}
-use Rattle.sqlite_trees.proofs.ListLemmas.{IsPermutation-filter}
-use Rattle.sqlite_keyed.proofs.ListLemmas.{all_both, all_weaker}
-use Rattle.sqlite.specs.Effect.{Database}
-use Rattle.sqlite.proofs.Callers.{one_permutation}
-use Rattle.desk_types.specs.declared.command.Entry.{Entry}
-use Rattle.desk_types.specs.declared.rules.Rules.TheVariants.{Two}
-use Rattle.desk_types.specs.History.{History}
-use Rattle.desk_types.specs.Judged.{IsJudged}
-use Rattle.desk_types.specs.Tables.{tables_of}
-use Rattle.line_tables.specs.Rows.{accepted_in}
-use Rattle.line_tables.specs.Calls.{has_number}
-use Rattle.line_tables.specs.StateRows.{HoldsState}
-use Rattle.line_traces.specs.Committed.{TellsMinute, HoldsList}
-use Rattle.line_traces.proofs.Columns.{one-int, equal-itself}
+use Rattle.desk_types.proofs.Common.{[], ◌<◌, ◌∙◌, ◌∷◌, ◌≡◌, ◌≤◌, All-from_recursion, AllByRecursion, AllZip, ap}
+use Rattle.desk_types.proofs.Common.{arith, Bool, Entry, false, filter, History, IsJudged, IsPermutation}
+use Rattle.desk_types.proofs.Common.{IsPermutation-sym, length, List, pos, refl, subst, tables_of, true, Two, ℕ}
+use Rattle.line_tables.proofs.Common.{accepted_in, all_weaker, Binary, column, Database, equal, has_number, Int}
+use Rattle.line_tables.proofs.Common.{IsPermutation-filter, one_permutation, Row}
+use Rattle.line_tables.{proofs.Keyed.own_int, specs.StateRows.HoldsState}
+use Rattle.line_traces.{proofs.Columns.one-int, specs.Committed.HoldsList, specs.Committed.TellsMinute}
+use Rattle.sqlite_keyed.proofs.ListLemmas.{all_both}
 
 -- The row has the entry's number and its effective minute.
 abbrev pub IsRowOf : Entry → Row → Type 0
@@ -35,7 +20,7 @@ other-number : (row : Row) (e : Entry) (n : ℕ) → IsRowOf e row → (e.number
 other-number row e n is other = by (has_number n row) refl
   where
     by : (b : Bool) → has_number n row ≡ b → has_number n row ≡ false
-    by true there = absurd (other (one-int (column row 0) e.number n (ap (λ v. equal Binary v (Int (pos e.number))) is.0 ∙ equal-itself e.number) there))
+    by true there = absurd (other (one-int (column row 0) e.number n (ap (λ v. equal Binary v (Int (pos e.number))) is.0 ∙ own_int e.number) there))
     by false there = there
 
 none-above : (H : History) (rows : List Row) → IsJudged Two H → AllZip IsRowOf H rows → (n : ℕ) → length H < n → filter (has_number n) rows ≡ []
@@ -56,7 +41,7 @@ each-among [] rows judged are = tt
 each-among (e ∷ H) [] judged are = absurd are
 each-among (e ∷ H) (r ∷ rows) (next, judged) (is, are) =
     let at = next.number in
-    let here : has_number e.number r ≡ true = ap (λ v. equal Binary v (Int (pos e.number))) is.0 ∙ equal-itself e.number in (
+    let here : has_number e.number r ≡ true = ap (λ v. equal Binary v (Int (pos e.number))) is.0 ∙ own_int e.number in (
       (r, rw here (ap (λ l. r ∷ l) (none-above H rows judged are e.number (omega (arith, at)))), is.1),
       all_both (λ (x : Entry). x.number ≤ length H) (IsAmong rows) (IsAmong (r ∷ rows))
           (λ x within among. (among.0, rw (other-number r e x.number is (λ same. omega (arith, same, at, within))) among.1, among.2))

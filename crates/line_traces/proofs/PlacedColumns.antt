@@ -1,59 +1,25 @@
 -- The database's rows for each placed piece: its reel's row, and its entry's minute.
-use Rattle.std.proofs.Common.{◌≡◌, ◌∙◌, ℕ, pos, Bool, true, false, Some, List, [], ◌∷◌, ◌++◌, map, filter, refl, sym, ap, ap₂, subst, arith, Ordering, Less, Equal, Greater, is_eq, nat_cmp}
-use Rattle.std.specs.Prelude.{◌&&◌}
-use Rattle.std.specs.Option.{option_map, option_to_list}
-use Rattle.std.specs.List.{AllByRecursion}
-use Rattle.std.specs.List.Sorted.{IsPermutation}
-use Rattle.std.specs.BTreeMap.{is_at}
-use Rattle.std.specs.Ordering.{ordering_then}
-use Rattle.std.proofs.lemmas.Cmp.{nat_cmp_total, tied_itself}
-use Rattle.std.proofs.lemmas.Bool.Decides.{nat_tests}
-use Rattle.std.proofs.lemmas.List.{append_assoc}
-use Rattle.std.proofs.lemmas.List.Elements.{recursion_from_All}
-use Rattle.sqlite.specs.declared.types.Value.TheVariants.{Int}
-use Rattle.sqlite_value.specs.Order.{Row, column}
-use Rattle.sqlite.specs.Effect.{Database}
-use Rattle.sqlite_keyed.proofs.ListLemmas.{all_weaker, map-map}
-use Rattle.desk_types.specs.declared.command.Entry.{Entry}
-use Rattle.desk_types.specs.declared.placement.Placement.{Placement}
-use Rattle.desk_types.specs.declared.rules.Rules.TheVariants.{Two}
-use Rattle.desk_types.specs.History.{History, IsPrefix}
-use Rattle.desk_types.specs.Judged.{IsJudged}
-use Rattle.desk_types.specs.Setup.{receipt_of}
-use Rattle.desk_types.specs.View.{view_of}
-use Rattle.desk_types.specs.Placements.{placements_of}
-use Rattle.desk_laws.specs.Verified.{IsRightlyPlaced}
-use Rattle.desk_laws.proofs.InstalledPieces.{rightly-placed}
-use Rattle.desk_laws.proofs.ReelsLater.{receipt-prefix}
-use Rattle.desk_types.specs.declared.row.ReelRow.{ReelRow}
-use Rattle.desk_types.specs.declared.row.PlacementRow.{PlacementRow}
-use Rattle.desk_types.specs.Tables.{columns_of, placement_columns as columns_of_piece}
-use Rattle.state_rows.specs.Kept.{by_piece}
-use Rattle.state_rows.proofs.PlacedRows.{entry_of, piece_entries, pieces-found, pieces-ascend}
+use Rattle.desk_types.proofs.Common.{[], ◌++◌, ◌∙◌, ◌∷◌, ◌≡◌, AllByRecursion, ap, append_assoc, ap₂, arith}
+use Rattle.desk_types.proofs.Common.{columns_of, Entry, filter, History, is_at, IsJudged, IsPermutation, IsPrefix}
+use Rattle.desk_types.proofs.Common.{List, map, nat_cmp_total, nat_tests, option_map, option_to_list, ordering_then}
+use Rattle.desk_types.proofs.Common.{Placement, PlacementRow, placements_of, pos, receipt_of, recursion_from_All}
+use Rattle.desk_types.proofs.Common.{ReelRow, refl, Some, subst, sym, tied_itself, true, Two, view_of, ℕ}
+use Rattle.line_tables.proofs.Common.{accepted_in, all_weaker, column, Database, has_number, has_piece, has_text, Int}
+use Rattle.line_tables.proofs.Common.{map-map, placement_columns, reel_columns, Row, rows_in}
+use Rattle.desk_laws.{proofs.InstalledPieces.rightly-placed, proofs.ReelsLater.receipt-prefix}
+use Rattle.desk_laws.{specs.Verified.IsRightlyPlaced}
+use Rattle.desk_types.specs.Tables.{placement_columns as columns_of_piece}
+use Rattle.line_tables.proofs.Keyed.{one_piece}
+use Rattle.line_traces.{proofs.RowsByKey.rows-listed, specs.Committed.HoldsList, specs.Committed.TellsMinute}
+use Rattle.state_rows.{proofs.PlacedRows.entry_of, proofs.PlacedRows.piece_entries, proofs.PlacedRows.pieces-ascend}
+use Rattle.state_rows.{proofs.PlacedRows.pieces-found, specs.Kept.by_piece}
+use Rattle.std.proofs.Common.{Equal, Greater, is_eq, Less, nat_cmp, Ordering}
 use Rattle.line_tables.specs.Line as line
-use Rattle.line_tables.specs.Rows.{accepted_in}
-use Rattle.line_tables.specs.Calls.{has_number}
-use Rattle.line_tables.specs.StateRows.{has_text, has_int, has_piece, reel_columns, placement_columns, rows_in}
-use Rattle.line_traces.specs.Committed.{TellsMinute, HoldsList}
-use Rattle.line_traces.proofs.Columns.{one-int}
-use Rattle.line_traces.proofs.RowsByKey.{rows-listed}
 
 -- ---- the rows of all pieces
 
 abbrev pub piece_row : Placement → Row
 piece_row p = placement_columns (columns_of_piece p)
-
-pub both : (a b : Bool) → (a && b) ≡ true → (a ≡ true) × (b ≡ true)
-both true b is = (refl, is)
-both false b is = cc
-
-one-piece : (k l : ℕ × ℕ) (row : Row) → has_piece k row ≡ true → has_piece l row ≡ true → k ≡ l
-one-piece k l row first second =
-    let a = both (has_int 0 k.0 row) (has_int 1 k.1 row) first in
-    let b = both (has_int 0 l.0 row) (has_int 1 l.1 row) second in
-    let number = one-int (column row 0) k.0 l.0 a.0 b.0 in
-    let place = one-int (column row 1) k.1 l.1 a.1 b.1 in
-    ap₂ (λ m n. (m, n)) number place
 
 pub itself : (k : ℕ × ℕ) → is_at (by_piece k) k ≡ true
 itself k = rw (tied_itself nat_cmp_total k.0, tied_itself nat_cmp_total k.1) refl
@@ -74,7 +40,7 @@ one-key k l is = by (nat_cmp k.0 l.0) (nat_cmp k.1 l.1) refl refl is
 pub pieces-listed : (db : Database) (H : History) → HoldsList db H → IsPermutation (rows_in line.placement db) (map piece_row (placements_of H))
 pieces-listed db H held =
     subst (IsPermutation (rows_in line.placement db)) (map-map (λ (e : (ℕ × ℕ) × PlacementRow). placement_columns e.1) entry_of (placements_of H)) (
-    rows-listed by_piece has_piece (λ _ row. placement_columns row) itself one-key one-piece (piece_entries H) (rows_in line.placement db) (pieces-ascend H held.judged)
+    rows-listed by_piece has_piece (λ _ row. placement_columns row) itself one-key one_piece (piece_entries H) (rows_in line.placement db) (pieces-ascend H held.judged)
     (λ key. held.state.placements.found key ∙ ap (λ o. option_to_list (option_map placement_columns o)) (sym (pieces-found H key)))
     held.state.placements.keyed)
 

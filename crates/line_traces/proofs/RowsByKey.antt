@@ -1,16 +1,12 @@
 -- Rows found by their keys are those of a list of entries.
-use Rattle.std.proofs.Common.{◌≡◌, ◌∙◌, IsTrue, Bool, true, false, not, Some, None, List, [], ◌∷◌, ◌++◌, map, filter, cond, refl, sym, ap, subst, true≢false}
-use Rattle.std.specs.Prelude.{if◌then◌else◌}
-use Rattle.std.specs.Option.{option_map, option_to_list}
-use Rattle.std.specs.List.{AllByRecursion}
-use Rattle.std.specs.List.Sorted.{IsPermutation, IsStrictlySortedBy}
-use Rattle.std.specs.BTreeMap.{is_at}
-use Rattle.std.specs.Map.{keys_of}
-use Rattle.std.specs.declared.cmp.Ordering.{Ordering}
-use Rattle.std.specs.declared.cmp.Ordering.TheVariants.{Less}
-use Rattle.std.proofs.lemmas.List.Sorted.{IsPermutation-refl, IsPermutation-trans, IsPermutation-cons, IsPermutation-filter_both}
+use Rattle.desk_types.proofs.Common.{[], ◌++◌, ◌∙◌, ◌∷◌, ◌≡◌, AllByRecursion, ap, Bool, cond, false, filter}
+use Rattle.desk_types.proofs.Common.{if◌then◌else◌, is_at, IsPermutation, IsPermutation-cons, IsPermutation-refl}
+use Rattle.desk_types.proofs.Common.{IsPermutation-trans, IsStrictlySortedBy, IsTrue, keys_of, Less, List, map, None}
+use Rattle.desk_types.proofs.Common.{not, option_map, option_to_list, Ordering, refl, Some, subst, sym, true}
+use Rattle.desk_types.proofs.Common.{true≢false}
 use Rattle.sqlite_trees.proofs.ListLemmas.{filter-filter}
 use Rattle.state_rows.specs.Kept.{row_at}
+use Rattle.std.proofs.lemmas.List.Sorted.{IsPermutation-filter_both}
 
 -- ---- rows that do not pass
 

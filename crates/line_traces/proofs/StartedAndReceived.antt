@@ -1,34 +1,18 @@
 -- The started boards and the received lots, by the rows of their tables.
-use Rattle.std.proofs.Common.{◌≡◌, ◌∙◌, ℕ, IsTrue, Bool, true, false, not, Option, Some, None, List, [], ◌∷◌, filter, length, refl, sym, ap, subst}
-use Rattle.std.specs.Prelude.{◌==◌, ◌||◌, if◌then◌else◌, is_some, is_none}
-use Rattle.std.specs.Option.{option_or, option_map, option_and_then, option_to_list}
-use Rattle.std.specs.List.{AllByRecursion}
-use Rattle.std.proofs.Math.Dec.{eqb-suc-zero}
-use Rattle.sqlite_value.specs.Order.{Row}
-use Rattle.sqlite.specs.Effect.{Database}
-use Rattle.desk_types.specs.declared.command.Command.{Command}
-use Rattle.desk_types.specs.declared.command.Command.TheVariants.{ReelReceived, WorkStarted}
-use Rattle.desk_types.specs.declared.command.Receipt.{Receipt}
-use Rattle.desk_types.specs.declared.rules.Rules.TheVariants.{Two}
-use Rattle.desk_types.specs.Id.{Name, same}
-use Rattle.desk_types.specs.History.{History}
-use Rattle.desk_types.specs.Setup.{receipt_by, receipt_of, selected_on}
-use Rattle.desk_types.specs.Work.{start_by, product_of}
-use Rattle.desk_types.specs.View.{view_of}
-use Rattle.desk_types.specs.Refusals.{command_refusal}
-use Rattle.desk_types.specs.Judged.{IsJudged}
-use Rattle.desk_types.proofs.Keys.{same-refl}
-use Rattle.desk_laws.proofs.Accepted.{next-accepted}
-use Rattle.desk_laws.proofs.Mounted.{iff}
-use Rattle.desk_laws.proofs.ReelsLater.{receipt-prefix}
-use Rattle.desk_laws.proofs.BoardsInWork.{startable}
-use Rattle.desk_types.specs.declared.row.ReelRow.{ReelRow}
-use Rattle.desk_types.specs.Tables.{columns_of, work_machine}
-use Rattle.line_tables.specs.Line as line
-use Rattle.line_tables.specs.StateRows.{has_text, reel_columns, board_columns, rows_in}
-use Rattle.line_traces.specs.Pieces.{starts, is_board, receives, is_lot}
-use Rattle.line_traces.specs.Committed.{HoldsList}
+use Rattle.desk_types.proofs.Common.{[], ◌==◌, ◌||◌, ◌∙◌, ◌∷◌, ◌≡◌, AllByRecursion, ap, Bool, both_ways, columns_of}
+use Rattle.desk_types.proofs.Common.{Command, command_refusal, false, filter, History, if◌then◌else◌, is_none}
+use Rattle.desk_types.proofs.Common.{is_some, IsJudged, IsTrue, length, List, Name, None, not, Option}
+use Rattle.desk_types.proofs.Common.{option_and_then, option_map, option_or, option_to_list, product_of, Receipt}
+use Rattle.desk_types.proofs.Common.{receipt_by, receipt_of, ReelReceived, ReelRow, refl, same, same-refl}
+use Rattle.desk_types.proofs.Common.{selected_on, Some, start_by, subst, sym, true, Two, view_of, work_machine}
+use Rattle.desk_types.proofs.Common.{WorkStarted, ℕ}
+use Rattle.line_tables.proofs.Common.{Database, has_text, reel_columns, Row, rows_in}
+use Rattle.desk_laws.proofs.{Accepted.next-accepted, BoardsInWork.startable, ReelsLater.receipt-prefix}
+use Rattle.line_tables.specs.StateRows.{board_columns}
 use Rattle.line_traces.proofs.Columns.{equal-text}
+use Rattle.line_traces.specs.{Committed.HoldsList, Pieces.is_board, Pieces.is_lot, Pieces.receives, Pieces.starts}
+use Rattle.std.proofs.Math.Dec.{eqb-suc-zero}
+use Rattle.line_tables.specs.Line as line
 
 -- ---- lists
 
@@ -151,7 +135,7 @@ lot-reel (e ∷ H) lot (next, judged) is = by e.stamped.command refl is (λ befo
     by _ command is before = before is
 
 pub lot-named : (db : Database) (H : History) → HoldsList db H → (lot : Name) → is_any (filter (has_text 2 lot) (rows_in line.reel db)) ≡ is_lot H lot
-lot-named db H held lot = iff _ _ there back
+lot-named db H held lot = both_ways _ _ there back
   where
     rows : List Row
     rows = rows_in line.reel db

@@ -1,14 +1,7 @@
 -- The meaning of the texts.
-use Rattle.std.proofs.Common.{List, ℕ, [], ◌∷◌, codes, refl, true, false, None, pos, negsuc, inl}
-use Rattle.sqlite.specs.Term.{Term, lit, col, op2}
-use Rattle.sqlite.specs.Query.{Query, inner, end}
-use Rattle.sqlite.specs.Collation.TheVariants.{Binary}
-use Rattle.sqlite_sql.specs.declared.ops.BinaryOp.TheVariants.{Compare}
-use Rattle.sqlite_sql.specs.declared.ops.CompareOp.TheVariants.{Eq}
-use Rattle.sqlite.specs.declared.types.Value.TheVariants.{Int}
-use Rattle.sqlite_value.specs.Keys.{ascending}
-use Rattle.sqlite.specs.Listing.{understood}
-use Rattle.sqlite_tied.specs.Compute.{everything}
+use Rattle.desk_types.proofs.Common.{[], ◌∷◌, codes, false, inl, List, negsuc, None, pos, refl, true, ℕ}
+use Rattle.line_tables.proofs.Common.{ascending, Binary, col, Compare, end, Eq, everything, inner, Int, lit, op2}
+use Rattle.line_tables.proofs.Common.{Query, Term, understood}
 use Rattle.line_tables.proofs.FindTexts.{IsSelect, rows_from}
 
 -- ---- the pieces that pass a test, with their reels and their entries

@@ -1,18 +1,9 @@
 -- The combined results of two calls.
-use Rattle.std.proofs.Common.{◌≡◌, ◌∙◌, Bool, true, false, Option, Some, None, List, [], ◌∷◌, map, refl, sym, ap, ap₂, subst}
-use Rattle.std.specs.Prelude.{if◌then◌else◌}
-use Rattle.sqlite_value.specs.Order.{Row}
-use Rattle.sqlite.specs.Effect.{Database}
-use Rattle.sqlite.specs.State.{State, KeepsCommit}
-use Rattle.desk_types.specs.declared.placement.Placement.{Placement}
-use Rattle.desk_types.specs.Id.{Name}
-use Rattle.desk_types.specs.History.{History, Basis}
-use Rattle.line_tables.specs.Calls.{Reads}
-use Rattle.line_tables.specs.StateRows.{flag}
-use Rattle.line_traces.specs.Committed.{FindsOfList, placed_columns, name_row}
-use Rattle.line_traces.specs.declared.working.Working.{Working}
-use Rattle.line_traces.specs.Working.{FindsOfBoth}
-use Rattle.line_tables.specs.Line.{IsOurs}
+use Rattle.desk_types.proofs.Common.{[], ◌∙◌, ◌∷◌, ◌≡◌, ap, ap₂, Basis, Bool, false, History, if◌then◌else◌, List}
+use Rattle.desk_types.proofs.Common.{map, Name, None, Option, Placement, refl, Some, sym, true}
+use Rattle.line_tables.proofs.Common.{flag, Row, State}
+use Rattle.line_traces.specs.{Committed.FindsOfList, Committed.name_row, Committed.placed_columns}
+use Rattle.line_traces.specs.{Working.FindsOfBoth, declared.working.Working.Working}
 
 -- ---- rows
 
@@ -63,12 +54,6 @@ all-placed_columns show one (x ∷ xs) (y ∷ ys) is =
     ap₂ (λ z zs. z ∷ zs) (one x y first) (all-placed_columns show one xs ys rest)
 
 -- ---- calls
-
-pub reads-before : (old mid : State) → KeepsCommit old mid → (Is : Database → Type 0) → Reads mid Is → Reads old Is
-reads-before old mid kept Is reads = record {
-  was_open = kept.was_open reads.was_open;
-  are = λ schema. let same = kept.committed reads.was_open in subst Is same (reads.are (subst (λ (db : Database). IsOurs db.schema) (sym same) schema));
-}
 
 placed_columns-told : {X : Type 0} (show : X → Row) → ((x y : X) → show x ≡ show y → x ≡ y) → (of : History → List X) (old : State) (rows : List Row) (found : List X) → FindsOfList (λ H. map show (of H)) old rows
     → rows ≡ map show found → FindsOfList of old found

@@ -1,35 +1,16 @@
 -- Free reels and their turns.
-use Rattle.std.proofs.Common.{◌≡◌, ℕ, false, not, Option, Some, None, List, [], ◌∷◌, map, filter, filter_map, length, take, get_or, ◌++◌, ◌+◌, ◌<◌, refl, sym, ap, ◌∙◌}
-use Rattle.std.specs.Prelude.{◌&&◌, nat_lt, if◌then◌else◌}
-use Rattle.std.specs.BTreeSet.{insert_key}
-use Rattle.std.specs.List.{cons_option}
-use Rattle.std.specs.Option.{option_and_then, option_map, option_map_or, option_to_list}
-use Rattle.desk_types.specs.declared.command.Command.{Command}
-use Rattle.desk_types.specs.declared.command.Entry.{Entry}
-use Rattle.desk_types.specs.declared.command.Receipt.{Receipt}
-use Rattle.desk_types.specs.declared.view.Left.{Left}
-use Rattle.desk_types.specs.Id.{Name}
-use Rattle.desk_types.specs.History.{History, now_of}
-use Rattle.desk_types.specs.Setup.{receipt_of, is_allowed}
-use Rattle.desk_types.specs.Pieces.{left_of, is_mounted}
-use Rattle.desk_types.specs.FloorLife.{is_unbaked, is_expired}
-use Rattle.desk_types.specs.Free.{received_by, reels_received, is_free, by_turn, in_order}
-use Rattle.std.proofs.lemmas.List.Elements.{filter_map-append}
-use Rattle.desk_types.proofs.LoopSteps.{take-next}
+use Rattle.desk_types.proofs.Common.{[], ◌++◌, ◌+◌, ◌<◌, ◌∙◌, ◌∷◌, ◌≡◌, ap, by_turn, Command, cons_option, Entry}
+use Rattle.desk_types.proofs.Common.{false, filter, filter_map, filter_map-append, get_or, History, if◌then◌else◌}
+use Rattle.desk_types.proofs.Common.{in_order, insert_key, is_free, Left, length, List, map, Name, None, Option}
+use Rattle.desk_types.proofs.Common.{option_and_then, option_map, option_map_or, option_to_list, received_by}
+use Rattle.desk_types.proofs.Common.{reels_received, refl, Some, sym, take, take-next, ℕ}
 use Rattle.judging.proofs.FreeReels.{free_among, turn-put}
-use Rattle.judging.specs.Turns.{turn_of, by_life, if_free, turn_by}
+use Rattle.judging.specs.Turns.{by_life, if_free, turn_by, turn_of}
 
 pub not-free : (H : History) (part reel : Name) (command : Command) → received_by command ≡ Some reel → is_free H part reel ≡ false → turn_by H part command ≡ None
 not-free H part reel command is not_free =
     ap (λ said. option_map (turn_of H) (option_and_then (if_free H part) said)) is
     ∙ ap (λ b. option_map (turn_of H) (if b then Some reel else None)) not_free
-
-pub other-part : (H : History) (part reel : Name) (said : Receipt) → receipt_of H reel ≡ Some said → is_allowed H part said.part ≡ false → is_free H part reel ≡ false
-other-part H part reel said is other =
-    ap (λ (o : Option Receipt). is_allowed H part (option_map_or (λ (r : Receipt). r.part) o []) && not (is_mounted H reel) && nat_lt 0 (left_of H reel)
-    && not (is_unbaked H reel)
-    && not (is_expired H reel (now_of H))) is
-    ∙ ap (λ b. b && not (is_mounted H reel) && nat_lt 0 (left_of H reel) && not (is_unbaked H reel) && not (is_expired H reel (now_of H))) other
 
 pub turns-next : (H G : History) (part : Name) (e : Entry) (turns : List (Left × Name)) → turns ≡ map (turn_of H) (free_among H part G)
     → option_map_or (insert_key by_life turns) (turn_by H part e.stamped.command) turns ≡ map (turn_of H) (free_among H part (e ∷ G))

@@ -1,26 +1,15 @@
 -- The effect of an entry on a reel.
-use Rattle.std.proofs.Common.{◌≡◌, ℕ, ◌+◌, ◌<◌, ◌≤◌, Bool, true, false, cond, Option, Some, None, List, [], ◌∷◌, ◌++◌, reverse, length, take, drop, get_or, refl, sym, ap, ◌∙◌, arith}
-use Rattle.std.specs.Option.{option_map_or}
-use Rattle.std.proofs.Math.Nat.{le-max_right}
-use Rattle.std.proofs.lemmas.List.{reverse-append, append_assoc, take-append-drop}
-use Rattle.desk_types.specs.declared.command.Command.{Command}
-use Rattle.desk_types.specs.declared.command.Command.TheVariants.{ReelReceived, ReelOpened, ReelSealed, MaterialsLoaded, MaterialsSpliced}
-use Rattle.desk_types.specs.declared.command.Entry.{Entry}
-use Rattle.desk_types.specs.declared.command.Receipt.{Receipt}
-use Rattle.desk_types.specs.declared.rules.Rules.TheVariants.{Two}
-use Rattle.desk_types.specs.Id.{Name, same}
-use Rattle.desk_types.specs.History.{History, now_of}
-use Rattle.desk_types.specs.Setup.{receipt_by, receipt_of}
-use Rattle.desk_types.specs.FloorLife.{open_by}
-use Rattle.desk_types.specs.Judged.{IsNext, IsJudged}
-use Rattle.desk_laws.proofs.Accepted.{received-once}
-use Rattle.desk_laws.proofs.Judgements.{judged-prefix}
-use Rattle.desk_types.proofs.Keys.{same-true}
-use Rattle.desk_types.proofs.LoopSteps.{take-next, drop-next}
-use Rattle.reels.specs.declared.reel.Reel.{Reel}
-use Rattle.look_back.proofs.ReelsLater.{reverse-last}
+use Rattle.desk_types.proofs.Common.{[], ◌++◌, ◌+◌, ◌<◌, ◌∙◌, ◌∷◌, ◌≡◌, ◌≤◌, ap, append_assoc, arith, Bool, Command}
+use Rattle.desk_types.proofs.Common.{cond, drop, drop-next, Entry, false, get_or, History, IsJudged, IsNext, length}
+use Rattle.desk_types.proofs.Common.{List, MaterialsLoaded, MaterialsSpliced, Name, None, now_of, open_by, Option}
+use Rattle.desk_types.proofs.Common.{option_map_or, Receipt, receipt_by, receipt_of, ReelOpened, ReelReceived}
+use Rattle.desk_types.proofs.Common.{ReelSealed, refl, reverse, reverse-append, same, same-true, Some, sym, take}
+use Rattle.desk_types.proofs.Common.{take-append-drop, take-next, true, Two, ℕ}
+use Rattle.desk_laws.{proofs.Accepted.received-once, proofs.Judgements.judged-prefix}
 use Rattle.judging.specs.Facts.{IsReelOf}
-use Rattle.look_back.specs.Life.{is_bake}
+use Rattle.look_back.{proofs.ReelsLater.reverse-last, specs.Life.is_bake}
+use Rattle.reels.specs.declared.reel.Reel.{Reel}
+use Rattle.std.proofs.Math.Nat.{le-max_right}
 
 is-true : {X : Type 0} (b : Bool) (x y : X) → cond b (Some x) None ≡ Some y → b ≡ true
 is-true true x y is = refl

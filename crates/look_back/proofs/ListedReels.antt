@@ -1,30 +1,14 @@
 -- The live reels of slots, as mounts.
-use Rattle.std.proofs.Common.{◌≡◌, ℕ, true, Option, Some, None, is_some, All, [], refl, ap, sym, ◌∙◌}
-use Rattle.std.specs.Cmp.Lexicographic.{nat_list_eq_equiv}
-use Rattle.std.specs.Option.{option_map, option_map_or}
-use Rattle.std.proofs.lemmas.Map.Views.{All-from_any}
-use Rattle.desk_types.specs.declared.command.Receipt.{Receipt}
-use Rattle.desk_types.specs.declared.rules.Rules.TheVariants.{Two}
-use Rattle.desk_types.specs.declared.view.ReelView.{ReelView}
-use Rattle.desk_types.specs.Id.{Name}
-use Rattle.desk_types.specs.History.{History}
-use Rattle.desk_types.specs.Setup.{receipt_of}
-use Rattle.desk_types.specs.Pieces.{left_of, live_on}
-use Rattle.desk_types.specs.Judged.{IsJudged}
-use Rattle.desk_types.specs.View.{life_left, view_of, reel_view, mount_of}
+use Rattle.desk_types.proofs.Common.{[], ◌∙◌, ◌≡◌, All, ap, History, IsJudged, left_of, life_left, live_on, mount_of}
+use Rattle.desk_types.proofs.Common.{Name, nat_list_eq_equiv, None, Option, option_map, option_map_or, Receipt}
+use Rattle.desk_types.proofs.Common.{receipt_of, reel_view, ReelView, refl, Some, sym, Two, view_of, ℕ}
 use Rattle.desk_laws.proofs.Mounts.{live-received}
 use Rattle.judging.specs.Facts.{IsKnownReel}
+use Rattle.std.proofs.lemmas.Map.Views.{All-from_any}
 
 pub all-known : (H : History) (machine slot : Name) → IsJudged Two H → All (IsKnownReel H) (live_on H machine slot)
 all-known H machine slot judged =
     All-from_any nat_list_eq_equiv (IsKnownReel H) (live_on H machine slot) (λ reel is. live-received H machine slot reel judged is)
-
-pub viewed-unknown : (H : History) (reel : Name) → IsKnownReel H reel → reel_view H reel ≡ None → ⊥
-viewed-unknown H reel known none = by (receipt_of H reel) known none
-  where
-    by : (said : Option Receipt) → is_some said ≡ true → option_map (view_of H reel) said ≡ None → ⊥
-    by None is none = cc
-    by (Some receipt) is none = cc
 
 pub mount-viewed : (H : History) (slot reel : Name) (position : ℕ) (view : ReelView) → reel_view H reel ≡ Some view → record {
   slot = slot;

@@ -1,18 +1,11 @@
 -- The greatest number of pieces in a history.
-use Rattle.std.proofs.Common.{◌≡◌, ℕ, ◌+◌, ◌-◌, ◌^◌, ◌≤◌, min, List, length, reverse, arith}
-use Rattle.std.proofs.lemmas.List.{length-reverse}
-use Rattle.desk_types.specs.declared.command.Entry.{Entry}
-use Rattle.desk_types.specs.declared.limits.TheConstants.{MOST_ENTRIES}
-use Rattle.desk_types.specs.declared.rules.Rules.TheVariants.{Two}
-use Rattle.desk_types.specs.Id.{Name}
-use Rattle.desk_types.specs.History.{History}
-use Rattle.desk_types.specs.Pieces.{left_of, received_of, placed_of, scrapped_of}
-use Rattle.desk_types.specs.Judged.{IsJudged}
-use Rattle.desk_laws.proofs.Balance.{balance}
-use Rattle.desk_laws.proofs.Ranges.{received-range}
-use Rattle.reels.specs.declared.reel.Usage.{Usage}
-use Rattle.reels.specs.declared.reel.Usage.TheVariants.{Placed, Scrapped}
+use Rattle.desk_types.proofs.Common.{◌+◌, ◌-◌, ◌^◌, ◌≡◌, ◌≤◌, arith, Entry, History, IsJudged, left_of, length, List}
+use Rattle.desk_types.proofs.Common.{min, MOST_ENTRIES, Name, placed_of, received_of, reverse, scrapped_of, Two, ℕ}
+use Rattle.desk_laws.proofs.{Balance.balance, Ranges.received-range}
 use Rattle.look_back.specs.Totals.{total_of}
+use Rattle.reels.specs.{declared.reel.Usage.Usage, declared.reel.Usage.TheVariants.Placed}
+use Rattle.reels.specs.{declared.reel.Usage.TheVariants.Scrapped}
+use Rattle.std.proofs.lemmas.List.{length-reverse}
 
 pub few-reversed : (entries : List Entry) → length entries ≤ MOST_ENTRIES → length (reverse entries) ≤ MOST_ENTRIES
 few-reversed entries few = let same_length = length-reverse entries in omega (arith, same_length, few)

@@ -1,16 +1,9 @@
 -- The view of a reel.
-use Rattle.std.proofs.Common.{◌≡◌, ℕ, ◌-◌, ◌≤◌, Bool, Option, Some, None, is_some, refl, ap, ◌∙◌, arith, unwrap_or}
-use Rattle.std.specs.Option.{option_map, option_map_or}
-use Rattle.desk_types.specs.declared.command.Receipt.{Receipt}
-use Rattle.desk_types.specs.declared.view.Left.{Left}
-use Rattle.desk_types.specs.Id.{Name}
-use Rattle.desk_types.specs.History.{History, now_of}
-use Rattle.desk_types.specs.Setup.{receipt_of}
-use Rattle.desk_types.specs.Pieces.{received_of, found_of, placed_of, scrapped_of, left_of, is_mounted}
-use Rattle.desk_types.specs.FloorLife.{out_since, exposure_of}
-use Rattle.desk_types.specs.View.{life_left, used_of, view_of, reel_view}
-use Rattle.reels.specs.declared.reel.Reel.{Reel}
-use Rattle.reels.specs.Reel.{StandsFor}
+use Rattle.desk_types.proofs.Common.{◌-◌, ◌∙◌, ◌≡◌, ◌≤◌, ap, arith, Bool, exposure_of, found_of, History, is_mounted}
+use Rattle.desk_types.proofs.Common.{is_some, Left, left_of, life_left, Name, None, now_of, Option, option_map}
+use Rattle.desk_types.proofs.Common.{option_map_or, out_since, placed_of, Receipt, receipt_of, received_of, reel_view}
+use Rattle.desk_types.proofs.Common.{refl, scrapped_of, Some, unwrap_or, used_of, view_of, ℕ}
+use Rattle.reels.specs.{Reel.StandsFor, declared.reel.Reel.Reel}
 
 used-is : (H : History) (name : Name) (found : Reel) → StandsFor H name found → found.last ≤ now_of H → found.row.used ≡ used_of H name
 used-is H name found stands by_now = by found.row.open_since refl ∙ ap (λ since. exposure_of H name (unwrap_or since (now_of H))) stands.open_since

@@ -1,17 +1,9 @@
 -- A reel's pieces after one more entry.
-use Rattle.std.proofs.Common.{◌≡◌, ℕ, ◌+◌, ◌-◌, ◌≤◌, min, cond, Some, None, List, [], ◌∷◌, ◌++◌, reverse, length, map, unwrap_or, refl, sym, ap, ◌∙◌, arith}
-use Rattle.desk_types.specs.declared.command.Entry.{Entry}
-use Rattle.desk_types.specs.declared.take.Pick.{Pick}
-use Rattle.desk_types.specs.declared.take.Take.{Take}
-use Rattle.desk_types.specs.Id.{Name, same}
-use Rattle.desk_types.specs.History.{History}
-use Rattle.desk_types.specs.Pieces.{pieces_picked, picks_of, pieces_by, left_of}
-use Rattle.desk_types.specs.Outcome.{take_of, takes_by}
-use Rattle.desk_types.specs.declared.limits.TheConstants.{GREATEST_QUANTITY}
-use Rattle.std.proofs.lemmas.List.{reverse-append}
-use Rattle.std.proofs.lemmas.List.Sums.{sum_by-cons}
-use Rattle.look_back.specs.Kept.{AreTakes, pieces_taken}
-use Rattle.look_back.proofs.Ranges.{most}
+use Rattle.desk_types.proofs.Common.{[], ◌++◌, ◌+◌, ◌-◌, ◌∙◌, ◌∷◌, ◌≡◌, ◌≤◌, ap, arith, cond, Entry}
+use Rattle.desk_types.proofs.Common.{GREATEST_QUANTITY, History, left_of, length, List, map, min, Name, None, Pick}
+use Rattle.desk_types.proofs.Common.{picks_of, pieces_by, pieces_picked, refl, reverse, reverse-append, same, Some}
+use Rattle.desk_types.proofs.Common.{sum_by-cons, sym, Take, take_of, takes_by, unwrap_or, ℕ}
+use Rattle.look_back.{proofs.Ranges.most, specs.Kept.AreTakes, specs.Kept.pieces_taken}
 
 pub pieces_taken-map : (H : History) (minute : ℕ) (picks : List Pick) (reel : Name) → pieces_taken (map (take_of H minute) picks) reel ≡ pieces_picked picks reel
 pieces_taken-map H minute [] reel = refl

@@ -1,21 +1,12 @@
 -- A reel's placed and scrapped pieces, from the stored takes.
-use Rattle.std.proofs.Common.{◌≡◌, ℕ, ◌+◌, Bool, true, false, cond, List, [], ◌∷◌, ◌++◌, reverse, map, refl, sym, ap, ◌∙◌, arith}
-use Rattle.std.specs.Prelude.{◌&&◌}
-use Rattle.std.specs.List.{filter, sum_by}
-use Rattle.std.proofs.Math.Bool.{and-true, and-false}
-use Rattle.std.proofs.lemmas.List.{reverse-append}
-use Rattle.std.proofs.lemmas.List.Elements.{filter-append}
-use Rattle.std.proofs.lemmas.List.Sums.{sum_by-cons, sum_by_push}
-use Rattle.desk_types.specs.declared.take.Pick.{Pick}
-use Rattle.desk_types.specs.declared.take.Take.{Take}
-use Rattle.desk_types.specs.Id.{Name, same}
-use Rattle.desk_types.specs.History.{History}
-use Rattle.desk_types.specs.Pieces.{pieces_picked, picks_of, all_picks}
-use Rattle.desk_types.specs.Outcome.{take_of}
+use Rattle.desk_types.proofs.Common.{[], ◌&&◌, ◌++◌, ◌+◌, ◌∙◌, ◌∷◌, ◌≡◌, all_picks, and-false, and-true, ap, arith}
+use Rattle.desk_types.proofs.Common.{Bool, cond, false, filter-append, History, List, map, Name, Pick, picks_of}
+use Rattle.desk_types.proofs.Common.{pieces_picked, refl, reverse, reverse-append, same, sum_by, sum_by-cons, sym}
+use Rattle.desk_types.proofs.Common.{Take, take_of, true, ℕ}
 use Rattle.desk_laws.proofs.Picks.{pieces_picked-append}
+use Rattle.look_back.{specs.Kept.AreTakes, specs.Totals.is_usage_of, specs.Totals.taken_for, specs.Totals.total_of}
 use Rattle.reels.specs.declared.reel.Usage.{Usage}
-use Rattle.look_back.specs.Kept.{AreTakes}
-use Rattle.look_back.specs.Totals.{is_usage_of, total_of, taken_for}
+use Rattle.std.{proofs.lemmas.List.Sums.sum_by_push, specs.List.filter}
 
 pieces_picked-filter : (test : Pick → Bool) (p : Pick) (ps : List Pick) (reel : Name)
     → pieces_picked (filter test (p ∷ ps)) reel ≡ cond (same p.reel reel && test p) p.quantity 0 + pieces_picked (filter test ps) reel

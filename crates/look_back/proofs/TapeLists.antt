@@ -1,14 +1,8 @@
 -- Searching a tape from one of its reels on.
-use Rattle.std.proofs.Common.{◌≡◌, ℕ, ◌+◌, ◌<◌, ◌≤◌, nat_lt, Bool, Some, List, [], ◌∷◌, ◌++◌, length, drop, filter, sym, ap, ◌∙◌, arith, append_assoc}
-use Rattle.std.specs.Prelude.{◌||◌, slice_get}
-use Rattle.std.specs.List.{list_any}
-use Rattle.std.proofs.lemmas.Bool.{lt-ltb}
-use Rattle.std.proofs.lemmas.List.{append-nil}
-use Rattle.desk_types.specs.Id.{Name, same}
-use Rattle.desk_types.specs.History.{History}
-use Rattle.desk_types.specs.Tape.{tape_of}
-use Rattle.desk_types.specs.Pieces.{left_of, live_on}
-use Rattle.judging.proofs.Reels.{drop-at, filter-here, filter-past, filter-end, spent}
+use Rattle.desk_types.proofs.Common.{[], ◌++◌, ◌+◌, ◌<◌, ◌||◌, ◌∙◌, ◌∷◌, ◌≡◌, ◌≤◌, ap, append-nil, append_assoc}
+use Rattle.desk_types.proofs.Common.{arith, Bool, drop, filter, History, left_of, length, List, list_any, live_on}
+use Rattle.desk_types.proofs.Common.{lt-ltb, Name, nat_lt, same, slice_get, Some, sym, tape_of, ℕ}
+use Rattle.judging.proofs.Reels.{drop-at, filter-end, filter-here, filter-past, spent}
 
 -- Whether the reel is on the tape from this index on.
 pub any-from : (reel : Name) (tape : List Name) (i : ℕ) (other : Name) (b : Bool) → slice_get tape i ≡ Some other → same reel other ≡ b

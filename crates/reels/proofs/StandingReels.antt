@@ -1,26 +1,19 @@
 -- A reel keeps its ranges and keeps representing its history, command by command.
-use Rattle.std.proofs.Common.{◌≡◌, ℕ, ◌+◌, ◌-◌, ◌≤◌, Bool, true, false, Option, Some, None, [], ◌∷◌, refl, sym, ap, ◌∙◌, subst, arith}
-use Rattle.std.specs.Prelude.{unwrap_or, if◌then◌else◌}
-use Rattle.std.specs.Option.{option_or, option_map, option_map_or, ForSome, ForNone}
-use Rattle.desk_types.specs.declared.command.Command.TheVariants.{ReelReceived, ReelSealed, ReelBaked}
-use Rattle.desk_types.specs.declared.command.Entry.{Entry}
-use Rattle.desk_types.specs.declared.command.Receipt.{Receipt}
-use Rattle.desk_types.specs.declared.level.Level.{Level}
-use Rattle.desk_types.specs.declared.level.Level.TheVariants.{Six}
-use Rattle.desk_types.specs.declared.limits.TheConstants.{GREATEST_LABEL}
-use Rattle.desk_types.specs.declared.row.ReelRow.{ReelRow}
-use Rattle.desk_types.specs.Id.{Name}
-use Rattle.desk_types.specs.Level.{LevelWithLabel, IsLabel}
-use Rattle.desk_types.specs.Row.{fresh_row, exposure_at, opened_row, sealed_row, baked_row}
-use Rattle.desk_types.specs.Setup.{receipt_by, receipt_of}
-use Rattle.desk_types.specs.History.{History}
-use Rattle.desk_types.specs.FloorLife.{open_by, IsUntouched, bake_by, last_bake, since_after, out_since, exposure_of, exposure_starts, is_baked}
-use Rattle.desk_types.proofs.Exposure.{exposure-before, exposure-after, exposure-anew, exposure-untouched}
-use Rattle.desk_types.proofs.Keys.{same-refl}
-use Rattle.desk_types.proofs.ReelCommands.{IsQuiet, IsQuiet-open, IsQuiet-untouched, IsQuiet-seal, last_bake-quiet, is_baked-quiet, exposure_starts-quiet}
-use Rattle.reels.specs.declared.reel.Reel.{Reel}
+use Rattle.desk_types.proofs.Common.{[], ◌+◌, ◌-◌, ◌∙◌, ◌∷◌, ◌≡◌, ◌≤◌, ap, arith, bake_by, baked_row, Bool, Entry}
+use Rattle.desk_types.proofs.Common.{exposure_of, exposure_starts, false, fresh_row, GREATEST_LABEL, History}
+use Rattle.desk_types.proofs.Common.{if◌then◌else◌, is_baked, IsLabel, IsUntouched, last_bake, Level, LevelWithLabel}
+use Rattle.desk_types.proofs.Common.{Name, None, open_by, opened_row, Option, option_map, option_map_or, option_or}
+use Rattle.desk_types.proofs.Common.{out_since, Receipt, receipt_by, receipt_of, ReelBaked, ReelReceived, ReelRow}
+use Rattle.desk_types.proofs.Common.{ReelSealed, refl, same-refl, sealed_row, since_after, Six, Some, subst, sym}
+use Rattle.desk_types.proofs.Common.{true, unwrap_or, ℕ}
+use Rattle.desk_types.proofs.Exposure.{exposure-after, exposure-anew, exposure-before, exposure-untouched}
+use Rattle.desk_types.proofs.ReelCommands.{exposure_starts-quiet, is_baked-quiet, IsQuiet, IsQuiet-open, IsQuiet-seal}
+use Rattle.desk_types.proofs.ReelCommands.{IsQuiet-untouched, last_bake-quiet, last_bake-untouched}
+use Rattle.desk_types.specs.Row.{exposure_at}
 use Rattle.reels.specs.Fitting.{IsFitting}
 use Rattle.reels.specs.Reel.{HasReceipt, RowStandsFor, StandsFor}
+use Rattle.reels.specs.declared.reel.Reel.{Reel}
+use Rattle.std.specs.Option.{ForNone, ForSome}
 
 -- ---- ranges
 
@@ -189,11 +182,6 @@ StandsFor-bake H e name row found last at stands command now = anew H e name (ba
 
     starts : exposure_starts (e ∷ H) name ≡ e.effective
     starts = rw (command, same-refl name)
-
-pub last_bake-untouched : (H : History) (name : Name) → IsUntouched H name → last_bake H name ≡ None
-last_bake-untouched [] name untouched = refl
-last_bake-untouched (e ∷ H) name (none, rest) =
-    last_bake-quiet H e name (IsQuiet-untouched name e.effective e.stamped.command none) ∙ last_bake-untouched H name rest
 
 pub StandsFor-receive : (H : History) (e : Entry) (name part lot : Name) (moisture : LevelWithLabel) (quantity at : ℕ) → IsUntouched H name
     → e.stamped.command ≡ ReelReceived name part lot moisture quantity → e.effective ≡ at

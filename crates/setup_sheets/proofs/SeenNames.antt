@@ -1,14 +1,9 @@
 -- Collecting names in a set, one by one.
-use Rattle.std.proofs.Common.{◌≡◌, Bool, true, false, not, cond, Some, None, List, [], ◌∷◌, ◌++◌, refl, sym, ap, ◌∙◌, append_assoc, append-nil}
-use Rattle.std.specs.Prelude.{◌||◌, if◌then◌else◌}
-use Rattle.std.specs.BTreeMap.{is_at}
+use Rattle.desk_types.proofs.Common.{[], ◌++◌, ◌||◌, ◌∙◌, ◌∷◌, ◌≡◌, ap, append-nil, append_assoc, Bool, by_name, cond}
+use Rattle.desk_types.proofs.Common.{false, if◌then◌else◌, is_at, is_at-by_name, List, list_any, list_any-append}
+use Rattle.desk_types.proofs.Common.{Name, name_twice, None, not, refl, same, same-sym, Some, sym, true}
+use Rattle.setup_sheets.specs.Names.{HasSeen, is_among}
 use Rattle.std.specs.BTreeSet.{BTreeSet, contains}
-use Rattle.std.specs.List.{list_any}
-use Rattle.std.proofs.lemmas.List.Folds.{list_any-append}
-use Rattle.desk_types.specs.Id.{Name, same, by_name}
-use Rattle.desk_types.specs.Refusals.{name_twice}
-use Rattle.desk_types.proofs.Keys.{is_at-by_name, same-sym}
-use Rattle.setup_sheets.specs.Names.{is_among, HasSeen}
 
 put-last : (a b : Bool) → cond a true b ≡ (b || (a || false))
 put-last true true = refl

@@ -1,15 +1,8 @@
 -- The indexes of a sheet are built from its last row to its first.
-use Rattle.std.proofs.Common.{◌≡◌, ℕ, ◌+◌, ◌<◌, Bool, true, false, cond, Option, Some, None, List, [], ◌∷◌, ◌++◌, length, take, get_or, refl, sym, ap, ◌∙◌}
-use Rattle.std.specs.Prelude.{◌||◌}
-use Rattle.std.specs.Option.{option_map, option_or}
-use Rattle.std.specs.List.{find, list_any, slice_get}
-use Rattle.std.proofs.lemmas.List.Folds.{list_any-append}
-use Rattle.std.proofs.lemmas.Option.{slice_get_read}
-use Rattle.desk_types.specs.declared.sheet.SheetRow.{SheetRow}
-use Rattle.desk_types.specs.Id.{Name, same}
-use Rattle.desk_types.specs.Setup.{row_in, slot_in}
-use Rattle.desk_types.proofs.Keys.{same-sym}
-use Rattle.desk_types.proofs.LoopSteps.{take-next}
+use Rattle.desk_types.proofs.Common.{[], ◌++◌, ◌+◌, ◌<◌, ◌||◌, ◌∙◌, ◌∷◌, ◌≡◌, ap, Bool, cond, false, get_or, length}
+use Rattle.desk_types.proofs.Common.{List, list_any, list_any-append, Name, None, Option, option_map, option_or, refl}
+use Rattle.desk_types.proofs.Common.{row_in, same, same-sym, SheetRow, slot_in, Some, sym, take, take-next, true, ℕ}
+use Rattle.std.{proofs.lemmas.Option.slice_get_read, specs.List.find, specs.List.slice_get}
 
 -- ---- rows by slot
 

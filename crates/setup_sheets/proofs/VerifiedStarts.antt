@@ -1,25 +1,17 @@
 -- Verification of a history's front reels finds why a start of work is refused.
-use Rattle.std.proofs.Common.{◌≡◌, ℕ, ◌+◌, ◌-◌, ◌≤◌, Bool, true, false, not, map, Option, Some, None, List, [], ◌∷◌, refl, ap, ◌∙◌, arith}
-use Rattle.std.specs.Prelude.{nat_le, is_some, ◌||◌, if◌then◌else◌}
-use Rattle.std.specs.Option.{option_map, option_map_or, option_or}
-use Rattle.std.proofs.lemmas.Bool.{leb-true, leb-false}
-use Rattle.desk_types.specs.declared.answer.Refusal.{Refusal}
-use Rattle.desk_types.specs.declared.command.Receipt.{Receipt}
-use Rattle.desk_types.specs.declared.front.Life.TheVariants.{Unlimited, Unbaked, Until}
-use Rattle.desk_types.specs.declared.rules.Rules.TheVariants.{Two}
-use Rattle.desk_types.specs.declared.sheet.SheetRow.{SheetRow}
-use Rattle.desk_types.specs.Id.{Name, same}
-use Rattle.desk_types.specs.History.{History, now_of}
-use Rattle.desk_types.specs.Setup.{is_allowed, receipt_of}
-use Rattle.desk_types.specs.Pieces.{front_of}
-use Rattle.desk_types.specs.FloorLife.{exposure_of, floor_life, is_expired, is_unbaked}
-use Rattle.desk_types.specs.Front.{is_unbaked_life, is_expired_life, life_of, front_reel, front_at}
-use Rattle.desk_types.specs.Judged.{IsJudged}
-use Rattle.desk_types.specs.Refusals.{slots_of_rows, feeding_refusal, is_wrong_for, front_refusal, slots_refusal}
+use Rattle.desk_types.proofs.Common.{[], ◌+◌, ◌-◌, ◌||◌, ◌∙◌, ◌∷◌, ◌≡◌, ◌≤◌, ap, arith, Bool, exposure_of, false}
+use Rattle.desk_types.proofs.Common.{floor_life, front_at, front_of, History, if◌then◌else◌, is_allowed, is_expired}
+use Rattle.desk_types.proofs.Common.{is_some, is_unbaked, is_wrong_for, IsJudged, leb-false, leb-true, List, map}
+use Rattle.desk_types.proofs.Common.{Name, nat_le, None, not, now_of, Option, option_map, option_map_or, option_or}
+use Rattle.desk_types.proofs.Common.{Receipt, receipt_of, refl, Refusal, same, SheetRow, slots_of_rows, Some, true}
+use Rattle.desk_types.proofs.Common.{Two, ℕ}
 use Rattle.desk_laws.proofs.Mounts.{front-mounted, front-received}
 use Rattle.desk_laws.proofs.Openings.{mounted-goes-on}
-use Rattle.setup_sheets.specs.Alternates.{is_allowed_by, AreAlternates}
-use Rattle.setup_sheets.specs.Verification.{slots_of_fronts, front_fault, first_fault}
+use Rattle.desk_types.specs.Front.{front_reel, is_expired_life, is_unbaked_life, life_of}
+use Rattle.desk_types.specs.Refusals.{feeding_refusal, front_refusal, slots_refusal}
+use Rattle.desk_types.specs.declared.front.Life.TheVariants.{Unbaked, Unlimited, Until}
+use Rattle.setup_sheets.specs.Alternates.{AreAlternates, is_allowed_by}
+use Rattle.setup_sheets.specs.Verification.{first_fault, front_fault, slots_of_fronts}
 
 -- ---- life
 

@@ -1,24 +1,13 @@
 -- The live reels of a slot are in the order of their numbers, so the front has the least number.
-use Rattle.std.proofs.Common.{◌≡◌, ℕ, ◌<◌, ◌≤◌, Bool, true, false, Option, Some, None, List, [], ◌∷◌, ◌++◌, length, filter, refl, sym, ap, ◌∙◌, subst, arith, nat_lt}
-use Rattle.std.specs.Prelude.{if◌then◌else◌, ◌&&◌, ◌||◌, ⊤}
-use Rattle.std.specs.Option.{option_or, option_map_or}
-use Rattle.std.specs.List.{AllByRecursion}
-use Rattle.std.proofs.lemmas.Bool.{or_left, or_right}
-use Rattle.desk_types.specs.declared.command.Command.{Command}
-use Rattle.desk_types.specs.declared.command.Command.TheVariants.{MaterialsLoaded, MaterialsSpliced, MaterialsUnloaded}
-use Rattle.desk_types.specs.declared.rules.Rules.TheVariants.{Two}
-use Rattle.desk_types.specs.Id.{Name, same}
-use Rattle.desk_types.specs.History.{History}
-use Rattle.desk_types.specs.Tape.{tape_with, tape_after, tape_of}
-use Rattle.desk_types.specs.Pieces.{left_of, live_on, is_mounted}
-use Rattle.desk_types.specs.Refusals.{command_refusal}
-use Rattle.desk_types.specs.Judged.{IsJudged}
-use Rattle.desk_types.proofs.Keys.{same-refl, same-sym, same-true}
-use Rattle.desk_laws.proofs.Accepted.{next-accepted, mountable}
-use Rattle.desk_laws.proofs.Lives.{live-next}
-use Rattle.desk_laws.proofs.Mounts.{has, live-mounted}
-use Rattle.desk_types.specs.declared.row.MountRow.{MountRow}
-use Rattle.desk_types.specs.Tables.{put_by, last_put}
+use Rattle.desk_types.proofs.Common.{[], ⊤, ◌&&◌, ◌++◌, ◌<◌, ◌||◌, ◌∙◌, ◌∷◌, ◌≡◌, ◌≤◌, AllByRecursion, ap, arith}
+use Rattle.desk_types.proofs.Common.{Bool, Command, command_refusal, false, filter, History, if◌then◌else◌}
+use Rattle.desk_types.proofs.Common.{is_mounted, IsJudged, last_put, left_of, length, List, live_on, MaterialsLoaded}
+use Rattle.desk_types.proofs.Common.{MaterialsSpliced, MaterialsUnloaded, MountRow, Name, nat_lt, None, Option}
+use Rattle.desk_types.proofs.Common.{option_map_or, option_or, or_left, or_right, put_by, refl, same, same-refl}
+use Rattle.desk_types.proofs.Common.{same-sym, same-true, Some, subst, sym, tape_after, tape_of, tape_with, true, Two}
+use Rattle.desk_types.proofs.Common.{ℕ}
+use Rattle.desk_laws.proofs.{Accepted.mountable, Accepted.next-accepted, Lives.live-next, Mounts.all-at, Mounts.has}
+use Rattle.desk_laws.proofs.{Mounts.live-mounted}
 
 -- The number of the reel's last load or splice.
 abbrev pub since_of : History → Name → ℕ
@@ -161,14 +150,6 @@ since-ascends (e ∷ H) machine slot (next, judged) =
     step H e.effective e.number machine slot e.stamped.command judged (next-accepted H e next) (let at = next.number in omega (arith, at)) (since-ascends H machine slot judged)))
 
 -- ---- uniqueness
-
-all-at : (P : Name → Type 0) (rs : List Name) (r : Name) → AllByRecursion P rs → has rs r ≡ true → P r
-all-at P [] r all there = cc
-all-at P (x ∷ xs) r (first, all) there = by (same r x) refl there (all-at P xs r all)
-  where
-    by : (b : Bool) → same r x ≡ b → (b || has xs r) ≡ true → (has xs r ≡ true → P r) → P r
-    by true here there rest = subst P (sym (same-true r x here)) first
-    by false away there rest = rest there
 
 not-again : (since : Name → ℕ) (r : Name) (rs : List Name) → AllByRecursion (λ x. since r < since x) rs → has rs r ≡ false
 not-again since r rs first = by (has rs r) refl

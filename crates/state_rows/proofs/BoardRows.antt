@@ -1,24 +1,14 @@
 -- Boards in work, and the row of a board after one entry more.
-use Rattle.std.proofs.Common.{◌≡◌, ℕ, Bool, true, false, not, Option, Some, None, [], ◌∷◌, refl, sym, ap, ◌∙◌, unwrap_or}
-use Rattle.std.specs.Prelude.{if◌then◌else◌, is_none, is_some}
-use Rattle.std.specs.Option.{option_or, option_map, option_map_or, option_and_then}
-use Rattle.desk_types.specs.declared.answer.Refusal.TheVariants.{MachineBusy, UnknownSheet}
-use Rattle.desk_types.specs.declared.command.Command.{Command}
-use Rattle.desk_types.specs.declared.command.Command.TheVariants.{ProductSelected, WorkStarted, WorkCompleted}
-use Rattle.desk_types.specs.declared.command.Entry.{Entry}
-use Rattle.desk_types.specs.declared.rules.Rules.TheVariants.{Two}
-use Rattle.desk_types.specs.Id.{Name, same}
-use Rattle.desk_types.specs.History.{History, latest}
-use Rattle.desk_types.specs.Setup.{sheet_of, selection_by, selected_on}
-use Rattle.desk_types.specs.Work.{work_by, in_work_on, is_in_work_on, is_in_work, start_by, product_of}
-use Rattle.desk_types.specs.Refusals.{selection_refusal, differ, command_refusal}
-use Rattle.desk_types.specs.Judged.{IsJudged}
-use Rattle.desk_types.proofs.Keys.{same-refl, same-sym, same-true}
-use Rattle.desk_laws.proofs.Accepted.{none-holds, next-accepted}
-use Rattle.desk_laws.proofs.Lookups.{somewhere-in_work}
-use Rattle.desk_laws.proofs.BoardsInWork.{IsStartable, startable, completable}
-use Rattle.desk_types.specs.declared.row.BoardRow.{BoardRow}
-use Rattle.desk_types.specs.Tables.{board_row}
+use Rattle.desk_types.proofs.Common.{[], ◌∙◌, ◌∷◌, ◌≡◌, ap, board_row, BoardRow, Bool, Command, command_refusal}
+use Rattle.desk_types.proofs.Common.{differ, Entry, false, History, if◌then◌else◌, in_work_on, is_in_work}
+use Rattle.desk_types.proofs.Common.{is_in_work_on, is_none, is_some, IsJudged, latest, MachineBusy, Name, None, not}
+use Rattle.desk_types.proofs.Common.{Option, option_and_then, option_map, option_map_or, option_or, product_of}
+use Rattle.desk_types.proofs.Common.{ProductSelected, refl, same, same-refl, same-sym, same-true, selected_on}
+use Rattle.desk_types.proofs.Common.{selection_by, selection_refusal, sheet_of, Some, start_by, sym, true, Two}
+use Rattle.desk_types.proofs.Common.{unwrap_or, work_by, WorkCompleted, WorkStarted, ℕ}
+use Rattle.desk_laws.proofs.{Accepted.next-accepted, Accepted.none-holds, BoardsInWork.completable}
+use Rattle.desk_laws.proofs.{BoardsInWork.IsStartable, BoardsInWork.startable, Lookups.somewhere-in_work}
+use Rattle.desk_types.specs.declared.answer.Refusal.TheVariants.{UnknownSheet}
 use Rattle.state_rows.specs.After.{board_after}
 
 selectable : (H : History) (machine product : Name) → selection_refusal H machine product ≡ None → is_some (in_work_on H machine) ≡ false

@@ -1,39 +1,20 @@
 -- The tables after a count.
-use Rattle.std.proofs.Common.{◌≡◌, ℕ, ◌+◌, ◌-◌, nat_lt, Bool, true, false, Option, Some, None, List, [], ◌∷◌, ◌++◌, find, filter, flat_map, refl, sym, ap, ◌∙◌, unwrap_or, arith}
-use Rattle.std.specs.Prelude.{if◌then◌else◌, ◌==◌, ◌||◌}
-use Rattle.std.specs.Option.{option_map, option_map_or}
-use Rattle.std.specs.List.{list_any}
-use Rattle.std.proofs.lemmas.Bool.{ltb-false, ltb-true, ne_eqb}
-use Rattle.std.proofs.lemmas.List.Folds.{list_any-append}
-use Rattle.desk_types.specs.declared.command.Command.TheVariants.{CountsTaken}
-use Rattle.desk_types.specs.declared.command.Receipt.{Receipt}
-use Rattle.desk_types.specs.declared.count.CountRow.{CountRow}
-use Rattle.desk_types.specs.declared.rules.Rules.TheVariants.{Two}
-use Rattle.desk_types.specs.declared.take.Pick.{Pick}
-use Rattle.desk_types.specs.declared.take.Purpose.TheVariants.{Counted}
-use Rattle.desk_types.specs.declared.view.ReelView.{ReelView}
-use Rattle.desk_types.specs.Id.{Name, same}
-use Rattle.desk_types.specs.History.{History}
-use Rattle.desk_types.specs.Setup.{receipt_of}
-use Rattle.desk_types.specs.Pieces.{pieces_picked, pieces_off, count_picks, picks_of, left_of, is_placed, found_by, found_of}
-use Rattle.desk_types.specs.Refusals.{counts_refusal, command_refusal}
-use Rattle.desk_types.specs.View.{view_of, reel_view}
-use Rattle.desk_types.specs.Judged.{IsJudged}
-use Rattle.desk_types.proofs.Keys.{same-refl, same-true}
-use Rattle.desk_laws.proofs.Balance.{unreceived-empty}
-use Rattle.desk_laws.proofs.Picks.{countable, IsCounted, counted, find-passes}
-use Rattle.desk_laws.proofs.InstalledPieces.{AreUnplaced, unplaced-count}
-use Rattle.desk_laws.proofs.Totals.{pieces_picked-split}
-use Rattle.desk_types.specs.declared.edit.RowEdit.TheVariants.{PutReel, PutFound}
-use Rattle.desk_types.specs.declared.row.ReelRow.{ReelRow}
-use Rattle.desk_types.specs.Tables.{Tables, columns_of, reel_row, found_row, tables_of}
-use Rattle.desk_types.specs.Edits.{with_edits}
-use Rattle.state_rows.specs.After.{placed_in, scrapped_in, step_row, reel_after, found_after}
-use Rattle.state_rows.specs.EditsOf.{is_picked, counted_row, counted_edits, count_edits}
-use Rattle.state_rows.proofs.EditLists.{with_edits-append}
-use Rattle.state_rows.proofs.MountRows.{left_after}
-use Rattle.state_rows.proofs.ReelRows.{same-rows, found-kept}
-use Rattle.state_rows.proofs.TablesLess.{OnlyTakes, none-step, unpicked}
+use Rattle.desk_types.proofs.Common.{[], ◌++◌, ◌+◌, ◌-◌, ◌==◌, ◌||◌, ◌∙◌, ◌∷◌, ◌≡◌, ap, arith, Bool, columns_of}
+use Rattle.desk_types.proofs.Common.{command_refusal, count_picks, Counted, CountRow, counts_refusal, CountsTaken}
+use Rattle.desk_types.proofs.Common.{false, filter, find, found_by, found_of, found_row, History, if◌then◌else◌}
+use Rattle.desk_types.proofs.Common.{is_placed, IsJudged, left_of, List, list_any, list_any-append, ltb-false}
+use Rattle.desk_types.proofs.Common.{ltb-true, Name, nat_lt, ne_eqb, None, Option, option_map, option_map_or, Pick}
+use Rattle.desk_types.proofs.Common.{picks_of, pieces_off, pieces_picked, PutFound, PutReel, Receipt, receipt_of}
+use Rattle.desk_types.proofs.Common.{reel_row, reel_view, ReelRow, ReelView, refl, same, same-refl, same-true, Some}
+use Rattle.desk_types.proofs.Common.{sym, Tables, tables_of, true, Two, unwrap_or, view_of, with_edits, ℕ}
+use Rattle.desk_laws.proofs.{Balance.unreceived-empty, InstalledPieces.AreUnplaced, InstalledPieces.unplaced-count}
+use Rattle.desk_laws.proofs.{Mounted.left_after, Picks.countable, Picks.counted, Picks.find-passes, Picks.IsCounted}
+use Rattle.desk_laws.proofs.{Totals.pieces_picked-split}
+use Rattle.state_rows.proofs.{EditLists.with_edits-append, ReelRows.found-kept, ReelRows.same-rows}
+use Rattle.state_rows.proofs.{TablesLess.none-step, TablesLess.OnlyTakes, TablesLess.unpicked}
+use Rattle.state_rows.specs.{After.found_after, After.placed_in, After.reel_after, After.scrapped_in, After.step_row}
+use Rattle.state_rows.specs.{EditsOf.count_edits, EditsOf.counted_edits, EditsOf.counted_row, EditsOf.is_picked}
+use Rattle.std.proofs.Common.{flat_map}
 
 abbrev row_of : List CountRow → Name → Option CountRow
 row_of rows reel = find (λ (row : CountRow). same row.reel reel) rows

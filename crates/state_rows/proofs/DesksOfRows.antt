@@ -1,18 +1,10 @@
 -- The rows of boards, for the desk that has these rows.
-use Rattle.std.proofs.Common.{◌≡◌, ◌↔◌, Bool, true, false, Option, Some, None, [], refl, sym, ap, ◌∙◌, unwrap_or}
-use Rattle.std.specs.Prelude.{if◌then◌else◌, is_some}
-use Rattle.std.specs.Option.{option_map, option_map_or, option_and_then}
-use Rattle.desk_types.specs.declared.rules.Rules.TheVariants.{Two}
-use Rattle.desk_types.specs.Id.{Name, same}
-use Rattle.desk_types.specs.History.{History}
-use Rattle.desk_types.specs.Work.{in_work_on, is_in_work_on, is_in_work, product_of}
-use Rattle.desk_types.specs.Judged.{IsJudged}
-use Rattle.desk_types.proofs.Keys.{same-refl}
+use Rattle.desk_types.proofs.Common.{[], ◌↔◌, ◌∙◌, ◌≡◌, ap, board_row, BoardRow, Bool, both_ways, false, History}
+use Rattle.desk_types.proofs.Common.{if◌then◌else◌, in_work_on, is_in_work, is_in_work_on, is_some, IsJudged, Name}
+use Rattle.desk_types.proofs.Common.{None, Option, option_and_then, option_map, option_map_or, product_of, refl, same}
+use Rattle.desk_types.proofs.Common.{same-refl, Some, sym, true, Two, unwrap_or, work_machine}
 use Rattle.desk_laws.proofs.Lookups.{in_work-somewhere, somewhere-in_work}
-use Rattle.desk_laws.proofs.Mounted.{iff}
-use Rattle.desk_types.specs.declared.row.BoardRow.{BoardRow}
-use Rattle.desk_types.specs.Tables.{work_machine, board_row}
-use Rattle.state_rows.proofs.BoardRows.{last_start, IsWorking, on-is, working}
+use Rattle.state_rows.proofs.BoardRows.{IsWorking, last_start, on-is, working}
 
 -- ---- boards in work
 
@@ -53,7 +45,7 @@ work-on_row H machine board judged = (work-row H machine board judged, row-work 
 
 pub in_work-row : (H : History) (board : Name) → IsJudged Two H → is_in_work H board ≡ is_some (machine_in (board_row H board))
 in_work-row H board judged =
-    iff _ _ (λ is. let on = in_work-somewhere H board is in ap is_some (work-row H on.0 board judged on.1)) (back (machine_in (board_row H board)) refl)
+    both_ways _ _ (λ is. let on = in_work-somewhere H board is in ap is_some (work-row H on.0 board judged on.1)) (back (machine_in (board_row H board)) refl)
   where
     back : (o : Option Name) → machine_in (board_row H board) ≡ o → is_some o ≡ true → is_in_work H board ≡ true
     back None says is = cc

@@ -1,20 +1,12 @@
 -- What lists of edits make of tables.
-use Rattle.std.proofs.Common.{◌≡◌, ℕ, ◌+◌, Bool, true, false, Option, Some, None, List, [], ◌∷◌, ◌++◌, map, refl, sym, ap, ◌∙◌, arith, ◌<◌, length, take, get_or}
-use Rattle.std.specs.Prelude.{if◌then◌else◌, ◌==◌, ◌&&◌, ◌||◌, is_some}
-use Rattle.std.specs.Option.{option_or, option_map}
-use Rattle.std.proofs.lemmas.Bool.{eqb-true}
-use Rattle.desk_types.specs.declared.sheet.SheetRow.{SheetRow}
-use Rattle.desk_types.specs.Id.{Name, same}
-use Rattle.desk_types.proofs.LoopSteps.{take-next}
+use Rattle.desk_types.proofs.Common.{[], ◌&&◌, ◌++◌, ◌+◌, ◌<◌, ◌==◌, ◌||◌, ◌∙◌, ◌∷◌, ◌≡◌, ap, arith, at_place, Bool}
+use Rattle.desk_types.proofs.Common.{eqb-true, false, get_or, if◌then◌else◌, is_some, length, List, map, MountRow}
+use Rattle.desk_types.proofs.Common.{Name, None, Option, option_map, option_or, PutMount, refl, RowEdit, same}
+use Rattle.desk_types.proofs.Common.{SheetRow, Some, sym, Tables, take, take-next, TakeMount, true, with_edit}
+use Rattle.desk_types.proofs.Common.{with_edits, ℕ}
 use Rattle.desk_laws.proofs.Mounts.{has}
-use Rattle.desk_types.specs.declared.row.MountRow.{MountRow}
-use Rattle.desk_types.specs.declared.edit.RowEdit.{RowEdit}
-use Rattle.desk_types.specs.declared.edit.RowEdit.TheVariants.{TakeMount, PutMount}
-use Rattle.desk_types.specs.Tables.{Tables, at_place}
-use Rattle.desk_types.specs.Edits.{with_edit, with_edits}
-use Rattle.state_rows.specs.EditsOf.{taken_rows, put_rows}
-use Rattle.state_rows.specs.Kept.{without_number, unnumbered}
 use Rattle.state_rows.proofs.PlacementRows.{at_place-before}
+use Rattle.state_rows.specs.{EditsOf.put_rows, EditsOf.taken_rows, Kept.unnumbered, Kept.without_number}
 
 pub same-tables : (a b : Tables) → ((p : Name) → a.parts p ≡ b.parts p) → ((p q : Name) → a.alternates p q ≡ b.alternates p q)
     → ((p m : Name) (k : ℕ) → a.sheets p m k ≡ b.sheets p m k) → ((m : Name) → a.selected m ≡ b.selected m) → ((r : Name) → a.reels r ≡ b.reels r)

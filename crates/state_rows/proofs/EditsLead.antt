@@ -1,55 +1,37 @@
 -- The edits of an accepted command turn the tables of a history into those of the history with it.
-use Rattle.std.proofs.Common.{◌≡◌, ℕ, ◌+◌, ◌-◌, nat_lt, Bool, true, false, Option, Some, None, List, [], ◌∷◌, map, refl, sym, ap, ◌∙◌, unwrap_or, add-zero, arith}
-use Rattle.std.specs.Prelude.{if◌then◌else◌, ◌==◌, ◌&&◌, ◌||◌, is_some}
-use Rattle.std.specs.Option.{option_or, option_map, option_map_or, option_and_then}
-use Rattle.std.proofs.lemmas.Bool.{eqb-true, and_parts}
-use Rattle.desk_types.specs.declared.command.Command.{Command}
-use Rattle.desk_types.specs.declared.command.Command.TheVariants.{PartDefined, AlternateAllowed, SheetDefined, ProductSelected, ReelReceived, ReelOpened, ReelSealed, ReelBaked, MaterialsLoaded, MaterialsSpliced, MaterialsUnloaded, WorkStarted, WorkCompleted, MaterialsInstalled, MaterialsScrapped, CountsTaken, ClockSet}
-use Rattle.desk_types.specs.declared.command.Entry.{Entry}
-use Rattle.desk_types.specs.declared.command.Receipt.{Receipt}
-use Rattle.desk_types.specs.declared.sheet.SheetRow.{SheetRow}
-use Rattle.desk_types.specs.Level.{LevelWithLabel}
-use Rattle.desk_types.specs.declared.count.CountRow.{CountRow}
-use Rattle.desk_types.specs.declared.rules.Rules.TheVariants.{Two}
-use Rattle.desk_types.specs.Id.{Name, same}
-use Rattle.desk_types.specs.History.{History}
-use Rattle.desk_types.specs.Setup.{defines, is_part, allows, is_alternate, sheet_by, sheet_of, selection_by, selected_on, receipt_by, receipt_of}
-use Rattle.desk_types.specs.declared.take.Pick.{Pick}
-use Rattle.desk_types.specs.declared.take.Take.{Take}
-use Rattle.desk_types.specs.declared.take.Purpose.{Purpose}
-use Rattle.desk_types.specs.declared.take.Purpose.TheVariants.{Placed, Rejected, Counted}
-use Rattle.desk_types.specs.Pieces.{pieces_picked, picks_of, pieces_by, is_placed, found_by, found_of, left_of, live_on, is_mounted}
-use Rattle.desk_types.specs.FloorLife.{open_by, baked_by, since_after}
-use Rattle.desk_types.specs.Outcome.{take_of, takes_by}
-use Rattle.desk_types.specs.View.{view_of}
-use Rattle.desk_types.specs.Refusals.{command_refusal}
-use Rattle.desk_types.specs.Judged.{IsJudged}
-use Rattle.desk_types.proofs.Keys.{same-refl, same-sym, same-true}
-use Rattle.desk_laws.proofs.Accepted.{next-accepted}
-use Rattle.desk_laws.proofs.CountedReels.{unmounted-rows}
-use Rattle.desk_laws.proofs.Mounted.{mounted-is}
-use Rattle.desk_laws.proofs.Mounts.{has}
-use Rattle.desk_laws.proofs.InstalledPieces.{AreUnplaced, unplaced-count}
-use Rattle.desk_laws.proofs.BoardsInWork.{startable, completable}
-use Rattle.desk_types.specs.declared.row.ReelRow.{ReelRow}
-use Rattle.desk_types.specs.declared.row.MountRow.{MountRow}
-use Rattle.desk_types.specs.declared.row.BoardRow.{BoardRow}
-use Rattle.desk_types.specs.declared.row.PlacementRow.{PlacementRow}
-use Rattle.desk_types.specs.declared.edit.RowEdit.{RowEdit}
-use Rattle.desk_types.specs.Tables.{at_place, columns_of, sheet_row, reel_row, last_put, mount_row, board_row, placement_row, found_row, Tables, tables_of}
-use Rattle.desk_types.specs.Edits.{with_edits}
-use Rattle.state_rows.specs.Kept.{without_number, unnumbered}
-use Rattle.desk_types.specs.Row.{fresh_row, opened_row, sealed_row, baked_row}
-use Rattle.state_rows.specs.After.{used_after, bakes, step_row, reel_after, mount_after, board_after, placed_row, placement_after, found_after}
-use Rattle.state_rows.specs.EditsOf.{reel_edit, board_edit, taken_rows, put_rows, reels_on, pick_of, picked_rows, after_rows, after_placing, AreEditsOf}
-use Rattle.state_rows.proofs.ReelRows.{same-rows, reel_row-next, found_row-next}
-use Rattle.state_rows.proofs.MountRows.{some_left, left_after, mount_row-next}
-use Rattle.state_rows.proofs.BoardRows.{board_row-next, some-of, working}
-use Rattle.state_rows.proofs.PlacementRows.{unplaced-later, placement_row-next}
-use Rattle.state_rows.proofs.EditLists.{same-tables, with_edits-append, mounts-taken, rows-put, rows-taken}
-use Rattle.state_rows.proofs.Slots.{reels_on-live}
-use Rattle.state_rows.proofs.Counts.{counts-lead, uncounted-left}
-use Rattle.state_rows.proofs.TablesLess.{OnlyTakes, picks-again, reels-took, mounts-took, placements-took}
+use Rattle.desk_types.proofs.Common.{[], ◌&&◌, ◌+◌, ◌-◌, ◌==◌, ◌||◌, ◌∙◌, ◌∷◌, ◌≡◌, AlternateAllowed, and_parts, ap}
+use Rattle.desk_types.proofs.Common.{arith, at_place, baked_by, baked_row, board_row, BoardRow, Bool, ClockSet}
+use Rattle.desk_types.proofs.Common.{columns_of, Command, command_refusal, Counted, CountRow, CountsTaken, Entry}
+use Rattle.desk_types.proofs.Common.{eqb-true, false, found_by, found_of, found_row, fresh_row, History}
+use Rattle.desk_types.proofs.Common.{if◌then◌else◌, is_alternate, is_mounted, is_part, is_placed, is_some, IsJudged}
+use Rattle.desk_types.proofs.Common.{last_put, left_of, LevelWithLabel, List, live_on, map, MaterialsInstalled}
+use Rattle.desk_types.proofs.Common.{MaterialsLoaded, MaterialsScrapped, MaterialsSpliced, MaterialsUnloaded}
+use Rattle.desk_types.proofs.Common.{mount_row, MountRow, Name, nat_lt, None, open_by, opened_row, Option}
+use Rattle.desk_types.proofs.Common.{option_and_then, option_map, option_map_or, option_or, PartDefined, Pick}
+use Rattle.desk_types.proofs.Common.{picks_of, pieces_by, pieces_picked, Placed, placement_row, PlacementRow}
+use Rattle.desk_types.proofs.Common.{ProductSelected, Purpose, Receipt, receipt_by, receipt_of, reel_row, ReelBaked}
+use Rattle.desk_types.proofs.Common.{ReelOpened, ReelReceived, ReelRow, ReelSealed, refl, Rejected, RowEdit, same}
+use Rattle.desk_types.proofs.Common.{same-refl, same-sym, same-true, sealed_row, selected_on, selection_by, sheet_by}
+use Rattle.desk_types.proofs.Common.{sheet_of, SheetDefined, SheetRow, since_after, Some, sym, Tables, tables_of}
+use Rattle.desk_types.proofs.Common.{Take, take_of, takes_by, true, Two, unwrap_or, view_of, with_edits}
+use Rattle.desk_types.proofs.Common.{WorkCompleted, WorkStarted, ℕ}
+use Rattle.desk_laws.proofs.{Accepted.next-accepted, BoardsInWork.completable, BoardsInWork.startable}
+use Rattle.desk_laws.proofs.{CountedReels.unmounted-rows, InstalledPieces.AreUnplaced, InstalledPieces.unplaced-count}
+use Rattle.desk_laws.proofs.{Mounted.left_after, Mounted.mounted-is, Mounted.some_left, Mounts.has}
+use Rattle.desk_types.specs.{Setup.allows, Setup.defines, Tables.sheet_row}
+use Rattle.state_rows.proofs.{BoardRows.board_row-next, BoardRows.some-of, BoardRows.working, Counts.counts-lead}
+use Rattle.state_rows.proofs.{Counts.uncounted-left, EditLists.mounts-taken, EditLists.rows-put, EditLists.rows-taken}
+use Rattle.state_rows.proofs.{EditLists.same-tables, EditLists.with_edits-append, MountRows.mount_row-next}
+use Rattle.state_rows.proofs.{PlacementRows.placement_row-next, PlacementRows.unplaced-later, ReelRows.found_row-next}
+use Rattle.state_rows.proofs.{ReelRows.reel_row-next, ReelRows.same-rows, Slots.reels_on-live, TablesLess.mounts-took}
+use Rattle.state_rows.proofs.{TablesLess.OnlyTakes, TablesLess.picks-again, TablesLess.placements-took}
+use Rattle.state_rows.proofs.{TablesLess.reels-took}
+use Rattle.state_rows.specs.{After.bakes, After.board_after, After.found_after, After.mount_after, After.placed_row}
+use Rattle.state_rows.specs.{After.placement_after, After.reel_after, After.step_row, After.used_after}
+use Rattle.state_rows.specs.{EditsOf.after_placing, EditsOf.after_rows, EditsOf.AreEditsOf, EditsOf.board_edit}
+use Rattle.state_rows.specs.{EditsOf.pick_of, EditsOf.picked_rows, EditsOf.put_rows, EditsOf.reel_edit}
+use Rattle.state_rows.specs.{EditsOf.reels_on, EditsOf.taken_rows, Kept.unnumbered, Kept.without_number}
+use Rattle.std.proofs.Common.{add-zero}
 
 -- ---- one entry more
 

@@ -1,19 +1,12 @@
 -- Exposure by the minute since which a reel is out.
-use Rattle.std.proofs.Common.{◌≡◌, ℕ, ◌+◌, ◌-◌, ◌<◌, ◌≤◌, Bool, true, false, Option, Some, None, [], ◌∷◌, refl, sym, ap, ◌∙◌, subst, unwrap_or, arith}
-use Rattle.std.specs.Prelude.{nat_le}
-use Rattle.std.specs.Option.{option_or}
-use Rattle.std.proofs.lemmas.Bool.{leb-true, leb-false}
-use Rattle.desk_types.specs.declared.command.Entry.{Entry}
-use Rattle.desk_types.specs.declared.rules.Rules.TheVariants.{Two}
-use Rattle.desk_types.specs.Id.{Name}
-use Rattle.desk_types.specs.History.{History, now_of}
-use Rattle.desk_types.specs.FloorLife.{open_by, is_out_at, exposure_starts, exposure_of, since_after, out_since}
-use Rattle.desk_types.specs.Judged.{IsNext, IsJudged}
-use Rattle.desk_types.proofs.Exposure.{is_out-before, is_out-after, is_out-untouched}
-use Rattle.desk_types.proofs.Minutes.{count-split, count-one}
-use Rattle.desk_types.proofs.ReelCommands.{IsQuiet-open, IsQuiet-untouched, exposure_starts-quiet}
-use Rattle.desk_laws.proofs.Judgements.{AreBy, by-later, by-desk_minute}
-use Rattle.desk_laws.proofs.Openings.{starts-by}
+use Rattle.desk_types.proofs.Common.{[], ◌+◌, ◌-◌, ◌<◌, ◌∙◌, ◌∷◌, ◌≡◌, ◌≤◌, ap, arith, Bool, Entry, exposure_of}
+use Rattle.desk_types.proofs.Common.{exposure_starts, false, History, is_out_at, IsJudged, IsNext, leb-false}
+use Rattle.desk_types.proofs.Common.{leb-true, Name, nat_le, None, now_of, open_by, Option, option_or, out_since}
+use Rattle.desk_types.proofs.Common.{refl, since_after, Some, subst, sym, true, Two, unwrap_or, ℕ}
+use Rattle.desk_laws.proofs.{Judgements.AreBy, Judgements.by-desk_minute, Judgements.by-later, Openings.starts-by}
+use Rattle.desk_types.proofs.{Exposure.is_out-after, Exposure.is_out-before, Exposure.is_out-untouched}
+use Rattle.desk_types.proofs.{Minutes.count-one, Minutes.count-split, ReelCommands.exposure_starts-quiet}
+use Rattle.desk_types.proofs.{ReelCommands.IsQuiet-open, ReelCommands.IsQuiet-untouched}
 
 -- ---- the desk minute
 

@@ -1,34 +1,17 @@
 -- Pieces gathered reel by reel, and the edits that they come to.
-use Rattle.std.proofs.Common.{◌≡◌, ℕ, ◌+◌, ◌<◌, ◌≤◌, ◌^◌, Bool, true, false, not, Option, Some, None, List, [], ◌∷◌, ◌++◌, filter, refl, sym, ap, ◌∙◌, arith, zero-add}
-use Rattle.std.specs.Prelude.{if◌then◌else◌, ◌==◌, ◌&&◌, ◌||◌}
-use Rattle.std.specs.Option.{option_or, option_map, option_map_or, option_and_then, option_to_list}
-use Rattle.std.proofs.Math.Bool.{or-false}
-use Rattle.std.proofs.lemmas.Bool.{eqb-true}
-use Rattle.std.proofs.lemmas.List.Folds.{list_any-append}
-use Rattle.desk_types.specs.declared.command.Receipt.{Receipt}
-use Rattle.desk_types.specs.declared.take.Pick.{Pick}
-use Rattle.desk_types.specs.declared.take.Purpose.{Purpose}
-use Rattle.desk_types.specs.declared.take.Purpose.TheVariants.{Placed, Rejected, Counted}
-use Rattle.desk_types.specs.declared.take.Take.{Take}
-use Rattle.desk_types.specs.Id.{Name, same}
-use Rattle.desk_types.specs.History.{History}
-use Rattle.desk_types.specs.Setup.{receipt_of}
-use Rattle.desk_types.specs.Pieces.{pieces_picked, is_placed, placed_of, scrapped_of}
-use Rattle.desk_types.specs.View.{view_of}
-use Rattle.desk_types.proofs.Keys.{same-refl}
-use Rattle.desk_laws.proofs.Picks.{pieces_picked-append}
-use Rattle.desk_laws.proofs.Totals.{pieces_picked-filter}
-use Rattle.desk_types.specs.declared.row.ReelRow.{ReelRow}
-use Rattle.desk_types.specs.declared.row.PlacementRow.{PlacementRow}
-use Rattle.desk_types.specs.declared.edit.RowEdit.TheVariants.{PutPlacement}
-use Rattle.desk_types.specs.Tables.{Tables, columns_of, reel_row, at_place}
-use Rattle.desk_types.specs.Edits.{with_edits}
-use Rattle.state_rows.specs.After.{placed_in, scrapped_in, placed_row}
-use Rattle.state_rows.specs.EditsOf.{is_picked, less_row, picked_rows, place_rows, less_by, LessFits, ArePiecesFitting, AreNamed}
-use Rattle.state_rows.proofs.ReelRows.{same-rows}
-use Rattle.state_rows.proofs.PlacementRows.{at_place-before}
-use Rattle.state_rows.proofs.EditLists.{with_edits-append}
-use Rattle.state_rows.proofs.TablesLess.{unpicked, unpicked-some}
+use Rattle.desk_types.proofs.Common.{[], ◌&&◌, ◌++◌, ◌+◌, ◌<◌, ◌==◌, ◌^◌, ◌||◌, ◌∙◌, ◌∷◌, ◌≡◌, ◌≤◌, ap, arith}
+use Rattle.desk_types.proofs.Common.{at_place, Bool, columns_of, Counted, eqb-true, false, filter, History}
+use Rattle.desk_types.proofs.Common.{if◌then◌else◌, is_placed, List, list_any-append, Name, None, not, Option}
+use Rattle.desk_types.proofs.Common.{option_and_then, option_map, option_map_or, option_or, option_to_list, or-false}
+use Rattle.desk_types.proofs.Common.{Pick, pieces_picked, Placed, placed_of, PlacementRow, Purpose, PutPlacement}
+use Rattle.desk_types.proofs.Common.{Receipt, receipt_of, reel_row, ReelRow, refl, Rejected, same, same-refl}
+use Rattle.desk_types.proofs.Common.{scrapped_of, Some, sym, Tables, Take, true, view_of, with_edits, zero-add, ℕ}
+use Rattle.desk_laws.proofs.{Picks.pieces_picked-append, Totals.pieces_picked-filter}
+use Rattle.state_rows.proofs.{EditLists.with_edits-append, PlacementRows.at_place-before, ReelRows.same-rows}
+use Rattle.state_rows.proofs.{TablesLess.unpicked, TablesLess.unpicked-some}
+use Rattle.state_rows.specs.{After.placed_in, After.placed_row, After.scrapped_in, EditsOf.AreNamed}
+use Rattle.state_rows.specs.{EditsOf.ArePiecesFitting, EditsOf.is_picked, EditsOf.less_by, EditsOf.less_row}
+use Rattle.state_rows.specs.{EditsOf.LessFits, EditsOf.picked_rows, EditsOf.place_rows}
 
 -- ---- one pick
 

@@ -1,23 +1,13 @@
 -- An install places its pieces on its own board; no other command places any.
-use Rattle.std.proofs.Common.{◌≡◌, ℕ, ◌+◌, ◌-◌, min, nat_lt, Bool, true, false, Option, Some, None, List, [], ◌∷◌, ◌++◌, map, filter, filter_map, find, length, refl, ap, sym, ◌∙◌, option_map, option_and_then, option_to_list}
-use Rattle.std.specs.Prelude.{⊤, if◌then◌else◌}
-use Rattle.std.specs.List.{cons_option, enumerate_from, range_with_len}
-use Rattle.std.proofs.lemmas.List.{length-map}
-use Rattle.desk_types.specs.declared.command.Command.{Command}
-use Rattle.desk_types.specs.declared.command.Command.TheVariants.{MaterialsInstalled, MaterialsScrapped, CountsTaken}
-use Rattle.desk_types.specs.declared.count.CountRow.{CountRow}
-use Rattle.desk_types.specs.declared.placement.Placement.{Placement}
-use Rattle.desk_types.specs.declared.take.Pick.{Pick}
-use Rattle.desk_types.specs.declared.take.Purpose.TheVariants.{Placed, Rejected, Counted}
-use Rattle.desk_types.specs.Id.{Name, same}
-use Rattle.desk_types.specs.History.{History}
-use Rattle.desk_types.specs.Tape.{tape_of}
-use Rattle.desk_types.specs.Pieces.{Bench, bench_of, pieces_picked, pick_for, install_picks, scrap_picks, count_picks, left_of, picks_of}
-use Rattle.desk_types.specs.Outcome.{take_of, takes_by}
-use Rattle.desk_types.specs.Placements.{placement_of}
-use Rattle.state_rows.specs.Lists.{Key}
-use Rattle.state_rows.specs.Noting.{keys_in, install_keys}
-use Rattle.state_rows.proofs.Keys.{placed_key}
+use Rattle.desk_types.proofs.Common.{[], ⊤, ◌++◌, ◌+◌, ◌-◌, ◌∙◌, ◌∷◌, ◌≡◌, ap, Bench, bench_of, Bool, Command}
+use Rattle.desk_types.proofs.Common.{cons_option, count_picks, Counted, CountRow, CountsTaken, enumerate_from, false}
+use Rattle.desk_types.proofs.Common.{filter, filter_map, find, History, if◌then◌else◌, install_picks, left_of, length}
+use Rattle.desk_types.proofs.Common.{length-map, List, map, MaterialsInstalled, MaterialsScrapped, min, Name, nat_lt}
+use Rattle.desk_types.proofs.Common.{None, Option, Pick, pick_for, picks_of, pieces_picked, Placed, Placement}
+use Rattle.desk_types.proofs.Common.{placement_of, range_with_len, refl, Rejected, same, scrap_picks, Some, sym}
+use Rattle.desk_types.proofs.Common.{take_of, takes_by, tape_of, true, ℕ}
+use Rattle.state_rows.{proofs.Keys.placed_key, specs.Lists.Key, specs.Noting.install_keys, specs.Noting.keys_in}
+use Rattle.std.proofs.Common.{option_and_then, option_map, option_to_list}
 
 -- ---- installs
 

@@ -1,14 +1,10 @@
 -- The index after adding an element or reserving memory.
-use Rattle.std.proofs.Common.{◌≡◌, Bool, true, false, cond, List, [], ◌∷◌, ◌++◌, map, length, refl, sym, ap, ◌∙◌}
-use Rattle.std.specs.Prelude.{All, if◌then◌else◌}
-use Rattle.std.proofs.lemmas.List.{append-nil}
-use Rattle.std.proofs.lemmas.List.Elements.{All-push, All-same}
-use Rattle.desk_types.specs.Id.{Name, same}
-use Rattle.desk_types.specs.History.{History}
-use Rattle.desk_types.specs.Number.{IsMinute}
-use Rattle.desk_types.proofs.Keys.{same-true}
+use Rattle.desk_types.proofs.Common.{[], ◌++◌, ◌∙◌, ◌∷◌, ◌≡◌, All, All-same, ap, append-nil, Bool, cond, false}
+use Rattle.desk_types.proofs.Common.{History, if◌then◌else◌, IsMinute, length, List, map, Name, refl, same, same-true}
+use Rattle.desk_types.proofs.Common.{sym, true}
+use Rattle.state_rows.specs.Lists.{HasPieces, IsListed, kept_at, key_of, keys_of_installs, minute_in}
 use Rattle.state_rows.specs.declared.lists.TraceLists.{TraceLists}
-use Rattle.state_rows.specs.Lists.{IsListed, HasPieces, kept_at, key_of, keys_of_installs, minute_in}
+use Rattle.std.proofs.lemmas.List.Elements.{All-push}
 
 pub one-more : {X : Type 0} (k n : Name) (old : Name → List X) (now : List X) (thing : X) → now ≡ old k ++ thing ∷ []
     → cond (same k n) now (old n) ≡ old n ++ (if same k n then thing ∷ [] else [])

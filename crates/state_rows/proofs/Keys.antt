@@ -1,15 +1,9 @@
 -- The keys that an entry adds.
-use Rattle.std.proofs.Common.{◌≡◌, ℕ, ◌+◌, Bool, List, ◌++◌, map, filter, filter_map, length, ap, sym, ◌∙◌}
-use Rattle.std.proofs.lemmas.List.{map-append}
-use Rattle.std.proofs.lemmas.List.Elements.{filter_map-append, filter-append}
-use Rattle.desk_types.specs.declared.command.Stamped.{Stamped}
-use Rattle.desk_types.specs.declared.placement.Placement.{Placement}
-use Rattle.desk_types.specs.declared.take.Take.{Take}
-use Rattle.desk_types.specs.History.{History, entry_of, accept}
-use Rattle.desk_types.specs.Outcome.{takes_by}
-use Rattle.desk_types.specs.Placements.{entry_takes, takes_of, placement_of, placements_of}
-use Rattle.state_rows.specs.Lists.{Key, keys_where}
-use Rattle.state_rows.specs.Noting.{keys_in}
+use Rattle.desk_types.proofs.Common.{◌++◌, ◌+◌, ◌∙◌, ◌≡◌, accept, ap, Bool, entry_of, entry_takes, filter}
+use Rattle.desk_types.proofs.Common.{filter-append, filter_map, filter_map-append, History, length, List, map}
+use Rattle.desk_types.proofs.Common.{map-append, Placement, placement_of, placements_of, Stamped, sym, Take, takes_by}
+use Rattle.desk_types.proofs.Common.{takes_of, ℕ}
+use Rattle.state_rows.specs.{Lists.Key, Lists.keys_where, Noting.keys_in}
 
 abbrev pub placed_key : Placement → Key
 placed_key p = (p.number, p.place)

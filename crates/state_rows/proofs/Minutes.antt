@@ -1,11 +1,9 @@
 -- The minutes of entries by their numbers.
-use Rattle.std.proofs.Common.{◌≡◌, ◌≢◌, ℕ, zero, suc, ◌+◌, Bool, true, false, cond, Some, List, [], ◌∷◌, ◌++◌, length, find, refl, ap, ◌∙◌, arith, slice_get, option_map, length-append}
-use Rattle.std.specs.Prelude.{◌==◌}
-use Rattle.std.proofs.lemmas.Bool.{eqb-true, eqb-false}
-use Rattle.desk_types.specs.declared.command.Entry.{Entry}
-use Rattle.desk_types.specs.declared.command.Stamped.{Stamped}
-use Rattle.desk_types.specs.History.{History, entry_of, accept}
-use Rattle.state_rows.specs.Lists.{minute_of, minute_in}
+use Rattle.desk_types.proofs.Common.{[], ◌++◌, ◌+◌, ◌==◌, ◌∙◌, ◌∷◌, ◌≡◌, ◌≢◌, accept, ap, arith, Bool, cond, Entry}
+use Rattle.desk_types.proofs.Common.{entry_of, eqb-true, false, find, History, length, length-append, List, refl}
+use Rattle.desk_types.proofs.Common.{slice_get, Some, Stamped, suc, true, zero, ℕ}
+use Rattle.state_rows.specs.Lists.{minute_in, minute_of}
+use Rattle.std.proofs.{Common.option_map, lemmas.Bool.eqb-false}
 
 get-last : (xs : List ℕ) (x : ℕ) → slice_get (xs ++ x ∷ []) (length xs) ≡ Some x
 get-last [] x = refl

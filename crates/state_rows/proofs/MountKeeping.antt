@@ -1,24 +1,11 @@
 -- Mount rows by number and by reel.
-use Rattle.std.proofs.Common.{◌≡◌, ℕ, Bool, true, false, cond, Option, Some, None, List, [], ◌∷◌, refl, sym, ap, ◌∙◌, subst, arith}
-use Rattle.std.specs.Prelude.{◌==◌, ◌&&◌, if◌then◌else◌}
-use Rattle.std.specs.BTreeMap.{is_at}
-use Rattle.std.specs.List.{All}
-use Rattle.std.specs.List.Sorted.{IsStrictlySortedBy}
-use Rattle.std.proofs.lemmas.List.Elements.{All-tail}
-use Rattle.std.specs.Map.{keys_of, lookup}
-use Rattle.desk_types.specs.Id.{Name, same, by_name}
-use Rattle.desk_types.proofs.Keys.{same-true}
-use Rattle.desk_types.specs.declared.row.MountRow.{MountRow}
-use Rattle.state_rows.specs.Kept.{by_since, row_at, since_is, AreTheSame, ListsMounts}
+use Rattle.desk_types.proofs.Common.{[], ◌&&◌, ◌==◌, ◌∙◌, ◌∷◌, ◌≡◌, All-tail, and-false, and-true, ap, arith, Bool}
+use Rattle.desk_types.proofs.Common.{by_name, cond, false, if◌then◌else◌, is_at, IsStrictlySortedBy, keys_of, List}
+use Rattle.desk_types.proofs.Common.{lookup, MountRow, Name, None, Option, refl, same, same-true, Some, subst, sym}
+use Rattle.desk_types.proofs.Common.{true, ℕ}
 use Rattle.state_rows.proofs.RowLists.{is_at-by_since}
-
-and-true : (b : Bool) → (b && true) ≡ b
-and-true true = refl
-and-true false = refl
-
-and-false : (b : Bool) → (b && false) ≡ false
-and-false true = refl
-and-false false = refl
+use Rattle.state_rows.specs.Kept.{AreTheSame, by_since, ListsMounts, row_at, since_is}
+use Rattle.std.specs.List.{All}
 
 pub both-written : (numbered numbered' : List ((ℕ × Name) × MountRow)) (named named' : List (Name × MountRow)) (since : ℕ) (reel : Name) (w : Option MountRow)
     → ((k : ℕ × Name) → row_at by_since numbered' k ≡ cond (is_at (by_since (since, reel)) k) w (row_at by_since numbered k))

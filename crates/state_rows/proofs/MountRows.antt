@@ -1,38 +1,15 @@
 -- The row of a mounted reel after one entry more.
-use Rattle.std.proofs.Common.{◌≡◌, ℕ, ◌-◌, nat_lt, Bool, true, false, not, Option, Some, None, ◌∷◌, refl, sym, ap, ◌∙◌, unwrap_or, arith}
-use Rattle.std.specs.Prelude.{if◌then◌else◌, ◌&&◌, ◌==◌, is_some}
-use Rattle.std.specs.Option.{option_or}
-use Rattle.desk_types.specs.declared.command.Command.{Command}
-use Rattle.desk_types.specs.declared.command.Command.TheVariants.{ReelReceived, MaterialsLoaded, MaterialsSpliced, MaterialsUnloaded, MaterialsInstalled, MaterialsScrapped, CountsTaken}
-use Rattle.desk_types.specs.declared.command.Entry.{Entry}
-use Rattle.desk_types.specs.declared.command.Receipt.{Receipt}
-use Rattle.desk_types.specs.declared.rules.Rules.TheVariants.{Two}
-use Rattle.desk_types.specs.Id.{Name, same}
-use Rattle.desk_types.specs.History.{History}
-use Rattle.desk_types.specs.Setup.{receipt_of}
-use Rattle.desk_types.specs.Pieces.{pieces_picked, pieces_by, picks_of, left_of, live_on, is_mounted}
-use Rattle.desk_types.specs.Refusals.{command_refusal}
-use Rattle.desk_types.specs.Judged.{IsJudged}
-use Rattle.desk_types.proofs.Keys.{same-true}
+use Rattle.desk_types.proofs.Common.{◌&&◌, ◌-◌, ◌==◌, ◌∙◌, ◌∷◌, ◌≡◌, ap, Bool, Command, command_refusal, CountsTaken}
+use Rattle.desk_types.proofs.Common.{Entry, false, History, if◌then◌else◌, is_mounted, is_some, IsJudged, last_put}
+use Rattle.desk_types.proofs.Common.{left_of, live_on, MaterialsInstalled, MaterialsLoaded, MaterialsScrapped}
+use Rattle.desk_types.proofs.Common.{MaterialsSpliced, MaterialsUnloaded, mount_row, MountRow, Name, nat_lt, None}
+use Rattle.desk_types.proofs.Common.{not, Option, option_or, put_by, Receipt, receipt_of, ReelReceived, refl, same}
+use Rattle.desk_types.proofs.Common.{same-true, Some, sym, true, Two, ℕ}
+use Rattle.desk_laws.proofs.{Accepted.mountable, Accepted.next-accepted, Accepted.received-by, Judgements.untouched}
+use Rattle.desk_laws.proofs.{Mounted.left_after, Mounted.less-none, Mounted.mounted-is, Mounted.mounted-next}
+use Rattle.desk_laws.proofs.{Mounted.some_left, Mounts.has, Places.untouched-unplaced, Tapes.not-zero}
 use Rattle.desk_laws.specs.Place.{mounted_after}
-use Rattle.desk_laws.proofs.Accepted.{next-accepted, mountable, received-by}
-use Rattle.desk_laws.proofs.Judgements.{untouched}
-use Rattle.desk_laws.proofs.Mounts.{has}
-use Rattle.desk_laws.proofs.Mounted.{mounted-is, mounted-next}
-use Rattle.desk_laws.proofs.Places.{untouched-unplaced}
-use Rattle.desk_laws.proofs.Tapes.{not-zero}
-use Rattle.desk_types.specs.declared.row.MountRow.{MountRow}
-use Rattle.desk_types.specs.Tables.{put_by, last_put, mount_row}
 use Rattle.state_rows.specs.After.{mount_after}
-
-abbrev pub some_left : History → Name → Bool
-some_left H reel = nat_lt 0 (left_of H reel)
-
-abbrev pub left_after : History → Command → Name → ℕ
-left_after H command reel = unwrap_or (pieces_by reel command) (left_of H reel - pieces_picked (picks_of H command) reel)
-
-less-none : (n : ℕ) → n - 0 ≡ n
-less-none n = omega arith
 
 pub unreceived-unmounted : (H : History) (reel : Name) → IsJudged Two H → receipt_of H reel ≡ None → is_mounted H reel ≡ false
 unreceived-unmounted H reel judged none =

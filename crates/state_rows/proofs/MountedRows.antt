@@ -1,23 +1,12 @@
 -- The meaning of the rows of mounted reels: a reel has a row exactly if it is live on the row's slot.
-use Rattle.std.proofs.Common.{◌≡◌, ℕ, Bool, true, false, Option, Some, None, [], ◌∷◌, refl, sym, ap, ◌∙◌}
-use Rattle.std.specs.Prelude.{if◌then◌else◌, ◌&&◌, is_some}
-use Rattle.std.specs.Option.{option_or, option_map_or}
-use Rattle.std.proofs.lemmas.Bool.{and_parts, and_from}
-use Rattle.desk_types.specs.declared.command.Command.{Command}
-use Rattle.desk_types.specs.declared.command.Command.TheVariants.{MaterialsLoaded, MaterialsSpliced, MaterialsUnloaded}
-use Rattle.desk_types.specs.declared.rules.Rules.TheVariants.{Two}
-use Rattle.desk_types.specs.Id.{Name, same}
-use Rattle.desk_types.specs.History.{History}
-use Rattle.desk_types.specs.Pieces.{live_on, is_mounted}
-use Rattle.desk_types.specs.Judged.{IsJudged}
-use Rattle.desk_types.proofs.Keys.{same-refl, same-true}
+use Rattle.desk_types.proofs.Common.{[], ◌&&◌, ◌∙◌, ◌∷◌, ◌≡◌, and_from, and_parts, ap, Bool, Command, false, History}
+use Rattle.desk_types.proofs.Common.{if◌then◌else◌, is_mounted, is_some, IsJudged, last_put, live_on, MaterialsLoaded}
+use Rattle.desk_types.proofs.Common.{MaterialsSpliced, MaterialsUnloaded, mount_row, MountRow, Name, None, Option}
+use Rattle.desk_types.proofs.Common.{option_map_or, option_or, put_by, refl, same, same-refl, same-true, Some, sym}
+use Rattle.desk_types.proofs.Common.{true, Two, ℕ}
+use Rattle.desk_laws.proofs.{Mounted.mounted-is, Mounted.some_left, Mounts.has, Mounts.has-live_on}
+use Rattle.desk_laws.proofs.{Mounts.live-mounted, Places.live-placed, Places.placed}
 use Rattle.desk_laws.specs.Place.{is_at, place_after, place_of}
-use Rattle.desk_laws.proofs.Mounted.{mounted-is}
-use Rattle.desk_laws.proofs.Mounts.{has, has-live_on, live-mounted}
-use Rattle.desk_laws.proofs.Places.{placed, live-placed}
-use Rattle.desk_types.specs.declared.row.MountRow.{MountRow}
-use Rattle.desk_types.specs.Tables.{put_by, last_put, mount_row}
-use Rattle.state_rows.proofs.MountRows.{some_left}
 
 -- ---- mounts
 

@@ -1,44 +1,27 @@
 -- The tables take the edits of an accepted command one after the other, with their keys and their checks.
-use Rattle.std.proofs.Common.{◌≡◌, ℕ, ◌+◌, ◌≤◌, Bool, true, false, Option, Some, None, List, [], ◌∷◌, ◌++◌, map, refl, sym, ap, ◌∙◌, subst, unwrap_or, arith, append_assoc}
-use Rattle.std.specs.Prelude.{if◌then◌else◌, ◌==◌, ◌&&◌, is_some, nat_lt, ◌-◌, ◌<◌, ◌||◌, ⊤}
-use Rattle.std.specs.Option.{option_map, option_map_or, option_or, option_to_list, option_and_then}
-use Rattle.std.specs.List.{AllByRecursion, flat_map, list_any}
-use Rattle.std.proofs.lemmas.Bool.{ne_eqb, ltb-true}
-use Rattle.std.proofs.lemmas.List.{append-nil}
-use Rattle.desk_types.specs.declared.command.Command.{Command}
-use Rattle.desk_types.specs.declared.command.Command.TheVariants.{PartDefined, AlternateAllowed, SheetDefined, ProductSelected, ReelReceived, ReelOpened, ReelSealed, ReelBaked, MaterialsLoaded, MaterialsSpliced, MaterialsUnloaded, WorkStarted, WorkCompleted, MaterialsInstalled, MaterialsScrapped, CountsTaken, ClockSet}
-use Rattle.desk_types.specs.declared.command.Entry.{Entry}
-use Rattle.desk_types.specs.declared.command.Receipt.{Receipt}
-use Rattle.desk_types.specs.declared.count.CountRow.{CountRow}
-use Rattle.desk_types.specs.declared.rules.Rules.TheVariants.{Two}
-use Rattle.desk_types.specs.declared.sheet.SheetRow.{SheetRow}
-use Rattle.desk_types.specs.declared.take.Purpose.{Purpose}
-use Rattle.desk_types.specs.declared.take.Purpose.TheVariants.{Placed, Rejected, Counted}
-use Rattle.desk_types.specs.declared.take.Take.{Take}
-use Rattle.desk_types.specs.declared.view.ReelView.{ReelView}
-use Rattle.desk_types.specs.Id.{Name, same}
-use Rattle.desk_types.specs.History.{History}
-use Rattle.desk_types.specs.Setup.{sheet_of, selected_on, receipt_by, receipt_of}
-use Rattle.desk_types.specs.Pieces.{is_mounted, picks_of}
-use Rattle.desk_types.specs.Outcome.{takes_by}
-use Rattle.desk_types.specs.View.{view_of, reel_view}
-use Rattle.desk_types.specs.Refusals.{command_refusal}
-use Rattle.desk_types.specs.Judged.{IsJudged}
-use Rattle.desk_types.proofs.Keys.{same-refl}
-use Rattle.desk_laws.proofs.Accepted.{next-accepted, mountable}
-use Rattle.desk_laws.proofs.Balance.{balance}
-use Rattle.desk_types.specs.declared.row.ReelRow.{ReelRow}
-use Rattle.desk_types.specs.declared.row.PlacementRow.{PlacementRow}
-use Rattle.desk_types.specs.declared.edit.RowEdit.{RowEdit}
-use Rattle.desk_types.specs.declared.edit.RowEdit.TheVariants.{TakeSheetRow, TakeMount, PutSheetRow, PutReel, PutMount, PutPlacement, PutFound}
-use Rattle.desk_types.specs.Tables.{at_place, columns_of, Tables, tables_of, last_put, reel_row}
-use Rattle.desk_types.specs.Edits.{with_edit, with_edits, IsNew, AreNew, takes_out, AreTakesFirst, IsBalanced, AreBalanced}
-use Rattle.desk_types.specs.Row.{fresh_row, opened_row, sealed_row, baked_row}
-use Rattle.state_rows.specs.After.{step_row, placed_row}
-use Rattle.state_rows.specs.EditsOf.{taken_rows, put_rows, reel_edit, board_edit, reels_on, pick_of, picked_rows, take_spent, counted_row, counted_edits, count_edits, place_rows, AreTakeEdits, AreEditsOf}
-use Rattle.state_rows.proofs.EditLists.{rows-taken}
-use Rattle.state_rows.proofs.ReelRows.{reel_row-next}
-use Rattle.state_rows.proofs.TablesLess.{OnlyTakes, picks-again, reels-took}
+use Rattle.desk_types.proofs.Common.{[], ⊤, ◌&&◌, ◌++◌, ◌+◌, ◌-◌, ◌<◌, ◌==◌, ◌||◌, ◌∙◌, ◌∷◌, ◌≡◌, ◌≤◌, AllByRecursion}
+use Rattle.desk_types.proofs.Common.{AlternateAllowed, ap, append-nil, append_assoc, AreBalanced, AreTakesFirst}
+use Rattle.desk_types.proofs.Common.{arith, at_place, baked_row, Bool, ClockSet, columns_of, Command, command_refusal}
+use Rattle.desk_types.proofs.Common.{Counted, CountRow, CountsTaken, Entry, false, flat_map, fresh_row, History}
+use Rattle.desk_types.proofs.Common.{if◌then◌else◌, is_mounted, is_some, IsJudged, last_put, List, list_any, ltb-true}
+use Rattle.desk_types.proofs.Common.{map, MaterialsInstalled, MaterialsLoaded, MaterialsScrapped, MaterialsSpliced}
+use Rattle.desk_types.proofs.Common.{MaterialsUnloaded, Name, nat_lt, ne_eqb, None, opened_row, Option}
+use Rattle.desk_types.proofs.Common.{option_and_then, option_map, option_map_or, option_or, option_to_list}
+use Rattle.desk_types.proofs.Common.{PartDefined, picks_of, Placed, PlacementRow, ProductSelected, Purpose, PutFound}
+use Rattle.desk_types.proofs.Common.{PutMount, PutPlacement, PutReel, PutSheetRow, Receipt, receipt_by, receipt_of}
+use Rattle.desk_types.proofs.Common.{reel_row, reel_view, ReelBaked, ReelOpened, ReelReceived, ReelRow, ReelSealed}
+use Rattle.desk_types.proofs.Common.{ReelView, refl, Rejected, RowEdit, same, same-refl, sealed_row, selected_on}
+use Rattle.desk_types.proofs.Common.{sheet_of, SheetDefined, SheetRow, Some, subst, sym, Tables, tables_of, Take}
+use Rattle.desk_types.proofs.Common.{TakeMount, takes_by, TakeSheetRow, true, Two, unwrap_or, view_of, with_edit}
+use Rattle.desk_types.proofs.Common.{with_edits, WorkCompleted, WorkStarted, ℕ}
+use Rattle.desk_laws.proofs.{Accepted.mountable, Accepted.next-accepted, Balance.balance}
+use Rattle.desk_types.specs.Edits.{AreNew, IsBalanced, IsNew, takes_out}
+use Rattle.state_rows.proofs.{EditLists.rows-taken, ReelRows.reel_row-next, TablesLess.OnlyTakes}
+use Rattle.state_rows.proofs.{TablesLess.picks-again, TablesLess.reels-took}
+use Rattle.state_rows.specs.{After.placed_row, After.step_row, EditsOf.AreEditsOf, EditsOf.AreTakeEdits}
+use Rattle.state_rows.specs.{EditsOf.board_edit, EditsOf.count_edits, EditsOf.counted_edits, EditsOf.counted_row}
+use Rattle.state_rows.specs.{EditsOf.pick_of, EditsOf.picked_rows, EditsOf.place_rows, EditsOf.put_rows}
+use Rattle.state_rows.specs.{EditsOf.reel_edit, EditsOf.reels_on, EditsOf.take_spent, EditsOf.taken_rows}
 
 -- ---- lists of edits
 

@@ -1,30 +1,15 @@
 -- The rows of `placement` are the placements, in the order of their numbers and places.
-use Rattle.std.proofs.Common.{◌≡◌, ℕ, ◌+◌, ◌<◌, ◌≤◌, nat_lt, Bool, true, false, cond, Some, List, [], ◌∷◌, ◌++◌, length, map, filter_map, find, refl, sym, ap, ◌∙◌, subst, arith}
-use Rattle.std.specs.Prelude.{◌==◌, ◌&&◌}
-use Rattle.std.specs.Option.{option_map}
-use Rattle.std.specs.List.{AllByRecursion, enumerate_from}
-use Rattle.std.specs.List.Sorted.{IsStrictlySortedBy}
-use Rattle.std.specs.Map.{keys_of, lookup}
-use Rattle.std.specs.BTreeMap.{is_at}
-use Rattle.std.specs.Ordering.{nat_cmp, ordering_then, is_eq}
-use Rattle.std.specs.declared.cmp.Ordering.TheVariants.{Less, Equal, Greater}
-use Rattle.std.proofs.lemmas.Bool.{eqb-true, eq-eqb, ne_eqb, lt-ltb, ltb-true}
-use Rattle.std.proofs.lemmas.List.Elements.{filter_map-append}
-use Rattle.desk_types.specs.declared.command.Entry.{Entry}
-use Rattle.desk_types.specs.declared.placement.Placement.{Placement}
-use Rattle.desk_types.specs.declared.rules.Rules.TheVariants.{Two}
-use Rattle.desk_types.specs.declared.take.Purpose.{Purpose}
-use Rattle.desk_types.specs.declared.take.Purpose.TheVariants.{Placed, Rejected, Counted}
-use Rattle.desk_types.specs.declared.take.Take.{Take}
-use Rattle.desk_types.specs.History.{History}
-use Rattle.desk_types.specs.Outcome.{takes_by}
-use Rattle.desk_types.specs.Judged.{IsJudged}
-use Rattle.desk_types.specs.Placements.{EntryTake, entry_takes, takes_of, placement_of, placements_of}
-use Rattle.desk_types.proofs.Keys.{is_eq-ordering_then}
-use Rattle.desk_laws.proofs.Distinct.{all-append}
-use Rattle.desk_types.specs.declared.row.PlacementRow.{PlacementRow}
-use Rattle.desk_types.specs.Tables.{placement_columns, placement_row}
-use Rattle.state_rows.specs.Kept.{by_piece, row_at, Lists}
+use Rattle.desk_types.proofs.Common.{[], ◌&&◌, ◌++◌, ◌+◌, ◌<◌, ◌==◌, ◌∙◌, ◌∷◌, ◌≡◌, ◌≤◌, AllByRecursion, ap, arith}
+use Rattle.desk_types.proofs.Common.{Bool, cond, Counted, Entry, entry_takes, EntryTake, enumerate_from, eq-eqb}
+use Rattle.desk_types.proofs.Common.{eqb-true, Equal, false, filter_map, filter_map-append, find, Greater, History}
+use Rattle.desk_types.proofs.Common.{is_at, is_eq, IsJudged, IsStrictlySortedBy, keys_of, length, Less, List, lookup}
+use Rattle.desk_types.proofs.Common.{lt-ltb, ltb-true, map, nat_cmp, nat_lt, ne_eqb, option_map, ordering_then}
+use Rattle.desk_types.proofs.Common.{Placed, Placement, placement_of, placement_row, PlacementRow, placements_of}
+use Rattle.desk_types.proofs.Common.{Purpose, refl, Rejected, Some, subst, sym, Take, takes_by, takes_of, true, Two}
+use Rattle.desk_types.proofs.Common.{ℕ}
+use Rattle.desk_laws.{proofs.Distinct.all-append, proofs.NameSets.all-weaker}
+use Rattle.desk_types.{proofs.Keys.is_eq-ordering_then, specs.Tables.placement_columns}
+use Rattle.state_rows.specs.Kept.{by_piece, Lists, row_at}
 
 abbrev pub entry_of : Placement → (ℕ × ℕ) × PlacementRow
 entry_of p = ((p.number, p.place), placement_columns p)
@@ -80,10 +65,6 @@ sorted-append : (xs ys : List (ℕ × ℕ)) → IsStrictlySortedBy by_piece xs �
 unfolding IsStrictlySortedBy
 sorted-append [] ys first rest below = rest
 sorted-append (x ∷ xs) ys (above, first) rest (here, below) = (all-append (λ y. by_piece x y ≡ Less) xs ys above here, sorted-append xs ys first rest below)
-
-all-weaker : {X : Type 0} (P Q : X → Type 0) → ((x : X) → P x → Q x) → (xs : List X) → AllByRecursion P xs → AllByRecursion Q xs
-all-weaker P Q weaker [] all = tt
-all-weaker P Q weaker (x ∷ xs) (first, all) = (weaker x first, all-weaker P Q weaker xs all)
 
 -- The keys of an entry's placements, the first of whose takes is in this place.
 module _ (number effective : ℕ) where

@@ -1,24 +1,13 @@
 -- The rows of placed pieces after one entry more.
-use Rattle.std.proofs.Common.{◌≡◌, ℕ, ◌+◌, ◌<◌, Bool, true, false, cond, Option, Some, None, List, [], ◌∷◌, length, map, filter_map, find, refl, ap, ◌∙◌, arith}
-use Rattle.std.specs.Prelude.{if◌then◌else◌, ◌==◌, ◌&&◌}
-use Rattle.std.specs.Option.{option_or, option_map, option_and_then}
-use Rattle.std.specs.List.{enumerate_from}
-use Rattle.std.proofs.lemmas.Bool.{eqb-true, ne_eqb}
-use Rattle.std.proofs.lemmas.List.Elements.{filter_map-append}
-use Rattle.std.proofs.lemmas.List.Folds.{find-append}
-use Rattle.desk_types.specs.declared.command.Entry.{Entry}
-use Rattle.desk_types.specs.declared.placement.Placement.{Placement}
-use Rattle.desk_types.specs.declared.rules.Rules.TheVariants.{Two}
-use Rattle.desk_types.specs.declared.take.Purpose.{Purpose}
-use Rattle.desk_types.specs.declared.take.Purpose.TheVariants.{Placed, Rejected, Counted}
-use Rattle.desk_types.specs.declared.take.Take.{Take}
-use Rattle.desk_types.specs.History.{History}
-use Rattle.desk_types.specs.Outcome.{takes_by}
-use Rattle.desk_types.specs.Judged.{IsJudged}
-use Rattle.desk_types.specs.Placements.{EntryTake, entry_takes, takes_of, placement_of, placements_of}
-use Rattle.desk_types.specs.declared.row.PlacementRow.{PlacementRow}
-use Rattle.desk_types.specs.Tables.{at_place, placement_columns, placement_row}
+use Rattle.desk_types.proofs.Common.{[], ◌&&◌, ◌+◌, ◌<◌, ◌==◌, ◌∙◌, ◌∷◌, ◌≡◌, ap, arith, at_place, Bool, cond}
+use Rattle.desk_types.proofs.Common.{Counted, Entry, entry_takes, EntryTake, enumerate_from, eqb-true, false}
+use Rattle.desk_types.proofs.Common.{filter_map, filter_map-append, find, History, if◌then◌else◌, IsJudged, length}
+use Rattle.desk_types.proofs.Common.{List, map, ne_eqb, None, Option, option_and_then, option_map, option_or, Placed}
+use Rattle.desk_types.proofs.Common.{Placement, placement_of, placement_row, PlacementRow, placements_of, Purpose}
+use Rattle.desk_types.proofs.Common.{refl, Rejected, Some, Take, takes_by, takes_of, true, Two, ℕ}
+use Rattle.desk_types.specs.Tables.{placement_columns}
 use Rattle.state_rows.specs.After.{placed_row, placement_after}
+use Rattle.std.proofs.lemmas.List.Folds.{find-append}
 
 pub at_place-before : {X : Type 0} (xs : List X) (i place : ℕ) → place < i → at_place i xs place ≡ None
 at_place-before [] i place lt = refl

@@ -1,19 +1,11 @@
 -- Edits that are pushed one after the other.
-use Rattle.std.proofs.Common.{◌≡◌, ℕ, ◌+◌, ◌<◌, Option, Some, None, List, [], ◌∷◌, ◌++◌, length, take, get_or, map, filter_map, refl, sym, ap, ◌∙◌, arith, append_assoc}
-use Rattle.std.specs.Option.{option_to_list}
-use Rattle.std.specs.List.{cons_option, flat_map}
-use Rattle.std.proofs.lemmas.List.{map-append, length-take-le, append-nil}
-use Rattle.std.proofs.lemmas.List.Elements.{filter_map-append}
-use Rattle.std.proofs.lemmas.List.Concat.{flat_map-append}
-use Rattle.desk_types.specs.declared.sheet.SheetRow.{SheetRow}
+use Rattle.desk_types.proofs.Common.{[], ◌++◌, ◌+◌, ◌<◌, ◌∙◌, ◌∷◌, ◌≡◌, ap, append-nil, append_assoc, arith}
+use Rattle.desk_types.proofs.Common.{cons_option, CountRow, filter_map, filter_map-append, flat_map, flat_map-append}
+use Rattle.desk_types.proofs.Common.{get_or, History, length, length-take-le, List, map, map-append, Name, None}
+use Rattle.desk_types.proofs.Common.{Option, option_to_list, PutSheetRow, refl, RowEdit, SheetRow, Some, sym, take}
+use Rattle.desk_types.proofs.Common.{take-next, TakeMount, TakeSheetRow, ℕ}
 use Rattle.desk_types.specs.declared.view.Mount.{Mount}
-use Rattle.desk_types.specs.declared.count.CountRow.{CountRow}
-use Rattle.desk_types.specs.Id.{Name}
-use Rattle.desk_types.specs.History.{History}
-use Rattle.desk_types.proofs.LoopSteps.{take-next}
-use Rattle.desk_types.specs.declared.edit.RowEdit.{RowEdit}
-use Rattle.desk_types.specs.declared.edit.RowEdit.TheVariants.{TakeSheetRow, TakeMount, PutSheetRow}
-use Rattle.state_rows.specs.EditsOf.{taken_rows, put_rows, reel_on_slot, count_edits}
+use Rattle.state_rows.specs.EditsOf.{count_edits, put_rows, reel_on_slot, taken_rows}
 
 taken-append : (product machine : Name) (n : ℕ) (xs : List SheetRow) (x : SheetRow) → taken_rows product machine n (xs ++ x ∷ []) ≡ taken_rows product machine n xs ++ TakeSheetRow product machine (n + length xs) ∷ []
 taken-append product machine n [] x = ap (λ k. TakeSheetRow product machine k ∷ []) (let is : n ≡ n + 0 = omega arith in is)

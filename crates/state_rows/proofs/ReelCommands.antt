@@ -1,15 +1,8 @@
 -- Commands that receive, bake or only handle a reel.
-use Rattle.std.proofs.Common.{◌≡◌, ℕ, Bool, true, false, Option, Some, None, [], ◌∷◌, refl, sym, ap, ◌∙◌, unwrap_or}
-use Rattle.std.specs.Prelude.{if◌then◌else◌}
-use Rattle.std.specs.Option.{option_or, option_map_or}
-use Rattle.desk_types.specs.declared.command.Command.{Command}
-use Rattle.desk_types.specs.declared.command.Command.TheVariants.{ReelReceived, ReelBaked}
-use Rattle.desk_types.specs.declared.command.Receipt.{Receipt}
-use Rattle.desk_types.specs.Id.{Name, same}
-use Rattle.desk_types.specs.History.{History}
-use Rattle.desk_types.specs.Setup.{receipt_by}
-use Rattle.desk_types.specs.Pieces.{found_by}
-use Rattle.desk_types.specs.FloorLife.{open_by, IsUntouched, bake_by, baked_by, last_bake}
+use Rattle.desk_types.proofs.Common.{[], ◌∙◌, ◌∷◌, ◌≡◌, ap, bake_by, baked_by, Bool, Command, false, found_by}
+use Rattle.desk_types.proofs.Common.{History, if◌then◌else◌, IsUntouched, last_bake, Name, None, open_by, Option}
+use Rattle.desk_types.proofs.Common.{option_map_or, option_or, Receipt, receipt_by, ReelBaked, ReelReceived, refl}
+use Rattle.desk_types.proofs.Common.{same, Some, sym, true, unwrap_or, ℕ}
 use Rattle.desk_types.proofs.ReelCommands.{IsQuiet, IsQuiet-untouched}
 use Rattle.state_rows.specs.After.{bakes}
 
@@ -76,8 +69,3 @@ IsQuiet-said reel minute (ReelBaked r) none is = by (same r reel) refl is
     by true here is = cc
     by false here is = record { receipt = refl; bake = ap (λ c. if c then Some minute else None) here; baked = ap (λ c. if c then Some true else None) here }
 IsQuiet-said reel minute _ none is = record { receipt = refl; bake = refl; baked = refl }
-
-pub unbaked : (H : History) (reel : Name) → IsUntouched H reel → last_bake H reel ≡ None
-unbaked [] reel all = refl
-unbaked (e ∷ H) reel (none, all) =
-    ap (λ o. option_or o (last_bake H reel)) (IsQuiet-untouched reel e.effective e.stamped.command none).bake ∙ unbaked H reel all

@@ -1,30 +1,20 @@
 -- The row of a reel after one entry more.
-use Rattle.std.proofs.Common.{◌≡◌, ℕ, ◌+◌, ◌-◌, ◌≤◌, Bool, true, false, Option, Some, None, [], ◌∷◌, refl, sym, ap, ◌∙◌, unwrap_or, arith}
-use Rattle.std.specs.Prelude.{◌==◌, if◌then◌else◌}
-use Rattle.std.specs.Option.{option_or, option_map, option_map_or}
-use Rattle.std.proofs.lemmas.Bool.{eqb-true}
-use Rattle.desk_types.specs.declared.command.Entry.{Entry}
-use Rattle.desk_types.specs.declared.command.Receipt.{Receipt}
-use Rattle.desk_types.specs.declared.rules.Rules.TheVariants.{Two}
-use Rattle.desk_types.specs.Id.{Name}
-use Rattle.desk_types.specs.History.{History, now_of, latest}
-use Rattle.desk_types.specs.Setup.{receipt_by, receipt_of}
-use Rattle.desk_types.specs.Pieces.{pieces_picked, picks_of, pieces_by, left_of, found_by, found_of, received_of, placed_of, scrapped_of}
-use Rattle.desk_types.specs.FloorLife.{open_by, baked_by, last_bake, exposure_starts, exposure_of, since_after, out_since, is_baked}
-use Rattle.desk_types.specs.View.{used_of, view_of}
-use Rattle.desk_types.specs.Judged.{IsJudged}
-use Rattle.desk_types.proofs.Exposure.{exposure-before, exposure-anew, exposure-untouched}
-use Rattle.desk_types.proofs.ReelCommands.{IsQuiet, exposure_starts-quiet}
+use Rattle.desk_types.proofs.Common.{[], ◌+◌, ◌-◌, ◌==◌, ◌∙◌, ◌∷◌, ◌≡◌, ◌≤◌, ap, arith, baked_by, Bool, columns_of}
+use Rattle.desk_types.proofs.Common.{Entry, eqb-true, exposure_of, exposure_starts, false, found_by, found_of}
+use Rattle.desk_types.proofs.Common.{found_row, fresh_row, History, if◌then◌else◌, is_baked, IsJudged, last_bake}
+use Rattle.desk_types.proofs.Common.{latest, left_of, Name, None, now_of, open_by, Option, option_map, option_map_or}
+use Rattle.desk_types.proofs.Common.{option_or, out_since, picks_of, pieces_by, pieces_picked, placed_of, Receipt}
+use Rattle.desk_types.proofs.Common.{receipt_by, receipt_of, received_of, reel_row, ReelRow, refl, scrapped_of}
+use Rattle.desk_types.proofs.Common.{since_after, Some, sym, true, Two, unwrap_or, used_of, view_of, ℕ}
 use Rattle.desk_laws.proofs.Accepted.{received-once}
-use Rattle.desk_laws.proofs.Balance.{left-next, left-received, unreceived-empty, balance}
-use Rattle.desk_laws.proofs.Judgements.{or-none, by-desk_minute, untouched}
+use Rattle.desk_laws.proofs.Balance.{balance, left-next, left-received, unreceived-empty}
+use Rattle.desk_laws.proofs.Judgements.{by-desk_minute, or-none, untouched}
 use Rattle.desk_laws.proofs.Totals.{placed-next, scrapped-next}
-use Rattle.desk_types.specs.declared.row.ReelRow.{ReelRow}
-use Rattle.desk_types.specs.Tables.{columns_of, reel_row, found_row}
-use Rattle.desk_types.specs.Row.{fresh_row}
-use Rattle.state_rows.specs.After.{used_after, bakes, step_row, reel_after, found_after}
-use Rattle.state_rows.proofs.Exposed.{now-next, now-before, exposure-in_bag, exposure-out, since-by}
-use Rattle.state_rows.proofs.ReelCommands.{IsReceipt, IsReceipt-said, IsBake-said, IsQuiet-said, unbaked}
+use Rattle.desk_types.proofs.Exposure.{exposure-anew, exposure-before, exposure-untouched}
+use Rattle.desk_types.proofs.ReelCommands.{exposure_starts-quiet, IsQuiet, last_bake-untouched}
+use Rattle.state_rows.proofs.Exposed.{exposure-in_bag, exposure-out, now-before, now-next, since-by}
+use Rattle.state_rows.proofs.ReelCommands.{IsBake-said, IsQuiet-said, IsReceipt, IsReceipt-said}
+use Rattle.state_rows.specs.After.{bakes, found_after, reel_after, step_row, used_after}
 
 -- ---- pieces
 
@@ -157,7 +147,7 @@ row-fresh H e reel receipt (next, judged) is =
     starts : exposure_starts (e ∷ H) reel ≡ e.effective
     starts =
         ap (λ o. unwrap_or (option_or (option_or o (last_bake H reel)) (option_map (λ (r : Receipt). r.effective) (receipt_of (e ∷ H) reel))) 0) said.bake
-        ∙ ap (λ o. unwrap_or (option_or o (option_map (λ (r : Receipt). r.effective) (receipt_of (e ∷ H) reel))) 0) (unbaked H reel (untouched H reel judged none))
+        ∙ ap (λ o. unwrap_or (option_or o (option_map (λ (r : Receipt). r.effective) (receipt_of (e ∷ H) reel))) 0) (last_bake-untouched H reel (untouched H reel judged none))
         ∙ ap (λ o. unwrap_or (option_map (λ (r : Receipt). r.effective) (option_or o (receipt_of H reel))) 0) is
         ∙ said.at
 

@@ -1,31 +1,17 @@
 -- Rows that are written into lists by keys, and the tables that the lists are.
-use Rattle.std.proofs.Common.{◌≡◌, ℕ, Bool, true, false, cond, Option, Some, None, List, [], refl, sym, ap, ◌∙◌, subst, arith, ◌<◌, ◌+◌, length, take, get_or}
-use Rattle.std.specs.Prelude.{◌==◌, ◌&&◌, ◌||◌, nat_lt}
-use Rattle.std.specs.BTreeMap.{is_at}
-use Rattle.std.specs.List.Sorted.{IsStrictlySortedBy}
-use Rattle.std.specs.Map.{keys_of}
-use Rattle.std.specs.Ordering.{is_eq, nat_cmp}
-use Rattle.std.specs.declared.cmp.Ordering.{Ordering}
-use Rattle.std.specs.declared.cmp.Ordering.TheVariants.{Less, Equal, Greater}
-use Rattle.std.proofs.lemmas.Bool.{eqb-true, ltb-true}
-use Rattle.desk_types.specs.Id.{Name, same, by_name}
-use Rattle.desk_types.proofs.Keys.{is_at-by_name, is_at-by_pair, is_eq-ordering_then, list_any-same}
-use Rattle.setup_sheets.specs.Names.{is_among}
-use Rattle.setup_sheets.specs.Alternates.{is_pair_among}
-use Rattle.desk_types.specs.Pair.{same_pair, by_pair}
-use Rattle.desk_types.specs.declared.sheet.SheetRow.{SheetRow}
-use Rattle.desk_types.specs.declared.row.ReelRow.{ReelRow}
-use Rattle.desk_types.specs.declared.row.MountRow.{MountRow}
-use Rattle.desk_types.specs.declared.row.BoardRow.{BoardRow}
-use Rattle.desk_types.specs.declared.row.PlacementRow.{PlacementRow}
-use Rattle.desk_types.specs.declared.edit.RowEdit.{RowEdit}
-use Rattle.desk_types.specs.declared.edit.RowEdit.TheVariants.{TakeSheetRow, TakeMount, PutPart, PutAlternate, PutSheetRow, PutSelected, PutReel, PutMount, PutBoard, PutPlacement, PutFound}
-use Rattle.desk_types.specs.Placements.{takes_of}
-use Rattle.desk_types.specs.Pieces.{found_of}
-use Rattle.desk_types.specs.Tables.{Tables, placement_row, found_row}
-use Rattle.desk_types.specs.Edits.{with_edit, with_edits}
-use Rattle.state_rows.specs.Kept.{KeptRows, tables_in, but_placements, by_sheet_place, by_piece, by_since, has_key, row_at, Lists, ListsKeys}
+use Rattle.desk_types.proofs.Common.{[], ◌&&◌, ◌+◌, ◌<◌, ◌==◌, ◌||◌, ◌∙◌, ◌≡◌, ap, arith, BoardRow, Bool, by_name}
+use Rattle.desk_types.proofs.Common.{by_pair, cond, eqb-true, Equal, false, found_of, found_row, get_or, Greater}
+use Rattle.desk_types.proofs.Common.{is_at, is_at-by_name, is_at-by_pair, is_eq, IsStrictlySortedBy, keys_of, length}
+use Rattle.desk_types.proofs.Common.{Less, List, list_any-same, ltb-true, MountRow, Name, nat_cmp, nat_lt, None}
+use Rattle.desk_types.proofs.Common.{Option, Ordering, placement_row, PlacementRow, PutAlternate, PutBoard, PutFound}
+use Rattle.desk_types.proofs.Common.{PutMount, PutPart, PutPlacement, PutReel, PutSelected, PutSheetRow, ReelRow}
+use Rattle.desk_types.proofs.Common.{refl, RowEdit, same, same_pair, SheetRow, Some, subst, sym, Tables, take}
+use Rattle.desk_types.proofs.Common.{TakeMount, takes_of, TakeSheetRow, true, with_edit, with_edits, ℕ}
+use Rattle.desk_types.proofs.Keys.{is_eq-ordering_then}
+use Rattle.setup_sheets.specs.{Alternates.is_pair_among, Names.is_among}
 use Rattle.state_rows.proofs.EditLists.{edits-next}
+use Rattle.state_rows.specs.Kept.{but_placements, by_piece, by_sheet_place, by_since, has_key, KeptRows, Lists}
+use Rattle.state_rows.specs.Kept.{ListsKeys, row_at, tables_in}
 
 -- ---- keys
 

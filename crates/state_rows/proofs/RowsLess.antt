@@ -1,48 +1,28 @@
 -- Rows of reels off which pieces come, take by take.
-use Rattle.std.proofs.Common.{◌≡◌, ℕ, ◌+◌, ◌<◌, ◌≤◌, Bool, true, false, cond, Option, Some, None, List, [], ◌∷◌, ◌++◌, length, take, drop, get_or, map, refl, sym, ap, ◌∙◌, subst, arith, append_assoc}
-use Rattle.std.specs.Prelude.{if◌then◌else◌, ◌&&◌, ◌==◌}
-use Rattle.std.specs.List.{flat_map, AllByRecursion}
-use Rattle.std.specs.List.Sorted.{IsStrictlySortedBy}
-use Rattle.std.specs.Map.{keys_of, values_of}
-use Rattle.std.specs.Ordering.{is_eq}
-use Rattle.std.specs.declared.cmp.Ordering.TheVariants.{Less}
-use Rattle.std.specs.Option.{option_or, option_map, option_to_list, option_map_or}
-use Rattle.std.proofs.lemmas.List.{map-append, length-take-le, append-nil, take-append-drop}
-use Rattle.desk_types.specs.declared.take.Pick.{Pick}
-use Rattle.desk_types.specs.declared.take.Take.{Take}
-use Rattle.desk_types.specs.Id.{Name, same, by_name}
-use Rattle.desk_types.specs.History.{History, effective_minute, entry_of, accept}
-use Rattle.desk_types.specs.declared.change.Change.{Change}
-use Rattle.desk_types.specs.declared.command.Stamped.{Stamped}
-use Rattle.desk_types.specs.Command.{IsStamped}
-use Rattle.desk_types.specs.Number.{IsMinute}
-use Rattle.desk_types.specs.Desk.{IsChange}
-use Rattle.desk_types.specs.Judged.{IsJudged}
-use Rattle.desk_types.specs.declared.limits.TheConstants.{MOST_ENTRIES}
-use Rattle.desk_types.specs.declared.rules.Rules.{Rules}
-use Rattle.desk_types.specs.declared.rules.Rules.TheVariants.{Two}
+use Rattle.desk_types.proofs.Common.{[], ◌&&◌, ◌++◌, ◌+◌, ◌<◌, ◌==◌, ◌∙◌, ◌∷◌, ◌≡◌, ◌≤◌, accept, AllByRecursion, ap}
+use Rattle.desk_types.proofs.Common.{append-nil, append_assoc, AreBalanced, AreTakesFirst, arith, Bool, by_name}
+use Rattle.desk_types.proofs.Common.{Change, cond, drop, drop-next, effective_minute, entry_of, false, flat_map}
+use Rattle.desk_types.proofs.Common.{get_or, History, if◌then◌else◌, is_at-by_name, is_eq, IsChange, IsJudged}
+use Rattle.desk_types.proofs.Common.{IsMinute, IsStamped, IsStrictlySortedBy, keys_of, length, length-take-le, Less}
+use Rattle.desk_types.proofs.Common.{List, map, map-append, MOST_ENTRIES, MountRow, Name, None, Option, option_map}
+use Rattle.desk_types.proofs.Common.{option_map_or, option_or, option_to_list, Pick, picks_of, placement_row}
+use Rattle.desk_types.proofs.Common.{PlacementRow, PutPlacement, PutReel, reel_row, ReelRow, refl, RowEdit, Rules}
+use Rattle.desk_types.proofs.Common.{same, same-refl, same-sym, same-true, Some, Stamped, subst, sym, Tables}
+use Rattle.desk_types.proofs.Common.{tables_of, Take, take, take-append-drop, take-next, TakeMount, takes_by, true}
+use Rattle.desk_types.proofs.Common.{Two, with_edits, ℕ}
 use Rattle.desk_types.proofs.BothRules.{judged-by-two}
-use Rattle.desk_types.specs.Outcome.{takes_by}
-use Rattle.desk_types.specs.Pieces.{picks_of}
-use Rattle.desk_types.proofs.Keys.{same-true, same-sym, same-refl, is_at-by_name}
-use Rattle.desk_types.proofs.LoopSteps.{take-next, drop-next}
-use Rattle.desk_types.specs.declared.row.ReelRow.{ReelRow}
-use Rattle.desk_types.specs.declared.row.PlacementRow.{PlacementRow}
-use Rattle.desk_types.specs.declared.row.MountRow.{MountRow}
-use Rattle.desk_types.specs.declared.edit.RowEdit.{RowEdit}
-use Rattle.desk_types.specs.declared.edit.RowEdit.TheVariants.{TakeMount, PutReel, PutPlacement}
-use Rattle.desk_types.specs.Tables.{Tables, tables_of, reel_row, placement_row}
-use Rattle.desk_types.specs.Edits.{with_edits, AreNew, AreTakesFirst, AreBalanced}
-use Rattle.state_rows.specs.Kept.{row_at, unnumbered}
-use Rattle.state_rows.specs.After.{placed_row}
-use Rattle.state_rows.specs.EditsOf.{pick_of, is_picked, is_spent, less_row, AreTakeEdits, AreEditsOf, less_by, LessFits, ArePiecesFitting, picked_rows, with_reels, without_spent, take_spent, after_rows, place_rows, AreNamed}
-use Rattle.state_rows.proofs.EditLists.{with_edits-append}
-use Rattle.state_rows.proofs.GatheredPieces.{rows-named, picked_rows-next, picked_rows-fits, places-put}
-use Rattle.state_rows.proofs.SumsInRange.{pieces-fit, entry-next}
-use Rattle.state_rows.proofs.EditsLead.{edits-lead, edits-lead-same}
-use Rattle.state_rows.proofs.NewRows.{edits-fit}
-use Rattle.state_rows.proofs.PlacementRows.{unplaced-later}
-use Rattle.state_rows.proofs.TablesLess.{picks-again}
+use Rattle.desk_types.specs.Edits.{AreNew}
+use Rattle.state_rows.proofs.{EditLists.with_edits-append, EditsLead.edits-lead, EditsLead.edits-lead-same}
+use Rattle.state_rows.proofs.{GatheredPieces.picked_rows-fits, GatheredPieces.picked_rows-next}
+use Rattle.state_rows.proofs.{GatheredPieces.places-put, GatheredPieces.rows-named, NewRows.edits-fit}
+use Rattle.state_rows.proofs.{PlacementRows.unplaced-later, SumsInRange.entry-next, SumsInRange.pieces-fit}
+use Rattle.state_rows.proofs.{TablesLess.picks-again}
+use Rattle.state_rows.specs.{After.placed_row, EditsOf.after_rows, EditsOf.AreEditsOf, EditsOf.AreNamed}
+use Rattle.state_rows.specs.{EditsOf.ArePiecesFitting, EditsOf.AreTakeEdits, EditsOf.is_picked, EditsOf.is_spent}
+use Rattle.state_rows.specs.{EditsOf.less_by, EditsOf.less_row, EditsOf.LessFits, EditsOf.pick_of}
+use Rattle.state_rows.specs.{EditsOf.picked_rows, EditsOf.place_rows, EditsOf.take_spent, EditsOf.with_reels}
+use Rattle.state_rows.specs.{EditsOf.without_spent, Kept.row_at, Kept.unnumbered}
+use Rattle.std.specs.Map.{values_of}
 
 pub noted : (old rows : Name → Option ReelRow) (k : Name) (p : Pick) (row less : ReelRow) → option_or (old k) (rows k) ≡ Some row → less ≡ less_by p row → (r : Name)
     → cond (same k r) (Some less) (old r) ≡ (if same k r then option_map (less_by p) (option_or (old r) (rows r)) else old r)

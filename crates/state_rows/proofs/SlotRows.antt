@@ -1,29 +1,17 @@
 -- The rows of `mount`, in the order of their numbers, give the live reels of each slot.
-use Rattle.std.proofs.Common.{◌≡◌, ℕ, ◌<◌, ◌≤◌, ◌+◌, nat_lt, All, Bool, true, false, cond, Option, Some, None, List, [], ◌∷◌, length, refl, sym, ap, ◌∙◌, unwrap_or, arith}
-use Rattle.std.specs.Prelude.{◌==◌, ◌&&◌, ◌||◌, if◌then◌else◌}
-use Rattle.std.specs.Option.{option_or, option_map_or}
-use Rattle.std.specs.List.{AllByRecursion, cons_option, filter_map}
-use Rattle.std.specs.List.Sorted.{IsStrictlySortedBy}
-use Rattle.std.specs.Map.{keys_of, lookup}
-use Rattle.std.specs.Ordering.{is_eq, ordering_then}
-use Rattle.std.specs.declared.cmp.Ordering.TheVariants.{Less, Equal, Greater}
-use Rattle.std.proofs.lemmas.Bool.{and_from, and_parts, eqb-true, ltb-true, or_left, or_right}
-use Rattle.std.proofs.lemmas.List.Elements.{All-head, All-tail}
-use Rattle.desk_types.specs.declared.command.Command.{Command}
-use Rattle.desk_types.specs.declared.command.Command.TheVariants.{MaterialsLoaded, MaterialsSpliced}
-use Rattle.desk_types.specs.declared.rules.Rules.TheVariants.{Two}
-use Rattle.desk_types.specs.Id.{Name, same, by_name}
-use Rattle.desk_types.specs.History.{History}
-use Rattle.desk_types.specs.Pieces.{live_on, is_mounted}
-use Rattle.desk_types.specs.Judged.{IsJudged}
-use Rattle.desk_types.proofs.Keys.{same-refl, same-true, is_at-by_name}
-use Rattle.desk_laws.proofs.Mounted.{iff}
+use Rattle.desk_types.proofs.Common.{[], ◌&&◌, ◌+◌, ◌<◌, ◌==◌, ◌||◌, ◌∙◌, ◌∷◌, ◌≡◌, ◌≤◌, All, All-head, All-tail}
+use Rattle.desk_types.proofs.Common.{AllByRecursion, and_from, and_parts, ap, arith, Bool, both_ways, by_name}
+use Rattle.desk_types.proofs.Common.{Command, cond, cons_option, eqb-true, Equal, false, Greater, History}
+use Rattle.desk_types.proofs.Common.{if◌then◌else◌, is_at-by_name, is_eq, is_mounted, IsJudged, IsStrictlySortedBy}
+use Rattle.desk_types.proofs.Common.{keys_of, last_put, length, Less, List, live_on, lookup, ltb-true}
+use Rattle.desk_types.proofs.Common.{MaterialsLoaded, MaterialsSpliced, mount_row, MountRow, Name, nat_lt, None}
+use Rattle.desk_types.proofs.Common.{Option, option_map_or, option_or, or_left, or_right, ordering_then, put_by, refl}
+use Rattle.desk_types.proofs.Common.{same, same-refl, same-true, Some, sym, true, Two, unwrap_or, ℕ}
 use Rattle.desk_laws.proofs.Mounts.{has}
-use Rattle.desk_types.specs.declared.row.MountRow.{MountRow}
-use Rattle.desk_types.specs.Tables.{put_by, last_put, mount_row}
-use Rattle.state_rows.specs.Kept.{by_since, since_is, ListsMounts}
-use Rattle.state_rows.proofs.MountedRows.{mount-live, live-mount}
-use Rattle.state_rows.proofs.Ascending.{since_of, Ascends, since-put, since-within, since-ascends, ascending-same}
+use Rattle.state_rows.proofs.Ascending.{ascending-same, Ascends, since-ascends, since-put, since-within, since_of}
+use Rattle.state_rows.proofs.MountedRows.{live-mount, mount-live}
+use Rattle.state_rows.specs.Kept.{by_since, ListsMounts, since_is}
+use Rattle.std.specs.List.{filter_map}
 
 -- ---- numbers
 
@@ -197,7 +185,7 @@ module _ (H : History) (machine slot : Name) (judged : IsJudged Two H) where
   -- The rows of a slot, in the order of their numbers, are its live reels.
   pub slot-reels : (entries : List ((ℕ × Name) × MountRow)) → ListsMounts entries (mount_row H) → slot_reels machine slot entries ≡ live_on H machine slot
   slot-reels entries lists =
-      ascending-same (since_of H) _ (live_on H machine slot) (rows-ascend entries lists.ascending lists.each) (since-ascends H machine slot judged) (λ r. iff _ _ (rows-live r entries lists.each) (back r))
+      ascending-same (since_of H) _ (live_on H machine slot) (rows-ascend entries lists.ascending lists.each) (since-ascends H machine slot judged) (λ r. both_ways _ _ (rows-live r entries lists.each) (back r))
     where
       back : (r : Name) → has (live_on H machine slot) r ≡ true → has (slot_reels machine slot entries) r ≡ true
       back r live =

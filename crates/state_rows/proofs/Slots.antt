@@ -1,36 +1,18 @@
 -- The live reels of a slot, from a machine's live reels.
-use Rattle.std.proofs.Common.{◌≡◌, ℕ, ◌+◌, Bool, true, false, Option, Some, None, List, [], ◌∷◌, filter_map, map, refl, sym, ap, ◌∙◌, nat_lt, unwrap_or}
-use Rattle.std.specs.Prelude.{if◌then◌else◌, ◌&&◌, ◌||◌, is_none}
-use Rattle.std.specs.Option.{option_or, option_and_then}
-use Rattle.std.specs.List.{cons_option, enumerate_from, flat_map}
-use Rattle.std.proofs.lemmas.Bool.{and_parts}
-use Rattle.std.proofs.lemmas.List.Elements.{filter_map-append}
-use Rattle.std.proofs.lemmas.List.Folds.{list_any-append}
-use Rattle.std.proofs.lemmas.Map.Views.{list_any-from_Contains}
-use Rattle.std.specs.Cmp.Lexicographic.{nat_list_eq_equiv}
-use Rattle.desk_types.specs.declared.command.Command.{Command}
-use Rattle.desk_types.specs.declared.command.Command.TheVariants.{SheetDefined, MaterialsLoaded, MaterialsSpliced, MaterialsUnloaded}
-use Rattle.desk_types.specs.declared.sheet.SheetRow.{SheetRow}
-use Rattle.desk_types.specs.declared.rules.Rules.TheVariants.{Two}
-use Rattle.desk_types.specs.Id.{Name, same}
-use Rattle.desk_types.specs.History.{History}
-use Rattle.desk_types.specs.Setup.{sheet_by, sheet_of, selected_on, row_in, row_on}
-use Rattle.desk_types.specs.Tape.{tape_with, tape_after, tape_of}
-use Rattle.desk_types.specs.Pieces.{left_of, live_on}
-use Rattle.desk_types.specs.View.{defines_on, has_sheet, loaded_slots, mount_of, slot_mounts}
-use Rattle.desk_types.specs.Refusals.{command_refusal}
-use Rattle.desk_types.specs.Judged.{IsJudged}
-use Rattle.desk_types.proofs.Keys.{same-sym, same-true}
-use Rattle.desk_laws.proofs.Accepted.{next-accepted, mountable}
-use Rattle.desk_laws.proofs.Lookups.{tape-loaded}
-use Rattle.desk_laws.proofs.Mounts.{has, has-live_on}
+use Rattle.desk_types.proofs.Common.{[], ◌&&◌, ◌+◌, ◌||◌, ◌∙◌, ◌∷◌, ◌≡◌, and_parts, ap, Bool, Command}
+use Rattle.desk_types.proofs.Common.{command_refusal, cons_option, defines_on, enumerate_from, false, filter_map}
+use Rattle.desk_types.proofs.Common.{filter_map-append, flat_map, has_sheet, History, if◌then◌else◌, is_none}
+use Rattle.desk_types.proofs.Common.{IsJudged, left_of, List, list_any-append, list_any-from_Contains, live_on}
+use Rattle.desk_types.proofs.Common.{loaded_slots, map, MaterialsLoaded, MaterialsSpliced, MaterialsUnloaded}
+use Rattle.desk_types.proofs.Common.{mount_of, Name, nat_list_eq_equiv, nat_lt, None, Option, option_and_then}
+use Rattle.desk_types.proofs.Common.{option_or, or_parts, refl, row_in, row_on, same, same-sym, same-true}
+use Rattle.desk_types.proofs.Common.{selected_on, sheet_by, sheet_of, SheetDefined, SheetRow, slot_mounts, Some, sym}
+use Rattle.desk_types.proofs.Common.{tape_after, tape_of, tape_with, true, Two, unwrap_or, ℕ}
+use Rattle.desk_laws.proofs.{Accepted.mountable, Accepted.next-accepted, Lookups.tape-loaded, Mounts.has}
+use Rattle.desk_laws.proofs.{Mounts.has-live_on}
 use Rattle.state_rows.specs.EditsOf.{reel_on_slot, reels_on}
 
 -- ---- machines without a sheet
-
-neither : (a b : Bool) → (a || b) ≡ false → (a ≡ false) × (b ≡ false)
-neither true b is = cc
-neither false b is = (refl, is)
 
 not-defined : (product machine : Name) (command : Command) → defines_on machine command ≡ false → sheet_by product machine command ≡ None
 not-defined product machine (SheetDefined p m rows) is = by (same p product) (same m machine) is
@@ -44,7 +26,7 @@ not-defined product machine _ is = refl
 no-sheet : (H : History) (product machine : Name) → has_sheet H machine ≡ false → sheet_of H product machine ≡ None
 no-sheet [] product machine none = refl
 no-sheet (e ∷ H) product machine none =
-    let both = neither (defines_on machine e.stamped.command) (has_sheet H machine) none in
+    let both = or_parts (defines_on machine e.stamped.command) (has_sheet H machine) none in
     ap (λ o. option_or o (sheet_of H product machine)) (not-defined product machine e.stamped.command both.0) ∙ no-sheet H product machine both.1
 
 no-row : (H : History) (machine slot : Name) → has_sheet H machine ≡ false → is_none (row_on H machine slot) ≡ true
@@ -81,7 +63,7 @@ pub no-tape : (H : History) (machine slot : Name) → IsJudged Two H → has_she
 unfolding tape_of
 no-tape [] machine slot judged none = refl
 no-tape (e ∷ H) machine slot (next, judged) none =
-    let both = neither (defines_on machine e.stamped.command) (has_sheet H machine) none in
+    let both = or_parts (defines_on machine e.stamped.command) (has_sheet H machine) none in
     ap (tape_after machine slot e.stamped.command) (no-tape H machine slot judged both.1)
     ∙ bare-step H e.effective machine slot e.stamped.command (next-accepted H e next) both.1
 

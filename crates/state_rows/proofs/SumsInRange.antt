@@ -1,32 +1,14 @@
 -- Sums of rows stay in their ranges.
-use Rattle.std.proofs.Common.{◌≡◌, ℕ, ◌+◌, ◌-◌, ◌≤◌, ◌<◌, ◌^◌, Option, Some, None, ◌∷◌, length, refl, sym, subst, arith}
-use Rattle.std.specs.Option.{option_map, option_map_or}
-use Rattle.desk_types.specs.declared.command.Entry.{Entry}
-use Rattle.desk_types.specs.declared.command.Receipt.{Receipt}
-use Rattle.desk_types.specs.declared.command.Stamped.{Stamped}
-use Rattle.desk_types.specs.declared.limits.TheConstants.{GREATEST_QUANTITY, MOST_ENTRIES}
-use Rattle.desk_types.specs.declared.rules.Rules.{Rules}
-use Rattle.desk_types.specs.declared.rules.Rules.TheVariants.{Two}
-use Rattle.desk_types.specs.declared.view.ReelView.{ReelView}
-use Rattle.desk_types.specs.Command.{IsStamped}
-use Rattle.desk_types.specs.Id.{Name}
-use Rattle.desk_types.specs.Number.{IsMinute, IsCountedQuantity}
-use Rattle.desk_types.specs.Pieces.{picks_of, received_of}
-use Rattle.desk_types.specs.Refusals.{refusal_of}
-use Rattle.desk_types.specs.History.{History, now_of, effective_minute, entry_of}
-use Rattle.desk_types.specs.Setup.{receipt_of}
-use Rattle.desk_types.specs.FloorLife.{out_since}
-use Rattle.desk_types.specs.View.{view_of, used_of, reel_view}
-use Rattle.desk_types.specs.Judged.{IsNext, IsJudged}
+use Rattle.desk_types.proofs.Common.{◌+◌, ◌-◌, ◌<◌, ◌^◌, ◌∷◌, ◌≡◌, ◌≤◌, arith, columns_of, effective_minute, Entry}
+use Rattle.desk_types.proofs.Common.{entry_of, GREATEST_QUANTITY, History, IsCountedQuantity, IsJudged, IsMinute}
+use Rattle.desk_types.proofs.Common.{IsNext, IsStamped, length, MOST_ENTRIES, Name, None, now_of, Option, option_map}
+use Rattle.desk_types.proofs.Common.{option_map_or, out_since, picks_of, Receipt, receipt_of, received_of, reel_row}
+use Rattle.desk_types.proofs.Common.{reel_view, ReelRow, ReelView, refl, refusal_of, Rules, Some, Stamped, subst, sym}
+use Rattle.desk_types.proofs.Common.{Two, used_of, view_of, ℕ}
+use Rattle.desk_laws.{proofs.Balance.balance, proofs.Exposures.exposure-within, proofs.Ranges.received-range}
+use Rattle.desk_laws.{proofs.Totals.placed-next, proofs.Totals.scrapped-next}
 use Rattle.desk_types.proofs.BothRules.{accepted-by-two}
-use Rattle.desk_laws.proofs.Balance.{balance}
-use Rattle.desk_laws.proofs.Exposures.{exposure-within}
-use Rattle.desk_laws.proofs.Ranges.{received-range}
-use Rattle.desk_laws.proofs.Totals.{placed-next, scrapped-next}
-use Rattle.desk_types.specs.declared.row.ReelRow.{ReelRow}
-use Rattle.desk_types.specs.Tables.{columns_of, reel_row}
-use Rattle.state_rows.specs.EditsOf.{ArePiecesFitting, CountFits}
-use Rattle.state_rows.proofs.ReelRows.{used-then}
+use Rattle.state_rows.{proofs.ReelRows.used-then, specs.EditsOf.ArePiecesFitting, specs.EditsOf.CountFits}
 
 -- ---- exposure
 

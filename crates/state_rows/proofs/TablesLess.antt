@@ -1,43 +1,24 @@
 -- The tables after a command that takes pieces.
-use Rattle.std.proofs.Common.{◌≡◌, ℕ, ◌+◌, ◌-◌, nat_lt, Bool, true, false, not, Option, Some, None, List, [], ◌∷◌, map, filter, refl, sym, ap, ◌∙◌, unwrap_or, arith, zero-add}
-use Rattle.std.specs.Prelude.{if◌then◌else◌, ◌==◌, ◌||◌}
-use Rattle.std.specs.Option.{option_or, option_map}
-use Rattle.std.proofs.lemmas.Bool.{and_parts, ltb-false, ne_eqb, ltb-true}
-use Rattle.std.proofs.lemmas.List.Sums.{sum_by-cons}
-use Rattle.desk_types.specs.declared.command.Command.{Command}
-use Rattle.desk_types.specs.declared.command.Receipt.{Receipt}
-use Rattle.desk_types.specs.declared.rules.Rules.TheVariants.{Two}
-use Rattle.desk_types.specs.declared.take.Pick.{Pick}
-use Rattle.desk_types.specs.Id.{Name, same}
-use Rattle.desk_types.specs.History.{History}
-use Rattle.desk_types.specs.Setup.{receipt_of}
-use Rattle.desk_types.specs.Pieces.{pieces_picked, picks_of, pieces_by, left_of, found_by, is_placed, is_mounted}
-use Rattle.desk_types.specs.FloorLife.{open_by, baked_by, since_after}
-use Rattle.desk_types.specs.Outcome.{take_of}
-use Rattle.desk_types.specs.View.{view_of}
-use Rattle.desk_types.specs.Judged.{IsJudged}
-use Rattle.desk_laws.proofs.Mounted.{mounted-is}
-use Rattle.desk_types.specs.declared.row.ReelRow.{ReelRow}
-use Rattle.desk_types.specs.declared.row.MountRow.{MountRow}
-use Rattle.desk_types.specs.declared.row.PlacementRow.{PlacementRow}
-use Rattle.desk_types.specs.Tables.{columns_of, reel_row, last_put, mount_row}
-use Rattle.state_rows.specs.After.{placed_in, scrapped_in, used_after, step_row}
-use Rattle.state_rows.specs.EditsOf.{pick_of, is_picked, less_row, picked_rows, is_spent}
-use Rattle.state_rows.proofs.ReelRows.{same-rows}
-use Rattle.state_rows.proofs.MountRows.{left_after, unreceived-unmounted}
+use Rattle.desk_types.proofs.Common.{[], ◌+◌, ◌-◌, ◌==◌, ◌||◌, ◌∙◌, ◌∷◌, ◌≡◌, and_parts, ap, arith, baked_by, Bool}
+use Rattle.desk_types.proofs.Common.{columns_of, Command, false, filter, found_by, History, if◌then◌else◌, is_mounted}
+use Rattle.desk_types.proofs.Common.{is_placed, IsJudged, last_put, left_of, List, ltb-false, ltb-true, map}
+use Rattle.desk_types.proofs.Common.{mount_row, MountRow, Name, nat_lt, ne_eqb, None, not, open_by, Option}
+use Rattle.desk_types.proofs.Common.{option_map, option_or, or_parts, Pick, picks_of, pieces_by, pieces_picked}
+use Rattle.desk_types.proofs.Common.{PlacementRow, Receipt, receipt_of, reel_row, ReelRow, refl, same, since_after}
+use Rattle.desk_types.proofs.Common.{Some, sum_by-cons, sym, take_of, true, Two, unwrap_or, view_of, zero-add, ℕ}
+use Rattle.desk_laws.proofs.Mounted.{left_after, mounted-is}
+use Rattle.state_rows.proofs.{MountRows.unreceived-unmounted, ReelRows.same-rows}
+use Rattle.state_rows.specs.{After.placed_in, After.scrapped_in, After.step_row, After.used_after, EditsOf.is_picked}
+use Rattle.state_rows.specs.{EditsOf.is_spent, EditsOf.less_row, EditsOf.pick_of, EditsOf.picked_rows}
 
 pub picks-again : (H : History) (minute : ℕ) (picks : List Pick) → map pick_of (map (take_of H minute) picks) ≡ picks
 picks-again H minute [] = refl
 picks-again H minute (p ∷ ps) = ap (λ l. p ∷ l) (picks-again H minute ps)
 
-neither : (a b : Bool) → (a || b) ≡ false → (a ≡ false) × (b ≡ false)
-neither true b is = cc
-neither false b is = (refl, is)
-
 pub unpicked : (picks : List Pick) (reel : Name) → is_picked picks reel ≡ false → pieces_picked picks reel ≡ 0
 unpicked [] reel none = refl
 unpicked (p ∷ ps) reel none =
-    let both = neither (same p.reel reel) (is_picked ps reel) none in
+    let both = or_parts (same p.reel reel) (is_picked ps reel) none in
     sum_by-cons (λ (x : Pick). if same x.reel reel then x.quantity else 0) p ps
     ∙ ap (λ b. (if b then p.quantity else 0) + pieces_picked ps reel) both.0
     ∙ zero-add (pieces_picked ps reel)
@@ -46,7 +27,7 @@ unpicked (p ∷ ps) reel none =
 pub unpicked-some : (test : Pick → Bool) (picks : List Pick) (reel : Name) → is_picked picks reel ≡ false → is_picked (filter test picks) reel ≡ false
 unpicked-some test [] reel none = refl
 unpicked-some test (p ∷ ps) reel none =
-    let both = neither (same p.reel reel) (is_picked ps reel) none in by (test p) both.0 (unpicked-some test ps reel both.1)
+    let both = or_parts (same p.reel reel) (is_picked ps reel) none in by (test p) both.0 (unpicked-some test ps reel both.1)
   where
     by : (b : Bool) → same p.reel reel ≡ false → is_picked (filter test ps) reel ≡ false → is_picked (if b then p ∷ filter test ps else filter test ps) reel ≡ false
     by true here rest = ap (λ c. c || is_picked (filter test ps) reel) here ∙ rest

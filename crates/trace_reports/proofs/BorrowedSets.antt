@@ -1,11 +1,7 @@
 -- Sets of borrowed records.
-use Rattle.std.proofs.Common.{◌≡◌, ◌∙◌, ℕ, Bor, List, [], ◌∷◌, map, refl, ap}
-use Rattle.std.specs.BTreeSet.{insert_key}
-use Rattle.std.specs.Cmp.Lexicographic.{slice_cmp}
-use Rattle.std.specs.Ordering.{match_ordering, nat_cmp, ordering_then}
-use Rattle.std.specs.declared.cmp.Ordering.{Ordering}
-use Rattle.std.specs.declared.cmp.Ordering.TheVariants.{Less, Equal, Greater}
-use Rattle.trace_reports.specs.Sets.{Fields, by_fields, bytes_of}
+use Rattle.desk_types.proofs.Common.{[], ◌∙◌, ◌∷◌, ◌≡◌, ap, Bor, Equal, Greater, insert_key, Less, List, map}
+use Rattle.desk_types.proofs.Common.{match_ordering, nat_cmp, Ordering, ordering_then, refl, slice_cmp, ℕ}
+use Rattle.trace_reports.specs.Sets.{by_fields, bytes_of, Fields}
 
 abbrev pub by_bytes : List (Bor (List ℕ)) → List (Bor (List ℕ)) → Ordering
 by_bytes = slice_cmp (λ x y. slice_cmp nat_cmp x.now y.now)

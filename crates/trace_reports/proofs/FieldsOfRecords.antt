@@ -1,12 +1,11 @@
 -- Each record of a report has at least one field.
-use Rattle.std.proofs.Common.{◌≢◌, All, List, [], ◌∷◌, map}
-use Rattle.std.proofs.lemmas.List.Elements.{All-nil, All-cons}
-use Rattle.std.proofs.lemmas.Map.Views.{All-insert_key}
-use Rattle.desk_types.specs.declared.placement.Placement.{Placement}
+use Rattle.desk_types.proofs.Common.{[], ◌∷◌, ◌≢◌, All, All-cons, All-nil, List, map, Placement}
 use Rattle.desk_types.specs.declared.trace_detail.TraceDetail.{TraceDetail}
-use Rattle.desk_types.specs.declared.trace_detail.TraceDetail.TheVariants.{One, Two, Three, Four}
-use Rattle.trace_reports.specs.Sets.{Fields, by_fields, set_of}
-use Rattle.trace_reports.specs.Traces.{project, board_columns, lot_columns, board_header, lot_header, board_rows, lot_rows, overdue_header, overdue_row}
+use Rattle.desk_types.specs.declared.trace_detail.TraceDetail.TheVariants.{Four, One, Three, Two}
+use Rattle.std.proofs.lemmas.Map.Views.{All-insert_key}
+use Rattle.trace_reports.specs.Sets.{by_fields, Fields, set_of}
+use Rattle.trace_reports.specs.Traces.{board_columns, board_header, board_rows, lot_columns, lot_header, lot_rows}
+use Rattle.trace_reports.specs.Traces.{overdue_header, overdue_row, project}
 
 abbrev pub HasField : Fields → Type 0
 HasField row = row ≢ []

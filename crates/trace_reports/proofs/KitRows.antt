@@ -1,14 +1,10 @@
 -- The rows of a kit, sheet row by sheet row and reel by reel.
-use Rattle.std.proofs.Common.{◌≡◌, ℕ, ◌+◌, ◌<◌, List, [], ◌∷◌, ◌++◌, length, take, drop, map, get_or, sym, ap, ◌∙◌, append_assoc, append-nil}
-use Rattle.std.proofs.lemmas.List.{map-append}
+use Rattle.desk_types.proofs.Common.{[], ◌++◌, ◌+◌, ◌<◌, ◌∙◌, ◌∷◌, ◌≡◌, ap, append-nil, append_assoc, drop, drop-next}
+use Rattle.desk_types.proofs.Common.{get_or, History, length, List, map, map-append, Name, ReelView, SheetRow, sym}
+use Rattle.desk_types.proofs.Common.{take, take-next, ℕ}
 use Rattle.std.proofs.lemmas.List.Sums.{sum_by_push}
-use Rattle.desk_types.specs.declared.sheet.SheetRow.{SheetRow}
-use Rattle.desk_types.specs.declared.view.ReelView.{ReelView}
-use Rattle.desk_types.specs.Id.{Name}
-use Rattle.desk_types.specs.History.{History}
-use Rattle.desk_types.proofs.LoopSteps.{take-next, drop-next}
+use Rattle.trace_reports.specs.Kit.{kit_rows, needed_by, pieces_of_reels, reels_for, rows_for}
 use Rattle.trace_reports.specs.declared.kit.KitRow.{KitRow}
-use Rattle.trace_reports.specs.Kit.{needed_by, pieces_of_reels, reels_for, rows_for, kit_rows}
 
 -- ---- one more reel
 

@@ -1,10 +1,7 @@
 -- A report with one more row.
-use Rattle.std.proofs.Common.{◌≡◌, ℕ, ◌+◌, ◌<◌, List, [], ◌∷◌, ◌++◌, length, take, map, get_or, sym, ap, ◌∙◌, append_assoc, append-nil}
-use Rattle.std.specs.List.{flat_map}
-use Rattle.std.proofs.lemmas.List.{map-append}
-use Rattle.std.proofs.lemmas.List.Concat.{flat_map-append}
-use Rattle.desk_types.proofs.LoopSteps.{take-next}
-use Rattle.trace_reports.specs.Csv.{record_text, csv_text}
+use Rattle.desk_types.proofs.Common.{[], ◌++◌, ◌+◌, ◌<◌, ◌∙◌, ◌∷◌, ◌≡◌, ap, append-nil, append_assoc, flat_map}
+use Rattle.desk_types.proofs.Common.{flat_map-append, get_or, length, List, map, map-append, sym, take, take-next, ℕ}
+use Rattle.trace_reports.specs.Csv.{csv_text, record_text}
 
 pub text-next : {X : Type 0} (header : List (List ℕ)) (fields : X → List (List ℕ)) (rows : List X) (i : ℕ) (row : X) → i < length rows → row ≡ get_or rows i row
     → csv_text header (map fields (take (i + 1) rows)) ≡ csv_text header (map fields (take i rows)) ++ record_text (fields row)

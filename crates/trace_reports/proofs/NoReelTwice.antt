@@ -1,36 +1,19 @@
 -- A kit names no reel twice.
-use Rattle.std.proofs.Common.{◌≡◌, ℕ, zero, suc, ◌-◌, Bool, true, false, cond, Option, Some, None, List, [], ◌∷◌, ◌++◌, map, filter, filter_map, refl, sym, ap, subst, ◌∙◌, append-nil, arith}
-use Rattle.std.specs.BTreeSet.{insert_key}
-use Rattle.std.specs.List.{AllByRecursion, IsDistinct, cons_option}
-use Rattle.std.specs.Option.{option_map}
-use Rattle.std.specs.Ordering.{match_ordering}
-use Rattle.std.specs.Prelude.{not, is_some, nat_lt, if◌then◌else◌}
-use Rattle.std.specs.declared.cmp.Ordering.{Ordering}
-use Rattle.std.specs.declared.cmp.Ordering.TheVariants.{Less, Equal, Greater}
-use Rattle.std.proofs.lemmas.Bool.{or_parts}
-use Rattle.std.proofs.lemmas.List.{map-append}
-use Rattle.std.proofs.lemmas.List.Elements.{filter_map-append}
-use Rattle.std.proofs.lemmas.List.Folds.{list_any-append}
-use Rattle.desk_types.specs.declared.command.Command.{Command}
-use Rattle.desk_types.specs.declared.command.Command.TheVariants.{ReelReceived}
-use Rattle.desk_types.specs.declared.command.Receipt.{Receipt}
-use Rattle.desk_types.specs.declared.rules.Rules.TheVariants.{Two}
-use Rattle.desk_types.specs.declared.sheet.SheetRow.{SheetRow}
-use Rattle.desk_types.specs.declared.view.ReelView.{ReelView}
-use Rattle.desk_types.specs.Id.{Name, same}
-use Rattle.desk_types.specs.History.{History}
-use Rattle.desk_types.specs.Setup.{receipt_by, receipt_of}
-use Rattle.desk_types.specs.Judged.{IsJudged}
-use Rattle.desk_types.specs.View.{view_of, reel_view}
-use Rattle.desk_types.specs.Free.{received_by, reels_received, is_free, by_turn, in_order, free_reels}
-use Rattle.desk_types.proofs.Keys.{same-refl, same-sym}
-use Rattle.desk_laws.proofs.Accepted.{received-once}
-use Rattle.desk_laws.proofs.Distinct.{all-append, distinct-filter, distinct-join}
-use Rattle.desk_laws.proofs.Judgements.{or-none}
+use Rattle.desk_types.proofs.Common.{[], ◌++◌, ◌-◌, ◌∙◌, ◌∷◌, ◌≡◌, AllByRecursion, ap, append-nil, arith, Bool}
+use Rattle.desk_types.proofs.Common.{by_turn, Command, cond, cons_option, Equal, false, filter, filter_map}
+use Rattle.desk_types.proofs.Common.{filter_map-append, free_reels, Greater, History, if◌then◌else◌, in_order}
+use Rattle.desk_types.proofs.Common.{insert_key, is_free, is_some, IsDistinct, IsJudged, Less, List, list_any-append}
+use Rattle.desk_types.proofs.Common.{map, map-append, match_ordering, Name, nat_lt, None, not, Option, option_map}
+use Rattle.desk_types.proofs.Common.{or_parts, Ordering, Receipt, receipt_by, receipt_of, received_by, reel_view}
+use Rattle.desk_types.proofs.Common.{ReelReceived, reels_received, ReelView, refl, same, same-refl, same-sym}
+use Rattle.desk_types.proofs.Common.{SheetRow, Some, subst, suc, sym, true, Two, view_of, zero, ℕ}
+use Rattle.desk_laws.proofs.{Accepted.received-once, Distinct.all-append, Distinct.distinct-filter}
+use Rattle.desk_laws.proofs.{Distinct.distinct-join, Judgements.or-none}
 use Rattle.setup_sheets.specs.Names.{is_among}
-use Rattle.trace_reports.specs.declared.kit.KitRow.{KitRow}
-use Rattle.trace_reports.specs.Kit.{needed_by, pieces_of_reels, enough, still_free, reels_for, reel_row, short_row, rows_for, kit_rows, reel_in, reels_in}
-use Rattle.trace_reports.proofs.Prefixes.{enough-zero, enough-nil, enough-next}
+use Rattle.trace_reports.proofs.Prefixes.{enough-next, enough-nil, enough-zero}
+use Rattle.trace_reports.specs.{Kit.enough, Kit.kit_rows, Kit.needed_by, Kit.pieces_of_reels, Kit.reel_in}
+use Rattle.trace_reports.specs.{Kit.reel_row, Kit.reels_for, Kit.reels_in, Kit.rows_for, Kit.short_row}
+use Rattle.trace_reports.specs.{Kit.still_free, declared.kit.KitRow.KitRow}
 
 abbrev name_of : ReelView → Name
 name_of r = r.reel

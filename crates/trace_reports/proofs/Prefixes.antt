@@ -1,13 +1,10 @@
 -- The shortest sufficient prefix of some reels, reel by reel.
-use Rattle.std.proofs.Common.{◌≡◌, ℕ, ◌+◌, ◌-◌, ◌<◌, Bool, true, false, cond, Option, None, Some, List, [], ◌∷◌, ◌++◌, length, drop, map, get_or, refl, sym, ap, ◌∙◌, append_assoc, append-nil, arith}
-use Rattle.std.specs.Prelude.{nat_le, unwrap_or}
-use Rattle.std.specs.List.{find, filter}
-use Rattle.std.specs.Option.{option_map}
-use Rattle.std.proofs.lemmas.Bool.{leb-true, leb-false}
-use Rattle.std.proofs.lemmas.List.Sums.{sum_by-cons}
-use Rattle.desk_types.specs.declared.view.ReelView.{ReelView}
-use Rattle.desk_types.proofs.LoopSteps.{drop-next}
-use Rattle.trace_reports.specs.Kit.{pieces_of_reels, prefixes, enough}
+use Rattle.desk_types.proofs.Common.{[], ◌++◌, ◌+◌, ◌-◌, ◌<◌, ◌∙◌, ◌∷◌, ◌≡◌, ap, append-nil, append_assoc, arith}
+use Rattle.desk_types.proofs.Common.{Bool, cond, drop, drop-next, false, get_or, leb-false, leb-true, length, List}
+use Rattle.desk_types.proofs.Common.{map, nat_le, None, Option, option_map, ReelView, refl, Some, sum_by-cons, sym}
+use Rattle.desk_types.proofs.Common.{true, unwrap_or, ℕ}
+use Rattle.std.specs.List.{filter, find}
+use Rattle.trace_reports.specs.Kit.{enough, pieces_of_reels, prefixes}
 
 -- ---- sufficient prefixes
 

@@ -1,15 +1,11 @@
 -- Reading a report back with `csv`.
-use Rattle.std.proofs.Common.{◌≡◌, ◌≢◌, ◌≤◌, ◌+◌, ℕ, zero, suc, List, [], ◌∷◌, ◌++◌, All, length, refl, ap, ◌∙◌, arith}
-use Rattle.std.specs.Prelude.{if◌then◌else◌}
-use Rattle.std.specs.List.{flat_map}
-use Rattle.std.proofs.lemmas.List.{length-append}
-use Rattle.std.proofs.lemmas.List.Elements.{All-head, All-tail}
-use Rattle.csv.specs.Machine.{next_record}
-use Rattle.csv.specs.Reading.{default_config, records_from, records}
-use Rattle.csv.specs.Writing.{default_writer, read_back, row_body, is_blank}
-use Rattle.csv.specs.declared.parser.State.TheVariants as st
+use Rattle.desk_types.proofs.Common.{[], ◌++◌, ◌+◌, ◌∙◌, ◌∷◌, ◌≡◌, ◌≢◌, ◌≤◌, All, All-head, All-tail, ap, arith}
+use Rattle.desk_types.proofs.Common.{flat_map, if◌then◌else◌, length, length-append, List, refl, suc, zero, ℕ}
 use Rattle.csv.proofs.RoundTrip.{read-write}
-use Rattle.trace_reports.specs.Csv.{record_text, csv_text}
+use Rattle.csv.specs.{Machine.next_record, Reading.default_config, Reading.records, Reading.records_from}
+use Rattle.csv.specs.{Writing.default_writer, Writing.is_blank, Writing.read_back, Writing.row_body}
+use Rattle.trace_reports.specs.Csv.{csv_text, record_text}
+use Rattle.csv.specs.declared.parser.State.TheVariants as st
 
 as_it_was : (row : List (List ℕ)) → row ≢ [] → read_back row ≡ row
 as_it_was [] some = absurd (some refl)

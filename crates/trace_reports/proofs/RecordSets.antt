@@ -1,21 +1,15 @@
 -- Sets of records, and the records of pieces.
-use Rattle.std.proofs.Math.Bool.{or_self_left}
-use Rattle.std.proofs.Common.{◌≡◌, ◌↔◌, ◌∙◌, Bool, true, false, Contains, List, [], ◌∷◌, filter, map, refl, sym, ap, ap₂}
-use Rattle.std.specs.Prelude.{if◌then◌else◌, ◌||◌, ◌&&◌}
-use Rattle.std.specs.BTreeSet.{insert_key}
-use Rattle.std.specs.Cmp.Lexicographic.{pointwise, pointwise_decides, nat_list_eq_equiv, bytes_decides, lists_equiv, lists_ties}
-use Rattle.std.specs.List.{list_any}
-use Rattle.std.specs.Ordering.{match_ordering, is_eq}
-use Rattle.std.specs.declared.cmp.Ordering.{Ordering}
-use Rattle.std.specs.declared.cmp.Ordering.TheVariants.{Less, Equal, Greater}
-use Rattle.std.proofs.lemmas.Map.Views.{Contains-from_any, list_any-from_Contains}
-use Rattle.desk_types.specs.declared.placement.Placement.{Placement}
-use Rattle.desk_types.specs.Id.{Name, same, by_name}
-use Rattle.desk_types.proofs.Keys.{same-refl, same-sym, is_at-by_name, list_any-same}
+use Rattle.desk_types.proofs.Common.{[], ◌&&◌, ◌||◌, ◌↔◌, ◌∙◌, ◌∷◌, ◌≡◌, ap, ap₂, Bool, by_name, Contains}
+use Rattle.desk_types.proofs.Common.{Contains-from_any, Equal, false, filter, Greater, if◌then◌else◌, insert_key}
+use Rattle.desk_types.proofs.Common.{is_at-by_name, is_eq, Less, List, list_any, list_any-from_Contains}
+use Rattle.desk_types.proofs.Common.{list_any-same, map, match_ordering, Name, nat_list_eq_equiv, Ordering, Placement}
+use Rattle.desk_types.proofs.Common.{pointwise, refl, same, same-refl, same-sym, sym, true}
 use Rattle.desk_types.proofs.Tests.{swap-or}
-use Rattle.desk_types.specs.declared.trace_detail.TraceDetail.TheVariants.{One, Two, Three}
-use Rattle.trace_reports.specs.Sets.{Fields, by_fields, set_of}
-use Rattle.trace_reports.specs.Traces.{board_rows, lot_rows, pieces_on, pieces_of_lot}
+use Rattle.desk_types.specs.declared.trace_detail.TraceDetail.TheVariants.{One, Three, Two}
+use Rattle.std.proofs.{Math.Bool.or_self_left, lemmas.Bool.or_right as or-later}
+use Rattle.std.specs.Cmp.Lexicographic.{bytes_decides, lists_equiv, lists_ties, pointwise_decides}
+use Rattle.trace_reports.specs.{Sets.by_fields, Sets.Fields, Sets.set_of, Traces.board_rows, Traces.lot_rows}
+use Rattle.trace_reports.specs.{Traces.pieces_of_lot, Traces.pieces_on}
 
 -- ---- members
 
@@ -134,10 +128,6 @@ lot-listed board lot part (p ∷ ps) there =
     by true true false false c e f is rest = rest is
     by true false false false c e f is rest = rest is
     by true b false true c e f is rest = cc
-
-or-later : (a b : Bool) → b ≡ true → (a || b) ≡ true
-or-later true b is = refl
-or-later false b is = is
 
 part-listed : (board lot : Name) (pieces : List Placement)
     → list_any (λ (p : Placement). same p.lot lot && (same board p.board && true)) pieces ≡ true

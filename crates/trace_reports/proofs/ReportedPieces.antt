@@ -1,11 +1,8 @@
 -- The records of a report that is found.
-use Rattle.std.proofs.Common.{◌≡◌, ◌∙◌, Bool, true, false, ℕ, Some, None, List, ◌∷◌, drop, sym, ap}
-use Rattle.std.specs.Prelude.{if◌then◌else◌}
-use Rattle.std.specs.Option.{option_map}
-use Rattle.csv.specs.Reading.{records, default_config}
-use Rattle.desk_types.specs.declared.placement.Placement.{Placement}
-use Rattle.trace_reports.specs.Sets.{Fields}
-use Rattle.trace_reports.specs.Reports.{rows_below}
+use Rattle.desk_types.proofs.Common.{◌∙◌, ◌∷◌, ◌≡◌, ap, Bool, drop, false, if◌then◌else◌, List, None, option_map}
+use Rattle.desk_types.proofs.Common.{Placement, Some, sym, true, ℕ}
+use Rattle.csv.specs.Reading.{default_config, records}
+use Rattle.trace_reports.specs.{Reports.rows_below, Sets.Fields}
 
 pub found-rows : (found : Bool) (text : List Placement → List ℕ) (header : Fields) (rows : List Placement → List Fields)
     → ((pieces : List Placement) → records default_config (text pieces) ≡ header ∷ rows pieces) → (ps : List Placement) (printed : List ℕ)

@@ -9,7 +9,6 @@ A copy that can't be read is a fault, and never passed over: it may be the newes
 """
 import contextlib
 import datetime
-import hashlib
 import json
 import os
 import pathlib
@@ -20,20 +19,22 @@ import time
 from tracedesk_ops import catalogue, identity, plant
 
 ARCHIVE, SUMS, ABOUT = "archive", "SHA256SUMS", "backup.json"
+INDEX = f"{ARCHIVE}/{catalogue.FILE_NAME}"  # none in a copy without archives
 NAME, NAMED = re.compile(r"\d{4}-\d\d-\d\dT\d{6}Z"), "%Y-%m-%dT%H%M%SZ"
 FUTURE = 300  # seconds that the clocks of two machines may differ
 
 
 def about(copy):
-    """What a copy says of itself; a Fault where that is not the file of its checksum."""
+    """What a copy says of itself; a Fault where that, or its catalogue, is not the file of its checksum."""
     try:
         text, sums = (copy / ABOUT).read_bytes(), sums_of(copy)
-        if sums.get(ABOUT) != hashlib.sha256(text).hexdigest():
-            raise ValueError(f"it is not the file of its checksum in {SUMS}")
+        for name in (ABOUT, INDEX):
+            if sums.get(name) != ((copy / name).exists() and catalogue.sha256_of(copy / name) or None):
+                raise ValueError(f"{name} is not the file of its checksum in {SUMS}")
         told = json.loads(text)
         return {"number": 0, "desk": "", "line": "", "name": "", "host": "", **told, "commands": told["commands"], "missing": told["missing"]}
     except (OSError, ValueError, KeyError, TypeError) as fault:
-        raise plant.Fault(f"{copy / ABOUT} can't be read: {fault}: the copy is damaged. Name another copy, or move this one out of the folder once you have looked at its disk") from fault
+        raise plant.Fault(f"{copy} can't be read: {fault}: the copy is damaged. Name another copy, or move this one out of the folder once you have looked at its disk") from fault
 
 
 def sums_of(copy):

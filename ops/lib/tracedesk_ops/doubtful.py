@@ -16,6 +16,7 @@ import bisect
 import contextlib
 import datetime
 import functools
+import itertools
 import json
 import pathlib
 import re
@@ -407,8 +408,8 @@ class Line(NamedTuple):
 
 
 def look(path, archives, is_running=False, running=()):
-    """Looks at what is around a catalogue. The archives are in the order of their chain; the running desk's file lies beside their folder.
-    `running` has for each desk that runs a call that says whether it has a UniqueID, or None; in a copy of a line no desk runs."""
+    """Looks at what is around a catalogue. The archives are in the order of their chain; the running desk's file is next to their folder, or
+    named. `running` has for each desk that runs its file, or None, and a call that says whether it has a UniqueID, or None; in a copy of a line no desk runs."""
     notes: list = []
     book, faults, pieces = untraced.read(path.parent), [], []
     refused, decided = untraced.refused(book.records), untraced.decisions(book.records)
@@ -433,20 +434,24 @@ def look(path, archives, is_running=False, running=()):
 
 
 def running_files(around, archives, running, held):
-    """Of each desk that runs its file and a copy of it, or why there is none. The file is `desk`; where several desks run, each has one beside the others."""
-    names = ["desk", *sorted(it.name for it in around.iterdir() if it.name != "desk" and catalogue.is_database(it))] if len(running) > 1 else ["desk"]
-    there = {around / name: held.enter_context(copied(around / name)) for name in names if (around / name).exists()}
-    for has in running or [None]:
-        whys = {file: why_not(file, database, archives, [has] if has else []) for file, database in there.items()}
-        if its := next((file for file, why in whys.items() if not why), None):
-            yield its, there[its], ""
+    """Of each desk that runs its file and a copy of it, or why there is none. If nothing names its file, that is `desk`, or else another one in that folder."""
+    copied_of: dict = {}
+    for db, has in running or [(around / "desk", None)]:
+        whys = []
+        for file in [db] if db else itertools.chain([around / "desk"], (it for it in sorted(around.iterdir()) if it.name != "desk" and catalogue.is_database(it))):
+            if file.exists() and file not in copied_of:
+                copied_of[file] = held.enter_context(copied(file))
+            whys.append(why_not(file, copied_of[file], archives, [has] if has else []) if file in copied_of else f"{file} is not here")
+            if not whys[-1]:
+                yield file, copied_of[file], ""
+                break
         else:
-            yield around, None, whys.get(around / "desk", f"{around / 'desk'} is not here")
+            yield around, None, whys[0]
 
 
 def why_not(desk, database, archives, running):
     """Why a file is not the running desk's as it is now, if so; `database` is a copy of it. It may be an older copy, or another desk's."""
-    ends, mark = [it for it in archives if not it.went_on_to], identity.read(database).mark
+    ends, mark = [it for it in archives if not it.went_on_to], identity.begun_from(database)
     if ends and not any(identity.follows(mark, it) for it in ends) and (mark or not running or any(has(identity.BEGUN) for has in running)):
         return f"{desk} is not the running desk's: it didn't go on from the newest archive"
     newest = database.execute("SELECT uid FROM accepted ORDER BY number DESC LIMIT 1").fetchone()

@@ -42,16 +42,26 @@ def read(database):
     """Who the desk with these tables is."""
     rows = lambda query, *values: database.execute(query, values).fetchall()
     ((commands, minute),) = rows("SELECT count(*), coalesce(max(effective), 0) FROM accepted")
-    first = rows("SELECT uid, source FROM accepted WHERE number = 1")
-    found, begun = MARK.fullmatch(first[0][0]) if first else None, 0
-    if found and "-" in found[1] and first[0][1] != "begin":
-        found = None
-    if found:
-        ((begun,),) = rows("SELECT max(number) FROM accepted WHERE uid = ? || number AND source = ?", first[0][0][:-1], first[0][1])
+    mark, begun = begun_from(database), 0
+    if mark:
+        ((begun,),) = rows("SELECT max(number) FROM accepted WHERE uid = ? || number AND source = (SELECT source FROM accepted WHERE number = 1)", f"begin-{mark}-")
     its = rows("SELECT number, uid, source, own FROM accepted WHERE source = ? AND command = 'ClockSet' AND uid LIKE 'desk-%' ORDER BY number", SOURCE)
     name = next((uid for _, uid, _, _ in its if NAME.fullmatch(uid)), "")
     ((taken,),) = rows("SELECT count(*) FROM accepted WHERE number > ? AND source <> ?", begun, SOURCE)
-    return Identity(name, found[1] if found else "", begun, commands, taken, minute, [it for it in its if it[1] in (name, BEGUN)])
+    return Identity(name, mark, begun, commands, taken, minute, [it for it in its if it[1] in (name, BEGUN)])
+
+
+def begun_from(database):
+    """The mark of the archive from which the desk with these tables was begun; empty if there is none."""
+    first = database.execute("SELECT uid, source FROM accepted WHERE number = 1").fetchone()
+    found = MARK.fullmatch(first[0]) if first else None
+    return found[1] if found and ("-" not in found[1] or first[1] == "begin") else ""
+
+
+def mark_of(file):
+    """The same of a file that stands whole."""
+    with catalogue.opened(file) as database:
+        return begun_from(database)
 
 
 def of(file):
@@ -102,10 +112,20 @@ def chain(path, archives, mark):
             return found, [f"{path}: no archive has the checksum {mark}.., from which {found[-1].file if found else 'the desk'} was begun: take it from a copy"]
         found.append(it)
         try:
-            mark = of(catalogue.path_of(path, it)).mark
+            mark = mark_of(catalogue.path_of(path, it))
         except (OSError, sqlite3.Error) as fault:
             return found, [f"{catalogue.path_of(path, it)}: it can't be read: {fault}: take it from a copy"]
     return found, []
+
+
+def gaps(path, archives, marks=()):
+    """Which archives of a catalogue, and desks with these marks, were begun from one that is not in it. An archive that can't be read says nothing here."""
+    there = {it for archive in archives for it in (archive.sha256[:CHECKSUM], f"{archive.last_minute}-{archive.commands}")}
+    begun = [("the desk", it) for it in marks]
+    for it in archives:
+        with contextlib.suppress(OSError, sqlite3.Error):
+            begun.append((it.file, mark_of(catalogue.path_of(path, it))))
+    return [f"{path}: no archive has the checksum {mark}.., from which {name} was begun: take it from a copy" for name, mark in begun if mark and mark not in there]
 
 
 # --- A running desk

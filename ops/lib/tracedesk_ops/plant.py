@@ -25,6 +25,7 @@ PROXY_PORT = 8081  # packaging/nginx.conf
 COPIES = pathlib.Path("/var/backups/tracedesk")
 SET_UP = pathlib.Path(os.environ.get("TRACEDESK_SET_UP", "/etc/tracedesk"))  # a file LINE.conf for each line that this machine serves
 WORDS = ("line", "db", "archive", "copies", "port", "url", "stop", "start")  # of such a file
+PROXYS = "certificates.conf"  # which lies there too: packaging/nginx.conf
 DRAINED = pathlib.Path("/run/tracedesk-drained")  # packaging/nginx.conf looks for it
 SECONDS_A_MILLION = 19  # of a start, for a million placed pieces: docs/figures.md, "A file's start"
 QUIET = float(os.environ.get("TRACEDESK_QUIET", 1))  # seconds without a connection, after which nobody waits for an answer any more; ops/tests/evidence-faults is in a hurry
@@ -99,16 +100,18 @@ def chain_of(program):
 def set_ups():
     """The lines that are set up on this machine: of each what its file LINE.conf says, as `db = /var/lib/tracedesk/desk`, and what follows from that."""
     found = []
-    with contextlib.suppress(PermissionError):  # who may not read it names each thing
-        for file in sorted(SET_UP.glob("*.conf")):
+    for file in sorted(it for it in SET_UP.glob("*.conf") if it.name != PROXYS):
+        try:
             rows = [it.partition("=") for it in file.read_text(encoding="utf-8").splitlines() if it.strip() and not it.lstrip().startswith("#")]
-            its = {name.strip(): value.strip() for name, _, value in rows}
-            if "line" not in its:
-                continue  # another one, as certificates.conf
-            if unknown := [name for name in its if name not in WORDS] + [name for name, value in its.items() if not value]:
-                raise Fault(f"{file}: {', '.join(unknown)} is none of {', '.join(WORDS)}, or has no value")
-            its = {"db": str(DESK), "port": str(PORT), "copies": str(COPIES), **its}
-            found.append({"archive": f"{pathlib.Path(its['db']).parent}/archive", "url": f"http://127.0.0.1:{its['port']}", **its})
+        except (OSError, UnicodeDecodeError) as fault:
+            raise Fault(f"{file} can't be read: {fault}") from fault
+        its = {name.strip(): value.strip() for name, _, value in rows}
+        if unknown := [name for name in its if name not in WORDS] + [name for name, value in its.items() if not value]:
+            raise Fault(f"{file}: {', '.join(unknown)} is none of {', '.join(WORDS)}, or has no value")
+        if "line" not in its:
+            raise Fault(f"{file} names no line: write line = LINE into it, or take it away")
+        its = {"db": str(DESK), "port": str(PORT), "copies": str(COPIES), **its}
+        found.append({"archive": f"{pathlib.Path(its['db']).parent}/archive", "url": f"http://127.0.0.1:{its['port']}", **its})
     if twice := {it["db"] for it in found if [other["db"] for other in found].count(it["db"]) > 1}:
         raise Fault(f"two files of {SET_UP} have the desk {', '.join(twice)}")
     return found

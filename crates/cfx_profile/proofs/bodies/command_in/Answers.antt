@@ -1,4 +1,4 @@
-use Rattle.std.proofs.Common.{refl}
+use Rattle.desk_types.proofs.Common.{refl}
 use Rattle.cfx_profile.specs.Bodies.{command_in}
 use Rattle.cfx_profile.proofs.bodies.command_in.Goals as goal
 

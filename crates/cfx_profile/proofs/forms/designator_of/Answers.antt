@@ -1,6 +1,5 @@
-use Rattle.std.proofs.Common.{ap, ◌∙◌}
-use Rattle.cfx_profile.specs.Forms.{designator_of}
-use Rattle.cfx_profile.proofs.Names.{designator_of-read}
+use Rattle.desk_types.proofs.Common.{◌∙◌, ap}
+use Rattle.cfx_profile.{proofs.Names.designator_of-read, specs.Forms.designator_of}
 use Rattle.cfx_profile.proofs.forms.designator_of.Goals as goal
 
 pub returns : goal.returns

@@ -1,10 +1,8 @@
-use Rattle.std.proofs.Common.{rules, ◌≡◌, ◌≢◌, ◌∙◌, sym, ap, Ok, Err, map, [], ◌∷◌, ◌++◌, ◌+◌, take, drop, take-append-drop, append_assoc}
-use Rattle.std.proofs.lemmas.List.{take_more, map-append}
+use Rattle.desk_types.proofs.Common.{[], ◌++◌, ◌+◌, ◌∙◌, ◌∷◌, ◌≡◌, ◌≢◌, ap, append_assoc, drop, Err, map, map-append}
+use Rattle.desk_types.proofs.Common.{Ok, rules, sym, take, take-append-drop, take_more}
+use Rattle.cfx_profile.proofs.{Faults.IsSaid-fault, Items.each-fault, Items.each-more}
+use Rattle.cfx_profile.specs.{Lists.each, declared.fault.MessageFault.TheVariants.NoMemory}
 use Rattle.serde_json.specs.View.{view}
-use Rattle.cfx_profile.specs.Lists.{each}
-use Rattle.cfx_profile.specs.declared.fault.MessageFault.TheVariants.{NoMemory}
-use Rattle.cfx_profile.proofs.Faults.{IsSaid-fault}
-use Rattle.cfx_profile.proofs.Items.{each-more, each-fault}
 use Rattle.cfx_profile.proofs.lists.each.Goals as goal
 
 pub loop-item-preserved : goal.loop-item-preserved

@@ -1,6 +1,6 @@
-use Rattle.std.proofs.Common.{◌≡◌, map, take, Ok}
-use Rattle.serde_json.specs.View.{view}
+use Rattle.desk_types.proofs.Common.{◌≡◌, map, Ok, take}
 use Rattle.cfx_profile.specs.Lists.{each}
+use Rattle.serde_json.specs.View.{view}
 use Rattle.cfx_profile.proofs.lists.each.Given as goal
 
 abbrev pub invariant-loop-item : goal.invariant-loop-item

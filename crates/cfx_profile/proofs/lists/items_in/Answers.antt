@@ -1,8 +1,6 @@
-use Rattle.std.proofs.Common.{rules, arith, map}
-use Rattle.std.proofs.lemmas.Bool.Decides.{nat_tests}
-use Rattle.std.proofs.lemmas.List.{length-map}
-use Rattle.serde_json.specs.View.{view}
+use Rattle.desk_types.proofs.Common.{arith, length-map, map, nat_tests, rules}
 use Rattle.cfx_profile.proofs.Items.{items_in-of}
+use Rattle.serde_json.specs.View.{view}
 use Rattle.cfx_profile.proofs.lists.items_in.Goals as goal
 
 pub returns-then-len-gt-LONGEST_LIST-clause-err : goal.returns-then-len-gt-LONGEST_LIST-clause-err

@@ -1,8 +1,6 @@
-use Rattle.std.proofs.Common.{rules, arith, ◌≡◌, ◌∙◌, map, Ok}
-use Rattle.std.proofs.lemmas.List.{length-map}
+use Rattle.desk_types.proofs.Common.{◌∙◌, ◌≡◌, arith, length-map, map, Ok, rules}
+use Rattle.cfx_profile.{proofs.Items.length-each, specs.Lists.each}
 use Rattle.serde_json.specs.View.{view}
-use Rattle.cfx_profile.specs.Lists.{each}
-use Rattle.cfx_profile.proofs.Items.{length-each}
 use Rattle.cfx_profile.proofs.lists.list_in.Goals as goal
 
 pub unreachable-requires : goal.unreachable-requires

@@ -1,8 +1,7 @@
-use Rattle.std.proofs.Common.{rules, ◌≡◌, refl, true, false, None, List, ℕ, if◌then◌else◌}
-use Rattle.std.proofs.lemmas.Str.{IsUtf8-from_is_utf8, is_utf8-from_IsUtf8}
-use Rattle.std.specs.Str.{is_utf8, IsUtf8}
-use Rattle.serde_json.specs.Read.{read}
+use Rattle.desk_types.proofs.Common.{◌≡◌, false, if◌then◌else◌, is_utf8, is_utf8-from_IsUtf8, IsUtf8}
+use Rattle.desk_types.proofs.Common.{IsUtf8-from_is_utf8, List, None, refl, rules, true, ℕ}
 use Rattle.cfx_profile.specs.Message.{value_of}
+use Rattle.serde_json.specs.Read.{read}
 use Rattle.cfx_profile.proofs.message.value_of.Goals as goal
 
 none_of : (bytes : List ℕ) → (IsUtf8 bytes → read bytes ≡ None) → value_of bytes ≡ None

@@ -1,8 +1,7 @@
-use Rattle.std.proofs.Common.{◌∙◌, ap, take}
-use Rattle.serde_json.proofs.Views.{view-Array}
-use Rattle.serde_json.specs.View.{items_of}
-use Rattle.serde_json.specs.Written.{has_float, items_have_float}
+use Rattle.desk_types.proofs.Common.{◌∙◌, ap, take}
 use Rattle.desk_answers.proofs.Strings.{strings_have_none}
+use Rattle.serde_json.proofs.Views.{view-Array}
+use Rattle.serde_json.specs.{View.items_of, Written.has_float, Written.items_have_float}
 use Rattle.desk_answers.proofs.answer.strings.Goals as goal
 
 pub returns-clause-whole : goal.returns-clause-whole

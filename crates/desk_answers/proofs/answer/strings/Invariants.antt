@@ -1,6 +1,5 @@
-use Rattle.std.proofs.Common.{◌≡◌, map, take}
-use Rattle.serde_json.specs.Data.{string}
-use Rattle.serde_json.specs.View.{view}
+use Rattle.desk_types.proofs.Common.{◌≡◌, map, take}
+use Rattle.serde_json.specs.{Data.string, View.view}
 use Rattle.desk_answers.proofs.answer.strings.Given as goal
 
 abbrev pub invariant-loop-name : goal.invariant-loop-name

@@ -1,4 +1,4 @@
-use Rattle.desk_answers.proofs.Sameness.{same_messages, equal_messages}
+use Rattle.desk_answers.proofs.Sameness.{equal_messages, same_messages}
 use Rattle.desk_answers.proofs.law.same_messages_are_equal.Goals as goal
 
 pub returns : goal.returns

@@ -1,8 +1,5 @@
-use Rattle.std.proofs.Common.{rules, ◌∙◌, sym, subst, take, ap, ◌++◌}
-use Rattle.std.proofs.lemmas.List.{places, take_rest}
-use Rattle.std.proofs.Math.Seq.{take-add}
-use Rattle.std.specs.Io.KnownBytes.{Appends}
-use Rattle.std.proofs.KnownBytes.{Appends-trans}
+use Rattle.desk_types.proofs.Common.{◌++◌, ◌∙◌, ap, Appends, Appends-trans, rules, subst, sym, take}
+use Rattle.std.proofs.{Math.Seq.take-add, lemmas.List.places, lemmas.List.take_rest}
 use Rattle.desk_answers.proofs.sending.send.Goals as goal
 
 pub loop-at-preserved : goal.loop-at-preserved

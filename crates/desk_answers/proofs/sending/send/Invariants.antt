@@ -1,6 +1,4 @@
-use Rattle.std.proofs.Common.{◌≡◌, ◌≤◌, ◌-◌, length, take}
-use Rattle.std.specs.Io.KnownBytes.{Appends}
-use Rattle.desk_types.specs.Wire.{inner_of, failures_of}
+use Rattle.desk_types.proofs.Common.{◌-◌, ◌≡◌, ◌≤◌, Appends, failures_of, inner_of, length, take}
 use Rattle.desk_answers.proofs.sending.send.Given as goal
 
 abbrev pub invariant-loop-at : goal.invariant-loop-at

@@ -1,5 +1,4 @@
-use Rattle.std.proofs.Common.{◌∷◌, []}
-use Rattle.std.proofs.lemmas.Result.{on_err_weaker}
+use Rattle.desk_types.proofs.Common.{[], ◌∷◌, on_err_weaker}
 use Rattle.desk_answers.proofs.SentFronts.{front_after}
 use Rattle.desk_answers.proofs.sending.send_line.Goals as goal
 

@@ -1,6 +1,5 @@
-use Rattle.std.proofs.Common.{Some, refl, inl}
-use Rattle.desk_commands.proofs.EndsOfRuns.{feed_follows, feed_refused}
-use Rattle.desk_commands.proofs.RunsOnFiles.{runs_on}
+use Rattle.desk_types.proofs.Common.{inl, refl, Some}
+use Rattle.desk_commands.proofs.{EndsOfRuns.feed_follows, EndsOfRuns.feed_refused, RunsOnFiles.runs_on}
 use Rattle.desk_commands.proofs.exchange.feed_in_file.Goals as goal
 
 pub returns-in-Ok-clause-ends : goal.returns-in-Ok-clause-ends

@@ -1,7 +1,6 @@
-use Rattle.std.proofs.Common.{refl}
+use Rattle.desk_types.proofs.Common.{refl}
+use Rattle.desk_commands.{proofs.EndsOfRuns.feed_follows, proofs.EndsOfRuns.feed_refused, specs.Runs.fresh}
 use Rattle.desk_file.proofs.Truth.{stays_clean}
-use Rattle.desk_commands.proofs.EndsOfRuns.{feed_follows, feed_refused}
-use Rattle.desk_commands.specs.Runs.{fresh}
 use Rattle.desk_commands.proofs.exchange.feed_in_memory.Goals as goal
 
 pub returns-in-Ok-clause-ends : goal.returns-in-Ok-clause-ends

@@ -1,4 +1,4 @@
-use Rattle.std.proofs.Common.{None, refl, inl, inr}
+use Rattle.desk_types.proofs.Common.{inl, inr, None, refl}
 use Rattle.desk_commands.proofs.EndsOfRuns.{import_follows, import_refused}
 use Rattle.desk_commands.proofs.RunsOnFiles.{runs_on, stays}
 use Rattle.desk_commands.proofs.exchange.import_in_file.Goals as goal

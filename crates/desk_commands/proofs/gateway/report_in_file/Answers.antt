@@ -1,8 +1,7 @@
-use Rattle.std.proofs.Common.{None, refl, inl}
-use Rattle.gateway_http.specs.Reports.{report_of}
+use Rattle.desk_types.proofs.Common.{inl, None, refl}
+use Rattle.desk_commands.proofs.{EndsOfRuns.report_follows, EndsOfRuns.report_refused, RunsOnFiles.runs_on}
 use Rattle.desk_commands.specs.OpenRuns.{AnswersReport}
-use Rattle.desk_commands.proofs.EndsOfRuns.{report_follows, report_refused}
-use Rattle.desk_commands.proofs.RunsOnFiles.{runs_on}
+use Rattle.gateway_http.specs.Reports.{report_of}
 use Rattle.desk_commands.proofs.gateway.report_in_file.Goals as goal
 
 pub returns-in-Ok-clause-ends : goal.returns-in-Ok-clause-ends

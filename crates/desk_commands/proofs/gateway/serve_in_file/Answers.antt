@@ -1,6 +1,5 @@
-use Rattle.std.proofs.Common.{Some, refl, inl}
-use Rattle.desk_commands.proofs.EndsOfRuns.{serving_follows, serving_refused}
-use Rattle.desk_commands.proofs.RunsOnFiles.{runs_on}
+use Rattle.desk_types.proofs.Common.{inl, refl, Some}
+use Rattle.desk_commands.proofs.{EndsOfRuns.serving_follows, EndsOfRuns.serving_refused, RunsOnFiles.runs_on}
 use Rattle.desk_commands.proofs.gateway.serve_in_file.Goals as goal
 
 pub returns-in-Ok-clause-ends : goal.returns-in-Ok-clause-ends

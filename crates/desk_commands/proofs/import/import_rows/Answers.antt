@@ -1,10 +1,8 @@
-use Rattle.std.proofs.Common.{rules, ◌≡◌, ℕ, Bool, true, false, List, refl, inl, inr, sym, subst}
-use Rattle.desk_types.specs.Wire.{inner_of}
+use Rattle.desk_types.proofs.Common.{◌≡◌, Bool, false, inl, inner_of, inr, List, refl, rules, subst, sym, true, ℕ}
 use Rattle.desk_answers.specs.Ledger.{ForLists}
-use Rattle.desk_feed.specs.Folder.{IsRead}
-use Rattle.desk_feed.specs.Import.{IsAnswered, IsCutOff}
-use Rattle.imports.specs.Import.{command_said}
 use Rattle.desk_commands.proofs.ImportsOfFiles.{says_all}
+use Rattle.desk_feed.specs.{Folder.IsRead, Import.IsAnswered, Import.IsCutOff}
+use Rattle.imports.specs.Import.{command_said}
 use Rattle.desk_commands.proofs.import.import_rows.Goals as goal
 
 pub returns-in-Ok-true-clause-ends : goal.returns-in-Ok-true-clause-ends

@@ -1,4 +1,4 @@
-use Rattle.std.proofs.Common.{None, refl, inl, inr, arith}
+use Rattle.desk_types.proofs.Common.{arith, inl, inr, None, refl}
 use Rattle.desk_commands.proofs.EndsOfRuns.{print_follows, print_refused}
 use Rattle.desk_commands.proofs.RunsOnFiles.{audits, stays}
 use Rattle.desk_commands.proofs.looks.audit_file.Goals as goal

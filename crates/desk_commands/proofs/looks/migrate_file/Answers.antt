@@ -1,4 +1,4 @@
-use Rattle.std.proofs.Common.{refl, inl, inr, arith}
+use Rattle.desk_types.proofs.Common.{arith, inl, inr, refl}
 use Rattle.desk_commands.proofs.EndsOfRuns.{print_refused}
 use Rattle.desk_commands.proofs.looks.migrate_file.Goals as goal
 

@@ -1,6 +1,4 @@
-use Rattle.std.proofs.Common.{rules, ◌<◌, [], refl, inl, inr, arith}
-use Rattle.std.proofs.KnownBytes.{Appends-nil}
-use Rattle.desk_types.specs.Wire.{inner_of}
+use Rattle.desk_types.proofs.Common.{[], ◌<◌, Appends-nil, arith, inl, inner_of, inr, refl, rules}
 use Rattle.desk_commands.specs.Clients.{no_port}
 use Rattle.desk_commands.proofs.port.serve_port.Goals as goal
 

@@ -1,6 +1,6 @@
-use Rattle.std.proofs.Common.{rules, ◌≡◌, ◌≢◌, refl, inl, inr}
-use Rattle.http_stream.specs.Answers.{code_of, response_told}
+use Rattle.desk_types.proofs.Common.{◌≡◌, ◌≢◌, inl, inr, refl, rules}
 use Rattle.desk_commands.proofs.Questions.{answers_report}
+use Rattle.http_stream.specs.Answers.{code_of, response_told}
 use Rattle.desk_commands.proofs.port.tell_report.Goals as goal
 
 pub returns-in-Ok-clause-ends : goal.returns-in-Ok-clause-ends

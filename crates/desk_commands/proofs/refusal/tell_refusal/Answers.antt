@@ -1,6 +1,5 @@
-use Rattle.std.proofs.Common.{◌≡◌, ◌∙◌, List, ℕ, subst, inl}
-use Rattle.desk_commands.specs.Told.{TellsLine}
-use Rattle.desk_commands.specs.Runs.{refusal_line}
+use Rattle.desk_types.proofs.Common.{◌∙◌, ◌≡◌, inl, List, subst, ℕ}
+use Rattle.desk_commands.specs.{Runs.refusal_line, Told.TellsLine}
 use Rattle.desk_commands.proofs.refusal.tell_refusal.Goals as goal
 
 pub returns-in-Ok-clause-told : goal.returns-in-Ok-clause-told

@@ -1,17 +1,15 @@
-use Rattle.std.proofs.Common.{rules, ◌≡◌, ◌+◌, ◌++◌, ◌∷◌, ◌∙◌, [], List, None, refl, sym, ap, subst, length, length-append, arith}
-use Rattle.std.specs.Prelude.{flat_map}
-use Rattle.std.specs.List.{list_any}
-use Rattle.std.specs.Io.KnownBytes.{Appends}
-use Rattle.std.proofs.KnownBytes.{Appends-trans}
-use Rattle.desk_types.specs.Wire.{inner_of}
+use Rattle.desk_types.proofs.Common.{[], ◌++◌, ◌+◌, ◌∙◌, ◌∷◌, ◌≡◌, ap, Appends, Appends-trans, arith, inner_of}
+use Rattle.desk_types.proofs.Common.{length, length-append, List, list_any, None, refl, rules, subst, sym}
 use Rattle.desk_answers.specs.Sent.{SendsFront}
-use Rattle.gateway_http.specs.Requests.{request_rule}
-use Rattle.desk_commands.specs.Clients.{Exchange, served_all, no_client, no_line, ends_of, events_in}
+use Rattle.desk_commands.proofs.ClientsSeen.{all_no_port, client_no_port, line_no_port, sees_all, sees_more}
+use Rattle.desk_commands.proofs.ClientsSeen.{sees_one_more}
+use Rattle.desk_commands.proofs.ConnectionLines.{lines_more}
+use Rattle.desk_commands.proofs.ListsAfter.{ends_more, faulty_more, Serves, serves_more}
+use Rattle.desk_commands.specs.Clients.{ends_of, events_in, Exchange, no_client, no_line, served_all}
 use Rattle.desk_commands.specs.Clients.Event.{none_came}
 use Rattle.desk_commands.specs.Connections.{connection_line, is_faulty, lines_from}
-use Rattle.desk_commands.proofs.ClientsSeen.{all_no_port, client_no_port, line_no_port, sees_all, sees_more, sees_one_more}
-use Rattle.desk_commands.proofs.ConnectionLines.{lines_more}
-use Rattle.desk_commands.proofs.ListsAfter.{Serves, ends_more, faulty_more, serves_more}
+use Rattle.gateway_http.specs.Requests.{request_rule}
+use Rattle.std.specs.Prelude.{flat_map}
 use Rattle.desk_commands.proofs.serving.serve_listener.Goals as goal
 
 pub returns-in_default-clause-told : goal.returns-in_default-clause-told

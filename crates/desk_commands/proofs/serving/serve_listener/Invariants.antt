@@ -1,12 +1,9 @@
-use Rattle.std.proofs.Common.{◌≡◌, List, length}
-use Rattle.std.specs.Prelude.{flat_map}
-use Rattle.std.specs.List.{list_any}
-use Rattle.std.specs.Io.KnownBytes.{Appends}
-use Rattle.desk_types.specs.Wire.{inner_of, failures_of}
-use Rattle.gateway_http.specs.Requests.{request_rule}
-use Rattle.desk_commands.specs.Clients.{Exchange, Sees, ends_of, events_in}
-use Rattle.desk_commands.specs.Connections.{is_faulty, lines_from}
+use Rattle.desk_types.proofs.Common.{◌≡◌, Appends, failures_of, inner_of, length, List, list_any}
 use Rattle.desk_commands.proofs.ListsAfter.{Serves}
+use Rattle.desk_commands.specs.Clients.{ends_of, events_in, Exchange, Sees}
+use Rattle.desk_commands.specs.Connections.{is_faulty, lines_from}
+use Rattle.gateway_http.specs.Requests.{request_rule}
+use Rattle.std.specs.Prelude.{flat_map}
 use Rattle.desk_commands.proofs.serving.serve_listener.Given as goal
 
 abbrev pub invariant-loop-k : goal.invariant-loop-k

@@ -1,8 +1,6 @@
-use Rattle.std.proofs.Common.{refl}
-use Rattle.desk_types.specs.Wire.{inner_of}
+use Rattle.desk_types.proofs.Common.{inner_of, refl}
+use Rattle.desk_commands.proofs.{ClientsSeen.sees_one, ListsAfter.serves_one}
 use Rattle.gateway_http.specs.Requests.{request_rule}
-use Rattle.desk_commands.proofs.ClientsSeen.{sees_one}
-use Rattle.desk_commands.proofs.ListsAfter.{serves_one}
 use Rattle.desk_commands.proofs.serving.serve_next.Goals as goal
 
 pub returns-clause-served : goal.returns-clause-served

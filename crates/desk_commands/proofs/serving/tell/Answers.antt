@@ -1,11 +1,7 @@
-use Rattle.std.proofs.Common.{rules, ◌∙◌, None, ap, subst, codes, decimal}
-use Rattle.std.proofs.lemmas.Result.{on_err_weaker}
-use Rattle.std.specs.Io.KnownBytes.{Appends}
-use Rattle.desk_types.specs.Wire.{inner_of}
-use Rattle.desk_answers.specs.Sent.{SendsFront}
-use Rattle.desk_answers.specs.declared.serving.Served.{Served}
+use Rattle.desk_types.proofs.Common.{◌∙◌, ap, Appends, codes, decimal, inner_of, None, on_err_weaker, rules, subst}
+use Rattle.desk_answers.specs.{Sent.SendsFront, declared.serving.Served.Served}
+use Rattle.desk_commands.proofs.ConnectionLines.{fourth, second, third}
 use Rattle.desk_commands.specs.Connections.{connection_line, fault_word, served_of}
-use Rattle.desk_commands.proofs.ConnectionLines.{second, third, fourth}
 use Rattle.desk_commands.proofs.serving.tell.Goals as goal
 
 pub returns-in_err-send-2-clause-front : goal.returns-in_err-send-2-clause-front

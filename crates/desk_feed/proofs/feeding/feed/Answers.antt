@@ -1,12 +1,12 @@
-use Rattle.std.proofs.Common.{◌≡◌, ◌∙◌, ◌++◌, true, false, sym, ap, subst, arith, rules, length, [], refl, Bool}
-use Rattle.desk_types.specs.Wire.{inner_of}
-use Rattle.desk_feed.proofs.OwnersOfLines.{goes_none, goes_on, stops_into}
-use Rattle.desk_feed.proofs.LinesOfInputs.{EndsGone, start_gone, lines_go, last_goes, next_first, end_behind, no_end, one_more_end, all_ended}
-use Rattle.desk_feed.specs.Lines.{lines_in}
-use Rattle.desk_feed.specs.Taking.{TakesLine, LinesGone}
-use Rattle.desk_answers.specs.Block.{pending_bytes, source}
-use Rattle.desk_answers.specs.Counts.{none_served}
+use Rattle.desk_types.proofs.Common.{[], ◌++◌, ◌∙◌, ◌≡◌, ap, arith, Bool, false, inner_of, length, refl, rules, subst}
+use Rattle.desk_types.proofs.Common.{sym, true}
 use Rattle.desk_answers.proofs.Blocks.{none_pending}
+use Rattle.desk_answers.specs.{Block.pending_bytes, Block.source, Counts.none_served}
+use Rattle.desk_feed.proofs.{LinesOfInputs.all_ended, LinesOfInputs.end_behind, LinesOfInputs.EndsGone}
+use Rattle.desk_feed.proofs.{LinesOfInputs.last_goes, LinesOfInputs.lines_go, LinesOfInputs.next_first}
+use Rattle.desk_feed.proofs.{LinesOfInputs.no_end, LinesOfInputs.one_more_end, LinesOfInputs.start_gone}
+use Rattle.desk_feed.proofs.{OwnersOfLines.goes_none, OwnersOfLines.goes_on, OwnersOfLines.stops_into}
+use Rattle.desk_feed.specs.{Lines.lines_in, Taking.LinesGone, Taking.TakesLine}
 use Rattle.desk_feed.proofs.feeding.feed.Goals as goal
 
 pub lines-init : goal.lines-init

@@ -1,11 +1,6 @@
-use Rattle.std.proofs.Common.{◌≡◌, ◌+◌, ◌++◌, ◌∷◌, [], List, ℕ, cond, sym, subst, Bool}
-use Rattle.std.specs.Io.KnownBytes.{Appends}
-use Rattle.desk_types.specs.Wire.{inner_of}
-use Rattle.desk_feed.specs.LineAnswers.{line_told}
-use Rattle.desk_feed.specs.Lines.{without_return}
-use Rattle.desk_feed.specs.Stream.{Answered}
-use Rattle.desk_feed.specs.Verdicts.{is_refused}
+use Rattle.desk_types.proofs.Common.{[], ◌++◌, ◌+◌, ◌∷◌, ◌≡◌, Appends, Bool, cond, inner_of, List, subst, sym, ℕ}
 use Rattle.desk_feed.proofs.AnsweredLines.{one_answered}
+use Rattle.desk_feed.specs.{LineAnswers.line_told, Lines.without_return, Stream.Answered, Verdicts.is_refused}
 use Rattle.desk_feed.proofs.feeding.serve_line.Goals as goal
 
 pub returns-in_ok-send_line-clause-answers : goal.returns-in_ok-send_line-clause-answers

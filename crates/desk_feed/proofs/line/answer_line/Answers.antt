@@ -1,8 +1,6 @@
-use Rattle.std.proofs.Common.{rules, arith, ◌∙◌, length, ap, subst}
-use Rattle.desk_feed.proofs.AnsweredLines.{told_too_long, one_shorter}
-use Rattle.desk_feed.specs.Taking.{HoldsLine}
-use Rattle.desk_feed.specs.Lines.{without_return}
-use Rattle.desk_feed.specs.declared.taking.RawLine.{RawLine}
+use Rattle.desk_types.proofs.Common.{◌∙◌, ap, arith, length, rules, subst}
+use Rattle.desk_feed.proofs.AnsweredLines.{one_shorter, told_too_long}
+use Rattle.desk_feed.specs.{Lines.without_return, Taking.HoldsLine, declared.taking.RawLine.RawLine}
 use Rattle.desk_feed.proofs.line.answer_line.Goals as goal
 
 pub returns-in-NoMemory-clause-answer : goal.returns-in-NoMemory-clause-answer

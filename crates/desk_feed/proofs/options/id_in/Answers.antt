@@ -1,6 +1,5 @@
-use Rattle.std.proofs.Common.{◌∙◌, ap, ok_or, Option, ℕ, List}
-use Rattle.cfx_profile.specs.Forms.{id_of}
-use Rattle.cfx_profile.proofs.Names.{id_of-read}
+use Rattle.desk_types.proofs.Common.{◌∙◌, ap, List, ok_or, Option, ℕ}
+use Rattle.cfx_profile.{proofs.Names.id_of-read, specs.Forms.id_of}
 use Rattle.desk_feed.proofs.options.id_in.Goals as goal
 
 pub returns : goal.returns

@@ -1,4 +1,4 @@
-use Rattle.std.proofs.Common.{refl}
+use Rattle.desk_types.proofs.Common.{refl}
 use Rattle.desk_feed.proofs.FileFronts.{is_read}
 use Rattle.desk_feed.proofs.reading.read_file.Goals as goal
 

@@ -1,13 +1,9 @@
-use Rattle.std.proofs.Common.{rules, arith, ◌≡◌, ◌∙◌, ◌++◌, [], ◌∷◌, length, take, sym, ap, subst, append_assoc, false}
-use Rattle.std.specs.Io.KnownBytes.{Consumes}
-use Rattle.std.proofs.KnownBytes.{Consumes-trans, Consumes-kept}
-use Rattle.std.proofs.lemmas.List.{length-drop}
-use Rattle.std.proofs.lemmas.List.Elements.{All-append}
-use Rattle.desk_types.specs.Wire.{inner_of}
+use Rattle.desk_types.proofs.Common.{[], ◌++◌, ◌∙◌, ◌∷◌, ◌≡◌, All-append, ap, append_assoc, arith, Consumes}
+use Rattle.desk_types.proofs.Common.{Consumes-trans, false, inner_of, length, length-drop, rules, subst, sym, take}
 use Rattle.desk_answers.specs.Block.{pending_bytes, source}
-use Rattle.desk_feed.specs.Lines.{is_feed}
-use Rattle.desk_feed.specs.Taking.{ReadsInside}
-use Rattle.desk_feed.proofs.TakenLines.{line_goes, all_goes}
+use Rattle.desk_feed.proofs.TakenLines.{all_goes, line_goes}
+use Rattle.desk_feed.specs.{Lines.is_feed, Taking.ReadsInside}
+use Rattle.std.proofs.KnownBytes.{Consumes-kept}
 use Rattle.desk_feed.proofs.taking.take_line.Goals as goal
 
 pub returns-in-Some-clause-line : goal.returns-in-Some-clause-line

@@ -1,7 +1,5 @@
-use Rattle.std.proofs.Common.{◌≡◌, ◌≤◌, ℕ, List}
-use Rattle.std.specs.Io.KnownBytes.{Consumes}
-use Rattle.desk_types.specs.Wire.{inner_of, reads_of, failures_of}
-use Rattle.desk_answers.specs.Block.{IsBlock, source, fuel}
+use Rattle.desk_types.proofs.Common.{◌≡◌, ◌≤◌, Consumes, failures_of, inner_of, List, reads_of, ℕ}
+use Rattle.desk_answers.specs.Block.{fuel, IsBlock, source}
 use Rattle.desk_feed.specs.Taking.{HasNoFeed, HoldsLine}
 use Rattle.desk_feed.proofs.taking.take_line.Given as goal
 

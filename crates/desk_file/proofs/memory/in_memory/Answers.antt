@@ -1,7 +1,7 @@
-use Rattle.std.proofs.Common.{Bool, [], subst}
-use Rattle.sqlite.specs.Files.{over_files}
-use Rattle.line_tables.proofs.Ours.{is_blank_of}
+use Rattle.desk_types.proofs.Common.{[], Bool, subst}
+use Rattle.line_tables.proofs.Common.{over_files}
 use Rattle.line_schema.specs.Stands.{Stands}
+use Rattle.line_tables.proofs.Ours.{is_blank_of}
 use Rattle.desk_file.proofs.memory.in_memory.Goals as goal
 
 pub returns-in-Ok : goal.returns-in-Ok

@@ -1,7 +1,6 @@
-use Rattle.std.proofs.Common.{ap, ◌∙◌}
-use Rattle.sqlite.specs.Effect.{Database}
-use Rattle.sqlite.specs.Files.{file_state}
-use Rattle.desk_file.proofs.Truth.{stays_clean, finds_none}
+use Rattle.desk_types.proofs.Common.{◌∙◌, ap}
+use Rattle.line_tables.proofs.Common.{Database, file_state}
+use Rattle.desk_file.proofs.Truth.{finds_none, stays_clean}
 use Rattle.desk_file.proofs.memory.open.Goals as goal
 
 pub returns-in-Ok : goal.returns-in-Ok

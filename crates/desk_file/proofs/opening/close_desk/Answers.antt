@@ -1,9 +1,7 @@
-use Rattle.std.proofs.Common.{IfOk, IfErr, subst}
-use Rattle.std.proofs.lemmas.Result.{IfOk-weaker}
+use Rattle.desk_types.proofs.Common.{IfErr, IfOk, IfOk-weaker, subst}
+use Rattle.line_tables.proofs.Common.{Held}
+use Rattle.desk_file.{proofs.ClosedFiles.closes, specs.Files.Copies, specs.Files.Leaves}
 use Rattle.sqlite_store.specs.declared.store.FileStore.{FileStore}
-use Rattle.sqlite.specs.Held.{Held}
-use Rattle.desk_file.proofs.ClosedFiles.{closes}
-use Rattle.desk_file.specs.Files.{Copies, Leaves}
 use Rattle.desk_file.proofs.opening.close_desk.Goals as goal
 
 pub returns-clause-whole : goal.returns-clause-whole

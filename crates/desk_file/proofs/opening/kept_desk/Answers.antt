@@ -1,12 +1,9 @@
-use Rattle.std.proofs.Common.{Bool, None, arith, ◌∙◌, subst}
-use Rattle.sqlite_wal.specs.Files.{image_at}
-use Rattle.sqlite.specs.Files.{file_state, over_files}
-use Rattle.sqlite.specs.State.{HasCleanDisk}
-use Rattle.desk_types.specs.declared.rules.Rules.TheVariants.{Two}
-use Rattle.line_schema.specs.Stands.{Stands}
-use Rattle.desk_file.proofs.FirstLists.{opened_begins}
+use Rattle.desk_types.proofs.Common.{◌∙◌, arith, Bool, None, subst, Two}
+use Rattle.line_tables.proofs.Common.{file_state, HasCleanDisk, over_files}
+use Rattle.desk_file.proofs.{FirstLists.opened_begins, RefusedFiles.fault_in, RefusedFiles.refused}
 use Rattle.desk_file.specs.Refused.{IsFaultIn}
-use Rattle.desk_file.proofs.RefusedFiles.{fault_in, refused}
+use Rattle.line_schema.specs.Stands.{Stands}
+use Rattle.sqlite_wal.specs.Files.{image_at}
 use Rattle.desk_file.proofs.opening.kept_desk.Goals as goal
 
 pub returns-in-Ok-clause-begins : goal.returns-in-Ok-clause-begins

@@ -1,13 +1,8 @@
-use Rattle.std.specs.Prelude.{⊤}
-use Rattle.std.proofs.Common.{arith}
-use Rattle.sqlite_wal.specs.Files.{image_at}
-use Rattle.sqlite.specs.Files.{file_state}
-use Rattle.sqlite.specs.State.{HasCleanDisk}
-use Rattle.desk_types.specs.declared.rules.Rules.TheVariants.{One}
-use Rattle.line_tables.specs.Calls.{LeavesMigrated}
-use Rattle.desk_file.proofs.FirstLists.{migrates}
+use Rattle.desk_types.proofs.Common.{⊤, arith, One}
+use Rattle.line_tables.proofs.Common.{file_state, HasCleanDisk, LeavesMigrated}
+use Rattle.desk_file.proofs.{FirstLists.migrates, RefusedFiles.fault_in, RefusedFiles.refused}
 use Rattle.desk_file.specs.Refused.{IsFaultIn}
-use Rattle.desk_file.proofs.RefusedFiles.{fault_in, refused}
+use Rattle.sqlite_wal.specs.Files.{image_at}
 use Rattle.desk_file.proofs.opening.migrate_desk.Goals as goal
 
 pub returns-in-Ok-clause-migrated : goal.returns-in-Ok-clause-migrated

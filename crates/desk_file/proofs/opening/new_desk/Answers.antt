@@ -1,11 +1,9 @@
-use Rattle.std.proofs.Common.{◌≡◌, Bool, [], Some, None, arith, subst}
-use Rattle.sqlite_wal.specs.Files.{image_at}
-use Rattle.sqlite.specs.Files.{file_state, over_files}
-use Rattle.sqlite.specs.State.{HasCleanDisk}
-use Rattle.line_schema.specs.Stands.{Stands}
-use Rattle.desk_file.proofs.FirstLists.{made_begins, no_table}
+use Rattle.desk_types.proofs.Common.{[], ◌≡◌, arith, Bool, None, Some, subst}
+use Rattle.line_tables.proofs.Common.{file_state, HasCleanDisk, over_files}
+use Rattle.desk_file.proofs.{FirstLists.made_begins, FirstLists.no_table, RefusedFiles.refused, RefusedFiles.unmade}
 use Rattle.desk_file.specs.Refused.{IsFaultFor, LeavesMade}
-use Rattle.desk_file.proofs.RefusedFiles.{refused, unmade}
+use Rattle.line_schema.specs.Stands.{Stands}
+use Rattle.sqlite_wal.specs.Files.{image_at}
 use Rattle.desk_file.proofs.opening.new_desk.Goals as goal
 
 pub returns-in-Ok-clause-begins : goal.returns-in-Ok-clause-begins

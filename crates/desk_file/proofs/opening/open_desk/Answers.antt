@@ -1,14 +1,9 @@
-use Rattle.std.proofs.Common.{ℕ, [], Option, IfErr, IfSome, inr, sym, subst}
-use Rattle.std.proofs.lemmas.Result.{IfOk-weaker}
-use Rattle.sqlite_wal.specs.Files.{image_at}
-use Rattle.sqlite_trees.specs.Tree.{Trees}
-use Rattle.sqlite.specs.Files.{over_files}
-use Rattle.line_tables.specs.Rows.{HoldsAt, blank}
+use Rattle.desk_types.proofs.Common.{[], IfErr, IfOk-weaker, IfSome, inr, Option, subst, sym, ℕ}
+use Rattle.line_tables.proofs.Common.{blank, HoldsAt, over_files, Trees}
+use Rattle.desk_file.proofs.{FirstLists.begins_any, FirstLists.reads_none, RefusedFiles.refuses}
+use Rattle.desk_file.specs.{Files.Begins, Files.HasOursFirst, Refused.RefusesRun}
 use Rattle.line_schema.specs.Stands.{state_of}
-use Rattle.desk_file.specs.Files.{Begins, HasOursFirst}
-use Rattle.desk_file.proofs.FirstLists.{begins_any, reads_none}
-use Rattle.desk_file.specs.Refused.{RefusesRun}
-use Rattle.desk_file.proofs.RefusedFiles.{refuses}
+use Rattle.sqlite_wal.specs.Files.{image_at}
 use Rattle.desk_file.proofs.opening.open_desk.Goals as goal
 
 pub returns-in-Some-clause-begins : goal.returns-in-Some-clause-begins

@@ -1,9 +1,8 @@
-use Rattle.std.proofs.Common.{sym, ap, ◌∙◌}
-use Rattle.sqlite_wal.specs.Reads.{are_clean}
-use Rattle.sqlite_store.specs.Listed.{catalog_rows}
-use Rattle.sqlite_store.specs.Listing.{listed_from}
-use Rattle.sqlite_trees.proofs.Doubt.{no_doubt}
+use Rattle.desk_types.proofs.Common.{◌∙◌, ap, sym}
+use Rattle.line_tables.proofs.Common.{no_doubt}
 use Rattle.sqlite.proofs.OpenLemmas.{pool_files}
+use Rattle.sqlite_store.specs.{Listed.catalog_rows, Listing.listed_from}
+use Rattle.sqlite_wal.specs.Reads.{are_clean}
 use Rattle.desk_file.proofs.pages.new_store.Goals as goal
 
 pub returns-in-Ok : goal.returns-in-Ok

@@ -1,14 +1,11 @@
-use Rattle.std.proofs.Common.{◌≡◌, false, sym, ap, subst, ◌∙◌, inl, inr, arith, rules}
-use Rattle.sqlite_wal.specs.PageSize.{bytes_of}
-use Rattle.sqlite_pool.specs.Stored.{used_size}
-use Rattle.sqlite_pool.specs.Opening.{IsBlankFile}
+use Rattle.desk_types.proofs.Common.{◌∙◌, ◌≡◌, ap, arith, false, inl, inr, rules, subst, sym}
+use Rattle.line_tables.proofs.Common.{file_state, HasCleanDisk, HoldsDatabase}
+use Rattle.desk_file.{proofs.Making.new_holds_none, specs.Found.IsNew}
+use Rattle.sqlite.{proofs.FileLemmas.same_image, specs.Files.AreFoundIn, specs.Files.image_of, specs.Files.IsEmpty}
+use Rattle.sqlite_pool.{specs.Opening.IsBlankFile, specs.Stored.used_size}
 use Rattle.sqlite_store.specs.FileStore.{view as shown}
 use Rattle.sqlite_trees.proofs.Doubt.{clean_of as sure}
-use Rattle.sqlite.specs.Files.{AreFoundIn, HoldsDatabase, IsEmpty, file_state, image_of}
-use Rattle.sqlite.specs.State.{HasCleanDisk}
-use Rattle.sqlite.proofs.FileLemmas.{same_image}
-use Rattle.desk_file.specs.Found.{IsNew}
-use Rattle.desk_file.proofs.Making.{new_holds_none}
+use Rattle.sqlite_wal.specs.PageSize.{bytes_of}
 use Rattle.desk_file.proofs.pages.open_files.Goals as goal
 
 pub over-requires : goal.over-requires

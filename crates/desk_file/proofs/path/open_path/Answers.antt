@@ -1,9 +1,8 @@
-use Rattle.std.proofs.Common.{ℕ, Bool, cond, List, ap₂, subst}
-use Rattle.std.proofs.lemmas.Result.{IfOk-weaker}
+use Rattle.desk_types.proofs.Common.{ap₂, Bool, cond, IfOk-weaker, List, subst, ℕ}
+use Rattle.line_tables.proofs.Common.{file_state}
+use Rattle.desk_file.specs.Found.{FindsAs}
 use Rattle.sqlite_disk.specs.Events.{Event, replay}
 use Rattle.sqlite_wal.specs.Recovery.{Image}
-use Rattle.sqlite.specs.Files.{file_state}
-use Rattle.desk_file.specs.Found.{FindsAs}
 use Rattle.desk_file.proofs.path.open_path.Goals as goal
 
 abbrev image : List ℕ → List ℕ → Image

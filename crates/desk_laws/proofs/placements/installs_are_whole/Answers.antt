@@ -1,12 +1,7 @@
-use Rattle.std.proofs.Common.{ap, ◌∙◌}
-use Rattle.std.specs.Option.{option_map_or}
-use Rattle.desk_types.specs.declared.answer.Reply.TheVariants.{Accepted, Refused}
-use Rattle.desk_types.specs.History.{effective_minute}
-use Rattle.desk_types.specs.Outcome.{change_of}
+use Rattle.desk_types.proofs.Common.{◌∙◌, Accepted, ap, change_of, effective_minute, option_map_or, Refused}
+use Rattle.desk_laws.proofs.{Accepted.command-accepted, Installs.named-once, WholeInstalls.install-told}
+use Rattle.desk_laws.proofs.{WholeInstalls.install-whole}
 use Rattle.desk_types.proofs.BothRules.{accepted-by-two}
-use Rattle.desk_laws.proofs.Accepted.{command-accepted}
-use Rattle.desk_laws.proofs.Installs.{named-once}
-use Rattle.desk_laws.proofs.WholeInstalls.{install-whole, install-told}
 use Rattle.desk_laws.proofs.placements.installs_are_whole.Goals as goal
 
 pub returns-clause-spots : goal.returns-clause-spots

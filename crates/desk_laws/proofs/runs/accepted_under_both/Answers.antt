@@ -1,8 +1,4 @@
-use Rattle.std.proofs.Common.{sym, ap, ◌∙◌}
-use Rattle.std.specs.Option.{option_map_or}
-use Rattle.desk_types.specs.declared.answer.Reply.TheVariants.{Accepted, Refused}
-use Rattle.desk_types.specs.declared.rules.Rules.TheVariants.{One}
-use Rattle.desk_types.specs.Outcome.{change_of}
+use Rattle.desk_types.proofs.Common.{◌∙◌, Accepted, ap, change_of, One, option_map_or, Refused, sym}
 use Rattle.desk_types.proofs.BothRules.{accepted-by-two, judged-by-two}
 use Rattle.desk_laws.proofs.runs.accepted_under_both.Goals as goal
 

@@ -1,4 +1,4 @@
-use Rattle.desk_laws.proofs.Prefixes.{replies-append, after-append}
+use Rattle.desk_laws.proofs.Prefixes.{after-append, replies-append}
 use Rattle.desk_laws.proofs.runs.run_in_parts.Goals as goal
 
 pub returns-clause-replies : goal.returns-clause-replies

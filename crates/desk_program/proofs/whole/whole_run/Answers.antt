@@ -1,5 +1,4 @@
-use Rattle.std.proofs.Common.{rules, ◌≡◌, inl, inr, refl, ap, is_some, map, string_bytes, arith}
-use Rattle.std.specs.Prelude.{◌≢◌}
+use Rattle.desk_types.proofs.Common.{◌≡◌, ◌≢◌, ap, arith, inl, inr, is_some, map, refl, rules, string_bytes}
 use Rattle.desk_commands.specs.Closed.{failed, whole}
 use Rattle.desk_program.proofs.WaysOfRuns.{closed, few, follows, names_file, unclosed, unclosed_told}
 use Rattle.desk_program.proofs.whole.whole_run.Goals as goal

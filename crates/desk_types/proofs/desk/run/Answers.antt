@@ -1,13 +1,7 @@
-use Rattle.std.proofs.Common.{◌≡◌, ℕ, ◌+◌, ◌≤◌, List, [], ◌∷◌, ◌++◌, Option, Some, None, length, drop, sym, ap, ◌∙◌, append_assoc, arith}
-use Rattle.std.specs.Option.{option_map_or}
-use Rattle.desk_types.specs.declared.command.Stamped.{Stamped}
-use Rattle.desk_types.specs.declared.answer.Reply.{Reply}
-use Rattle.desk_types.specs.declared.answer.Refusal.{Refusal}
-use Rattle.desk_types.specs.declared.rules.Rules.{Rules}
-use Rattle.desk_types.specs.History.{History, accept}
-use Rattle.desk_types.specs.Refusals.{refusal_of}
-use Rattle.desk_types.proofs.LoopSteps.{drop-next}
-use Rattle.desk_types.specs.Outcome.{after_command, after_commands, reply_to, replies_to}
+use Rattle.desk_types.proofs.Common.{[], ◌++◌, ◌+◌, ◌∙◌, ◌∷◌, ◌≡◌, ◌≤◌, accept, after_command, after_commands, ap}
+use Rattle.desk_types.proofs.Common.{append_assoc, arith, drop, drop-next, History, length, List, None, Option}
+use Rattle.desk_types.proofs.Common.{option_map_or, Refusal, refusal_of, replies_to, Reply, reply_to, Rules, Some}
+use Rattle.desk_types.proofs.Common.{Stamped, sym, ℕ}
 use Rattle.desk_types.proofs.desk.run.Goals as goal
 
 told_more : (rules : Rules) (H first : History) (ms : List Stamped) (i : ℕ) (s : Stamped) (rs : List Reply) (r : Reply)

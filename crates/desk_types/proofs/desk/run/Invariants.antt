@@ -1,7 +1,5 @@
-use Rattle.std.proofs.Common.{◌≡◌, ◌-◌, ◌++◌, length, drop}
+use Rattle.desk_types.proofs.Common.{◌++◌, ◌-◌, ◌≡◌, after_commands, Basis, drop, History, length, replies_to}
 use Rattle.desk_types.specs.Desk.{HasRoom}
-use Rattle.desk_types.specs.History.{History, Basis}
-use Rattle.desk_types.specs.Outcome.{after_commands, replies_to}
 use Rattle.desk_types.proofs.desk.run.Given as goal
 
 -- For each initial basis, the desk represents one with the same rules that gives the remaining

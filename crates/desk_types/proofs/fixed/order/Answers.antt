@@ -1,5 +1,5 @@
-use Rattle.std.proofs.Common.{◌≤◌, ◌+◌, ◌∙◌, length, arith}
-use Rattle.desk_types.proofs.EightBytes.{apart, alike}
+use Rattle.desk_types.proofs.Common.{◌+◌, ◌∙◌, ◌≤◌, arith, length}
+use Rattle.desk_types.proofs.EightBytes.{alike, apart}
 use Rattle.desk_types.proofs.fixed.order.Goals as goal
 
 pub returns-then-x-y : goal.returns-then-x-y

@@ -1,6 +1,5 @@
-use Rattle.std.proofs.Common.{◌≡◌, ◌≤◌, ◌-◌, ◌%◌, drop, length}
-use Rattle.std.specs.Cmp.Lexicographic.{slice_cmp}
-use Rattle.std.specs.Ordering.{nat_cmp}
+use Rattle.desk_types.proofs.Common.{◌-◌, ◌≡◌, ◌≤◌, drop, length, nat_cmp, slice_cmp}
+use Rattle.std.proofs.Common.{◌%◌}
 use Rattle.desk_types.proofs.fixed.order.Given as goal
 
 -- The words so far are equal, so the remaining bytes decide the order.

@@ -1,5 +1,4 @@
-use Rattle.std.specs.List.{AllWithin}
-use Rattle.desk_types.specs.Designator.{IsDesignator}
+use Rattle.desk_types.proofs.Common.{AllWithin, IsDesignator}
 use Rattle.desk_types.proofs.range.designators_ranges_hold.Given as goal
 
 abbrev pub invariant-loop-designator : goal.invariant-loop-designator

@@ -1,5 +1,4 @@
-use Rattle.std.specs.List.{AllWithin}
-use Rattle.desk_types.specs.Command.{IsSheetRow}
+use Rattle.desk_types.proofs.Common.{AllWithin, IsSheetRow}
 use Rattle.desk_types.proofs.range.rows_ranges_hold.Given as goal
 
 abbrev pub invariant-loop-row : goal.invariant-loop-row

@@ -1,4 +1,4 @@
-use Rattle.std.proofs.Common.{arith}
+use Rattle.desk_types.proofs.Common.{arith}
 use Rattle.desk_types.proofs.Readers.{value_unread}
 use Rattle.desk_types.proofs.stored_composed.values.Goals as goal
 

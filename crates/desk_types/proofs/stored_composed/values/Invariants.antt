@@ -1,5 +1,5 @@
-use Rattle.std.proofs.Common.{◌≡◌, ◌++◌, length, flat_map}
-use Rattle.std.specs.List.{AllByRecursion}
+use Rattle.desk_types.proofs.Common.{◌++◌, ◌≡◌, AllByRecursion, length}
+use Rattle.std.proofs.Common.{flat_map}
 use Rattle.desk_types.proofs.stored_composed.values.Given as goal
 
 abbrev pub invariant-loop : goal.invariant-loop

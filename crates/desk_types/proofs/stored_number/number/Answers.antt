@@ -1,9 +1,6 @@
-use Rattle.std.proofs.Common.{◌≡◌, decimal, sym, ap, ◌∙◌, subst, not}
-use Rattle.std.specs.Str.{IsUtf8}
+use Rattle.desk_types.proofs.Common.{◌==◌, ◌∙◌, ◌≡◌, ap, decimal, IsUtf8, IsUtf8-from_ascii, nat_list_eq_equiv, not}
+use Rattle.desk_types.proofs.Common.{pointwise, subst, sym}
 use Rattle.std.proofs.lemmas.Fmt.{IsAscii-decimal, parse-decimal}
-use Rattle.std.proofs.lemmas.Str.{IsUtf8-from_ascii}
-use Rattle.std.specs.Cmp.Lexicographic.{pointwise, nat_list_eq_equiv}
-use Rattle.std.specs.Prelude.{◌==◌}
 use Rattle.desk_types.proofs.stored_number.number.Goals as goal
 
 pub returns-in_default-clause-refused : goal.returns-in_default-clause-refused

@@ -1,12 +1,13 @@
-use Rattle.std.proofs.Common.{refl}
-use Rattle.desk_types.specs.Command.{IsListOf, IsSheetRow, IsCountRow}
-use Rattle.desk_types.specs.Designator.{IsDesignator}
-use Rattle.desk_types.specs.Fields.{PairInRange, pair_fields, TripleInRange, triple_fields, number_fields}
-use Rattle.desk_types.specs.Id.{IsId}
-use Rattle.desk_types.specs.Number.{IsQuantity}
-use Rattle.desk_types.specs.StoredText.{name_fields, list_fields, row_fields, count_fields}
-use Rattle.desk_types.specs.declared.stored_word.Word.TheVariants.{PartDefined, AlternateAllowed, SheetDefined, ProductSelected, ReelOpened, ReelSealed, ReelBaked, MaterialsLoaded, MaterialsSpliced, MaterialsUnloaded, WorkStarted, WorkCompleted, MaterialsInstalled, MaterialsScrapped, CountsTaken}
+use Rattle.desk_types.proofs.Common.{count_fields, IsCountRow, IsDesignator, IsId, IsListOf, IsQuantity, IsSheetRow}
+use Rattle.desk_types.proofs.Common.{list_fields, name_fields, number_fields, refl, row_fields, triple_fields}
+use Rattle.desk_types.proofs.Common.{TripleInRange}
 use Rattle.desk_types.proofs.Members.{word_unread}
+use Rattle.desk_types.specs.Fields.{pair_fields, PairInRange}
+use Rattle.desk_types.specs.declared.stored_word.Word.TheVariants.{AlternateAllowed, CountsTaken, MaterialsInstalled}
+use Rattle.desk_types.specs.declared.stored_word.Word.TheVariants.{MaterialsLoaded, MaterialsScrapped}
+use Rattle.desk_types.specs.declared.stored_word.Word.TheVariants.{MaterialsSpliced, MaterialsUnloaded, PartDefined}
+use Rattle.desk_types.specs.declared.stored_word.Word.TheVariants.{ProductSelected, ReelBaked, ReelOpened, ReelSealed}
+use Rattle.desk_types.specs.declared.stored_word.Word.TheVariants.{SheetDefined, WorkCompleted, WorkStarted}
 use Rattle.desk_types.proofs.stored_reading.members.Goals as goal
 
 pub returns-in_err-read-in-PartDefined : goal.returns-in_err-read-in-PartDefined

@@ -1,9 +1,7 @@
-use Rattle.std.proofs.Common.{◌++◌, refl, sym, ap, subst, ◌∙◌}
-use Rattle.desk_types.specs.Command.{IsCommand}
-use Rattle.desk_types.specs.Fields.{members_of}
-use Rattle.desk_types.specs.Level.{IsLabel}
+use Rattle.desk_types.proofs.Common.{◌++◌, ◌∙◌, ap, IsCommand, IsLabel, members_of, refl, subst, sym}
+use Rattle.desk_types.proofs.Members.{AreOfReceipt, MembersOf, receipt_fields, receipt_in_range, receipts_apart, said}
+use Rattle.desk_types.proofs.Members.{word_unread}
 use Rattle.desk_types.specs.declared.stored_word.Word.TheVariants.{ReelReceived}
-use Rattle.desk_types.proofs.Members.{AreOfReceipt, receipt_fields, receipt_in_range, receipts_apart, MembersOf, said, word_unread}
 use Rattle.desk_types.proofs.stored_reading.receipt.Goals as goal
 
 pub returns-in_err-reel : goal.returns-in_err-reel

@@ -1,10 +1,6 @@
-use Rattle.std.proofs.Common.{◌≡◌, [], ◌++◌, refl, sym, ap, ◌∙◌, append-nil}
-use Rattle.desk_types.specs.Fields.{fields_in, members_of}
-use Rattle.desk_types.specs.StoredText.{fields_of}
-use Rattle.desk_types.proofs.Members.{word_of, commands_apart}
-use Rattle.desk_types.proofs.Splitting.{some_field}
-use Rattle.desk_types.proofs.Tabs.{stored_text-fields_in}
-use Rattle.desk_types.proofs.Whole.{begins, said_in, unread}
+use Rattle.desk_types.proofs.Common.{[], ◌++◌, ◌∙◌, ◌≡◌, ap, append-nil, fields_in, fields_of, members_of, refl, sym}
+use Rattle.desk_types.proofs.{Members.commands_apart, Members.word_of, Splitting.some_field}
+use Rattle.desk_types.proofs.{Tabs.stored_text-fields_in, Whole.begins, Whole.said_in, Whole.unread}
 use Rattle.desk_types.proofs.stored_reading.whole.Goals as goal
 
 pub returns-in_default : goal.returns-in_default

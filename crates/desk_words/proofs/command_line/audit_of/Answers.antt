@@ -1,7 +1,6 @@
-use Rattle.std.proofs.Common.{rules, ◌≡◌, ◌∙◌, sym, codes, string_bytes, Some, None, inl, inr}
-use Rattle.clap.specs.Matches.{found_of, first_value}
-use Rattle.clap.specs.Walk.{rows_of}
+use Rattle.desk_types.proofs.Common.{◌∙◌, ◌≡◌, codes, inl, inr, None, rules, Some, string_bytes, sym}
 use Rattle.clap.proofs.WalkLemmas.{first_value-rows}
+use Rattle.clap.specs.{Matches.first_value, Matches.found_of, Walk.rows_of}
 use Rattle.desk_words.proofs.command_line.audit_of.Goals as goal
 
 pub returns-in_ok-from_str-in-Some-clause-asks : goal.returns-in_ok-from_str-in-Some-clause-asks

@@ -1,14 +1,16 @@
-use Rattle.std.proofs.Common.{rules, ◌≡◌, ◌∙◌, ◌⊎◌, ℕ, Bool, cond, true, false, true≢false, sym, ap, codes, List, [], ◌∷◌, Option, Some, None, is_some, option_map, unwrap_or, inl, inr, refl}
-use Rattle.std.specs.Str.{bytes_eq}
-use Rattle.std.proofs.lemmas.Slice.Eq.{bytes_eq-Decides}
+use Rattle.desk_types.proofs.Common.{[], ◌∙◌, ◌∷◌, ◌≡◌, ◌⊎◌, ap, Bool, bytes_eq-Decides, codes, cond, false, inl, inr}
+use Rattle.desk_types.proofs.Common.{is_some, List, None, Option, refl, rules, Some, sym, true, true≢false, unwrap_or}
+use Rattle.desk_types.proofs.Common.{ℕ}
 use Rattle.clap.specs.Faults.{check_fault, defaults_fault, level_fault, settle_fault, walk_fault}
 use Rattle.clap.specs.Kinds.{Kinds, or_else}
 use Rattle.clap.specs.Matches.{found_of, subcommand_name_of}
-use Rattle.clap.specs.Simple.{Shape, argument_words, built, entered, names_of, rows_at, subcommand_rows_of}
-use Rattle.clap.specs.Walk.{Held, Names, Row, finished, rows_of, settled, stop_after, walk, walk_from}
+use Rattle.clap.specs.Simple.{argument_words, built, entered, names_of, rows_at, Shape, subcommand_rows_of}
+use Rattle.clap.specs.Walk.{finished, Held, Names, Row, rows_of, settled, stop_after, walk, walk_from}
 use Rattle.clap.specs.declared.parser.matches.ArgMatches.{ArgMatches}
 use Rattle.clap.specs.declared.parser.matches.ArgMatches.TheViews.{out-ArgMatches}
 use Rattle.desk_words.specs.CommandLine.{commands, named_by, told_of}
+use Rattle.std.proofs.Common.{option_map}
+use Rattle.std.specs.Str.{bytes_eq}
 use Rattle.desk_words.proofs.command_line.command_of.Goals as goal
 
 last_of : (a b : Kinds) → or_else a b ≡ [] → b ≡ []

@@ -1,5 +1,4 @@
-use Rattle.std.proofs.Common.{◌≡◌, ◌∙◌, ap₂}
-use Rattle.std.proofs.lemmas.Result.{IfOk-weaker}
+use Rattle.desk_types.proofs.Common.{◌∙◌, ◌≡◌, ap₂, IfOk-weaker}
 use Rattle.clap.specs.Simple.{app_of, with_subcommand}
 use Rattle.desk_words.specs.CommandLine.{audit_shape, report_shape, with_answering}
 use Rattle.desk_words.proofs.command_line.commands.Goals as goal

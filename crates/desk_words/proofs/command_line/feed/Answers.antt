@@ -1,7 +1,5 @@
-use Rattle.std.proofs.Common.{rules, ◌≡◌, ◌∙◌, ap, ap₂, codes}
-use Rattle.std.proofs.lemmas.Result.{IfOk-weaker}
-use Rattle.clap.specs.Simple.{App, app_of, new_app, with_rule}
-use Rattle.clap.specs.Walk.{rule_of}
+use Rattle.desk_types.proofs.Common.{◌∙◌, ◌≡◌, ap, ap₂, codes, IfOk-weaker, rules}
+use Rattle.clap.specs.{Simple.App, Simple.app_of, Simple.new_app, Simple.with_rule, Walk.rule_of}
 use Rattle.desk_words.specs.CommandLine.{file_rule, greatest_rule}
 use Rattle.desk_words.proofs.command_line.feed.Goals as goal
 

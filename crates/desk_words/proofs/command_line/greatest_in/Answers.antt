@@ -1,8 +1,7 @@
-use Rattle.std.proofs.Common.{rules, ◌≡◌, ◌∙◌, ℕ, List, Option, Some, None, IfSome, IsNone, codes, subst}
-use Rattle.clap.specs.Matches.{found_of, first_value}
-use Rattle.clap.proofs.WalkLemmas.{first_value-rows}
+use Rattle.desk_types.proofs.Common.{◌∙◌, ◌≡◌, codes, IfSome, IsSomeAnd, List, None, Option, rules, Some, subst, ℕ}
+use Rattle.clap.{proofs.WalkLemmas.first_value-rows, specs.Matches.first_value, specs.Matches.found_of}
 use Rattle.desk_words.specs.CommandLine.{GoesUpTo, IsGreatest}
-use Rattle.std.specs.Prelude.{IsSomeAnd}
+use Rattle.std.proofs.Common.{IsNone}
 use Rattle.desk_words.proofs.command_line.greatest_in.Goals as goal
 
 pub returns-in-Some-clause-some : goal.returns-in-Some-clause-some

@@ -1,7 +1,7 @@
-use Rattle.std.proofs.Common.{rules, ◌≡◌, ◌∙◌, ℕ, List, Option, Some, None, IfSome, IsNone, subst}
-use Rattle.clap.specs.Matches.{found_of, first_value}
-use Rattle.clap.proofs.WalkLemmas.{first_value-rows}
+use Rattle.desk_types.proofs.Common.{◌∙◌, ◌≡◌, IfSome, List, None, Option, rules, Some, subst, ℕ}
+use Rattle.clap.{proofs.WalkLemmas.first_value-rows, specs.Matches.first_value, specs.Matches.found_of}
 use Rattle.desk_words.specs.CommandLine.{Shows, ShowsNone}
+use Rattle.std.proofs.Common.{IsNone}
 use Rattle.desk_words.proofs.command_line.number_in.Goals as goal
 
 pub returns-in-Some-clause-some : goal.returns-in-Some-clause-some

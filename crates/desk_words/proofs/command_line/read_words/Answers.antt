@@ -1,9 +1,8 @@
-use Rattle.std.proofs.Common.{rules, ◌≡◌, ◌∙◌, refl, ap, subst, true, map, string_bytes, List, ℕ, []}
-use Rattle.clap.specs.Simple.{App, HasMatchesOf, app_of, is_simple, subcommand_of, subcommand_rows_of}
-use Rattle.clap.specs.Faults.{is_simple_and_free, fault_of}
-use Rattle.clap.specs.Kinds.{HasKind}
-use Rattle.clap.specs.declared.parser.matches.ArgMatches.{ArgMatches}
+use Rattle.desk_types.proofs.Common.{[], ◌∙◌, ◌≡◌, ap, List, map, refl, rules, string_bytes, subst, true, ℕ}
 use Rattle.clap.proofs.OnLiterals.{clap_on_literals}
+use Rattle.clap.specs.{Faults.fault_of, Faults.is_simple_and_free, Kinds.HasKind, Simple.App, Simple.app_of}
+use Rattle.clap.specs.{Simple.HasMatchesOf, Simple.is_simple, Simple.subcommand_of, Simple.subcommand_rows_of}
+use Rattle.clap.specs.{declared.parser.matches.ArgMatches.ArgMatches}
 use Rattle.desk_words.specs.CommandLine.{commands, named_by, told_of}
 use Rattle.desk_words.proofs.command_line.read_words.Goals as goal
 

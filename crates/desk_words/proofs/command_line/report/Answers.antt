@@ -1,5 +1,4 @@
-use Rattle.std.proofs.Common.{rules, ◌≡◌, ◌∙◌, ap, codes}
-use Rattle.std.proofs.lemmas.Result.{IfOk-weaker}
+use Rattle.desk_types.proofs.Common.{◌∙◌, ◌≡◌, ap, codes, IfOk-weaker, rules}
 use Rattle.clap.specs.Simple.{App, app_of, new_app, with_rule}
 use Rattle.desk_words.specs.CommandLine.{required_option}
 use Rattle.desk_words.proofs.command_line.report.Goals as goal

@@ -1,9 +1,9 @@
-use Rattle.std.proofs.Common.{rules, ◌≡◌, ◌⊎◌, ◌∙◌, sym, codes, string_bytes, Some, None, inl, inr}
-use Rattle.clap.specs.Matches.{found_of, first_value}
-use Rattle.clap.specs.Walk.{first_of, rows_of}
+use Rattle.desk_types.proofs.Common.{◌∙◌, ◌≡◌, ◌⊎◌, codes, inl, inr, None, rules, Some, string_bytes, sym}
 use Rattle.clap.proofs.WalkLemmas.{first_value-rows}
+use Rattle.clap.specs.{Matches.first_value, Matches.found_of, Walk.first_of, Walk.rows_of}
+use Rattle.desk_words.proofs.command_line.report_of.Goals.{in_default-via-in-Some+in_default}
+use Rattle.desk_words.proofs.command_line.report_of.Goals.{in_default-via-in_default}
 use Rattle.desk_words.proofs.command_line.report_of.Goals as goal
-use Rattle.desk_words.proofs.command_line.report_of.Goals.{in_default-via-in-Some+in_default, in_default-via-in_default}
 
 pub returns-in_ok-from_str-in-Some-Some-2-clause-asks : goal.returns-in_ok-from_str-in-Some-Some-2-clause-asks
 returns-in_ok-from_str-in-Some-Some-2-clause-asks c = λ words names.

@@ -1,6 +1,5 @@
-use Rattle.std.proofs.Common.{rules, ◌≡◌, ◌∙◌, ap, ℕ, List, [], Option, Some, None, unwrap_or}
-use Rattle.clap.specs.Matches.{found_of, first_value}
-use Rattle.clap.proofs.WalkLemmas.{first_value-rows}
+use Rattle.desk_types.proofs.Common.{[], ◌∙◌, ◌≡◌, ap, List, None, Option, rules, Some, unwrap_or, ℕ}
+use Rattle.clap.{proofs.WalkLemmas.first_value-rows, specs.Matches.first_value, specs.Matches.found_of}
 use Rattle.desk_words.proofs.command_line.text_of.Goals as goal
 
 pub returns-in-Some : goal.returns-in-Some

@@ -1,5 +1,4 @@
-use Rattle.std.proofs.Common.{◌∙◌, ap, codes}
-use Rattle.std.proofs.lemmas.Result.{IfOk-weaker}
+use Rattle.desk_types.proofs.Common.{◌∙◌, ap, codes, IfOk-weaker}
 use Rattle.clap.specs.Simple.{App, with_rule}
 use Rattle.desk_words.specs.CommandLine.{required_option}
 use Rattle.desk_words.proofs.command_line.with_stamp.Goals as goal

@@ -1,7 +1,5 @@
-use Rattle.std.proofs.Common.{rules, ◌≡◌, ◌∙◌, ap}
-use Rattle.std.proofs.lemmas.Result.{IfOk-weaker}
-use Rattle.clap.specs.Simple.{app_of, with_rule}
-use Rattle.clap.specs.Walk.{rule_of}
+use Rattle.desk_types.proofs.Common.{◌∙◌, ◌≡◌, ap, IfOk-weaker, rules}
+use Rattle.clap.specs.{Simple.app_of, Simple.with_rule, Walk.rule_of}
 use Rattle.desk_words.specs.CommandLine.{required_option}
 use Rattle.desk_words.proofs.command_line.with_wanted.Goals as goal
 

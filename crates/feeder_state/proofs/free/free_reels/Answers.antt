@@ -1,10 +1,6 @@
-use Rattle.std.proofs.Common.{filter_map, sym, ap, subst, ◌∙◌}
-use Rattle.desk_types.specs.declared.view.Left.{Left}
-use Rattle.desk_types.specs.Id.{Name}
-use Rattle.desk_types.specs.View.{reel_view}
+use Rattle.desk_types.proofs.Common.{◌∙◌, ap, filter_map, Left, Name, reel_view, subst, sym}
+use Rattle.feeder_state.{proofs.FloorTells.none-free, specs.Rows.AreRowsAt}
 use Rattle.judging.proofs.FreeReels.{free_among, views-of_turns}
-use Rattle.feeder_state.specs.Rows.{AreRowsAt}
-use Rattle.feeder_state.proofs.FloorTells.{none-free}
 use Rattle.feeder_state.proofs.free.free_reels.Goals as goal
 
 pub returns-in_default : goal.returns-in_default

@@ -1,9 +1,6 @@
-use Rattle.std.proofs.Common.{sym, ap, subst}
-use Rattle.std.specs.Option.{option_map}
-use Rattle.judging.specs.Turns.{turn_of}
-use Rattle.judging.proofs.FreeReels.{untold-free}
-use Rattle.feeder_state.specs.Held.{IsHeldOf}
-use Rattle.feeder_state.proofs.FloorTells.{told-now, absent-view}
+use Rattle.desk_types.proofs.Common.{ap, option_map, subst, sym}
+use Rattle.feeder_state.{proofs.FloorTells.absent-view, proofs.FloorTells.told-now, specs.Held.IsHeldOf}
+use Rattle.judging.{proofs.FreeReels.untold-free, specs.Turns.turn_of}
 use Rattle.feeder_state.proofs.free.turn_at.Goals as goal
 
 pub returns-in-None : goal.returns-in-None

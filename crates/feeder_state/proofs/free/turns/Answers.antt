@@ -1,13 +1,8 @@
-use Rattle.std.proofs.Common.{rules, map, append_assoc, append-nil, sym, ap, ◌++◌, ◌∷◌, [], ◌∙◌}
-use Rattle.std.specs.BTreeSet.{insert_key}
-use Rattle.std.specs.Option.{option_map_or}
-use Rattle.std.specs.Ordering.{ordering_then}
-use Rattle.std.specs.declared.cmp.Ordering.{Ordering}
-use Rattle.desk_types.specs.declared.view.Left.{Left}
-use Rattle.desk_types.specs.Id.{by_name}
+use Rattle.desk_types.proofs.Common.{[], ◌++◌, ◌∙◌, ◌∷◌, ap, append-nil, append_assoc, by_name, insert_key, Left, map}
+use Rattle.desk_types.proofs.Common.{option_map_or, Ordering, ordering_then, rules, sym}
 use Rattle.desk_types.proofs.Lives.{left-order}
-use Rattle.judging.specs.Turns.{turn_of, by_life}
-use Rattle.feeder_state.proofs.FreeReels.{free_in, turn-next, free-resting}
+use Rattle.feeder_state.proofs.FreeReels.{free-resting, free_in, turn-next}
+use Rattle.judging.specs.Turns.{by_life, turn_of}
 use Rattle.feeder_state.proofs.free.turns.Goals as goal
 
 pub loop-name-init : goal.loop-name-init

@@ -1,11 +1,7 @@
-use Rattle.std.proofs.Common.{◌≡◌, Some, List, ◌++◌, map}
-use Rattle.desk_types.specs.Id.{Name}
-use Rattle.desk_types.specs.History.{History}
-use Rattle.setup_sheets.specs.Alternates.{AreAlternates}
+use Rattle.desk_types.proofs.Common.{◌++◌, ◌≡◌, History, List, map, Name, Some}
+use Rattle.feeder_state.{proofs.FreeReels.free_in, specs.Floor.IsFloor, specs.Rows.AreRowsAt}
 use Rattle.judging.specs.Turns.{turn_of}
-use Rattle.feeder_state.specs.Floor.{IsFloor}
-use Rattle.feeder_state.specs.Rows.{AreRowsAt}
-use Rattle.feeder_state.proofs.FreeReels.{free_in}
+use Rattle.setup_sheets.specs.Alternates.{AreAlternates}
 use Rattle.feeder_state.proofs.free.turns.Given as goal
 
 -- The names so far, and the turns of the free reels among them.

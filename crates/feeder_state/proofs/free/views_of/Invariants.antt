@@ -1,6 +1,4 @@
-use Rattle.std.proofs.Common.{◌≡◌, Some, ◌++◌, filter_map}
-use Rattle.desk_types.specs.History.{History}
-use Rattle.desk_types.specs.View.{reel_view}
+use Rattle.desk_types.proofs.Common.{◌++◌, ◌≡◌, filter_map, History, reel_view, Some}
 use Rattle.feeder_state.specs.Rows.{AreRowsAt}
 use Rattle.feeder_state.proofs.free.views_of.Given as goal
 

@@ -1,8 +1,7 @@
-use Rattle.std.proofs.Common.{◌≡◌, true, refl, sym, subst, ◌∙◌}
-use Rattle.reels.specs.Fitting.{IsFitting}
+use Rattle.desk_types.proofs.Common.{◌∙◌, ◌≡◌, refl, subst, sym, true}
+use Rattle.feeder_state.proofs.{RowFits.fits-reel, RowFits.reel-fits, RowReels.row-fits, RowReels.row-held}
 use Rattle.feeder_state.specs.Held.{is_reel}
-use Rattle.feeder_state.proofs.RowFits.{fits-reel, reel-fits}
-use Rattle.feeder_state.proofs.RowReels.{row-fits, row-held}
+use Rattle.reels.specs.Fitting.{IsFitting}
 use Rattle.feeder_state.proofs.held.reel_of.Goals as goal
 
 pub returns-then-is_reel : goal.returns-then-is_reel

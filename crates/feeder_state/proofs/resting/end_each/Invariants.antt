@@ -1,8 +1,5 @@
-use Rattle.std.proofs.Common.{◌≡◌, false}
-use Rattle.std.specs.Prelude.{◌==◌}
-use Rattle.desk_types.specs.Id.{Name}
-use Rattle.feeder_state.specs.Rows.{left_at}
-use Rattle.feeder_state.specs.Resting.{is_resting}
+use Rattle.desk_types.proofs.Common.{◌==◌, ◌≡◌, false, Name}
+use Rattle.feeder_state.specs.{Resting.is_resting, Rows.left_at}
 use Rattle.feeder_state.proofs.resting.end_each.Given as goal
 
 -- Reels with pieces left are unchanged.

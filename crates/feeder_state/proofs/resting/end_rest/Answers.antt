@@ -1,7 +1,5 @@
-use Rattle.std.proofs.Common.{false, sym, ◌∙◌}
-use Rattle.feeder_state.specs.Rows.{left_at}
-use Rattle.feeder_state.proofs.AtRest.{others-rest}
-use Rattle.feeder_state.proofs.NameSets.{changed}
+use Rattle.desk_types.proofs.Common.{◌∙◌, false, sym}
+use Rattle.feeder_state.{proofs.AtRest.others-rest, proofs.NameSets.changed, specs.Rows.left_at}
 use Rattle.feeder_state.proofs.resting.end_rest.Goals as goal
 
 pub returns-then-is_spent : goal.returns-then-is_spent

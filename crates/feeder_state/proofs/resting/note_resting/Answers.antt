@@ -1,7 +1,6 @@
-use Rattle.std.proofs.Common.{false, sym, ap, ◌∙◌}
-use Rattle.feeder_state.specs.Tape.{tape_at}
-use Rattle.feeder_state.specs.Resting.{is_resting, resting_after}
+use Rattle.desk_types.proofs.Common.{◌∙◌, ap, false, sym}
 use Rattle.feeder_state.proofs.NameSets.{changed, put}
+use Rattle.feeder_state.specs.{Resting.is_resting, Resting.resting_after, Tape.tape_at}
 use Rattle.feeder_state.proofs.resting.note_resting.Goals as goal
 
 pub returns-in_ok-insert-in-ReelReceived : goal.returns-in_ok-insert-in-ReelReceived

@@ -1,9 +1,5 @@
-use Rattle.std.proofs.Common.{rules, ◌≡◌, [], ap, ◌∙◌}
-use Rattle.std.specs.Prelude.{◌||◌}
-use Rattle.std.specs.List.{list_any}
-use Rattle.desk_types.specs.Id.{same}
-use Rattle.feeder_state.specs.Tape.{tape_at}
-use Rattle.feeder_state.specs.Resting.{is_resting}
+use Rattle.desk_types.proofs.Common.{[], ◌||◌, ◌∙◌, ◌≡◌, ap, list_any, rules, same}
+use Rattle.feeder_state.specs.{Resting.is_resting, Tape.tape_at}
 use Rattle.feeder_state.proofs.resting.put_slot.Goals as goal
 
 pub returns-in_ok-put_tape : goal.returns-in_ok-put_tape

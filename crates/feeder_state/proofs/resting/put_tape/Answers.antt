@@ -1,7 +1,5 @@
-use Rattle.std.proofs.Common.{rules, ◌≡◌, ◌<◌, get_or, length}
-use Rattle.feeder_state.specs.Resting.{is_resting}
-use Rattle.feeder_state.proofs.AtRest.{put-next}
-use Rattle.feeder_state.proofs.NameSets.{put}
+use Rattle.desk_types.proofs.Common.{◌<◌, ◌≡◌, get_or, length, rules}
+use Rattle.feeder_state.{proofs.AtRest.put-next, proofs.NameSets.put, specs.Resting.is_resting}
 use Rattle.feeder_state.proofs.resting.put_tape.Goals as goal
 
 pub loop-i-preserved : goal.loop-i-preserved

@@ -1,7 +1,4 @@
-use Rattle.std.proofs.Common.{◌≡◌, take}
-use Rattle.std.specs.Prelude.{◌||◌}
-use Rattle.std.specs.List.{list_any}
-use Rattle.desk_types.specs.Id.{Name, same}
+use Rattle.desk_types.proofs.Common.{◌||◌, ◌≡◌, list_any, Name, same, take}
 use Rattle.feeder_state.specs.Resting.{is_resting}
 use Rattle.feeder_state.proofs.resting.put_tape.Given as goal
 

@@ -1,12 +1,7 @@
-use Rattle.std.proofs.Common.{rules, sym, ap, subst, ◌∙◌}
-use Rattle.std.specs.Prelude.{◌&&◌, ◌||◌}
-use Rattle.std.proofs.Math.Bool.{or-false}
-use Rattle.desk_types.specs.Id.{same, by_name}
-use Rattle.state_rows.specs.Kept.{tables_in, unnumbered, Lists}
+use Rattle.desk_types.proofs.Common.{◌&&◌, ◌||◌, ◌∙◌, ap, by_name, or-false, rules, same, subst, sym}
+use Rattle.feeder_state.proofs.{AtRest.has_resting, AtRest.rests-rows, FilledMaps.set-next, NameSets.put}
 use Rattle.feeder_state.specs.Resting.{is_resting}
-use Rattle.feeder_state.proofs.AtRest.{has_resting, rests-rows}
-use Rattle.feeder_state.proofs.FilledMaps.{set-next}
-use Rattle.feeder_state.proofs.NameSets.{put}
+use Rattle.state_rows.specs.Kept.{Lists, tables_in, unnumbered}
 use Rattle.feeder_state.proofs.resting.resting_of.Goals as goal
 
 pub loop-name-preserved-in_ok-insert : goal.loop-name-preserved-in_ok-insert

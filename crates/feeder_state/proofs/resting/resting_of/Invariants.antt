@@ -1,8 +1,5 @@
-use Rattle.std.proofs.Common.{◌≡◌}
-use Rattle.std.specs.Prelude.{◌||◌}
-use Rattle.desk_types.specs.Id.{Name}
-use Rattle.feeder_state.specs.Resting.{is_resting}
-use Rattle.feeder_state.proofs.AtRest.{has_resting}
+use Rattle.desk_types.proofs.Common.{◌||◌, ◌≡◌, Name}
+use Rattle.feeder_state.{proofs.AtRest.has_resting, specs.Resting.is_resting}
 use Rattle.feeder_state.proofs.resting.resting_of.Given as goal
 
 -- The reels that are in, or are left to be put in.

@@ -1,5 +1,4 @@
-use Rattle.std.proofs.Common.{sym, ap, ◌∙◌}
-use Rattle.desk_types.specs.Outcome.{replies_to}
+use Rattle.desk_types.proofs.Common.{◌∙◌, ap, replies_to, sym}
 use Rattle.feeder_state.proofs.SameStates.{state-replies}
 use Rattle.feeder_state.proofs.same_state.same_state_same_replies.Goals as goal
 

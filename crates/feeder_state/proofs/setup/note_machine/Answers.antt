@@ -1,8 +1,5 @@
-use Rattle.std.proofs.Common.{sym, ap, ◌∙◌}
-use Rattle.std.specs.Prelude.{◌||◌}
-use Rattle.desk_types.specs.View.{defines_on}
-use Rattle.feeder_state.specs.Setup.{is_sheeted}
-use Rattle.feeder_state.proofs.NameSets.{put}
+use Rattle.desk_types.proofs.Common.{◌||◌, ◌∙◌, ap, defines_on, sym}
+use Rattle.feeder_state.{proofs.NameSets.put, specs.Setup.is_sheeted}
 use Rattle.feeder_state.proofs.setup.note_machine.Goals as goal
 
 pub returns-in_ok-insert : goal.returns-in_ok-insert

@@ -1,4 +1,4 @@
-use Rattle.desk_types.proofs.Keys.{pair-written}
+use Rattle.desk_types.proofs.Common.{pair-written}
 use Rattle.feeder_state.proofs.setup.put_sheet.Goals as goal
 
 pub returns : goal.returns

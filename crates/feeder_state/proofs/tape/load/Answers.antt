@@ -1,7 +1,4 @@
-use Rattle.std.proofs.Common.{List, unwrap_or, cond, [], ap, ◌∙◌}
-use Rattle.std.specs.Prelude.{◌&&◌}
-use Rattle.desk_types.specs.Id.{Name, same}
-use Rattle.desk_types.proofs.Keys.{pair-written}
+use Rattle.desk_types.proofs.Common.{[], ◌&&◌, ◌∙◌, ap, cond, List, Name, pair-written, same, unwrap_or}
 use Rattle.feeder_state.specs.Tape.{tape_at}
 use Rattle.feeder_state.proofs.tape.load.Goals as goal
 

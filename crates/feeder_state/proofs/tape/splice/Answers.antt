@@ -1,6 +1,4 @@
-use Rattle.std.proofs.Common.{unwrap_or, [], sym, ap, ◌∙◌, rules}
-use Rattle.desk_types.specs.Tape.{tape_with}
-use Rattle.desk_types.proofs.Keys.{pair-written, pair-changed}
+use Rattle.desk_types.proofs.Common.{[], ◌∙◌, ap, pair-changed, pair-written, rules, sym, tape_with, unwrap_or}
 use Rattle.feeder_state.specs.Tape.{tape_at}
 use Rattle.feeder_state.proofs.tape.splice.Goals as goal
 

@@ -1,5 +1,4 @@
-use Rattle.std.proofs.Common.{unwrap_or, []}
-use Rattle.desk_types.proofs.Keys.{pair-written}
+use Rattle.desk_types.proofs.Common.{[], pair-written, unwrap_or}
 use Rattle.feeder_state.proofs.tape.unload.Goals as goal
 
 pub returns : goal.returns

@@ -1,11 +1,7 @@
-use Rattle.std.proofs.Common.{not, take, refl, sym, subst}
-use Rattle.std.specs.List.{list_any, IsDistinct}
-use Rattle.desk_types.specs.Id.{same}
+use Rattle.desk_types.proofs.Common.{IsDistinct, list_any, not, refl, same, subst, sym, take}
 use Rattle.desk_laws.proofs.Distinct.{distinct-filter}
-use Rattle.feeder_state.specs.Tape.{tape_at}
-use Rattle.feeder_state.specs.Rows.{left_at}
-use Rattle.feeder_state.specs.Spending.{is_spent_by}
 use Rattle.feeder_state.proofs.ReelsOffTapes.{dropped-next, filter-kept}
+use Rattle.feeder_state.specs.{Rows.left_at, Spending.is_spent_by, Tape.tape_at}
 use Rattle.feeder_state.proofs.tapes.drop_all_spent.Goals as goal
 
 pub drop_spent-requires : goal.drop_spent-requires

@@ -1,9 +1,6 @@
-use Rattle.std.proofs.Common.{◌≡◌, not, take}
-use Rattle.std.specs.List.{filter, list_any}
-use Rattle.desk_types.specs.Id.{Name}
-use Rattle.feeder_state.specs.Tape.{tape_at}
-use Rattle.feeder_state.specs.Rows.{left_at}
-use Rattle.feeder_state.specs.Spending.{is_spent_by}
+use Rattle.desk_types.proofs.Common.{◌≡◌, list_any, Name, not, take}
+use Rattle.feeder_state.specs.{Rows.left_at, Spending.is_spent_by, Tape.tape_at}
+use Rattle.std.specs.List.{filter}
 use Rattle.feeder_state.proofs.tapes.drop_all_spent.Given as goal
 
 -- The reels that the takes so far spent are off their slots.

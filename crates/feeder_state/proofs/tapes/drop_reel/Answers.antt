@@ -1,10 +1,7 @@
-use Rattle.std.proofs.Common.{rules, ◌≡◌, [], not, unwrap_or, sym, ap, ◌∙◌}
-use Rattle.std.specs.Prelude.{◌&&◌}
+use Rattle.desk_types.proofs.Common.{[], ◌&&◌, ◌∙◌, ◌≡◌, ap, not, pair-changed, pair-written, rules, same, sym}
+use Rattle.desk_types.proofs.Common.{unwrap_or}
+use Rattle.feeder_state.{proofs.ReelsOffTapes.drop-absent, proofs.ReelsOffTapes.drop-there, specs.Tape.tape_at}
 use Rattle.std.specs.List.{filter}
-use Rattle.desk_types.specs.Id.{same}
-use Rattle.desk_types.proofs.Keys.{pair-written, pair-changed}
-use Rattle.feeder_state.specs.Tape.{tape_at}
-use Rattle.feeder_state.proofs.ReelsOffTapes.{drop-there, drop-absent}
 use Rattle.feeder_state.proofs.tapes.drop_reel.Goals as goal
 
 pub returns-in-Some : goal.returns-in-Some

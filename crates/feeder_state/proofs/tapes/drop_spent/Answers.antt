@@ -1,8 +1,6 @@
-use Rattle.std.proofs.Common.{rules, ◌≡◌, false, sym}
-use Rattle.std.specs.Prelude.{◌==◌}
-use Rattle.feeder_state.specs.Tape.{tape_at}
-use Rattle.feeder_state.specs.Rows.{left_at}
-use Rattle.feeder_state.proofs.ReelsOffTapes.{filter-kept, unspent-stay, counted-stay}
+use Rattle.desk_types.proofs.Common.{◌==◌, ◌≡◌, false, rules, sym}
+use Rattle.feeder_state.proofs.ReelsOffTapes.{counted-stay, filter-kept, unspent-stay}
+use Rattle.feeder_state.specs.{Rows.left_at, Tape.tape_at}
 use Rattle.feeder_state.proofs.tapes.drop_spent.Goals as goal
 
 pub returns-then-not-is_spent : goal.returns-then-not-is_spent

@@ -1,8 +1,6 @@
-use Rattle.std.proofs.Common.{rules, ◌≡◌, Bool, not, ◌∷◌, sym, ap, subst, ◌∙◌}
-use Rattle.std.specs.List.{filter, IsDistinct}
-use Rattle.std.proofs.lemmas.Fn.{filter_same}
-use Rattle.desk_types.specs.Id.{Name, same}
+use Rattle.desk_types.proofs.Common.{◌∙◌, ◌∷◌, ◌≡◌, ap, Bool, IsDistinct, Name, not, rules, same, subst, sym}
 use Rattle.feeder_state.proofs.ReelsOffTapes.{drop-head}
+use Rattle.std.{proofs.lemmas.Fn.filter_same, specs.List.filter}
 use Rattle.feeder_state.proofs.tapes.remove.Goals as goal
 
 pub returns-in-Some : goal.returns-in-Some

@@ -1,15 +1,9 @@
-use Rattle.std.proofs.Common.{rules, map, ◌≡◌, Some, None, unwrap_or, append_assoc, append-nil, ◌++◌, [], sym, ap, ◌∙◌}
-use Rattle.std.specs.Prelude.{if◌then◌else◌}
-use Rattle.std.specs.List.{flat_map, cons_option, enumerate_from}
-use Rattle.std.specs.Map.{keys_of}
-use Rattle.std.specs.Map.Iter.{deref_pair}
-use Rattle.std.proofs.lemmas.Map.Iter.{btree_map_turn}
-use Rattle.desk_types.specs.Pieces.{live_on}
-use Rattle.desk_types.specs.View.{slot_mounts, mount_of}
-use Rattle.desk_types.proofs.Keys.{same-true}
-use Rattle.feeder_state.specs.Tape.{tape_at}
-use Rattle.feeder_state.proofs.SlotsOfMachines.{by_pair-total, slots_among, told-loaded}
-use Rattle.feeder_state.proofs.FloorTells.{all-received}
+use Rattle.desk_types.proofs.Common.{[], ◌++◌, ◌∙◌, ◌≡◌, ap, append-nil, append_assoc, cons_option, enumerate_from}
+use Rattle.desk_types.proofs.Common.{flat_map, if◌then◌else◌, keys_of, live_on, map, mount_of, None, rules, same-true}
+use Rattle.desk_types.proofs.Common.{slot_mounts, Some, sym, unwrap_or}
+use Rattle.feeder_state.{proofs.FloorTells.all-received, proofs.SlotsOfMachines.by_pair-total}
+use Rattle.feeder_state.{proofs.SlotsOfMachines.slots_among, proofs.SlotsOfMachines.told-loaded, specs.Tape.tape_at}
+use Rattle.std.{proofs.lemmas.Map.Iter.btree_map_turn, specs.Map.Iter.deref_pair}
 use Rattle.feeder_state.proofs.views.put_slots.Goals as goal
 
 pub loop-key-preserved : goal.loop-key-preserved

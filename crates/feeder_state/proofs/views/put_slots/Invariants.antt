@@ -1,11 +1,5 @@
-use Rattle.std.proofs.Common.{◌≡◌, Some, ◌++◌}
-use Rattle.std.specs.List.{flat_map}
-use Rattle.std.specs.Map.{keys_of}
-use Rattle.desk_types.specs.History.{History}
-use Rattle.desk_types.specs.View.{slot_mounts}
-use Rattle.feeder_state.specs.Floor.{IsFloor}
-use Rattle.feeder_state.specs.Rows.{AreRowsAt}
-use Rattle.feeder_state.proofs.SlotsOfMachines.{slots_among}
+use Rattle.desk_types.proofs.Common.{◌++◌, ◌≡◌, flat_map, History, keys_of, slot_mounts, Some}
+use Rattle.feeder_state.{proofs.SlotsOfMachines.slots_among, specs.Floor.IsFloor, specs.Rows.AreRowsAt}
 use Rattle.feeder_state.proofs.views.put_slots.Given as goal
 
 abbrev pub invariant-loop-key : goal.invariant-loop-key

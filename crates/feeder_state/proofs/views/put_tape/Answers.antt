@@ -1,13 +1,8 @@
-use Rattle.std.proofs.Common.{rules, ◌≡◌, ℕ, ◌<◌, true, false, is_some, All, get_or, length, List, ◌∷◌, ◌++◌, [], sym, ap, subst, ◌∙◌}
-use Rattle.std.proofs.lemmas.List.Elements.{All-get_or}
-use Rattle.desk_types.specs.Id.{Name}
-use Rattle.desk_types.specs.History.{History}
-use Rattle.desk_types.specs.Setup.{receipt_of}
-use Rattle.desk_types.specs.View.{mount_of}
-use Rattle.feeder_state.specs.Held.{IsHeldOf}
+use Rattle.desk_types.proofs.Common.{[], ◌++◌, ◌<◌, ◌∙◌, ◌∷◌, ◌≡◌, All, All-get_or, ap, false, get_or, History}
+use Rattle.desk_types.proofs.Common.{is_some, length, List, mount_of, Name, receipt_of, rules, subst, sym, true, ℕ}
+use Rattle.feeder_state.{proofs.FloorTells.told-now, proofs.views.put_tape.Goals.in-Some+in_ok-push}
+use Rattle.feeder_state.{proofs.views.put_tape.Goals.in_default, specs.Held.IsHeldOf}
 use Rattle.judging.proofs.MountLists.{place-next}
-use Rattle.feeder_state.proofs.FloorTells.{told-now}
-use Rattle.feeder_state.proofs.views.put_tape.Goals.{in-Some+in_ok-push, in_default}
 use Rattle.feeder_state.proofs.views.put_tape.Goals as goal
 
 there : (H : History) (tape : List Name) (i : ℕ) (x : Name) → i < length tape → x ≡ get_or tape i x → All (λ name. is_some (receipt_of H name) ≡ true) tape → is_some (receipt_of H x) ≡ true

@@ -1,8 +1,5 @@
-use Rattle.std.proofs.Common.{◌≡◌, true, Some, is_some, All, ◌++◌, map, take}
-use Rattle.std.specs.List.{enumerate_from}
-use Rattle.desk_types.specs.History.{History}
-use Rattle.desk_types.specs.Setup.{receipt_of}
-use Rattle.desk_types.specs.View.{mount_of}
+use Rattle.desk_types.proofs.Common.{◌++◌, ◌≡◌, All, enumerate_from, History, is_some, map, mount_of, receipt_of}
+use Rattle.desk_types.proofs.Common.{Some, take, true}
 use Rattle.feeder_state.specs.Rows.{AreRowsAt}
 use Rattle.feeder_state.proofs.views.put_tape.Given as goal
 

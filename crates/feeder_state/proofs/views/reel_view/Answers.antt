@@ -1,4 +1,4 @@
-use Rattle.std.proofs.Common.{sym, ◌∙◌}
+use Rattle.desk_types.proofs.Common.{◌∙◌, sym}
 use Rattle.judging.proofs.EmptyHistory.{no-reel}
 use Rattle.feeder_state.proofs.views.reel_view.Goals as goal
 

@@ -1,6 +1,5 @@
-use Rattle.std.proofs.Common.{sym, subst}
-use Rattle.feeder_state.specs.Held.{IsHeldOf}
-use Rattle.feeder_state.proofs.FloorTells.{told-now, absent-view}
+use Rattle.desk_types.proofs.Common.{subst, sym}
+use Rattle.feeder_state.{proofs.FloorTells.absent-view, proofs.FloorTells.told-now, specs.Held.IsHeldOf}
 use Rattle.feeder_state.proofs.views.reel_view_at.Goals as goal
 
 pub returns-in-None : goal.returns-in-None

@@ -1,4 +1,4 @@
-use Rattle.std.proofs.Common.{sym, ◌∙◌}
+use Rattle.desk_types.proofs.Common.{◌∙◌, sym}
 use Rattle.judging.proofs.EmptyHistory.{no-mounts}
 use Rattle.feeder_state.proofs.views.slots_of.Goals as goal
 

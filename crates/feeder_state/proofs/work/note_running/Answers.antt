@@ -1,9 +1,5 @@
-use Rattle.std.proofs.Common.{Some, None, unwrap_or, sym, ap, ◌∙◌}
-use Rattle.desk_types.specs.Id.{same}
-use Rattle.desk_types.specs.Work.{work_by}
-use Rattle.desk_types.proofs.Keys.{name-written}
-use Rattle.feeder_state.specs.Work.{running_at}
-use Rattle.feeder_state.proofs.NameSets.{says-over}
+use Rattle.desk_types.proofs.Common.{◌∙◌, ap, name-written, None, same, Some, sym, unwrap_or, work_by}
+use Rattle.feeder_state.{proofs.NameSets.says-over, specs.Work.running_at}
 use Rattle.feeder_state.proofs.work.note_running.Goals as goal
 
 pub returns-in_ok-insert-in-WorkStarted : goal.returns-in_ok-insert-in-WorkStarted

@@ -1,11 +1,6 @@
-use Rattle.std.proofs.Common.{rules, Option, List, unwrap_or, cond, ap, ◌∙◌}
-use Rattle.std.specs.Prelude.{◌||◌, []}
-use Rattle.std.specs.List.{list_any}
-use Rattle.std.specs.BTreeMap.{BTreeMap}
-use Rattle.desk_types.specs.Id.{Name, same}
-use Rattle.desk_types.proofs.Keys.{name-written}
-use Rattle.feeder_state.specs.Work.{is_placed_at}
-use Rattle.feeder_state.proofs.NameSets.{placed-put}
+use Rattle.desk_types.proofs.Common.{[], ◌||◌, ◌∙◌, ap, BTreeMap, cond, List, list_any, Name, name-written, Option}
+use Rattle.desk_types.proofs.Common.{rules, same, unwrap_or}
+use Rattle.feeder_state.{proofs.NameSets.placed-put, specs.Work.is_placed_at}
 use Rattle.feeder_state.proofs.work.place.Goals as goal
 
 pub returns-in_ok-add_all-in-Some : goal.returns-in_ok-add_all-in-Some

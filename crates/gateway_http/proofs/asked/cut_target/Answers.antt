@@ -1,7 +1,7 @@
-use Rattle.std.proofs.Common.{rules, ◌≡◌, Some, None}
-use Rattle.std.specs.List.{position}
+use Rattle.desk_types.proofs.Common.{◌≡◌, None, rules, Some}
+use Rattle.gateway_http.proofs.Cuts.{path-none, path-some, query-none, query-some}
 use Rattle.gateway_http.specs.Asked.{is_mark}
-use Rattle.gateway_http.proofs.Cuts.{path-some, query-some, path-none, query-none}
+use Rattle.std.specs.List.{position}
 use Rattle.gateway_http.proofs.asked.cut_target.Goals as goal
 
 pub returns-in-Some-clause-path : goal.returns-in-Some-clause-path

@@ -1,6 +1,5 @@
-use Rattle.std.proofs.Common.{ap, ◌∙◌}
-use Rattle.cfx_profile.specs.Forms.{id_of}
-use Rattle.cfx_profile.proofs.Names.{id_of-read}
+use Rattle.desk_types.proofs.Common.{◌∙◌, ap}
+use Rattle.cfx_profile.{proofs.Names.id_of-read, specs.Forms.id_of}
 use Rattle.gateway_http.proofs.asked.id_of.Goals as goal
 
 pub returns : goal.returns

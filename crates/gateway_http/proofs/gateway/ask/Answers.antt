@@ -1,5 +1,4 @@
-use Rattle.std.proofs.Common.{false, refl, subst}
-use Rattle.desk_types.specs.History.{History}
+use Rattle.desk_types.proofs.Common.{false, History, refl, subst}
 use Rattle.gateway_http.proofs.GetsLeaveLists.{get-told}
 use Rattle.gateway_http.proofs.gateway.ask.Goals as goal
 

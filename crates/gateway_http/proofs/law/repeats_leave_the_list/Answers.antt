@@ -1,5 +1,4 @@
-use Rattle.gateway_http.specs.Asked.{asked_of}
-use Rattle.gateway_http.proofs.RepeatsLeaveLists.{repeat-stays}
+use Rattle.gateway_http.{proofs.RepeatsLeaveLists.repeat-stays, specs.Asked.asked_of}
 use Rattle.gateway_http.proofs.law.repeats_leave_the_list.Goals as goal
 
 pub returns : goal.returns

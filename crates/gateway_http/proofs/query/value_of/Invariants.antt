@@ -1,9 +1,7 @@
-use Rattle.std.proofs.Common.{◌≡◌, option_map}
-use Rattle.std.specs.Cow.{cow_str_bytes}
-use Rattle.std.specs.List.{cons_option}
-use Rattle.form_urlencoded.specs.Form.{raw_pairs}
-use Rattle.form_urlencoded.specs.Parse.{pairs_left}
+use Rattle.desk_types.proofs.Common.{◌≡◌, cons_option}
+use Rattle.form_urlencoded.{specs.Form.raw_pairs, specs.Parse.pairs_left}
 use Rattle.gateway_http.specs.Query.{values_of}
+use Rattle.std.{proofs.Common.option_map, specs.Cow.cow_str_bytes}
 use Rattle.gateway_http.proofs.query.value_of.Given as goal
 
 -- The name's values are the one found, if any, and those left.

@@ -1,5 +1,6 @@
-use Rattle.std.proofs.Common.{sym, ap, ◌∙◌, option_map}
+use Rattle.desk_types.proofs.Common.{◌∙◌, ap, sym}
 use Rattle.gateway_http.proofs.Literals.{first-table}
+use Rattle.std.proofs.Common.{option_map}
 use Rattle.gateway_http.proofs.routes.find_route.Goals as goal
 
 pub returns-in-Ok : goal.returns-in-Ok

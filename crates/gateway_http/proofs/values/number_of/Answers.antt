@@ -1,12 +1,9 @@
-use Rattle.std.proofs.Common.{rules, arith, ◌≡◌, ◌∙◌, ap, ◌<◌, ◌≤◌, ℕ, List, true, Result, Ok, length}
-use Rattle.std.specs.Char.{is_ascii_digit}
-use Rattle.std.specs.List.{list_all}
-use Rattle.std.specs.Result.{result_ok}
-use Rattle.std.specs.Str.Parse.{digits_value, ParsesUnsigned}
-use Rattle.std.proofs.lemmas.Bool.Decides.{nat_tests}
-use Rattle.std.proofs.lemmas.Str.Parse.{parse_gives, digits_value_short}
-use Rattle.gateway_http.specs.Values.{is_numeral, number_of}
+use Rattle.desk_types.proofs.Common.{◌<◌, ◌∙◌, ◌≡◌, ◌≤◌, ap, arith, digits_value, is_ascii_digit, length, List}
+use Rattle.desk_types.proofs.Common.{list_all, nat_tests, Ok, Result, result_ok, rules, true, ℕ}
 use Rattle.desk_types.proofs.Numerals.{own}
+use Rattle.gateway_http.specs.Values.{is_numeral, number_of}
+use Rattle.std.proofs.lemmas.Str.Parse.{digits_value_short, parse_gives}
+use Rattle.std.specs.Str.Parse.{ParsesUnsigned}
 use Rattle.gateway_http.proofs.values.number_of.Goals as goal
 
 -- 1 to 9 digits are read as their number.

@@ -1,10 +1,8 @@
-use Rattle.std.proofs.Common.{◌≡◌, inl, refl}
-use Rattle.sqlite.specs.State.{HasCleanDisk}
-use Rattle.desk_types.specs.declared.rules.Rules.TheVariants.{Two}
+use Rattle.desk_types.proofs.Common.{◌≡◌, inl, refl, Two}
+use Rattle.line_tables.proofs.Common.{HasCleanDisk}
 use Rattle.headline.proofs.CallsInTurn.{goes_on}
+use Rattle.headline.specs.{Failing.IsWatched, Failing.no_reports, Failing.own_kept, Runs.by_two}
 use Rattle.line_schema.specs.Stands.{state_of}
-use Rattle.headline.specs.Failing.{IsWatched, no_reports, own_kept}
-use Rattle.headline.specs.Runs.{by_two}
 use Rattle.headline.proofs.failing.failing_disks_leave_the_list.Goals as goal
 
 pub returns : goal.returns

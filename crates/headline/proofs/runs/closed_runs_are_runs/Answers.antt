@@ -1,5 +1,4 @@
-use Rattle.headline.specs.Closed.{GivesClosedRun}
-use Rattle.headline.proofs.ProgramRuns.{gives_calls, is_run}
+use Rattle.headline.{proofs.ProgramRuns.gives_calls, proofs.ProgramRuns.is_run, specs.Closed.GivesClosedRun}
 use Rattle.headline.proofs.runs.closed_runs_are_runs.Goals as goal
 
 pub returns : goal.returns

@@ -1,7 +1,6 @@
 use Rattle.gateway_http.specs.Reports.{report_of}
-use Rattle.headline.specs.Calls.{AnswersByTheList}
-use Rattle.headline.specs.Crashed.{GivesKilledRun}
 use Rattle.headline.proofs.ProgramRuns.{gives_calls, is_crashed_run}
+use Rattle.headline.specs.{Calls.AnswersByTheList, Crashed.GivesKilledRun}
 use Rattle.headline.proofs.runs.crashed_runs_are_runs.Goals as goal
 
 pub returns-clause-crashed : goal.returns-clause-crashed

@@ -1,8 +1,8 @@
-use Rattle.sqlite_wal.specs.Files.{image_at}
-use Rattle.desk_types.specs.declared.rules.Rules.TheVariants.{One}
-use Rattle.line_tables.specs.Calls.{LeavesMigrated}
+use Rattle.desk_types.proofs.Common.{One}
+use Rattle.line_tables.proofs.Common.{LeavesMigrated}
 use Rattle.desk_file.specs.Refused.{IsFaultFor, IsFaultIn, LeavesMade}
 use Rattle.headline.proofs.ProgramRuns.{keeps}
+use Rattle.sqlite_wal.specs.Files.{image_at}
 use Rattle.headline.proofs.runs.refused_runs_keep_lists.Goals as goal
 
 pub returns-clause-refused : goal.returns-clause-refused

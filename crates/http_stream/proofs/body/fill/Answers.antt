@@ -1,10 +1,7 @@
-use Rattle.std.proofs.Common.{◌≡◌, ◌∙◌, ◌<◌, ◌++◌, [], sym, ap, drop, length, length-append, append-nil, arith}
-use Rattle.std.proofs.lemmas.List.{drop_all}
-use Rattle.std.proofs.lemmas.Result.{on_err_weaker}
-use Rattle.desk_types.specs.Wire.{inner_of}
-use Rattle.desk_answers.specs.Block.{pending_bytes}
-use Rattle.desk_answers.proofs.Blocks.{at_end}
-use Rattle.http_stream.proofs.Bodies.{split_front, body_goes, all_goes}
+use Rattle.desk_types.proofs.Common.{[], ◌++◌, ◌<◌, ◌∙◌, ◌≡◌, ap, append-nil, arith, drop, drop_all, inner_of, length}
+use Rattle.desk_types.proofs.Common.{length-append, on_err_weaker, sym}
+use Rattle.desk_answers.{proofs.Blocks.at_end, specs.Block.pending_bytes}
+use Rattle.http_stream.proofs.Bodies.{all_goes, body_goes, split_front}
 use Rattle.http_stream.proofs.body.fill.Goals as goal
 
 pub returns-clause-room : goal.returns-clause-room

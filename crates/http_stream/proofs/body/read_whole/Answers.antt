@@ -1,9 +1,7 @@
-use Rattle.std.proofs.Common.{rules, ◌≡◌, ◌∙◌, ◌≤◌, ◌-◌, ℕ, take, length, subst, sym, arith, append-nil}
-use Rattle.std.proofs.lemmas.List.{length-take}
-use Rattle.std.specs.Io.KnownBytes.{Consumes}
-use Rattle.std.proofs.KnownBytes.{Consumes-trans, Consumes-kept}
-use Rattle.desk_types.specs.Wire.{inner_of}
-use Rattle.http_stream.proofs.Bodies.{take-put_mid_some, put_mid_room}
+use Rattle.desk_types.proofs.Common.{◌-◌, ◌∙◌, ◌≡◌, ◌≤◌, append-nil, arith, Consumes, Consumes-trans, inner_of}
+use Rattle.desk_types.proofs.Common.{length, length-take, rules, subst, sym, take, ℕ}
+use Rattle.http_stream.proofs.Bodies.{put_mid_room, take-put_mid_some}
+use Rattle.std.proofs.KnownBytes.{Consumes-kept}
 use Rattle.http_stream.proofs.body.read_whole.Goals as goal
 
 pub returns-in-Ok-eq0-clause-room : goal.returns-in-Ok-eq0-clause-room

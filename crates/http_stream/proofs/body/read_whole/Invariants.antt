@@ -1,6 +1,4 @@
-use Rattle.std.proofs.Common.{◌≡◌, ◌≤◌, ◌-◌, length, take}
-use Rattle.std.specs.Io.KnownBytes.{Consumes}
-use Rattle.desk_types.specs.Wire.{inner_of, reads_of, failures_of}
+use Rattle.desk_types.proofs.Common.{◌-◌, ◌≡◌, ◌≤◌, Consumes, failures_of, inner_of, length, reads_of, take}
 use Rattle.http_stream.proofs.body.read_whole.Given as goal
 
 abbrev pub invariant-loop-got : goal.invariant-loop-got

@@ -1,14 +1,9 @@
-use Rattle.std.proofs.Common.{rules, ◌≡◌, ◌∙◌, ◌<◌, ◌≤◌, ◌+◌, sym, subst, arith, refl, take, ap, false, Ok, length}
+use Rattle.desk_types.proofs.Common.{◌+◌, ◌<◌, ◌∙◌, ◌≡◌, ◌≤◌, ap, arith, false, HEAD_LIMIT, inner_of, length, Ok}
+use Rattle.desk_types.proofs.Common.{refl, rules, subst, sym, take, take_all}
+use Rattle.desk_answers.{proofs.Blocks.first_pending, specs.Block.pending_bytes, specs.Block.source}
+use Rattle.http_stream.{proofs.Portions.stops_in_head, proofs.Portions.window_is, specs.Cut.ReadsInside}
+use Rattle.http_stream.{specs.Heads.IsBadHead, specs.Heads.IsUnfinished, specs.Looks.IsHeadOf}
 use Rattle.std.specs.List.{slice_range}
-use Rattle.std.proofs.lemmas.List.{take_all}
-use Rattle.desk_types.specs.declared.limits.TheConstants.{HEAD_LIMIT}
-use Rattle.desk_types.specs.Wire.{inner_of}
-use Rattle.desk_answers.specs.Block.{pending_bytes, source}
-use Rattle.desk_answers.proofs.Blocks.{first_pending}
-use Rattle.http_stream.specs.Heads.{IsBadHead, IsUnfinished}
-use Rattle.http_stream.specs.Looks.{IsHeadOf}
-use Rattle.http_stream.specs.Cut.{ReadsInside}
-use Rattle.http_stream.proofs.Portions.{window_is, stops_in_head}
 use Rattle.http_stream.proofs.front.find_front.Goals as goal
 
 pub returns-in-Head-clause-front : goal.returns-in-Head-clause-front

@@ -1,7 +1,6 @@
-use Rattle.std.proofs.Common.{◌≡◌, ◌≤◌}
+use Rattle.desk_types.proofs.Common.{◌≡◌, ◌≤◌, failures_of, inner_of, reads_of}
+use Rattle.desk_answers.specs.Block.{fuel, IsBlock, source}
 use Rattle.std.specs.Io.KnownBytes.{Keeps}
-use Rattle.desk_types.specs.Wire.{inner_of, reads_of, failures_of}
-use Rattle.desk_answers.specs.Block.{IsBlock, source, fuel}
 use Rattle.http_stream.proofs.front.find_front.Given as goal
 
 abbrev pub invariant-looks : goal.invariant-looks

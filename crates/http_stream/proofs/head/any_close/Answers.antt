@@ -1,9 +1,6 @@
-use Rattle.std.proofs.Common.{◌∙◌, ◌||◌, ap, sym, map, take, codes}
-use Rattle.std.proofs.lemmas.List.{map_more}
-use Rattle.std.specs.List.{list_any}
+use Rattle.desk_types.proofs.Common.{◌||◌, ◌∙◌, ap, codes, list_any, map, map_more, sym, take}
+use Rattle.http_stream.{proofs.Headers.any_close-more, specs.Heads.has_close, specs.Heads.values_of}
 use Rattle.httparse.specs.Spans.{header_bytes}
-use Rattle.http_stream.specs.Heads.{values_of, has_close}
-use Rattle.http_stream.proofs.Headers.{any_close-more}
 use Rattle.http_stream.proofs.head.any_close.Goals as goal
 
 pub loop-header-preserved : goal.loop-header-preserved

@@ -1,7 +1,6 @@
-use Rattle.std.proofs.Common.{◌≡◌, map, take, codes}
-use Rattle.std.specs.List.{list_any}
+use Rattle.desk_types.proofs.Common.{◌≡◌, codes, list_any, map, take}
+use Rattle.http_stream.specs.Heads.{has_close, values_of}
 use Rattle.httparse.specs.Spans.{header_bytes}
-use Rattle.http_stream.specs.Heads.{values_of, has_close}
 use Rattle.http_stream.proofs.head.any_close.Given as goal
 
 abbrev pub invariant-loop-header : goal.invariant-loop-header

@@ -1,9 +1,6 @@
-use Rattle.std.proofs.Common.{arith, take, ap, ◌∙◌, get_or}
-use Rattle.std.proofs.Common.{◌≤◌}
-use Rattle.std.proofs.lemmas.List.Elements.{All-get_or}
-use Rattle.std.proofs.lemmas.List.{take_more}
+use Rattle.desk_types.proofs.Common.{◌∙◌, ◌≤◌, All-get_or, ap, arith, get_or, take, take_more}
+use Rattle.http_stream.proofs.Headers.{digit_is, digits_value_after-more}
 use Rattle.std.specs.Str.Parse.{digits_value_after}
-use Rattle.http_stream.proofs.Headers.{digits_value_after-more, digit_is}
 use Rattle.http_stream.proofs.head.capped_value.Goals as goal
 
 pub loop-digit-preserved : goal.loop-digit-preserved

@@ -1,6 +1,4 @@
-use Rattle.std.proofs.Common.{◌≡◌, ◌+◌, take, min}
-use Rattle.std.specs.Str.Parse.{digits_value}
-use Rattle.desk_types.specs.declared.limits.TheConstants.{LONGEST_INPUT}
+use Rattle.desk_types.proofs.Common.{◌+◌, ◌≡◌, digits_value, LONGEST_INPUT, min, take}
 use Rattle.http_stream.proofs.head.capped_value.Given as goal
 
 abbrev pub invariant-loop-digit : goal.invariant-loop-digit

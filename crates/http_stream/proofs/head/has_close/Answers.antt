@@ -1,9 +1,7 @@
-use Rattle.std.proofs.Common.{◌==◌, rules, tests}
-use Rattle.std.proofs.lemmas.Iterator.Search.{any_from_yields_List}
-use Rattle.std.proofs.lemmas.Iterator.Splits.{YieldsList-from_slice_split}
-use Rattle.std.specs.Str.{str_eq_ignore_ascii_case}
-use Rattle.std.proofs.Common.{codes}
+use Rattle.desk_types.proofs.Common.{◌==◌, codes, rules}
 use Rattle.httparse.specs.Grammar.{trim_ows}
+use Rattle.std.{proofs.Common.tests, proofs.lemmas.Iterator.Search.any_from_yields_List}
+use Rattle.std.{proofs.lemmas.Iterator.Splits.YieldsList-from_slice_split, specs.Str.str_eq_ignore_ascii_case}
 use Rattle.http_stream.proofs.head.has_close.Goals as goal
 
 pub returns : goal.returns

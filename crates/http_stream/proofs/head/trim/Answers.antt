@@ -1,8 +1,8 @@
-use Rattle.std.proofs.Common.{◌≡◌, ℕ, List, reverse, slice_range, sym, ap, ◌∙◌, arith}
-use Rattle.std.proofs.lemmas.List.{reverse-reverse}
+use Rattle.desk_types.proofs.Common.{◌∙◌, ◌≡◌, ap, arith, List, reverse, sym, ℕ}
+use Rattle.http_stream.proofs.head.trim.Goals.{else-loop-start-test, then-loop-start-test+else-is_blank}
+use Rattle.httparse.proofs.TrimLemmas.{skip_ows_no, skip_ows_yes, slice_empty, slice_first, slice_last}
 use Rattle.httparse.specs.Grammar.{skip_ows, trim_ows}
-use Rattle.httparse.proofs.TrimLemmas.{skip_ows_yes, skip_ows_no, slice_first, slice_last, slice_empty}
-use Rattle.http_stream.proofs.head.trim.Goals.{then-loop-start-test+else-is_blank, else-loop-start-test}
+use Rattle.std.proofs.{Common.slice_range, lemmas.List.reverse-reverse}
 use Rattle.http_stream.proofs.head.trim.Goals as goal
 
 pub loop-start-preserved : goal.loop-start-preserved

@@ -1,5 +1,6 @@
-use Rattle.std.proofs.Common.{◌≡◌, ◌-◌, ◌≤◌, reverse, slice_range}
+use Rattle.desk_types.proofs.Common.{◌-◌, ◌≡◌, ◌≤◌, reverse}
 use Rattle.httparse.specs.Grammar.{skip_ows, trim_ows}
+use Rattle.std.proofs.Common.{slice_range}
 use Rattle.http_stream.proofs.head.trim.Given as goal
 
 abbrev pub invariant-loop-start : goal.invariant-loop-start

@@ -1,9 +1,6 @@
-use Rattle.std.proofs.Common.{◌∙◌, ap, sym, subst, map, take}
-use Rattle.std.proofs.lemmas.List.{map_more}
+use Rattle.desk_types.proofs.Common.{◌∙◌, ap, map, map_more, subst, sym, take}
+use Rattle.http_stream.{proofs.Headers.values_of-more, specs.Heads.values_of, specs.Looks.HasValues}
 use Rattle.httparse.specs.Spans.{header_bytes}
-use Rattle.http_stream.specs.Heads.{values_of}
-use Rattle.http_stream.specs.Looks.{HasValues}
-use Rattle.http_stream.proofs.Headers.{values_of-more}
 use Rattle.http_stream.proofs.head.values_of.Goals as goal
 
 pub loop-header-preserved : goal.loop-header-preserved

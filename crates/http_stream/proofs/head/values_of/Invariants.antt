@@ -1,7 +1,6 @@
-use Rattle.std.proofs.Common.{map, take}
+use Rattle.desk_types.proofs.Common.{map, take}
+use Rattle.http_stream.specs.{Heads.values_of, Looks.HasValues}
 use Rattle.httparse.specs.Spans.{header_bytes}
-use Rattle.http_stream.specs.Heads.{values_of}
-use Rattle.http_stream.specs.Looks.{HasValues}
 use Rattle.http_stream.proofs.head.values_of.Given as goal
 
 abbrev pub invariant-loop-header : goal.invariant-loop-header

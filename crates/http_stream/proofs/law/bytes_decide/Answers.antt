@@ -1,4 +1,4 @@
-use Rattle.http_stream.proofs.Unique.{one_portion, ends_or_begins, one_cut}
+use Rattle.http_stream.proofs.Unique.{ends_or_begins, one_cut, one_portion}
 use Rattle.http_stream.proofs.law.bytes_decide.Goals as goal
 
 pub returns-clause-one : goal.returns-clause-one

@@ -1,4 +1,4 @@
-use Rattle.http_stream.proofs.WithoutRepeats.{left_out, cut_without, same_list}
+use Rattle.http_stream.proofs.WithoutRepeats.{cut_without, left_out, same_list}
 use Rattle.http_stream.proofs.law.repeats_act_once.Goals as goal
 
 pub returns-clause-left_out : goal.returns-clause-left_out

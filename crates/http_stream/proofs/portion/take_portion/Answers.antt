@@ -1,9 +1,7 @@
-use Rattle.std.proofs.Common.{rules, subst}
-use Rattle.std.proofs.lemmas.Result.{on_err_weaker}
-use Rattle.desk_types.specs.Wire.{inner_of}
-use Rattle.desk_answers.specs.Block.{source, pending_bytes}
+use Rattle.desk_types.proofs.Common.{inner_of, on_err_weaker, rules, subst}
+use Rattle.desk_answers.specs.Block.{pending_bytes, source}
+use Rattle.http_stream.proofs.Portions.{keeps_inside, takes_bad, takes_large}
 use Rattle.http_stream.specs.Fronts.{IsFront}
-use Rattle.http_stream.proofs.Portions.{takes_bad, takes_large, keeps_inside}
 use Rattle.http_stream.proofs.portion.take_portion.Goals as goal
 
 pub returns-in-Bad-clause-next : goal.returns-in-Bad-clause-next

@@ -1,4 +1,4 @@
-use Rattle.std.proofs.Common.{rules, false}
+use Rattle.desk_types.proofs.Common.{false, rules}
 use Rattle.http_stream.proofs.serving.answer_portion.Goals as goal
 
 -- The history is unchanged.

@@ -1,14 +1,12 @@
-use Rattle.std.proofs.Common.{rules, Option, IfSome, ◌+◌, ◌<◌, ◌≡◌, ◌∙◌, ◌++◌, ◌∷◌, Some, true, false, subst, sym, ap, arith, length, [], refl}
-use Rattle.desk_types.specs.Wire.{inner_of}
-use Rattle.desk_answers.specs.Block.{pending_bytes, source, fuel}
-use Rattle.desk_answers.specs.Counts.{none_served}
-use Rattle.desk_types.specs.declared.limits.TheConstants.{MOST_READS}
-use Rattle.http_stream.specs.declared.portion.TakenPortion.{TakenPortion}
+use Rattle.desk_types.proofs.Common.{[], ◌++◌, ◌+◌, ◌<◌, ◌∙◌, ◌∷◌, ◌≡◌, ap, arith, false, IfSome, inner_of, length}
+use Rattle.desk_types.proofs.Common.{MOST_READS, Option, refl, rules, Some, subst, sym, true}
 use Rattle.desk_answers.proofs.Blocks.{none_pending}
-use Rattle.http_stream.specs.Cut.{PortionsGone, is_last}
-use Rattle.http_stream.specs.Portions.{TakesNext, portion_of}
-use Rattle.http_stream.proofs.HandlersOfPortions.{goes_none, goes_on, stops_into}
-use Rattle.http_stream.proofs.Portions.{start_gone, portions_go, last_goes, end_comes, next_first}
+use Rattle.desk_answers.specs.{Block.fuel, Block.pending_bytes, Block.source, Counts.none_served}
+use Rattle.http_stream.proofs.{HandlersOfPortions.goes_none, HandlersOfPortions.goes_on}
+use Rattle.http_stream.proofs.{HandlersOfPortions.stops_into, Portions.end_comes, Portions.last_goes}
+use Rattle.http_stream.proofs.{Portions.next_first, Portions.portions_go, Portions.start_gone}
+use Rattle.http_stream.specs.{Cut.is_last, Cut.PortionsGone, Portions.portion_of, Portions.TakesNext}
+use Rattle.http_stream.specs.{declared.portion.TakenPortion.TakenPortion}
 use Rattle.http_stream.proofs.serving.serve.Goals as goal
 
 pub portions-init : goal.portions-init

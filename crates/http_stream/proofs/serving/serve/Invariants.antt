@@ -1,10 +1,7 @@
-use Rattle.std.proofs.Common.{◌≡◌, ◌≤◌, ◌+◌, ◌*◌, List}
-use Rattle.desk_types.specs.Wire.{inner_of, reads_of, failures_of}
-use Rattle.desk_answers.specs.Block.{IsBlock, source, fuel}
-use Rattle.desk_answers.specs.Counts.{none_served}
-use Rattle.desk_types.specs.declared.limits.TheConstants.{BLOCK, MOST_READS}
-use Rattle.http_stream.specs.Cut.{Portion, PortionsGone}
-use Rattle.http_stream.proofs.HandlersOfPortions.{Goes}
+use Rattle.desk_types.proofs.Common.{◌*◌, ◌+◌, ◌≡◌, ◌≤◌, failures_of, inner_of, List, MOST_READS, reads_of}
+use Rattle.desk_answers.{specs.Block.fuel, specs.Block.IsBlock, specs.Block.source, specs.Counts.none_served}
+use Rattle.desk_types.specs.declared.limits.TheConstants.{BLOCK}
+use Rattle.http_stream.{proofs.HandlersOfPortions.Goes, specs.Cut.Portion, specs.Cut.PortionsGone}
 use Rattle.http_stream.proofs.serving.serve.Given as goal
 
 abbrev pub invariant-portions : goal.invariant-portions

@@ -1,11 +1,7 @@
-use Rattle.std.proofs.Common.{◌≡◌, ◌∙◌, ◌+◌, ◌∷◌, [], Bool, cond, ap, subst}
-use Rattle.std.specs.Io.KnownBytes.{Appends}
-use Rattle.desk_types.specs.Wire.{inner_of}
-use Rattle.http_stream.specs.Answers.{Told, is_refused, reply_told, answer_bytes}
-use Rattle.http_stream.specs.Cut.{is_last}
-use Rattle.http_stream.specs.Portions.{portion_of}
-use Rattle.http_stream.specs.Stream.{has_body, outcome}
+use Rattle.desk_types.proofs.Common.{[], ◌+◌, ◌∙◌, ◌∷◌, ◌≡◌, ap, Appends, Bool, cond, inner_of, subst}
 use Rattle.http_stream.proofs.AnsweredPortions.{one_answered}
+use Rattle.http_stream.specs.{Answers.answer_bytes, Answers.is_refused, Answers.reply_told, Answers.Told, Cut.is_last}
+use Rattle.http_stream.specs.{Portions.portion_of, Stream.has_body, Stream.outcome}
 use Rattle.http_stream.proofs.serving.serve_portion.Goals as goal
 
 pub returns-clause-answers : goal.returns-clause-answers

@@ -1,7 +1,6 @@
-use Rattle.std.proofs.Common.{rules, tests}
-use Rattle.std.proofs.lemmas.Iterator.{YieldsList-from_slice}
-use Rattle.std.proofs.lemmas.Iterator.Search.{all_from_yields_List}
-use Rattle.std.specs.Char.{is_ascii_digit}
+use Rattle.desk_types.proofs.Common.{is_ascii_digit, rules}
+use Rattle.std.proofs.{Common.tests, lemmas.Iterator.YieldsList-from_slice}
+use Rattle.std.proofs.{lemmas.Iterator.Search.all_from_yields_List}
 use Rattle.imports.proofs.fields.are_digits.Goals as goal
 
 pub returns : goal.returns

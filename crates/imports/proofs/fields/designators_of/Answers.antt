@@ -1,17 +1,12 @@
-use Rattle.std.proofs.Common.{rules, arith, ◌≡◌, ◌∙◌, sym, refl, ap, ℕ, ◌≤◌, List, [], ◌∷◌, ◌++◌, length, true, false, if◌then◌else◌, Option, Some, None, SomeIff}
-use Rattle.std.specs.Prelude.{nat_le, ◌==◌}
-use Rattle.std.specs.List.{list_all}
-use Rattle.std.proofs.lemmas.Bool.Decides.{nat_tests}
-use Rattle.std.proofs.lemmas.List.{map-append}
-use Rattle.std.proofs.lemmas.List.Folds.{list_all-append, list_all_at}
-use Rattle.std.proofs.lemmas.List.Splits.{length-slice_split}
-use Rattle.std.proofs.lemmas.Iterator.Consumers.{YieldsList-turn, YieldsList-end}
+use Rattle.desk_types.proofs.Common.{[], ◌++◌, ◌==◌, ◌∙◌, ◌∷◌, ◌≡◌, ◌≤◌, ap, arith, false, if◌then◌else◌}
+use Rattle.desk_types.proofs.Common.{IsListLength, length, length-slice_split, List, list_all, LONGEST_LIST}
+use Rattle.desk_types.proofs.Common.{map-append, Name, nat_le, nat_tests, None, Option, refl, rules, Some, SomeIff}
+use Rattle.desk_types.proofs.Common.{sym, true, ℕ}
+use Rattle.cfx_profile.specs.Forms.{designator_of, is_designator}
+use Rattle.imports.specs.File.{designators_of, words_of}
+use Rattle.std.proofs.lemmas.Iterator.Consumers.{YieldsList-end, YieldsList-turn}
 use Rattle.std.proofs.lemmas.Iterator.Splits.{YieldsList-from_str_split}
-use Rattle.desk_types.specs.declared.limits.TheConstants.{LONGEST_LIST}
-use Rattle.desk_types.specs.Bounds.{IsListLength}
-use Rattle.desk_types.specs.Id.{Name}
-use Rattle.cfx_profile.specs.Forms.{is_designator, designator_of}
-use Rattle.imports.specs.File.{words_of, designators_of}
+use Rattle.std.proofs.lemmas.List.Folds.{list_all-append, list_all_at}
 use Rattle.imports.proofs.fields.designators_of.Goals as goal
 
 is-from_read : (text d : Name) → designator_of text ≡ Some d → (is_designator text ≡ true) × (d ≡ text)

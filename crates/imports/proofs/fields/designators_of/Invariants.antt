@@ -1,5 +1,4 @@
-use Rattle.std.proofs.Common.{◌≡◌, map, true}
-use Rattle.std.specs.List.{list_all}
+use Rattle.desk_types.proofs.Common.{◌≡◌, list_all, map, true}
 use Rattle.cfx_profile.specs.Forms.{is_designator}
 use Rattle.imports.proofs.fields.designators_of.Given as goal
 

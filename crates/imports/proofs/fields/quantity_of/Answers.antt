@@ -1,12 +1,9 @@
-use Rattle.std.proofs.Common.{rules, arith, ◌≡◌, ◌∙◌, ap, ◌<◌, ◌≤◌, ℕ, List, true, None, Result, Ok, length}
-use Rattle.std.specs.Char.{is_ascii_digit}
-use Rattle.std.specs.List.{list_all}
-use Rattle.std.specs.Result.{result_ok}
-use Rattle.std.specs.Str.Parse.{digits_value, ParsesUnsigned}
-use Rattle.std.proofs.lemmas.Bool.Decides.{nat_tests}
-use Rattle.std.proofs.lemmas.Str.Parse.{parse_gives, digits_value_short}
-use Rattle.imports.specs.File.{is_number}
+use Rattle.desk_types.proofs.Common.{◌<◌, ◌∙◌, ◌≡◌, ◌≤◌, ap, arith, digits_value, is_ascii_digit, length, List}
+use Rattle.desk_types.proofs.Common.{list_all, nat_tests, None, Ok, Result, result_ok, rules, true, ℕ}
 use Rattle.desk_types.proofs.Numerals.{own}
+use Rattle.imports.specs.File.{is_number}
+use Rattle.std.proofs.lemmas.Str.Parse.{digits_value_short, parse_gives}
+use Rattle.std.specs.Str.Parse.{ParsesUnsigned}
 use Rattle.imports.proofs.fields.quantity_of.Goals as goal
 
 -- 1 to 8 digits are read as their number.

@@ -1,9 +1,8 @@
-use Rattle.std.proofs.Common.{◌≡◌, ◌∙◌, refl, ap, ℕ, List, Bor, true, false, if◌then◌else◌, Some, None, option_map, Result, Ok, Err}
-use Rattle.std.specs.Prelude.{MatchResult}
-use Rattle.std.specs.Result.{result_ok}
-use Rattle.std.specs.Str.{is_utf8, IsUtf8}
-use Rattle.std.proofs.lemmas.Str.{IsUtf8-from_is_utf8, is_utf8-from_IsUtf8}
+use Rattle.desk_types.proofs.Common.{◌∙◌, ◌≡◌, ap, Bor, Err, false, if◌then◌else◌, is_utf8, is_utf8-from_IsUtf8}
+use Rattle.desk_types.proofs.Common.{IsUtf8, IsUtf8-from_is_utf8, List, None, Ok, refl, Result, result_ok, Some, true}
+use Rattle.desk_types.proofs.Common.{ℕ}
 use Rattle.imports.specs.File.{text_of}
+use Rattle.std.{proofs.Common.option_map, specs.Prelude.MatchResult}
 use Rattle.imports.proofs.fields.text_at.Goals as goal
 
 -- Reading bytes as UTF-8 gives the same bytes.

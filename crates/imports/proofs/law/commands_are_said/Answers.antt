@@ -1,4 +1,4 @@
-use Rattle.imports.proofs.SaidByFile.{sheets_are_said, counts_are_said}
+use Rattle.imports.proofs.SaidByFile.{counts_are_said, sheets_are_said}
 use Rattle.imports.proofs.law.commands_are_said.Goals as goal
 
 pub returns-clause-sheets : goal.returns-clause-sheets

@@ -1,7 +1,7 @@
 use Rattle.csv.specs.Reading.{default_config, strip_bom}
-use Rattle.csv.specs.declared.parser.State.TheVariants as st
-use Rattle.imports.specs.File.{is_setup_header, sheet_row, is_counts_header, count_row}
 use Rattle.imports.proofs.LaterRecords.{decided}
+use Rattle.imports.specs.File.{count_row, is_counts_header, is_setup_header, sheet_row}
+use Rattle.csv.specs.declared.parser.State.TheVariants as st
 use Rattle.imports.proofs.law.first_records_decide.Goals as goal
 
 pub returns-clause-setups : goal.returns-clause-setups

@@ -1,11 +1,10 @@
-use Rattle.std.proofs.Common.{Bor, List, ℕ, ◌≡◌, ◌≤◌, arith, ◌∙◌, sym, refl, rules, inl, inr, map, length, Some, ◌++◌, ◌∷◌, []}
-use Rattle.std.proofs.lemmas.List.{map-append, length-map, places}
-use Rattle.csv.specs.Reading.{Reached, default_config, strip_bom}
-use Rattle.csv.specs.Records.{fields_of}
+use Rattle.desk_types.proofs.Common.{[], ◌++◌, ◌∙◌, ◌∷◌, ◌≡◌, ◌≤◌, arith, Bor, inl, inr, length, length-map, List}
+use Rattle.desk_types.proofs.Common.{map, map-append, refl, rules, Some, sym, ℕ}
+use Rattle.csv.{proofs.ReadFacts.rows-end, proofs.ReadFacts.rows-more, specs.Reading.default_config}
+use Rattle.csv.{specs.Reading.Reached, specs.Reading.strip_bom, specs.Records.fields_of}
+use Rattle.imports.{proofs.FirstRecords.first-of_reached, specs.declared.records.TheConstants.MOST_RECORDS}
+use Rattle.std.proofs.lemmas.List.{places}
 use Rattle.csv.specs.declared.parser.State.TheVariants as st
-use Rattle.csv.proofs.ReadFacts.{rows-end, rows-more}
-use Rattle.imports.specs.declared.records.TheConstants.{MOST_RECORDS}
-use Rattle.imports.proofs.FirstRecords.{first-of_reached}
 use Rattle.imports.proofs.records.first_records.Goals as goal
 
 pub loop-row-init : goal.loop-row-init

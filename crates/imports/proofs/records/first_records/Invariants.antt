@@ -1,9 +1,9 @@
-use Rattle.std.proofs.Common.{◌≡◌, ◌<◌, ℕ, List, Some, map, length}
-use Rattle.csv.specs.Reading.{Reached, Ready, default_config, source_of, strip_bom}
+use Rattle.desk_types.proofs.Common.{◌<◌, ◌≡◌, length, List, map, Some, ℕ}
+use Rattle.csv.specs.Reading.{default_config, Reached, Ready, source_of, strip_bom}
 use Rattle.csv.specs.Records.{fields_of}
+use Rattle.imports.specs.declared.records.TheConstants.{MOST_RECORDS}
 use Rattle.csv.specs.declared.parser.State.TheVariants as st
 use Rattle.csv.specs.declared.reader.Trim.TheVariants as trim
-use Rattle.imports.specs.declared.records.TheConstants.{MOST_RECORDS}
 use Rattle.imports.proofs.records.first_records.Given as goal
 
 -- Reading the records so far left the reader with its remaining bytes.

@@ -1,13 +1,12 @@
-use Rattle.std.proofs.Common.{rules, arith, ◌≡◌, ◌≢◌, ◌∙◌, ap, refl, true, false, Ok, Err, map, length, [], ◌∷◌, ◌++◌}
-use Rattle.std.specs.Prelude.{nat_le}
-use Rattle.std.proofs.lemmas.Bool.Decides.{nat_tests}
-use Rattle.std.proofs.lemmas.List.{length_push}
+use Rattle.desk_types.proofs.Common.{[], ◌++◌, ◌∙◌, ◌∷◌, ◌≡◌, ◌≢◌, ap, arith, Err, false, length, map, nat_le}
+use Rattle.desk_types.proofs.Common.{nat_tests, Ok, refl, rules, true}
+use Rattle.cfx_profile.proofs.Faults.{IsSaid-fault}
 use Rattle.csv.specs.Records.{fields_of}
+use Rattle.imports.proofs.EachRow.{each-fault, each-more}
+use Rattle.imports.specs.File.{each, row_at}
 use Rattle.imports.specs.declared.fault.ImportFault.TheVariants.{NoMemory, OverLimit}
 use Rattle.imports.specs.declared.rows.TheConstants.{FIRST_ROW, LAST_ROW}
-use Rattle.imports.specs.File.{row_at, each}
-use Rattle.imports.proofs.EachRow.{each-more, each-fault}
-use Rattle.cfx_profile.proofs.Faults.{IsSaid-fault}
+use Rattle.std.proofs.lemmas.List.{length_push}
 use Rattle.imports.proofs.rows.each.Goals as goal
 
 pub loop-record-preserved : goal.loop-record-preserved

@@ -1,8 +1,6 @@
-use Rattle.std.proofs.Common.{◌≡◌, ◌≤◌, ◌+◌, map, take, length, Ok}
+use Rattle.desk_types.proofs.Common.{◌+◌, ◌≡◌, ◌≤◌, length, LONGEST_LIST, map, Ok, take}
 use Rattle.csv.specs.Records.{fields_of}
-use Rattle.desk_types.specs.declared.limits.TheConstants.{LONGEST_LIST}
-use Rattle.imports.specs.declared.rows.TheConstants.{FIRST_ROW}
-use Rattle.imports.specs.File.{each}
+use Rattle.imports.specs.{File.each, declared.rows.TheConstants.FIRST_ROW}
 use Rattle.imports.proofs.rows.each.Given as goal
 
 -- The records so far are these rows, and this is the next line.

@@ -1,12 +1,6 @@
-use Rattle.std.proofs.Common.{◌≡◌, ◌+◌, ◌-◌, List, [], ◌∷◌, ◌++◌, map, take, drop, sym, ap, subst, ◌∙◌, append_assoc}
-use Rattle.std.specs.Option.{option_or}
-use Rattle.std.proofs.lemmas.List.{map-append}
-use Rattle.desk_types.specs.declared.count.CountRow.{CountRow}
-use Rattle.desk_types.specs.declared.take.Purpose.TheVariants.{Counted}
-use Rattle.desk_types.specs.Id.{Name}
-use Rattle.desk_types.specs.Pieces.{left_of, count_picks, pieces_off}
-use Rattle.desk_types.specs.Refusals.{counts_refusal}
-use Rattle.desk_types.proofs.LoopSteps.{take-next, drop-next}
+use Rattle.desk_types.proofs.Common.{[], ◌++◌, ◌+◌, ◌-◌, ◌∙◌, ◌∷◌, ◌≡◌, ap, append_assoc, count_picks, Counted}
+use Rattle.desk_types.proofs.Common.{CountRow, counts_refusal, drop, drop-next, left_of, List, map, map-append, Name}
+use Rattle.desk_types.proofs.Common.{option_or, pieces_off, subst, sym, take, take-next}
 use Rattle.setup_sheets.specs.Names.{HasSeen}
 use Rattle.judging.proofs.counts.picks_of_counts.Goals as goal
 

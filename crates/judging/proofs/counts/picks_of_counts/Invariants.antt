@@ -1,8 +1,5 @@
-use Rattle.std.proofs.Common.{◌≡◌, ◌++◌, [], map, take, drop}
-use Rattle.desk_types.specs.declared.count.CountRow.{CountRow}
-use Rattle.desk_types.specs.History.{History}
-use Rattle.desk_types.specs.Pieces.{left_of, count_picks}
-use Rattle.desk_types.specs.Refusals.{counts_refusal}
+use Rattle.desk_types.proofs.Common.{[], ◌++◌, ◌≡◌, count_picks, CountRow, counts_refusal, drop, History, left_of}
+use Rattle.desk_types.proofs.Common.{map, take}
 use Rattle.setup_sheets.specs.Names.{HasSeen}
 use Rattle.judging.proofs.counts.picks_of_counts.Given as goal
 

@@ -1,10 +1,7 @@
-use Rattle.std.proofs.Common.{◌≡◌, false, sym, ap, subst, ◌∙◌, arith}
-use Rattle.std.specs.Prelude.{is_none}
-use Rattle.desk_types.specs.Setup.{receipt_of}
-use Rattle.desk_types.specs.Pieces.{left_of, is_mounted}
-use Rattle.desk_types.specs.Refusals.{is_above}
-use Rattle.setup_sheets.proofs.SeenNames.{HasSeen-push, was-new}
+use Rattle.desk_types.proofs.Common.{◌∙◌, ◌≡◌, ap, arith, false, is_above, is_mounted, is_none, left_of, receipt_of}
+use Rattle.desk_types.proofs.Common.{subst, sym}
 use Rattle.judging.specs.Facts.{IsReelOf}
+use Rattle.setup_sheets.proofs.SeenNames.{HasSeen-push, was-new}
 use Rattle.judging.proofs.counts.pieces_above.Goals as goal
 
 pub returns : goal.returns

@@ -1,5 +1,4 @@
-use Rattle.std.proofs.Common.{sym, ap, ◌∙◌}
-use Rattle.std.specs.Prelude.{is_some}
+use Rattle.desk_types.proofs.Common.{◌∙◌, ap, is_some, sym}
 use Rattle.desk_laws.proofs.Mounts.{front-received}
 use Rattle.judging.proofs.fronts.front_at.Goals as goal
 

@@ -1,4 +1,4 @@
-use Rattle.std.proofs.Common.{sym, ◌∙◌}
+use Rattle.desk_types.proofs.Common.{◌∙◌, sym}
 use Rattle.judging.proofs.EmptyHistory.{no-fronts}
 use Rattle.judging.proofs.fronts.fronts.Goals as goal
 

@@ -1,6 +1,4 @@
-use Rattle.std.proofs.Common.{◌≡◌, map, take}
-use Rattle.desk_types.specs.Front.{front_at}
-use Rattle.desk_types.specs.History.{History}
+use Rattle.desk_types.proofs.Common.{◌≡◌, front_at, History, map, take}
 use Rattle.judging.proofs.fronts.fronts.Given as goal
 
 abbrev pub invariant-loop-row : goal.invariant-loop-row

@@ -1,9 +1,6 @@
-use Rattle.std.proofs.Common.{◌-◌, ◌^◌, min, subst, sym, ap, ◌∙◌}
-use Rattle.desk_types.specs.declared.answer.Detail.TheVariants.{Taken}
-use Rattle.desk_types.specs.Command.{IsCommand, IsCountRow, IsListOf}
-use Rattle.desk_types.specs.Outcome.{detail_of, pieces_of}
-use Rattle.desk_types.specs.Pieces.{picks_of}
-use Rattle.judging.proofs.PicksOfCommands.{scrap-fits, count-fits}
+use Rattle.desk_types.proofs.Common.{◌-◌, ◌^◌, ◌∙◌, ap, detail_of, IsCommand, IsCountRow, IsListOf, min, picks_of}
+use Rattle.desk_types.proofs.Common.{pieces_of, subst, sym, Taken}
+use Rattle.judging.proofs.PicksOfCommands.{count-fits, scrap-fits}
 use Rattle.judging.proofs.judging.detail.Goals as goal
 
 pub returns-in-MaterialsScrapped : goal.returns-in-MaterialsScrapped

@@ -1,9 +1,5 @@
-use Rattle.std.proofs.Common.{map, subst, sym, ap, ◌∙◌}
-use Rattle.std.specs.List.{AllByRecursion}
-use Rattle.desk_types.specs.declared.take.Pick.{Pick}
-use Rattle.desk_types.specs.Outcome.{take_of}
-use Rattle.judging.specs.Facts.{IsKnownReel}
-use Rattle.judging.proofs.PicksOfCommands.{picks-known}
+use Rattle.desk_types.proofs.Common.{◌∙◌, AllByRecursion, ap, map, Pick, subst, sym, take_of}
+use Rattle.judging.{proofs.PicksOfCommands.picks-known, specs.Facts.IsKnownReel}
 use Rattle.judging.proofs.judging.takes_by.Goals as goal
 
 pub takes_for-requires-clause-known : goal.takes_for-requires-clause-known

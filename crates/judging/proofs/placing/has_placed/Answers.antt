@@ -1,4 +1,4 @@
-use Rattle.std.proofs.Common.{◌∙◌}
+use Rattle.desk_types.proofs.Common.{◌∙◌}
 use Rattle.judging.proofs.SortedSearch.{found-or-not}
 use Rattle.judging.proofs.placing.has_placed.Goals as goal
 

@@ -1,10 +1,8 @@
-use Rattle.std.proofs.Common.{◌≡◌, ◌+◌, nat_lt, true, sym, ◌∙◌, arith}
-use Rattle.std.proofs.lemmas.Bool.{lt-ltb}
-use Rattle.desk_types.specs.Pieces.{left_of}
-use Rattle.judging.specs.Placing.{live_past}
-use Rattle.judging.proofs.Reels.{filter-past, filter-here, no-gap, spent}
-use Rattle.judging.proofs.placing.later_reel.Goals as goal
+use Rattle.desk_types.proofs.Common.{◌+◌, ◌∙◌, ◌≡◌, arith, left_of, lt-ltb, nat_lt, sym, true}
+use Rattle.judging.proofs.Reels.{filter-here, filter-past, no-gap, spent}
 use Rattle.judging.proofs.placing.later_reel.Goals.{in-Some+else-pieces-gt0, in_default}
+use Rattle.judging.specs.Placing.{live_past}
+use Rattle.judging.proofs.placing.later_reel.Goals as goal
 
 pub returns-then-pieces-gt0-clause-live : goal.returns-then-pieces-gt0-clause-live
 returns-then-pieces-gt0-clause-live g c = λ H stands.

@@ -1,6 +1,4 @@
-use Rattle.std.proofs.Common.{◌≡◌}
-use Rattle.desk_types.specs.History.{History}
-use Rattle.desk_types.specs.Pieces.{left_of}
+use Rattle.desk_types.proofs.Common.{◌≡◌, History, left_of}
 use Rattle.judging.specs.Placing.{live_past}
 use Rattle.judging.proofs.placing.later_reel.Given as goal
 

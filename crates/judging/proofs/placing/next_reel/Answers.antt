@@ -1,10 +1,6 @@
-use Rattle.std.proofs.Common.{◌≡◌, nat_lt, true, sym, ap, ◌∙◌, ◌∷◌, [], arith}
-use Rattle.std.specs.Option.{option_map_or}
-use Rattle.std.proofs.lemmas.Bool.{lt-ltb}
-use Rattle.desk_types.specs.Pieces.{left_of}
-use Rattle.judging.specs.declared.placing.Feed.{Feed}
-use Rattle.judging.specs.Placing.{live_past}
-use Rattle.judging.proofs.Reels.{filter-here, filter-gap}
+use Rattle.desk_types.proofs.Common.{[], ◌∙◌, ◌∷◌, ◌≡◌, ap, arith, left_of, lt-ltb, nat_lt, option_map_or, sym, true}
+use Rattle.judging.proofs.Reels.{filter-gap, filter-here}
+use Rattle.judging.specs.{Placing.live_past, declared.placing.Feed.Feed}
 use Rattle.judging.proofs.placing.next_reel.Goals as goal
 
 pub returns-in_err-reel-clause-live : goal.returns-in_err-reel-clause-live

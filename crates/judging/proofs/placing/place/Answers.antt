@@ -1,11 +1,7 @@
-use Rattle.std.proofs.Common.{◌≡◌, Some, refl, sym, ap, ◌∙◌}
-use Rattle.desk_types.specs.declared.answer.Refusal.TheVariants.{ReelShort}
-use Rattle.desk_types.specs.Setup.{slot_on}
-use Rattle.desk_types.specs.Pieces.{bench_of}
+use Rattle.desk_types.proofs.Common.{◌∙◌, ◌≡◌, ap, bench_of, ReelShort, refl, slot_on, Some, sym}
+use Rattle.judging.proofs.PlacedInTurn.{not-refused, pick-found, pick-none, refused-short}
+use Rattle.judging.specs.{Placing.pick_of, declared.placing.Feeder.Feeder}
 use Rattle.setup_sheets.proofs.SeenNames.{HasSeen-push, was-new}
-use Rattle.judging.specs.declared.placing.Feeder.{Feeder}
-use Rattle.judging.specs.Placing.{pick_of}
-use Rattle.judging.proofs.PlacedInTurn.{pick-found, pick-none, not-refused, refused-short}
 use Rattle.judging.proofs.placing.place.Goals as goal
 
 pub returns : goal.returns

@@ -1,18 +1,10 @@
-use Rattle.std.proofs.Common.{◌≡◌, ◌+◌, [], ◌∷◌, ◌++◌, take, drop, subst, sym, ap, ◌∙◌, arith}
-use Rattle.std.specs.BTreeMap.{is_at}
-use Rattle.std.specs.List.{list_any}
-use Rattle.std.specs.Map.{lookup}
-use Rattle.std.proofs.lemmas.List.{drop_all}
-use Rattle.desk_types.specs.declared.take.Pick.{Pick}
-use Rattle.desk_types.specs.Id.{by_name}
-use Rattle.desk_types.specs.Pieces.{bench_of, install_picks, left_of, live_on}
-use Rattle.desk_types.specs.Refusals.{designators_refusal}
-use Rattle.desk_types.specs.Work.{is_placed_on}
-use Rattle.desk_types.proofs.LoopSteps.{take-next}
-use Rattle.setup_sheets.specs.Names.{HasSeen}
-use Rattle.judging.specs.Placing.{IsFeeding, pick_of}
+use Rattle.desk_types.proofs.Common.{[], ◌++◌, ◌+◌, ◌∙◌, ◌∷◌, ◌≡◌, ap, arith, bench_of, by_name, designators_refusal}
+use Rattle.desk_types.proofs.Common.{drop, drop_all, install_picks, is_at, is_placed_on, left_of, list_any, live_on}
+use Rattle.desk_types.proofs.Common.{lookup, Pick, subst, sym, take, take-next}
 use Rattle.judging.proofs.Feeds.{feeds-first}
-use Rattle.judging.proofs.PlacedInTurn.{before_at, refusal-next, refusal-here, picks-next, picks-end}
+use Rattle.judging.proofs.PlacedInTurn.{before_at, picks-end, picks-next, refusal-here, refusal-next}
+use Rattle.judging.specs.Placing.{IsFeeding, pick_of}
+use Rattle.setup_sheets.specs.Names.{HasSeen}
 use Rattle.judging.proofs.placing.place_all.Goals as goal
 
 pub loop-designator-init : goal.loop-designator-init

@@ -1,10 +1,7 @@
-use Rattle.std.proofs.Common.{◌≡◌, [], take, drop}
-use Rattle.desk_types.specs.History.{History}
-use Rattle.desk_types.specs.Pieces.{bench_of, left_of, live_on, install_picks}
-use Rattle.desk_types.specs.Refusals.{designators_refusal}
-use Rattle.desk_types.specs.Work.{is_placed_on}
-use Rattle.setup_sheets.specs.Names.{HasSeen}
+use Rattle.desk_types.proofs.Common.{[], ◌≡◌, bench_of, designators_refusal, drop, History, install_picks}
+use Rattle.desk_types.proofs.Common.{is_placed_on, left_of, live_on, take}
 use Rattle.judging.specs.Placing.{IsFeeding}
+use Rattle.setup_sheets.specs.Names.{HasSeen}
 use Rattle.judging.proofs.placing.place_all.Given as goal
 
 -- The designators so far have no fault and these picks; the others decide the refusal and add the

@@ -1,8 +1,6 @@
-use Rattle.std.proofs.Common.{rules, refl, sym, ◌∙◌}
-use Rattle.desk_types.proofs.Keys.{name-written}
-use Rattle.judging.specs.declared.placing.Feed.{Feed}
-use Rattle.judging.specs.Placing.{one_less}
+use Rattle.desk_types.proofs.Common.{◌∙◌, name-written, refl, rules, sym}
 use Rattle.judging.proofs.Feeds.{less-written, none-less}
+use Rattle.judging.specs.{Placing.one_less, declared.placing.Feed.Feed}
 use Rattle.judging.proofs.placing.take_in_hand.Goals as goal
 
 pub returns-then-feed-eq0-clause-lowered : goal.returns-then-feed-eq0-clause-lowered

@@ -1,9 +1,5 @@
-use Rattle.std.proofs.Common.{◌≡◌, false, sym, ap, ◌∙◌, arith}
-use Rattle.desk_types.specs.declared.take.Purpose.TheVariants.{Rejected}
-use Rattle.desk_types.specs.Pieces.{left_of, scrap_picks}
-use Rattle.desk_types.specs.Refusals.{is_vacant}
-use Rattle.judging.proofs.Reels.{scrap-live}
-use Rattle.judging.proofs.ScrapPicks.{scrap-empty, scrap-short, scrap-enough}
+use Rattle.desk_types.proofs.Common.{◌∙◌, ◌≡◌, ap, arith, false, is_vacant, left_of, Rejected, scrap_picks, sym}
+use Rattle.judging.proofs.{Reels.scrap-live, ScrapPicks.scrap-empty, ScrapPicks.scrap-enough, ScrapPicks.scrap-short}
 use Rattle.judging.proofs.scraps.picks_of_scrap.Goals as goal
 
 pub returns-then-is_vacant : goal.returns-then-is_vacant

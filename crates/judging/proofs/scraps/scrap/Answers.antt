@@ -1,11 +1,8 @@
-use Rattle.std.proofs.Common.{◌≡◌, ◌+◌, ◌-◌, ◌++◌, min, drop, sym, ap, ◌∙◌, arith}
-use Rattle.std.specs.List.{sum_by}
-use Rattle.desk_types.specs.declared.take.Purpose.TheVariants.{Rejected}
-use Rattle.desk_types.specs.Pieces.{left_of, pieces_off, scrap_picks}
-use Rattle.judging.proofs.Reels.{no-gap}
-use Rattle.judging.proofs.ScrapPicks.{scrap-step, sum-step, scrap-done}
+use Rattle.desk_types.proofs.Common.{◌++◌, ◌+◌, ◌-◌, ◌∙◌, ◌≡◌, ap, arith, drop, left_of, min, pieces_off, Rejected}
+use Rattle.desk_types.proofs.Common.{scrap_picks, sum_by, sym}
+use Rattle.judging.proofs.{Reels.no-gap, ScrapPicks.scrap-done, ScrapPicks.scrap-step, ScrapPicks.sum-step}
+use Rattle.judging.proofs.{scraps.scrap.Goals.in-Some+in_ok-put_off, scraps.scrap.Goals.in_default}
 use Rattle.judging.proofs.scraps.scrap.Goals as goal
-use Rattle.judging.proofs.scraps.scrap.Goals.{in-Some+in_ok-put_off, in_default}
 
 pub returns-then-wanting-eq0 : goal.returns-then-wanting-eq0
 returns-then-wanting-eq0 g c = λ H stands.

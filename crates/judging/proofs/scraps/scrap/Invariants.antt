@@ -1,8 +1,4 @@
-use Rattle.std.proofs.Common.{◌≡◌, ◌-◌, ◌++◌, drop}
-use Rattle.std.specs.List.{sum_by}
-use Rattle.desk_types.specs.declared.take.Purpose.TheVariants.{Rejected}
-use Rattle.desk_types.specs.History.{History}
-use Rattle.desk_types.specs.Pieces.{left_of, scrap_picks}
+use Rattle.desk_types.proofs.Common.{◌++◌, ◌-◌, ◌≡◌, drop, History, left_of, Rejected, scrap_picks, sum_by}
 use Rattle.judging.proofs.scraps.scrap.Given as goal
 
 -- The picks so far with those of the remaining reels are all, with the same pieces missing at the

@@ -1,10 +1,7 @@
-use Rattle.std.proofs.Common.{◌≡◌, Some, [], map, unwrap_or, sym, ap, ◌∙◌}
-use Rattle.std.specs.Option.{option_copied}
-use Rattle.desk_types.specs.declared.front.Front.{Front}
-use Rattle.desk_types.specs.History.{now_of}
-use Rattle.desk_types.specs.Setup.{sheet_on}
-use Rattle.desk_types.specs.Front.{front_at}
+use Rattle.desk_types.proofs.Common.{[], ◌∙◌, ◌≡◌, ap, front_at, map, now_of, Some, sym, unwrap_or}
+use Rattle.desk_types.specs.{Setup.sheet_on, declared.front.Front.Front}
 use Rattle.setup_sheets.proofs.VerifiedStarts.{fronts-slots}
+use Rattle.std.specs.Option.{option_copied}
 use Rattle.judging.proofs.starts.slots_refusal.Goals as goal
 
 pub verify-requires : goal.verify-requires

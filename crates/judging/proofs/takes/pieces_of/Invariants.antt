@@ -1,5 +1,4 @@
-use Rattle.std.proofs.Common.{◌≡◌, ◌-◌, ◌^◌, min, take}
-use Rattle.desk_types.specs.Outcome.{pieces_of}
+use Rattle.desk_types.proofs.Common.{◌-◌, ◌^◌, ◌≡◌, min, pieces_of, take}
 use Rattle.judging.proofs.takes.pieces_of.Given as goal
 
 abbrev pub invariant-loop-pick : goal.invariant-loop-pick

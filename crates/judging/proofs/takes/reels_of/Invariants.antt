@@ -1,5 +1,4 @@
-use Rattle.std.proofs.Common.{◌≡◌, take}
-use Rattle.desk_types.specs.Outcome.{reels_of}
+use Rattle.desk_types.proofs.Common.{◌≡◌, reels_of, take}
 use Rattle.judging.proofs.takes.reels_of.Given as goal
 
 abbrev pub invariant-loop-pick : goal.invariant-loop-pick

@@ -1,7 +1,4 @@
-use Rattle.std.proofs.Common.{[], ◌∷◌, ◌++◌, map, take, sym, ap, subst, ◌∙◌}
-use Rattle.std.proofs.lemmas.List.{map-append}
-use Rattle.desk_types.specs.Outcome.{take_of}
-use Rattle.desk_types.proofs.LoopSteps.{take-next}
+use Rattle.desk_types.proofs.Common.{[], ◌++◌, ◌∙◌, ◌∷◌, ap, map, map-append, subst, sym, take, take-next, take_of}
 use Rattle.judging.specs.Facts.{IsReelOf}
 use Rattle.judging.proofs.takes.takes_for.Goals as goal
 

@@ -1,6 +1,4 @@
-use Rattle.std.proofs.Common.{◌≡◌, map, take}
-use Rattle.desk_types.specs.History.{History}
-use Rattle.desk_types.specs.Outcome.{take_of}
+use Rattle.desk_types.proofs.Common.{◌≡◌, History, map, take, take_of}
 use Rattle.judging.proofs.takes.takes_for.Given as goal
 
 abbrev pub invariant-loop-pick : goal.invariant-loop-pick

@@ -1,15 +1,10 @@
-use Rattle.std.proofs.Common.{◌∙◌, ◌<◌, ◌≤◌, ◌+◌, ℕ, Option, length, take, drop, sym, subst, arith, true≢false}
-use Rattle.std.specs.List.{AllByRecursion}
-use Rattle.std.proofs.lemmas.List.{take_all}
-use Rattle.sqlite.specs.State.{HasCleanDisk}
-use Rattle.sqlite.specs.Held.{state}
-use Rattle.desk_types.specs.declared.row.PlacementRow.{PlacementRow}
+use Rattle.desk_types.proofs.Common.{◌+◌, ◌<◌, ◌∙◌, ◌≤◌, AllByRecursion, arith, drop, length, Option, PlacementRow}
+use Rattle.desk_types.proofs.Common.{subst, sym, take, take_all, true≢false, ℕ}
+use Rattle.line_tables.proofs.Common.{HasCleanDisk, state}
+use Rattle.line_replay.proofs.{PlacementsAsExpected.expected_after, Verdicts.right_more, Verdicts.split_at}
+use Rattle.line_replay.specs.Audit.{HoldsTable, IsExpected, Pieces, with_placements}
+use Rattle.line_tables.proofs.{Frames.reads_then, Keeps.reads_before}
 use Rattle.state_rows.specs.Kept.{tables_in}
-use Rattle.line_tables.proofs.Frames.{reads_then}
-use Rattle.line_replay.specs.Audit.{Pieces, IsExpected, HoldsTable, with_placements}
-use Rattle.line_replay.proofs.MatchedEntries.{reads_before}
-use Rattle.line_replay.proofs.PlacementsAsExpected.{expected_after}
-use Rattle.line_replay.proofs.Verdicts.{split_at, right_more}
 use Rattle.line_replay.proofs.auditing.audit_tables.Goals as goal
 
 pub returns-then-not-branch-clause-verdict : goal.returns-then-not-branch-clause-verdict

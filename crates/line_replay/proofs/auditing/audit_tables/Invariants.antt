@@ -1,12 +1,7 @@
-use Rattle.std.proofs.Common.{◌<◌, ℕ, IsTrue, Option, take}
-use Rattle.std.specs.List.{AllByRecursion}
-use Rattle.sqlite.specs.State.{HasCleanDisk}
-use Rattle.sqlite.specs.Held.{state}
-use Rattle.desk_types.specs.declared.row.PlacementRow.{PlacementRow}
+use Rattle.desk_types.proofs.Common.{◌<◌, AllByRecursion, IsTrue, Option, PlacementRow, take, ℕ}
+use Rattle.line_tables.proofs.Common.{HasCleanDisk, IsOurs, ReadsOnly, state}
+use Rattle.line_replay.specs.Audit.{HoldsTable, IsExpected, Pieces, with_placements}
 use Rattle.state_rows.specs.Kept.{tables_in}
-use Rattle.line_tables.specs.Line.{IsOurs}
-use Rattle.line_tables.specs.Frames.{ReadsOnly}
-use Rattle.line_replay.specs.Audit.{Pieces, IsExpected, HoldsTable, with_placements}
 use Rattle.line_replay.proofs.auditing.audit_tables.Given as goal
 
 abbrev pub invariant-loop-table : goal.invariant-loop-table

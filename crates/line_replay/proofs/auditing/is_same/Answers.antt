@@ -1,8 +1,9 @@
-use Rattle.std.proofs.lemmas.Result.{IfOk-weaker}
-use Rattle.std.specs.Map.Iter.{deref, deref_pair}
-use Rattle.line_tables.proofs.Keyed.{one_text, one_pair, one_sheet_place}
-use Rattle.line_replay.proofs.EntriesOfSets.{alone, unnumbered, keys_listed, pairs_listed, sheets_listed, names_listed, mounts_listed}
+use Rattle.desk_types.proofs.Common.{IfOk-weaker}
+use Rattle.line_replay.proofs.EntriesOfSets.{alone, keys_listed, mounts_listed, names_listed, pairs_listed}
+use Rattle.line_replay.proofs.EntriesOfSets.{sheets_listed, unnumbered}
 use Rattle.line_replay.proofs.MatchedEntries.{yields_all, yields_each}
+use Rattle.line_tables.proofs.Keyed.{one_pair, one_sheet_place, one_text}
+use Rattle.std.specs.Map.Iter.{deref, deref_pair}
 use Rattle.line_replay.proofs.auditing.is_same.Goals as goal
 
 pub returns-in-Part-clause-same : goal.returns-in-Part-clause-same

@@ -1,9 +1,8 @@
-use Rattle.std.proofs.Common.{arith}
-use Rattle.sqlite.specs.State.{HasCleanDisk}
-use Rattle.sqlite.specs.Held.{state}
-use Rattle.line_tables.proofs.Frames.{reads_then}
+use Rattle.desk_types.proofs.Common.{arith}
+use Rattle.line_tables.proofs.Common.{HasCleanDisk, state}
+use Rattle.line_replay.proofs.MatchedEntries.{all_alone, matched_more, not_alone, too_few}
 use Rattle.line_replay.specs.TableNames.{table_of}
-use Rattle.line_replay.proofs.MatchedEntries.{matched_more, too_few, not_alone, all_alone}
+use Rattle.line_tables.proofs.Frames.{reads_then}
 use Rattle.line_replay.proofs.compared.are_rows.Goals as goal
 
 pub returns-then-left-eq0-clause-same : goal.returns-then-left-eq0-clause-same

@@ -1,9 +1,6 @@
-use Rattle.std.proofs.Common.{map}
-use Rattle.sqlite.specs.State.{HasCleanDisk}
-use Rattle.sqlite.specs.Held.{state}
-use Rattle.line_tables.specs.Frames.{ReadsOnly}
-use Rattle.line_replay.specs.Alone.{AreMatched}
-use Rattle.line_replay.specs.TableNames.{table_of}
+use Rattle.desk_types.proofs.Common.{map}
+use Rattle.line_tables.proofs.Common.{HasCleanDisk, ReadsOnly, state}
+use Rattle.line_replay.specs.{Alone.AreMatched, TableNames.table_of}
 use Rattle.line_replay.proofs.compared.are_rows.Given as goal
 
 abbrev pub invariant-loop-row : goal.invariant-loop-row

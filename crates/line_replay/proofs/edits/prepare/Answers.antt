@@ -1,4 +1,4 @@
-use Rattle.std.proofs.Common.{◌≡◌, ◌∙◌, ap, rules}
+use Rattle.desk_types.proofs.Common.{◌∙◌, ◌≡◌, ap, rules}
 use Rattle.desk_answers.specs.Texts.{accepted_text}
 use Rattle.line_replay.proofs.EditsOfChanges.{put_is, put_new}
 use Rattle.line_replay.proofs.edits.prepare.Goals as goal

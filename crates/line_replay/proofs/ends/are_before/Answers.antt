@@ -1,8 +1,7 @@
-use Rattle.std.proofs.Common.{◌≡◌, false, rules, arith}
-use Rattle.sqlite.specs.State.{HasCleanDisk}
-use Rattle.sqlite.specs.Held.{state}
-use Rattle.line_replay.proofs.MatchedEntries.{reads_before}
+use Rattle.desk_types.proofs.Common.{◌≡◌, arith, false, rules}
+use Rattle.line_tables.proofs.Common.{HasCleanDisk, state}
 use Rattle.line_replay.proofs.PlacementEnds.{all_before}
+use Rattle.line_tables.proofs.Keeps.{reads_before}
 use Rattle.line_replay.proofs.ends.are_before.Goals as goal
 
 pub returns-clause-found : goal.returns-clause-found

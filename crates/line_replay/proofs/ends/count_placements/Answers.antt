@@ -1,4 +1,4 @@
-use Rattle.std.proofs.lemmas.Result.{IfOk-weaker}
+use Rattle.desk_types.proofs.Common.{IfOk-weaker}
 use Rattle.line_replay.proofs.ends.count_placements.Goals as goal
 
 pub returns-in-Some-clause-counted : goal.returns-in-Some-clause-counted

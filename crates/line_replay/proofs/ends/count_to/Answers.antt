@@ -1,8 +1,6 @@
-use Rattle.std.proofs.Common.{arith}
-use Rattle.std.proofs.lemmas.Result.{IfOk-weaker}
-use Rattle.sqlite.specs.State.{HasCleanDisk}
-use Rattle.sqlite.specs.Held.{state}
-use Rattle.line_replay.proofs.MatchedEntries.{reads_before}
+use Rattle.desk_types.proofs.Common.{arith, IfOk-weaker}
+use Rattle.line_tables.proofs.Common.{HasCleanDisk, state}
+use Rattle.line_tables.proofs.Keeps.{reads_before}
 use Rattle.line_replay.proofs.ends.count_to.Goals as goal
 
 pub returns-then-branch-clause-counted : goal.returns-then-branch-clause-counted

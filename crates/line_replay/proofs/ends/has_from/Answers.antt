@@ -1,4 +1,4 @@
-use Rattle.std.proofs.Common.{◌≡◌, length, rules}
+use Rattle.desk_types.proofs.Common.{◌≡◌, length, rules}
 use Rattle.line_replay.proofs.PlacementEnds.{none_from}
 use Rattle.line_replay.proofs.ends.has_from.Goals as goal
 

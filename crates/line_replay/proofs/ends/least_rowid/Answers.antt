@@ -1,8 +1,7 @@
-use Rattle.std.proofs.Common.{refl, [], ◌∷◌}
-use Rattle.sqlite_value.specs.Order.{Row}
-use Rattle.sqlite_trees.specs.Tree.{rowid}
-use Rattle.line_tables.proofs.Numbers.{finds_least_in}
+use Rattle.desk_types.proofs.Common.{[], ◌∷◌, refl}
+use Rattle.line_tables.proofs.Common.{Row, rowid}
 use Rattle.line_replay.proofs.PlacementEnds.{select_least, select_least_is}
+use Rattle.line_tables.proofs.Numbers.{finds_least_in}
 use Rattle.line_replay.proofs.ends.least_rowid.Goals as goal
 
 pub returns-clause-least : goal.returns-clause-least

@@ -1,7 +1,5 @@
-use Rattle.std.proofs.Common.{◌≡◌, ◌∙◌, inr, refl, sym, ap, rules}
-use Rattle.desk_types.specs.History.{entry_of}
-use Rattle.desk_types.specs.Outcome.{change_of}
-use Rattle.line_replay.proofs.Judgements.{refused, unsaid, said, stamped_is}
+use Rattle.desk_types.proofs.Common.{◌∙◌, ◌≡◌, ap, change_of, entry_of, inr, refl, rules, sym}
+use Rattle.line_replay.proofs.Judgements.{refused, said, stamped_is, unsaid}
 use Rattle.line_replay.proofs.judging.accept_row.Goals as goal
 
 pub returns-then-not-says-clause-err : goal.returns-then-not-says-clause-err

@@ -1,11 +1,8 @@
-use Rattle.std.proofs.Common.{◌≡◌, inl, inr, map, length, rules}
-use Rattle.sqlite.specs.Effect.{Database}
-use Rattle.sqlite.specs.Held.{state}
-use Rattle.line_replay.specs.Audit.{ArePlaced, piece_of}
-use Rattle.line_replay.specs.Placed.{HasMoreBefore}
-use Rattle.line_replay.specs.Expected.{ArePlacedToo}
-use Rattle.line_replay.proofs.ExpectedRows.{too_false, too_none, too_found}
-use Rattle.line_replay.proofs.ReadOfCommitted.{reads_as}
+use Rattle.desk_types.proofs.Common.{◌≡◌, inl, inr, length, map, rules}
+use Rattle.line_tables.proofs.Common.{Database, state}
+use Rattle.line_replay.proofs.{ExpectedRows.too_false, ExpectedRows.too_found, ExpectedRows.too_none}
+use Rattle.line_replay.proofs.{ReadOfCommitted.reads_as}
+use Rattle.line_replay.specs.{Audit.ArePlaced, Audit.piece_of, Expected.ArePlacedToo, Placed.HasMoreBefore}
 use Rattle.line_replay.proofs.placed.are_found.Goals as goal
 
 pub returns-then-not-before-clause-told : goal.returns-then-not-before-clause-told

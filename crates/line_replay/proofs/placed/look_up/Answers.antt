@@ -1,8 +1,6 @@
-use Rattle.std.proofs.Common.{◌∙◌, ◌+◌, List, length, ap, subst}
-use Rattle.sqlite.specs.Effect.{Database}
-use Rattle.sqlite.specs.Held.{state}
-use Rattle.desk_types.specs.declared.row.PlacementRow.{PlacementRow}
-use Rattle.line_replay.specs.Expected.{HoldsAsRead, ArePlacedToo}
+use Rattle.desk_types.proofs.Common.{◌+◌, ◌∙◌, ap, length, List, PlacementRow, subst}
+use Rattle.line_tables.proofs.Common.{Database, state}
+use Rattle.line_replay.specs.Expected.{ArePlacedToo, HoldsAsRead}
 use Rattle.line_replay.proofs.placed.look_up.Goals as goal
 
 pub returns-clause-ok : goal.returns-clause-ok

@@ -1,7 +1,6 @@
-use Rattle.std.proofs.Common.{◌∙◌, Some, None, Vec, Global, ap, sym, append-nil}
-use Rattle.desk_types.specs.declared.row.PlacementRow.{PlacementRow}
+use Rattle.desk_types.proofs.Common.{◌∙◌, ap, append-nil, Global, None, PlacementRow, Some, sym, Vec}
 use Rattle.line_replay.proofs.ExpectedRows.{placements-next}
-use Rattle.line_replay.proofs.placed.placements_by.Goals.{in-Some+in_ok-push-in-Some, in-None}
+use Rattle.line_replay.proofs.placed.placements_by.Goals.{in-None, in-Some+in_ok-push-in-Some}
 use Rattle.line_replay.proofs.placed.placements_by.Goals as goal
 
 pub loop-edit-preserved : goal.loop-edit-preserved

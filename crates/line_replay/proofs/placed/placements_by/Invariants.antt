@@ -1,4 +1,4 @@
-use Rattle.std.proofs.Common.{◌≡◌, take}
+use Rattle.desk_types.proofs.Common.{◌≡◌, take}
 use Rattle.line_replay.specs.Expected.{placements_by}
 use Rattle.line_replay.proofs.placed.placements_by.Given as goal
 

@@ -1,4 +1,4 @@
-use Rattle.std.proofs.lemmas.Result.{IfOk-weaker}
+use Rattle.desk_types.proofs.Common.{IfOk-weaker}
 use Rattle.line_replay.proofs.Texts.{placement_alone}
 use Rattle.line_replay.proofs.placed_pieces.has_placement.Goals as goal
 

@@ -1,5 +1,4 @@
-use Rattle.std.proofs.Common.{◌≤◌, rules}
-use Rattle.std.proofs.lemmas.Result.{IfOk-weaker}
+use Rattle.desk_types.proofs.Common.{◌≤◌, IfOk-weaker, rules}
 use Rattle.line_replay.proofs.PlacementsFound.{run_range}
 use Rattle.line_replay.proofs.placements.are_in_a_row.Goals as goal
 

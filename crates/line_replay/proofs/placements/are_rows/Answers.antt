@@ -1,6 +1,6 @@
-use Rattle.std.proofs.Common.{◌≡◌, ◌∙◌, ◌<◌, get_or, length, map, sym, ap, rules, arith}
-use Rattle.std.proofs.lemmas.List.{take_more_same, get_or-map, length-map}
-use Rattle.line_tables.specs.StateRows.{placement_columns}
+use Rattle.desk_types.proofs.Common.{◌<◌, ◌∙◌, ◌≡◌, ap, arith, get_or, length, length-map, map, rules, sym}
+use Rattle.line_tables.proofs.Common.{placement_columns}
+use Rattle.std.proofs.lemmas.List.{get_or-map, take_more_same}
 use Rattle.line_replay.proofs.placements.are_rows.Goals as goal
 
 pub loop-at-preserved : goal.loop-at-preserved

@@ -1,5 +1,5 @@
-use Rattle.std.proofs.Common.{◌≡◌, map, take}
-use Rattle.line_tables.specs.StateRows.{placement_columns}
+use Rattle.desk_types.proofs.Common.{◌≡◌, map, take}
+use Rattle.line_tables.proofs.Common.{placement_columns}
 use Rattle.line_replay.proofs.placements.are_rows.Given as goal
 
 abbrev pub invariant-loop-at : goal.invariant-loop-at

@@ -1,16 +1,11 @@
-use Rattle.std.proofs.Common.{◌≡◌, ◌∙◌, ◌≤◌, [], ◌∷◌, length, filter, sym, subst, arith, true≢false}
-use Rattle.std.proofs.lemmas.List.{take_all}
-use Rattle.sqlite_rules.specs.Lists.{Has}
-use Rattle.sqlite.specs.State.{HasCleanDisk}
-use Rattle.sqlite.specs.Held.{state}
-use Rattle.desk_types.specs.declared.row.PlacementRow.{PlacementRow}
+use Rattle.desk_types.proofs.Common.{[], ◌∙◌, ◌∷◌, ◌≡◌, ◌≤◌, arith, filter, length, PlacementRow, subst, sym}
+use Rattle.desk_types.proofs.Common.{take_all, true≢false}
+use Rattle.line_tables.proofs.Common.{Has, HasCleanDisk, placement_columns, rows_in, state}
+use Rattle.line_replay.proofs.{PlacementsFound.all_here, PlacementsFound.looked_here, PlacementsFound.one_missing}
+use Rattle.line_replay.proofs.{Verdicts.right_more}
+use Rattle.line_replay.specs.Placed.{AreHere, has_placement}
+use Rattle.line_tables.proofs.{Frames.reads_then, Keeps.reads_before}
 use Rattle.line_tables.specs.Line as line
-use Rattle.line_tables.specs.StateRows.{rows_in, placement_columns}
-use Rattle.line_tables.proofs.Frames.{reads_then}
-use Rattle.line_replay.specs.Placed.{has_placement, AreHere}
-use Rattle.line_replay.proofs.PlacementsFound.{looked_here, one_missing, all_here}
-use Rattle.line_replay.proofs.MatchedEntries.{reads_before}
-use Rattle.line_replay.proofs.Verdicts.{right_more}
 use Rattle.line_replay.proofs.placements.has_each.Goals as goal
 
 pub returns-then-not-branch-clause-found : goal.returns-then-not-branch-clause-found

@@ -1,8 +1,5 @@
-use Rattle.std.proofs.Common.{◌<◌, IsTrue, take}
-use Rattle.sqlite.specs.State.{HasCleanDisk}
-use Rattle.sqlite.specs.Held.{state}
-use Rattle.line_tables.specs.Line.{IsOurs}
-use Rattle.line_tables.specs.Frames.{ReadsOnly}
+use Rattle.desk_types.proofs.Common.{◌<◌, IsTrue, take}
+use Rattle.line_tables.proofs.Common.{HasCleanDisk, IsOurs, ReadsOnly, state}
 use Rattle.line_replay.specs.Placed.{AreHere}
 use Rattle.line_replay.proofs.placements.has_each.Given as goal
 

@@ -1,8 +1,7 @@
-use Rattle.std.proofs.Common.{arith}
-use Rattle.sqlite.specs.State.{HasCleanDisk}
-use Rattle.sqlite.specs.Held.{state}
-use Rattle.line_replay.proofs.MatchedEntries.{reads_before}
+use Rattle.desk_types.proofs.Common.{arith}
+use Rattle.line_tables.proofs.Common.{HasCleanDisk, state}
 use Rattle.line_replay.proofs.PlacementsFound.{all_here, more_before}
+use Rattle.line_tables.proofs.Keeps.{reads_before}
 use Rattle.line_replay.proofs.placements.has_range.Goals as goal
 
 pub returns-then-branch-clause-found : goal.returns-then-branch-clause-found

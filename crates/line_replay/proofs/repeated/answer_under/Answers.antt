@@ -1,4 +1,4 @@
-use Rattle.std.proofs.Common.{rules, ◌≡◌, ◌∙◌, ap, ap₂, string_bytes}
+use Rattle.desk_types.proofs.Common.{◌∙◌, ◌≡◌, ap, ap₂, rules, string_bytes}
 use Rattle.desk_answers.specs.declared.answer.Answer.TheVariants.{Accepted, IdReused}
 use Rattle.line_replay.proofs.Repeats.{again, reused}
 use Rattle.line_replay.proofs.repeated.answer_under.Goals as goal

@@ -1,7 +1,5 @@
-use Rattle.std.proofs.Common.{◌∙◌, sym, ap, subst, length}
-use Rattle.desk_types.specs.History.{History, basis}
-use Rattle.line_replay.proofs.Committed.{same_list}
-use Rattle.line_replay.specs.Expected.{AreKept}
+use Rattle.desk_types.proofs.Common.{◌∙◌, ap, basis, History, length, subst, sym}
+use Rattle.line_replay.{proofs.Committed.same_list, specs.Expected.AreKept}
 use Rattle.state_rows.specs.Lists.{IsListed}
 use Rattle.line_replay.proofs.replaying.rebuild.Goals as goal
 

@@ -1,10 +1,7 @@
-use Rattle.std.proofs.Common.{◌≡◌, ◌∙◌, ◌<◌, length, sym, get_or, arith, rules}
-use Rattle.std.proofs.lemmas.List.{take_more_same, length-map}
-use Rattle.std.proofs.Math.ListN.{get_or-map}
-use Rattle.sqlite.specs.declared.types.Value.TheVariants.{Null}
-use Rattle.sqlite_value.specs.Value.{owned}
+use Rattle.desk_types.proofs.Common.{◌<◌, ◌∙◌, ◌≡◌, arith, get_or, length, length-map, rules, sym}
+use Rattle.line_tables.proofs.Common.{Null, owned, values_of}
+use Rattle.std.proofs.{Math.ListN.get_or-map, lemmas.List.take_more_same}
 use Rattle.sqlite_value.specs.declared.value.ValueRef.TheVariants as lent
-use Rattle.line_tables.specs.StateRows.{values_of}
 use Rattle.line_replay.proofs.shown.is_row.Goals as goal
 
 pub loop-at-preserved : goal.loop-at-preserved

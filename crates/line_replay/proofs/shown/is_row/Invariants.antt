@@ -1,5 +1,5 @@
-use Rattle.std.proofs.Common.{◌≡◌, take}
-use Rattle.line_tables.specs.StateRows.{values_of}
+use Rattle.desk_types.proofs.Common.{◌≡◌, take}
+use Rattle.line_tables.proofs.Common.{values_of}
 use Rattle.line_replay.proofs.shown.is_row.Given as goal
 
 abbrev pub invariant-loop-at : goal.invariant-loop-at

@@ -1,22 +1,16 @@
-use Rattle.std.proofs.Common.{◌≡◌, ◌∙◌, inr, true, refl, sym, subst}
-use Rattle.std.specs.List.{list_any}
-use Rattle.sqlite.specs.Held.{state}
-use Rattle.desk_types.specs.Id.{Name}
-use Rattle.line_tables.specs.Calls.{Reads, is_before}
-use Rattle.line_tables.specs.Rows.{accepted_in}
-use Rattle.line_replay.specs.Rows.{entry_row}
-use Rattle.line_replay.proofs.ReadOfCommitted.{reads_as}
+use Rattle.desk_types.proofs.Common.{◌∙◌, ◌≡◌, inr, list_any, Name, refl, subst, sym, true}
+use Rattle.line_tables.proofs.Common.{accepted_in, is_before, Reads, state}
+use Rattle.line_replay.{proofs.ReadOfCommitted.reads_as, specs.Rows.entry_row}
 use Rattle.line_replay.proofs.taking.accept_first.Goals as goal
 
 pub returns-then-repeated-clause-err : goal.returns-then-repeated-clause-err
 returns-then-repeated-clause-err g c B stands numbered clean =
-    let H = B.history in
     let old = state g.S.Store c.args.conn.now in
     let it = c.in-Ok.ensures.ok B stands numbered in
     inr (
       refl,
       λ e goes.
-          let same : entry_row H it.0 ≡ entry_row H e = sym it.3.same ∙ goes.same in
+          let same : entry_row B.history it.0 ≡ entry_row B.history e = sym it.3.same ∙ goes.same in
           let uid : it.0.stamped.uid ≡ e.stamped.uid = cc in
           let read : c.as_str.result.now ≡ e.stamped.uid = c.as_str.ensures ∙ sym it.1 ∙ uid in
           subst (λ (name : Name). Reads old (λ db. list_any (is_before name c.args.number) (accepted_in db) ≡ true)) read

@@ -1,11 +1,7 @@
-use Rattle.std.proofs.Common.{◌≡◌, pos, subst, arith, rules}
+use Rattle.desk_types.proofs.Common.{◌≡◌, arith, pos, rules, subst}
+use Rattle.line_tables.proofs.Common.{accepted_in, IsLeast, state}
+use Rattle.line_replay.{proofs.ReadOfCommitted.reads_as, proofs.StopsOfRows.stops_first, specs.Listed.StopsAt}
 use Rattle.std.proofs.lemmas.Int.{ints}
-use Rattle.line_tables.specs.Calls.{IsLeast}
-use Rattle.line_tables.specs.Rows.{accepted_in}
-use Rattle.sqlite.specs.Held.{state}
-use Rattle.line_replay.specs.Listed.{StopsAt}
-use Rattle.line_replay.proofs.ReadOfCommitted.{reads_as}
-use Rattle.line_replay.proofs.StopsOfRows.{stops_first}
 use Rattle.line_replay.proofs.taking.least_is_one.Goals as goal
 
 pub returns-in-Some-clause-err : goal.returns-in-Some-clause-err

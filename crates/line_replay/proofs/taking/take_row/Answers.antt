@@ -1,17 +1,12 @@
-use Rattle.std.proofs.Common.{List, subst, arith}
-use Rattle.std.proofs.lemmas.Result.{err_from_is_err_and}
-use Rattle.sqlite.specs.State.{HasCleanDisk, KeepsCommit}
-use Rattle.sqlite.specs.Held.{state}
-use Rattle.desk_types.specs.declared.edit.RowEdit.{RowEdit}
-use Rattle.line_tables.proofs.Keeps.{keeps_then}
+use Rattle.desk_types.proofs.Common.{arith, err_from_is_err_and, List, RowEdit, subst}
+use Rattle.line_tables.proofs.Common.{HasCleanDisk, KeepsCommit, state}
+use Rattle.line_replay.proofs.{ExpectedRows.looks_back, OneRowMore.fault_stuck, OneRowMore.row_taken}
 use Rattle.line_replay.specs.Expected.{LooksUp}
-use Rattle.line_replay.proofs.ExpectedRows.{looks_back}
-use Rattle.line_replay.proofs.OneRowMore.{row_taken, fault_stuck}
+use Rattle.line_tables.proofs.Keeps.{keeps_then}
 use Rattle.line_replay.proofs.taking.take_row.Goals as goal
 
 pub returns-in_ok-look_up-in-Some-clause-ok : goal.returns-in_ok-look_up-in-Some-clause-ok
 returns-in_ok-look_up-in-Some-clause-ok g c B stands numbered =
-    let H = B.history in
     let old = state g.S.Store c.args.conn.now in
     let first = state g.S.Store c.row_at.new.conn in
     let mid = state g.S.Store c.accept_first.new.conn in
@@ -23,7 +18,7 @@ returns-in_ok-look_up-in-Some-clause-ok g c B stands numbered =
       entry = accepts.entry;
       stands = accepts.stands;
       next = accepts.goes.next;
-      row = λ clean. row_taken old first c.in_ok-found.found c.in-Some.row H accepts.entry c.args.number (c.row_at.ensures.reads.kept (earlier clean)) c.in-Some.is numbered accepts.goes.same (c.in_ok-found.ensures.found (earlier clean)) (accepts.first (early clean));
+      row = λ clean. row_taken old first c.in_ok-found.found c.in-Some.row B.history accepts.entry c.args.number (c.row_at.ensures.reads.kept (earlier clean)) c.in-Some.is numbered accepts.goes.same (c.in_ok-found.ensures.found (earlier clean)) (accepts.first (early clean));
       edits = c.in_ok-edits-in-Some.edits;
       lead = accepts.lead;
       adds = record {

@@ -1,9 +1,7 @@
-use Rattle.std.proofs.Common.{◌≡◌, ◌&&◌, ◌||◌, ◌∷◌, [], Bool, true, false, refl}
-use Rattle.sqlite_schema.specs.Names.{same_name}
-use Rattle.line_tables.specs.Line.{are_quiet}
-use Rattle.line_tables.specs.Line.Layout.{Plain}
+use Rattle.desk_types.proofs.Common.{[], ◌&&◌, ◌||◌, ◌∷◌, ◌≡◌, Bool, false, refl, true}
+use Rattle.line_tables.proofs.Common.{are_quiet, Plain, same_name}
+use Rattle.line_schema.specs.Samples.{by_source, note, note_on_reel, with_others}
 use Rattle.line_tables.proofs.Ours.{is_ours_of}
-use Rattle.line_schema.specs.Samples.{note, note_on_reel, by_source, with_others}
 use Rattle.line_schema.proofs.beside.others_may_be_beside.Goals as goal
 
 neither : (a b : Bool) → ((a && false) || (b && false)) ≡ false

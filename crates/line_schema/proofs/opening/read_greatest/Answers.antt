@@ -1,4 +1,4 @@
-use Rattle.sqlite.specs.Held.{state}
+use Rattle.line_tables.proofs.Common.{state}
 use Rattle.line_schema.proofs.ReadOfCommitted.{version_fault}
 use Rattle.line_schema.proofs.opening.read_greatest.Goals as goal
 

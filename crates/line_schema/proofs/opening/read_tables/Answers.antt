@@ -1,12 +1,10 @@
-use Rattle.std.proofs.Common.{Some, None, refl, sym, subst, arith}
-use Rattle.std.proofs.lemmas.Result.{err_from_is_err_and}
-use Rattle.sqlite.specs.State.{HasCleanDisk, KeepsCommit}
-use Rattle.sqlite.specs.Held.{state}
+use Rattle.desk_types.proofs.Common.{arith, err_from_is_err_and, None, refl, Some, subst, sym}
+use Rattle.line_tables.proofs.Common.{HasCleanDisk, KeepsCommit, state}
+use Rattle.line_replay.proofs.ReadOfCommitted.{reads_as, reads_back}
+use Rattle.line_replay.specs.Expected.{AreExpected, kept_with}
+use Rattle.line_schema.proofs.ReadOfCommitted.{audited, list_fault, opened_on, reads_all, table_fault}
 use Rattle.line_tables.proofs.Keeps.{keeps_then}
 use Rattle.state_rows.specs.Kept.{KeptRows}
-use Rattle.line_replay.specs.Expected.{kept_with, AreExpected}
-use Rattle.line_replay.proofs.ReadOfCommitted.{reads_as, reads_back}
-use Rattle.line_schema.proofs.ReadOfCommitted.{audited, list_fault, opened_on, reads_all, table_fault}
 use Rattle.line_schema.proofs.opening.read_tables.Goals as goal
 
 pub returns-in-None-clause-ok : goal.returns-in-None-clause-ok

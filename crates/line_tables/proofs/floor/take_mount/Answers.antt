@@ -1,5 +1,5 @@
-use Rattle.std.proofs.lemmas.Result.{on_ok_weaker}
-use Rattle.sqlite.specs.Held.{state}
+use Rattle.desk_types.proofs.Common.{on_ok_weaker}
+use Rattle.line_tables.proofs.Common.{state}
 use Rattle.line_tables.proofs.RowPuts.{mount_taken}
 use Rattle.line_tables.proofs.floor.take_mount.Goals as goal
 

@@ -1,10 +1,8 @@
-use Rattle.std.proofs.Common.{◌≡◌, rules}
-use Rattle.sqlite.specs.Held.{state}
-use Rattle.line_tables.specs.Line.{no_schema}
+use Rattle.desk_types.proofs.Common.{◌≡◌, rules}
+use Rattle.line_tables.proofs.Common.{no_schema, state}
+use Rattle.line_tables.proofs.{Leaves.blank_made, Leaves.Ends, Leaves.ends, making.make.Given.Over}
+use Rattle.line_tables.proofs.{making.make.Goals.After-conn-2-1}
 use Rattle.line_tables.specs.Calls.{HoldsBlank, LeavesBlank}
-use Rattle.line_tables.proofs.Leaves.{Ends, ends, blank_made}
-use Rattle.line_tables.proofs.making.make.Given.{Over}
-use Rattle.line_tables.proofs.making.make.Goals.{After-conn-2-1}
 use Rattle.line_tables.proofs.making.make.Goals as goal
 
 ends_of : (g : Over) (c : After-conn-2-1 g) → let old = state g.S.Store c.args.conn.now in Ends g.S.Store c.args.conn.now c.conn-2-1.given.0 c.commit.result (λ db. old.now.schema ≡ no_schema → HoldsBlank c.args.greatest db) (LeavesBlank c.args.greatest old)

@@ -1,7 +1,5 @@
-use Rattle.std.proofs.Common.{arith}
-use Rattle.std.proofs.lemmas.Result.{on_ok_weaker}
-use Rattle.sqlite.specs.State.{HasCleanDisk}
-use Rattle.sqlite.specs.Held.{state}
+use Rattle.desk_types.proofs.Common.{arith, on_ok_weaker}
+use Rattle.line_tables.proofs.Common.{HasCleanDisk, state}
 use Rattle.line_tables.proofs.Creates.{makes_setup}
 use Rattle.line_tables.proofs.making.make_setup.Goals as goal
 

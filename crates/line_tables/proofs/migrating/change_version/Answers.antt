@@ -1,6 +1,5 @@
-use Rattle.std.proofs.Common.{arith}
-use Rattle.std.proofs.lemmas.Result.{on_ok_weaker}
-use Rattle.sqlite.specs.Held.{state}
+use Rattle.desk_types.proofs.Common.{arith, on_ok_weaker}
+use Rattle.line_tables.proofs.Common.{state}
 use Rattle.line_tables.proofs.Migration.{migrates}
 use Rattle.line_tables.proofs.migrating.change_version.Goals as goal
 

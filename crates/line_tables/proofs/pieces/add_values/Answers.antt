@@ -1,9 +1,7 @@
-use Rattle.std.proofs.Common.{◌≡◌, ◌∷◌, [], refl}
-use Rattle.std.proofs.lemmas.List.{map-append, append_assoc}
-use Rattle.sqlite.specs.Values.{bound, bound_value}
-use Rattle.sqlite_value.specs.Value.{owned}
-use Rattle.line_tables.specs.Placing.{placement_kept}
-use Rattle.line_tables.proofs.RowPuts.{bound_as}
+use Rattle.desk_types.proofs.Common.{[], ◌∷◌, ◌≡◌, append_assoc, map-append, refl}
+use Rattle.line_tables.proofs.Common.{bound, owned}
+use Rattle.line_tables.{proofs.RowPuts.bound_as, specs.Placing.placement_kept}
+use Rattle.sqlite.specs.Values.{bound_value}
 use Rattle.line_tables.proofs.pieces.add_values.Goals as goal
 
 pub returns-clause-ok : goal.returns-clause-ok

@@ -1,7 +1,5 @@
-use Rattle.std.proofs.Common.{◌+◌, take, sym, subst, arith, rules}
-use Rattle.sqlite.specs.Values.{bound}
-use Rattle.line_tables.specs.Edit.{row_edits}
-use Rattle.line_tables.specs.Placing.{ArePlacing}
+use Rattle.desk_types.proofs.Common.{◌+◌, arith, rules, subst, sym, take}
+use Rattle.line_tables.proofs.Common.{ArePlacing, bound, row_edits}
 use Rattle.line_tables.proofs.Placing.{placing_more}
 use Rattle.line_tables.proofs.pieces.values_of_all.Goals as goal
 

@@ -1,7 +1,5 @@
-use Rattle.std.proofs.Common.{take}
-use Rattle.sqlite.specs.Values.{bound}
-use Rattle.line_tables.specs.Edit.{row_edits}
-use Rattle.line_tables.specs.Placing.{ArePlacing}
+use Rattle.desk_types.proofs.Common.{take}
+use Rattle.line_tables.proofs.Common.{ArePlacing, bound, row_edits}
 use Rattle.line_tables.proofs.pieces.values_of_all.Given as goal
 
 abbrev pub invariant-loop-edit : goal.invariant-loop-edit

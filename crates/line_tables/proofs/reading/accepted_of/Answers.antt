@@ -1,4 +1,4 @@
-use Rattle.std.proofs.Common.{◌≡◌, ◌∙◌, length, rules, refl}
+use Rattle.desk_types.proofs.Common.{◌∙◌, ◌≡◌, length, refl, rules}
 use Rattle.line_tables.proofs.Finds.{seven}
 use Rattle.line_tables.proofs.reading.accepted_of.Goals as goal
 

@@ -1,6 +1,5 @@
-use Rattle.std.proofs.Common.{◌≡◌, [], ◌∷◌, rules}
-use Rattle.line_tables.specs.Rows.{columns_of}
-use Rattle.line_tables.proofs.Finds.{finds_one_uid, finds_no_uid}
+use Rattle.desk_types.proofs.Common.{[], ◌∷◌, ◌≡◌, rules}
+use Rattle.line_tables.{proofs.Finds.finds_no_uid, proofs.Finds.finds_one_uid, specs.Rows.columns_of}
 use Rattle.line_tables.proofs.reading.find.Goals as goal
 
 pub returns-in_ok-accepted_of-in-Some-clause-found : goal.returns-in_ok-accepted_of-in-Some-clause-found

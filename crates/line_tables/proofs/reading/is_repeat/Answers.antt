@@ -1,4 +1,4 @@
-use Rattle.std.proofs.Common.{◌≡◌, ◌==◌, length, rules}
+use Rattle.desk_types.proofs.Common.{◌==◌, ◌≡◌, length, rules}
 use Rattle.line_tables.proofs.Finds.{finds_before}
 use Rattle.line_tables.proofs.reading.is_repeat.Goals as goal
 

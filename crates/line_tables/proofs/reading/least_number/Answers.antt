@@ -1,7 +1,6 @@
-use Rattle.std.proofs.Common.{refl}
-use Rattle.line_tables.specs.Rows.{accepted_columns}
-use Rattle.line_tables.proofs.FindTexts.{select_least_is}
-use Rattle.line_tables.proofs.Numbers.{finds_least_in}
+use Rattle.desk_types.proofs.Common.{refl}
+use Rattle.line_tables.proofs.Common.{accepted_columns}
+use Rattle.line_tables.proofs.{FindTexts.select_least_is, Numbers.finds_least_in}
 use Rattle.line_tables.specs.declared.reading.TheConstants.{SELECT_LEAST}
 use Rattle.line_tables.proofs.reading.least_number.Goals as goal
 

@@ -1,11 +1,6 @@
-use Rattle.std.proofs.Common.{Bool, arith, subst, take}
-use Rattle.std.proofs.lemmas.Result.{IfOk-weaker}
-use Rattle.sqlite.specs.State.{HasCleanDisk}
-use Rattle.sqlite.specs.Held.{state}
-use Rattle.line_tables.specs.Calls.{Reads}
-use Rattle.line_tables.specs.Rowids.{changed_tables}
-use Rattle.line_tables.specs.Rising.{AreApartWhere}
-use Rattle.line_tables.proofs.Rising.{told_all}
+use Rattle.desk_types.proofs.Common.{arith, Bool, IfOk-weaker, subst, take}
+use Rattle.line_tables.proofs.Common.{changed_tables, HasCleanDisk, Reads, state}
+use Rattle.line_tables.{proofs.Rising.told_all, specs.Rising.AreApartWhere}
 use Rattle.line_tables.proofs.rowids.are_apart.Goals as goal
 
 pub returns-clause-apart : goal.returns-clause-apart

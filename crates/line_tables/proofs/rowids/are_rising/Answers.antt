@@ -1,9 +1,8 @@
-use Rattle.std.proofs.Common.{◌≡◌, ◌∙◌, ◌+◌, false, true≢false, ℤ, Some, take, drop, sym, subst, arith, rules, SFits, to_z, of_z, w64}
-use Rattle.std.proofs.lemmas.Int.{to_z-of_z}
-use Rattle.std.specs.List.{AllByRecursion}
-use Rattle.sqlite.specs.declared.types.Value.TheVariants.{Int}
-use Rattle.line_tables.specs.Rising.{IsPast, IsBefore}
-use Rattle.line_tables.proofs.Rising.{DoRise, AreAbove, rising_more, below_more, above_more, past_here}
+use Rattle.desk_types.proofs.Common.{◌+◌, ◌∙◌, ◌≡◌, AllByRecursion, arith, drop, false, rules, Some, subst, sym, take}
+use Rattle.desk_types.proofs.Common.{true≢false, ℤ}
+use Rattle.line_tables.proofs.Common.{Int, IsBefore, IsPast}
+use Rattle.line_tables.proofs.Rising.{above_more, AreAbove, below_more, DoRise, past_here, rising_more}
+use Rattle.std.proofs.{Common.of_z, Common.SFits, Common.to_z, Common.w64, lemmas.Int.to_z-of_z}
 use Rattle.line_tables.proofs.rowids.are_rising.Goals as goal
 
 pub loop-row-preserved : goal.loop-row-preserved

@@ -1,8 +1,6 @@
-use Rattle.std.proofs.Common.{ℤ, take, drop}
-use Rattle.std.specs.List.{AllByRecursion}
-use Rattle.sqlite.specs.declared.types.Value.TheVariants.{Int}
-use Rattle.line_tables.specs.Rising.{AreRising, IsPast, IsBefore}
-use Rattle.line_tables.proofs.Rising.{DoRise, AreAbove}
+use Rattle.desk_types.proofs.Common.{AllByRecursion, drop, take, ℤ}
+use Rattle.line_tables.proofs.Common.{Int, IsBefore, IsPast}
+use Rattle.line_tables.{proofs.Rising.AreAbove, proofs.Rising.DoRise, specs.Rising.AreRising}
 use Rattle.line_tables.proofs.rowids.are_rising.Given as goal
 
 abbrev pub invariant-loop-row : goal.invariant-loop-row

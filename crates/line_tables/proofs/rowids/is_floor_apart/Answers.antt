@@ -1,9 +1,7 @@
-use Rattle.std.proofs.Common.{arith}
-use Rattle.sqlite.specs.State.{HasCleanDisk}
-use Rattle.sqlite.specs.Held.{state}
-use Rattle.line_tables.specs.Line.{reel, mount, board}
+use Rattle.desk_types.proofs.Common.{arith}
+use Rattle.line_tables.proofs.Common.{board, HasCleanDisk, mount, reel, state}
 use Rattle.line_tables.proofs.Rising.{tells, told_three}
-use Rattle.line_tables.proofs.RowidTexts.{reel_is, mount_is, board_is}
+use Rattle.line_tables.proofs.RowidTexts.{board_is, mount_is, reel_is}
 use Rattle.line_tables.proofs.rowids.is_floor_apart.Goals as goal
 
 pub returns-clause-found : goal.returns-clause-found

@@ -1,4 +1,4 @@
-use Rattle.std.proofs.lemmas.Result.{IfOk-weaker}
+use Rattle.desk_types.proofs.Common.{IfOk-weaker}
 use Rattle.line_tables.proofs.Rising.{tells_found}
 use Rattle.line_tables.proofs.rowids.is_found_apart.Goals as goal
 

@@ -1,9 +1,7 @@
-use Rattle.std.proofs.Common.{arith}
-use Rattle.sqlite.specs.State.{HasCleanDisk}
-use Rattle.sqlite.specs.Held.{state}
-use Rattle.line_tables.specs.Line.{part, alternate, sheet_row, selected}
+use Rattle.desk_types.proofs.Common.{arith}
+use Rattle.line_tables.proofs.Common.{alternate, HasCleanDisk, part, selected, sheet_row, state}
 use Rattle.line_tables.proofs.Rising.{tells, told_four}
-use Rattle.line_tables.proofs.RowidTexts.{part_is, alternate_is, sheet_row_is, selected_is}
+use Rattle.line_tables.proofs.RowidTexts.{alternate_is, part_is, selected_is, sheet_row_is}
 use Rattle.line_tables.proofs.rowids.is_setup_apart.Goals as goal
 
 pub returns-clause-found : goal.returns-clause-found

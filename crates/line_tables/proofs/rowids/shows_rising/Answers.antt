@@ -1,4 +1,4 @@
-use Rattle.std.proofs.lemmas.Result.{IfOk-weaker}
+use Rattle.desk_types.proofs.Common.{IfOk-weaker}
 use Rattle.line_tables.proofs.rowids.shows_rising.Goals as goal
 
 pub returns-clause-shown : goal.returns-clause-shown

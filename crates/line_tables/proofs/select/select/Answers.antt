@@ -1,6 +1,5 @@
-use Rattle.std.proofs.Common.{◌≡◌, IsTrue, sym, subst, arith, rules}
-use Rattle.sqlite.specs.State.{HasCleanDisk}
-use Rattle.sqlite.specs.Held.{state}
+use Rattle.desk_types.proofs.Common.{◌≡◌, arith, IsTrue, rules, subst, sym}
+use Rattle.line_tables.proofs.Common.{HasCleanDisk, state}
 use Rattle.line_tables.proofs.Finds.{selects}
 use Rattle.line_tables.proofs.select.select.Goals as goal
 

@@ -1,4 +1,4 @@
-use Rattle.sqlite.specs.Held.{state}
+use Rattle.line_tables.proofs.Common.{state}
 use Rattle.line_tables.proofs.Keeps.{query_keeps}
 use Rattle.line_tables.proofs.select.select_in.Goals as goal
 

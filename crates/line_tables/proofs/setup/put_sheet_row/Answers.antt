@@ -1,5 +1,5 @@
-use Rattle.std.proofs.lemmas.Result.{on_ok_weaker}
-use Rattle.sqlite.specs.Held.{state}
+use Rattle.desk_types.proofs.Common.{on_ok_weaker}
+use Rattle.line_tables.proofs.Common.{state}
 use Rattle.line_tables.proofs.RowPuts.{sheet_row_put}
 use Rattle.line_tables.proofs.setup.put_sheet_row.Goals as goal
 

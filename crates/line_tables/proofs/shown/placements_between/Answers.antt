@@ -1,4 +1,4 @@
-use Rattle.std.proofs.lemmas.Result.{IfOk-weaker}
+use Rattle.desk_types.proofs.Common.{IfOk-weaker}
 use Rattle.line_tables.proofs.Between.{shows-between}
 use Rattle.line_tables.proofs.shown.placements_between.Goals as goal
 

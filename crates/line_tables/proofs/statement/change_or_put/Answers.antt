@@ -1,8 +1,5 @@
-use Rattle.std.proofs.Common.{arith, inl, inr, subst}
-use Rattle.std.proofs.lemmas.Result.{on_ok_weaker}
-use Rattle.sqlite.specs.State.{HasCleanDisk}
-use Rattle.sqlite.specs.Held.{state}
-use Rattle.sqlite.specs.Values.{bound}
+use Rattle.desk_types.proofs.Common.{arith, inl, inr, on_ok_weaker, subst}
+use Rattle.line_tables.proofs.Common.{bound, HasCleanDisk, state}
 use Rattle.line_tables.specs.Calls.{Changes}
 use Rattle.line_tables.proofs.statement.change_or_put.Goals as goal
 

@@ -1,7 +1,5 @@
-use Rattle.std.proofs.Common.{inl, inr, sym, subst}
-use Rattle.std.proofs.lemmas.Bool.{cases_Bool}
-use Rattle.sqlite.specs.State.{KeepsCommit}
-use Rattle.sqlite.specs.Held.{state}
+use Rattle.desk_types.proofs.Common.{cases_Bool, inl, inr, subst, sym}
+use Rattle.line_tables.proofs.Common.{KeepsCommit, state}
 use Rattle.line_tables.proofs.Keeps.{keeps_by, keeps_same}
 use Rattle.line_tables.proofs.statement.run_counted.Goals as goal
 

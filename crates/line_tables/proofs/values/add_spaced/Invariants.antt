@@ -1,5 +1,4 @@
-use Rattle.std.proofs.Common.{◌≡◌, ◌∷◌, ◌++◌, take}
-use Rattle.std.specs.List.{flat_map}
+use Rattle.desk_types.proofs.Common.{◌++◌, ◌∷◌, ◌≡◌, flat_map, take}
 use Rattle.line_tables.proofs.values.add_spaced.Given as goal
 
 abbrev pub invariant-loop-designator : goal.invariant-loop-designator

@@ -1,10 +1,8 @@
-use Rattle.std.proofs.Common.{IsTrue, rules}
-use Rattle.sqlite.specs.Held.{state}
-use Rattle.line_tables.specs.Calls.{Edited, LeavesEdited}
-use Rattle.line_tables.specs.Edit.{command_edits}
-use Rattle.line_tables.proofs.Leaves.{Ends, ends, edits_made}
-use Rattle.line_tables.proofs.writing.append.Given.{Over}
-use Rattle.line_tables.proofs.writing.append.Goals.{After-conn-2-1}
+use Rattle.desk_types.proofs.Common.{IsTrue, rules}
+use Rattle.line_tables.proofs.Common.{command_edits, LeavesEdited, state}
+use Rattle.line_tables.proofs.{Leaves.edits_made, Leaves.Ends, Leaves.ends, writing.append.Given.Over}
+use Rattle.line_tables.proofs.{writing.append.Goals.After-conn-2-1}
+use Rattle.line_tables.specs.Calls.{Edited}
 use Rattle.line_tables.proofs.writing.append.Goals as goal
 
 ends_of : (g : Over) (c : After-conn-2-1 g) → let old = state g.S.Store c.args.conn.now in let edits = command_edits c.args.row.now c.args.edits.now in Ends g.S.Store c.args.conn.now c.conn-2-1.given.0 c.commit.result (Edited edits old.committed) (LeavesEdited edits old)

@@ -1,16 +1,9 @@
-use Rattle.std.proofs.Common.{◌≡◌, List, [], take, drop, refl, sym, subst, arith, rules}
-use Rattle.std.proofs.lemmas.List.{take-map, drop-map}
-use Rattle.sqlite.specs.State.{HasCleanDisk}
-use Rattle.sqlite.specs.Held.{state}
-use Rattle.sqlite.specs.Effect.{IsDatabase}
-use Rattle.desk_types.specs.declared.edit.RowEdit.{RowEdit}
-use Rattle.line_tables.specs.Calls.{Edits}
-use Rattle.line_tables.specs.Edit.{Edit, EditRow, row_edits, command_edits}
-use Rattle.line_tables.specs.Rows.{AreNew}
-use Rattle.line_tables.proofs.Alterations.{no_length}
-use Rattle.line_tables.proofs.Beside.{others_stay_then}
-use Rattle.line_tables.proofs.Frames.{within_then}
-use Rattle.line_tables.proofs.Puts.{Remain, remain_none, remain_less, sound_less}
+use Rattle.desk_types.proofs.Common.{[], ◌≡◌, arith, drop, List, refl, RowEdit, rules, subst, sym, take}
+use Rattle.line_tables.proofs.Common.{AreNew, command_edits, Edit, Edits, HasCleanDisk, IsDatabase, row_edits, state}
+use Rattle.line_tables.proofs.{Alterations.no_length, Beside.others_stay_then, Frames.within_then, Puts.Remain}
+use Rattle.line_tables.proofs.{Puts.remain_less, Puts.remain_none, Puts.sound_less}
+use Rattle.line_tables.specs.Edit.{EditRow}
+use Rattle.std.proofs.lemmas.List.{drop-map, take-map}
 use Rattle.line_tables.proofs.writing.put_all.Goals as goal
 
 pub loop-rest-init : goal.loop-rest-init

@@ -1,12 +1,7 @@
-use Rattle.std.proofs.Common.{IsTrue, length}
-use Rattle.sqlite.specs.State.{HasCleanDisk}
-use Rattle.sqlite.specs.Held.{state}
-use Rattle.sqlite.specs.Effect.{IsDatabase}
-use Rattle.line_tables.specs.Edit.{row_edits, command_edits}
-use Rattle.line_tables.specs.Rows.{Tables, Holds, AreNew}
-use Rattle.line_tables.specs.Frames.{InTransaction}
-use Rattle.line_tables.specs.Calls.{KeepsOthers}
-use Rattle.line_tables.proofs.Puts.{Remain}
+use Rattle.desk_types.proofs.Common.{IsTrue, length}
+use Rattle.line_tables.proofs.Common.{AreNew, command_edits, HasCleanDisk, Holds, IsDatabase, KeepsOthers, row_edits}
+use Rattle.line_tables.proofs.Common.{state}
+use Rattle.line_tables.{proofs.Puts.Remain, specs.Frames.InTransaction, specs.Rows.Tables}
 use Rattle.line_tables.proofs.writing.put_all.Given as goal
 
 abbrev pub invariant-loop-rest : goal.invariant-loop-rest

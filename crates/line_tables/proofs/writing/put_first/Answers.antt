@@ -1,8 +1,5 @@
-use Rattle.std.proofs.Common.{◌≤◌, ◌∙◌, length, take, ap, rules}
-use Rattle.sqlite.specs.Held.{state}
-use Rattle.sqlite.specs.Values.{bound}
-use Rattle.line_tables.specs.Edit.{row_edits}
-use Rattle.line_tables.specs.Placing.{ArePlacing}
+use Rattle.desk_types.proofs.Common.{◌∙◌, ◌≤◌, ap, length, rules, take}
+use Rattle.line_tables.proofs.Common.{ArePlacing, bound, row_edits, state}
 use Rattle.line_tables.proofs.Placing.{eight_first}
 use Rattle.line_tables.proofs.writing.put_first.Goals as goal
 

@@ -1,8 +1,7 @@
-use Rattle.std.proofs.Common.{◌∙◌, ◌++◌, ℕ, ◌+◌, [], ◌∷◌, map, sym, List, ap, append_assoc, arith}
-use Rattle.std.specs.List.{range_with_len}
-use Rattle.std.proofs.lemmas.List.{map-append}
-use Rattle.std.proofs.lemmas.List.FromFn.{map-range_with_len_more}
+use Rattle.desk_types.proofs.Common.{[], ◌++◌, ◌+◌, ◌∙◌, ◌∷◌, ap, append_assoc, arith, List, map, map-append}
+use Rattle.desk_types.proofs.Common.{range_with_len, sym, ℕ}
 use Rattle.state_rows.specs.Lists.{Key, key_of}
+use Rattle.std.proofs.lemmas.List.FromFn.{map-range_with_len_more}
 use Rattle.line_traces.proofs.by_lists.add_keys.Goals as goal
 
 pub loop-before-preserved : goal.loop-before-preserved

@@ -1,5 +1,4 @@
-use Rattle.std.proofs.Common.{◌≡◌, ◌++◌, map}
-use Rattle.std.specs.List.{range_with_len}
+use Rattle.desk_types.proofs.Common.{◌++◌, ◌≡◌, map, range_with_len}
 use Rattle.state_rows.specs.Lists.{key_of}
 use Rattle.line_traces.proofs.by_lists.add_keys.Given as goal
 

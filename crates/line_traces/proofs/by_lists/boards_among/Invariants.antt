@@ -1,6 +1,4 @@
-use Rattle.std.proofs.Common.{◌≡◌, map, reverse}
-use Rattle.desk_types.specs.declared.placement.Placement.{Placement}
-use Rattle.desk_types.specs.Placements.{set_of}
+use Rattle.desk_types.proofs.Common.{◌≡◌, map, Placement, reverse, set_of}
 use Rattle.line_traces.proofs.by_lists.boards_among.Given as goal
 
 abbrev pub invariant-loop-piece : goal.invariant-loop-piece

@@ -1,11 +1,7 @@
-use Rattle.std.proofs.Common.{◌∙◌, map, sym, ap, subst, option_copied}
-use Rattle.sqlite.specs.Held.{state}
-use Rattle.desk_types.specs.declared.placement.Placement.{Placement}
-use Rattle.desk_types.specs.Id.{same}
-use Rattle.desk_types.specs.Placements.{boards_of, set_of}
+use Rattle.desk_types.proofs.Common.{◌∙◌, ap, boards_of, map, option_copied, Placement, same, set_of, subst, sym}
+use Rattle.line_tables.proofs.Common.{state}
+use Rattle.line_traces.{proofs.LookedPieces.boards-told, proofs.LookedPieces.listed-told, specs.Working.FindsOfBoth}
 use Rattle.state_rows.specs.Lists.{key_of}
-use Rattle.line_traces.specs.Working.{FindsOfBoth}
-use Rattle.line_traces.proofs.LookedPieces.{listed-told, boards-told}
 use Rattle.line_traces.proofs.by_lists.boards_of_lot.Goals as goal
 
 pub returns-in_ok-boards_among-in-Some-2-clause-boards : goal.returns-in_ok-boards_among-in-Some-2-clause-boards

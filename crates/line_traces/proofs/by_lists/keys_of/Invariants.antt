@@ -1,4 +1,4 @@
-use Rattle.std.proofs.Common.{◌≡◌, map, take}
+use Rattle.desk_types.proofs.Common.{◌≡◌, map, take}
 use Rattle.state_rows.specs.Lists.{key_of, keys_of_installs}
 use Rattle.line_traces.proofs.by_lists.keys_of.Given as goal
 

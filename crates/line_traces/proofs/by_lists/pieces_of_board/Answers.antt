@@ -1,10 +1,7 @@
-use Rattle.std.proofs.Common.{◌∙◌, map, sym, ap, subst, option_copied}
-use Rattle.sqlite.specs.Held.{state}
-use Rattle.desk_types.specs.Id.{same}
+use Rattle.desk_types.proofs.Common.{◌∙◌, ap, map, option_copied, same, subst, sym}
+use Rattle.line_tables.proofs.Common.{state}
+use Rattle.line_traces.{proofs.LookedPieces.listed-told, specs.Pieces.pieces_on, specs.Working.FindsOfBoth}
 use Rattle.state_rows.specs.Lists.{key_of}
-use Rattle.line_traces.specs.Pieces.{pieces_on}
-use Rattle.line_traces.specs.Working.{FindsOfBoth}
-use Rattle.line_traces.proofs.LookedPieces.{listed-told}
 use Rattle.line_traces.proofs.by_lists.pieces_of_board.Goals as goal
 
 pub returns-in-Some-2-clause-pieces : goal.returns-in-Some-2-clause-pieces

@@ -1,9 +1,7 @@
-use Rattle.std.proofs.Common.{map, sym, ap, subst, option_copied}
-use Rattle.sqlite.specs.Held.{state}
-use Rattle.desk_types.specs.Placements.{overdue_of}
+use Rattle.desk_types.proofs.Common.{ap, map, option_copied, overdue_of, subst, sym}
+use Rattle.line_tables.proofs.Common.{state}
+use Rattle.line_traces.{proofs.LookedPieces.listed-told, specs.Working.FindsOfBoth}
 use Rattle.state_rows.specs.Lists.{key_of}
-use Rattle.line_traces.specs.Working.{FindsOfBoth}
-use Rattle.line_traces.proofs.LookedPieces.{listed-told}
 use Rattle.line_traces.proofs.by_lists.pieces_overdue.Goals as goal
 
 pub returns-in-Some-2-clause-pieces : goal.returns-in-Some-2-clause-pieces

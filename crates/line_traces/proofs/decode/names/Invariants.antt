@@ -1,4 +1,4 @@
-use Rattle.std.proofs.Common.{◌≡◌, map, take}
+use Rattle.desk_types.proofs.Common.{◌≡◌, map, take}
 use Rattle.line_traces.specs.Committed.{name_row}
 use Rattle.line_traces.proofs.decode.names.Given as goal
 

@@ -1,5 +1,4 @@
-use Rattle.std.proofs.Common.{◌≡◌, ◌∙◌, [], ◌∷◌, length, ap, rules}
-use Rattle.std.proofs.lemmas.Result.{IfOk-weaker}
+use Rattle.desk_types.proofs.Common.{[], ◌∙◌, ◌∷◌, ◌≡◌, ap, IfOk-weaker, length, rules}
 use Rattle.line_traces.proofs.Columns.{all-columns}
 use Rattle.line_traces.proofs.decode.only_name.Goals as goal
 

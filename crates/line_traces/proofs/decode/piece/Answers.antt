@@ -1,8 +1,7 @@
-use Rattle.std.proofs.Common.{◌≡◌, ◌≢◌, ◌∙◌, length, rules, refl}
-use Rattle.desk_types.specs.declared.placement.Placement.{Placement}
+use Rattle.desk_types.proofs.Common.{◌∙◌, ◌≡◌, ◌≢◌, length, Placement, refl, rules}
 use Rattle.line_tables.specs.Faults.{OnlyWhere}
-use Rattle.line_traces.specs.Committed.{placed_columns, IsPiece}
 use Rattle.line_traces.proofs.Columns.{all-columns, no_flag}
+use Rattle.line_traces.specs.Committed.{IsPiece, placed_columns}
 use Rattle.line_traces.proofs.decode.piece.Goals as goal
 
 pub returns-clause-ok : goal.returns-clause-ok

@@ -1,4 +1,4 @@
-use Rattle.std.proofs.Common.{◌≡◌, ◌∙◌, length, rules, refl}
+use Rattle.desk_types.proofs.Common.{◌∙◌, ◌≡◌, length, refl, rules}
 use Rattle.line_traces.proofs.Columns.{all-columns}
 use Rattle.line_traces.proofs.decode.placement.Goals as goal
 

@@ -1,13 +1,10 @@
-use Rattle.std.proofs.Common.{Some, List, map, get_or, sym, subst}
-use Rattle.std.proofs.lemmas.List.{take_all, get_or_default}
-use Rattle.sqlite_rules.specs.Lists.{Has}
-use Rattle.line_tables.specs.Line as line
-use Rattle.line_tables.specs.StateRows.{rows_in}
-use Rattle.state_rows.specs.declared.lists.PieceKey.{PieceKey}
-use Rattle.state_rows.specs.Lists.{key_of}
-use Rattle.line_traces.specs.Pieces.{piece_at}
-use Rattle.line_traces.specs.Working.{AddsPieces}
+use Rattle.desk_types.proofs.Common.{get_or, List, map, Some, subst, sym, take_all}
+use Rattle.line_tables.proofs.Common.{Has, rows_in}
 use Rattle.line_traces.proofs.LookedPieces.{all-got, one-added}
+use Rattle.line_traces.specs.{Pieces.piece_at, Working.AddsPieces}
+use Rattle.state_rows.specs.{Lists.key_of, declared.lists.PieceKey.PieceKey}
+use Rattle.std.proofs.lemmas.List.{get_or_default}
+use Rattle.line_tables.specs.Line as line
 use Rattle.line_traces.proofs.looked.add_rows.Goals as goal
 
 pub loop-at-preserved : goal.loop-at-preserved

@@ -1,10 +1,9 @@
-use Rattle.std.proofs.Common.{Some, map, take}
-use Rattle.sqlite.specs.Effect.{Database}
-use Rattle.desk_types.specs.History.{History}
-use Rattle.line_tables.specs.Line as line
+use Rattle.desk_types.proofs.Common.{History, map, Some, take}
+use Rattle.line_tables.proofs.Common.{Database}
 use Rattle.line_tables.specs.Shown.{AreOf}
+use Rattle.line_traces.specs.Working.{AddsPieces, HoldsBoth}
 use Rattle.state_rows.specs.Lists.{key_of}
-use Rattle.line_traces.specs.Working.{HoldsBoth, AddsPieces}
+use Rattle.line_tables.specs.Line as line
 use Rattle.line_traces.proofs.looked.add_rows.Given as goal
 
 abbrev pub invariant-loop-at : goal.invariant-loop-at

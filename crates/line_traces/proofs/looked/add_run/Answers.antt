@@ -1,5 +1,5 @@
-use Rattle.std.proofs.lemmas.Result.{IfOk-weaker}
-use Rattle.sqlite.specs.Held.{state}
+use Rattle.desk_types.proofs.Common.{IfOk-weaker}
+use Rattle.line_tables.proofs.Common.{state}
 use Rattle.line_traces.proofs.looked.add_run.Goals as goal
 
 pub returns-clause-added : goal.returns-clause-added

@@ -1,12 +1,8 @@
-use Rattle.std.proofs.Common.{◌≡◌, ◌∙◌, Some, sym, ap, ap₂, subst, rules}
-use Rattle.sqlite_rules.specs.Lists.{Has}
-use Rattle.desk_types.specs.declared.rules.Rules.TheVariants.{Two}
-use Rattle.desk_types.specs.History.{basis}
-use Rattle.line_tables.specs.Line as line
-use Rattle.line_tables.specs.StateRows.{rows_in}
+use Rattle.desk_types.proofs.Common.{◌∙◌, ◌≡◌, ap, ap₂, basis, rules, Some, subst, sym, Two}
+use Rattle.line_tables.proofs.Common.{Has, rows_in}
+use Rattle.line_traces.{proofs.LookedRows.piece_with, proofs.LookedRows.row-tells, specs.Pieces.piece_at}
 use Rattle.state_rows.specs.Lists.{Key, key_of, minute_of}
-use Rattle.line_traces.specs.Pieces.{piece_at}
-use Rattle.line_traces.proofs.LookedRows.{piece_with, row-tells}
+use Rattle.line_tables.specs.Line as line
 use Rattle.line_traces.proofs.looked.piece_of.Goals as goal
 
 pub returns : goal.returns

@@ -1,10 +1,7 @@
-use Rattle.std.proofs.Common.{Some, map, arith}
-use Rattle.sqlite.specs.State.{HasCleanDisk}
-use Rattle.sqlite.specs.Held.{state}
-use Rattle.line_tables.proofs.Frames.{reads_then}
-use Rattle.line_traces.specs.Pieces.{piece_at}
-use Rattle.line_traces.proofs.LookedPieces.{run-added}
-use Rattle.line_traces.proofs.TwoCalls.{reads-before}
+use Rattle.desk_types.proofs.Common.{arith, map, Some}
+use Rattle.line_tables.proofs.Common.{HasCleanDisk, state}
+use Rattle.line_tables.{proofs.Frames.reads_then, proofs.Keeps.reads_before}
+use Rattle.line_traces.{proofs.LookedPieces.run-added, specs.Pieces.piece_at}
 use Rattle.line_traces.proofs.looked.pieces_at.Goals as goal
 
 pub loop-left-preserved : goal.loop-left-preserved
@@ -17,7 +14,7 @@ loop-left-preserved g c =
     record {
       opened = λ clean. was.opened (early clean);
       told = λ clean schema H both.
-          let added = reads-before old mid (was.reads.kept (early clean)) _ (c.in_ok-add_run.ensures.added clean) in
+          let added = reads_before old mid (was.reads.kept (early clean)) _ (c.in_ok-add_run.ensures.added clean) in
           run-added (piece_at H) (map Some c.loop-left.pieces.items) (map Some c.add_run.new.pieces.items) _ c.loop-left.left.now c.split_run.result.0.now c.split_run.result.1.now c.split_run.ensures.whole
           (added.are schema c.if-not-branch.false H both) (was.told (early clean) schema H both);
       reads = reads_then g.S.Store c.args.conn.now c.loop-left.conn c.add_run.new.conn was.reads c.add_run.ensures.reads;

@@ -1,12 +1,7 @@
-use Rattle.std.proofs.Common.{◌≡◌, ◌++◌, Some, IsTrue, map, length}
-use Rattle.sqlite.specs.State.{HasCleanDisk}
-use Rattle.sqlite.specs.Held.{state}
-use Rattle.desk_types.specs.History.{History}
-use Rattle.line_tables.specs.Line.{IsOurs}
-use Rattle.line_tables.specs.Frames.{ReadsOnly}
+use Rattle.desk_types.proofs.Common.{◌++◌, ◌≡◌, History, IsTrue, length, map, Some}
+use Rattle.line_tables.proofs.Common.{HasCleanDisk, IsOurs, ReadsOnly, state}
+use Rattle.line_traces.specs.{Pieces.piece_at, Working.HoldsBoth}
 use Rattle.state_rows.specs.Lists.{key_of}
-use Rattle.line_traces.specs.Pieces.{piece_at}
-use Rattle.line_traces.specs.Working.{HoldsBoth}
 use Rattle.line_traces.proofs.looked.pieces_at.Given as goal
 
 abbrev pub invariant-loop-left : goal.invariant-loop-left

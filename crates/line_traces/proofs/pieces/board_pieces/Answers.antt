@@ -1,8 +1,6 @@
-use Rattle.std.proofs.lemmas.Result.{IfOk-weaker}
-use Rattle.sqlite.specs.Held.{state}
-use Rattle.line_traces.specs.Pieces.{pieces_on}
-use Rattle.line_traces.proofs.TwoCalls.{pieces-told}
-use Rattle.line_traces.proofs.FoundPieces.{finds-on}
+use Rattle.desk_types.proofs.Common.{IfOk-weaker}
+use Rattle.line_tables.proofs.Common.{state}
+use Rattle.line_traces.{proofs.FoundPieces.finds-on, proofs.TwoCalls.pieces-told, specs.Pieces.pieces_on}
 use Rattle.line_traces.proofs.pieces.board_pieces.Goals as goal
 
 pub returns-clause-pieces : goal.returns-clause-pieces

@@ -1,4 +1,4 @@
-use Rattle.std.proofs.Common.{◌≡◌, ◌==◌, length, rules}
+use Rattle.desk_types.proofs.Common.{◌==◌, ◌≡◌, length, rules}
 use Rattle.line_traces.proofs.FoundRows.{asks-lot}
 use Rattle.line_traces.proofs.pieces.has_lot.Goals as goal
 

@@ -1,8 +1,6 @@
-use Rattle.std.proofs.lemmas.Result.{IfOk-weaker}
-use Rattle.sqlite.specs.Held.{state}
-use Rattle.desk_types.specs.Placements.{boards_of}
-use Rattle.line_traces.proofs.BoardsOf.{finds-names}
-use Rattle.line_traces.proofs.TwoCalls.{names-told}
+use Rattle.desk_types.proofs.Common.{boards_of, IfOk-weaker}
+use Rattle.line_tables.proofs.Common.{state}
+use Rattle.line_traces.proofs.{BoardsOf.finds-names, TwoCalls.names-told}
 use Rattle.line_traces.proofs.pieces.lot_names.Goals as goal
 
 pub returns-clause-names : goal.returns-clause-names

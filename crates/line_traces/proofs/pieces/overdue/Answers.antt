@@ -1,8 +1,6 @@
-use Rattle.std.proofs.lemmas.Result.{IfOk-weaker}
-use Rattle.sqlite.specs.Held.{state}
-use Rattle.desk_types.specs.Placements.{overdue_of}
-use Rattle.line_traces.proofs.TwoCalls.{pieces-told}
-use Rattle.line_traces.proofs.FoundPieces.{finds-overdue}
+use Rattle.desk_types.proofs.Common.{IfOk-weaker, overdue_of}
+use Rattle.line_tables.proofs.Common.{state}
+use Rattle.line_traces.proofs.{FoundPieces.finds-overdue, TwoCalls.pieces-told}
 use Rattle.line_traces.proofs.pieces.overdue.Goals as goal
 
 pub returns-clause-pieces : goal.returns-clause-pieces

@@ -1,9 +1,8 @@
-use Rattle.std.proofs.Common.{◌≡◌, true, arith, rules, subst, option_copied}
-use Rattle.sqlite.specs.State.{HasCleanDisk}
-use Rattle.sqlite.specs.Held.{state}
-use Rattle.line_traces.specs.Pieces.{is_board, pieces_on}
-use Rattle.line_traces.specs.Committed.{FindsOfList}
-use Rattle.line_traces.proofs.TwoCalls.{reads-before, there-told}
+use Rattle.desk_types.proofs.Common.{◌≡◌, arith, option_copied, rules, subst, true}
+use Rattle.line_tables.proofs.Common.{HasCleanDisk, state}
+use Rattle.line_tables.proofs.Keeps.{reads_before}
+use Rattle.line_traces.proofs.TwoCalls.{there-told}
+use Rattle.line_traces.specs.{Committed.FindsOfList, Pieces.is_board, Pieces.pieces_on}
 use Rattle.line_traces.proofs.traces.board_rows.Goals as goal
 
 pub returns-clause-trace : goal.returns-clause-trace
@@ -14,4 +13,4 @@ returns-clause-trace g c clean =
     let is : c.in_ok-has_board.field-0 ≡ true = search rules in
     let named = subst (FindsOfList (λ H. is_board H c.args.board.now) old) is (c.in_ok-has_board.ensures.found first) in
     there-told g.D.Desk.Stands (option_copied c.args.working) (λ H. pieces_on H c.args.board.now) old (λ H. is_board H c.args.board.now) _ named (
-    reads-before old mid (c.has_board.ensures.reads.kept first) _ (c.in_ok-pieces_of_board.ensures.pieces clean))
+    reads_before old mid (c.has_board.ensures.reads.kept first) _ (c.in_ok-pieces_of_board.ensures.pieces clean))

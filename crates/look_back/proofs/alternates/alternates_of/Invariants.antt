@@ -1,4 +1,4 @@
-use Rattle.std.proofs.Common.{reverse, take}
+use Rattle.desk_types.proofs.Common.{reverse, take}
 use Rattle.setup_sheets.specs.Alternates.{AreAlternates}
 use Rattle.look_back.proofs.alternates.alternates_of.Given as goal
 

@@ -1,6 +1,4 @@
-use Rattle.std.proofs.Common.{refl, sym, ◌∙◌}
-use Rattle.std.specs.Prelude.{◌≡◌, false, Some}
-use Rattle.desk_types.specs.FloorLife.{open_by}
+use Rattle.desk_types.proofs.Common.{◌∙◌, ◌≡◌, false, open_by, refl, Some, sym}
 use Rattle.look_back.proofs.HandledReels.{sealed}
 use Rattle.look_back.proofs.floor_life.handle.Goals as goal
 

@@ -1,9 +1,7 @@
-use Rattle.std.proofs.Common.{◌≡◌, Some, refl, sym, ◌∙◌, arith}
-use Rattle.desk_types.specs.History.{now_of}
-use Rattle.desk_types.specs.Setup.{receipt_by}
+use Rattle.desk_types.proofs.Common.{◌∙◌, ◌≡◌, arith, now_of, receipt_by, refl, Some, sym}
 use Rattle.desk_laws.proofs.Judgements.{untouched}
-use Rattle.std.proofs.Math.Nat.{le-max_left}
 use Rattle.look_back.proofs.HandledReels.{received}
+use Rattle.std.proofs.Math.Nat.{le-max_left}
 use Rattle.look_back.proofs.floor_life.received_reel.Goals as goal
 
 pub returns : goal.returns

@@ -1,6 +1,6 @@
-use Rattle.std.proofs.Common.{reverse, take, sym, subst}
+use Rattle.desk_types.proofs.Common.{reverse, subst, sym, take}
 use Rattle.judging.specs.Facts.{IsReelOf}
-use Rattle.look_back.proofs.HandledReels.{so-far, judged-next, by-then}
+use Rattle.look_back.proofs.HandledReels.{by-then, judged-next, so-far}
 use Rattle.look_back.proofs.floor_life.reel_of.Goals as goal
 
 pub reel_after-reel-requires : goal.reel_after-reel-requires

@@ -1,4 +1,4 @@
-use Rattle.std.proofs.Common.{reverse, take}
+use Rattle.desk_types.proofs.Common.{reverse, take}
 use Rattle.judging.specs.Facts.{IsReelOf}
 use Rattle.look_back.proofs.floor_life.reel_of.Given as goal
 

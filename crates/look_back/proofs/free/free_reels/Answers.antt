@@ -1,8 +1,4 @@
-use Rattle.std.proofs.Common.{filter_map, reverse, ap, ◌∙◌}
-use Rattle.std.proofs.lemmas.List.{take_all}
-use Rattle.desk_types.specs.declared.view.Left.{Left}
-use Rattle.desk_types.specs.Id.{Name}
-use Rattle.desk_types.specs.View.{reel_view}
+use Rattle.desk_types.proofs.Common.{◌∙◌, ap, filter_map, Left, Name, reel_view, reverse, take_all}
 use Rattle.judging.proofs.FreeReels.{free_among, views-of_turns}
 use Rattle.look_back.proofs.FreeReels.{told-next}
 use Rattle.look_back.proofs.free.free_reels.Goals as goal

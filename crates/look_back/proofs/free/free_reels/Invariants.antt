@@ -1,5 +1,4 @@
-use Rattle.std.proofs.Common.{◌≡◌, filter_map, reverse, take}
-use Rattle.desk_types.specs.View.{reel_view}
+use Rattle.desk_types.proofs.Common.{◌≡◌, filter_map, reel_view, reverse, take}
 use Rattle.look_back.proofs.free.free_reels.Given as goal
 
 abbrev pub invariant-loop-turn : goal.invariant-loop-turn

@@ -1,4 +1,4 @@
-use Rattle.std.proofs.Common.{reverse, sym, ◌∙◌}
+use Rattle.desk_types.proofs.Common.{◌∙◌, reverse, sym}
 use Rattle.judging.proofs.FreeReels.{unreceived-free, untold}
 use Rattle.look_back.proofs.FreeReels.{not-free}
 use Rattle.look_back.proofs.free.turn_by.Goals as goal

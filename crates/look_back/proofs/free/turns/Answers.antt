@@ -1,16 +1,8 @@
-use Rattle.std.proofs.Common.{map, reverse, take, sym, ap, ◌∙◌}
-use Rattle.std.specs.BTreeSet.{insert_key}
-use Rattle.std.specs.Option.{option_map_or}
-use Rattle.std.specs.Ordering.{ordering_then}
-use Rattle.std.specs.declared.cmp.Ordering.{Ordering}
-use Rattle.desk_types.specs.declared.view.Left.{Left}
-use Rattle.desk_types.specs.Id.{by_name}
+use Rattle.desk_types.proofs.Common.{◌∙◌, ap, by_name, insert_key, Left, map, option_map_or, Ordering, ordering_then}
+use Rattle.desk_types.proofs.Common.{reverse, sym, take, take-next}
 use Rattle.desk_types.proofs.Lives.{left-order}
-use Rattle.desk_types.proofs.LoopSteps.{take-next}
-use Rattle.judging.specs.Turns.{turn_of, by_life}
-use Rattle.look_back.proofs.ReelsLater.{reverse-last}
-use Rattle.judging.proofs.FreeReels.{free_among}
-use Rattle.look_back.proofs.FreeReels.{turns-next}
+use Rattle.judging.{proofs.FreeReels.free_among, specs.Turns.by_life, specs.Turns.turn_of}
+use Rattle.look_back.{proofs.FreeReels.turns-next, proofs.ReelsLater.reverse-last}
 use Rattle.look_back.proofs.free.turns.Goals as goal
 
 pub loop-entry-preserved : goal.loop-entry-preserved

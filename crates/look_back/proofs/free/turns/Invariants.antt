@@ -1,5 +1,4 @@
-use Rattle.std.proofs.Common.{◌≡◌, map, filter, reverse, take}
-use Rattle.desk_types.specs.Free.{reels_received, is_free, by_turn, in_order}
+use Rattle.desk_types.proofs.Common.{◌≡◌, by_turn, filter, in_order, is_free, map, reels_received, reverse, take}
 use Rattle.judging.specs.Turns.{turn_of}
 use Rattle.look_back.proofs.free.turns.Given as goal
 

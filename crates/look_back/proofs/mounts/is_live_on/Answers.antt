@@ -1,10 +1,5 @@
-use Rattle.std.proofs.Common.{◌≡◌, true, false, nat_lt, reverse, sym, ap, ◌∙◌, arith}
-use Rattle.std.specs.Prelude.{◌&&◌}
-use Rattle.std.specs.List.{list_any}
-use Rattle.std.proofs.lemmas.Bool.{lt-ltb}
-use Rattle.desk_types.specs.Id.{same}
-use Rattle.desk_types.specs.Tape.{tape_of}
-use Rattle.desk_types.specs.Pieces.{left_of}
+use Rattle.desk_types.proofs.Common.{◌&&◌, ◌∙◌, ◌≡◌, ap, arith, false, left_of, list_any, lt-ltb, nat_lt, reverse}
+use Rattle.desk_types.proofs.Common.{same, sym, tape_of, true}
 use Rattle.desk_laws.proofs.Mounts.{has-live_on}
 use Rattle.judging.proofs.Reels.{spent}
 use Rattle.look_back.proofs.mounts.is_live_on.Goals as goal

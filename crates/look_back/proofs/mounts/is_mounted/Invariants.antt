@@ -1,6 +1,4 @@
-use Rattle.std.proofs.Common.{◌≡◌, reverse, take}
-use Rattle.std.specs.List.{list_any}
-use Rattle.desk_types.specs.Pieces.{is_live_where_loaded}
+use Rattle.desk_types.proofs.Common.{◌≡◌, is_live_where_loaded, list_any, reverse, take}
 use Rattle.look_back.proofs.mounts.is_mounted.Given as goal
 
 abbrev pub invariant-loop-entry : goal.invariant-loop-entry

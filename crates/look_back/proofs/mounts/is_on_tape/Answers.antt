@@ -1,5 +1,4 @@
-use Rattle.std.proofs.Common.{reverse, sym, ◌∙◌}
-use Rattle.desk_types.specs.Tape.{tape_of}
+use Rattle.desk_types.proofs.Common.{◌∙◌, reverse, sym, tape_of}
 use Rattle.judging.proofs.Reels.{no-gap}
 use Rattle.look_back.proofs.TapeLists.{any-from}
 use Rattle.look_back.proofs.mounts.is_on_tape.Goals.{in-Some+else-eq, in_default}

@@ -1,7 +1,4 @@
-use Rattle.std.proofs.Common.{◌≡◌, reverse, drop}
-use Rattle.std.specs.List.{list_any}
-use Rattle.desk_types.specs.Id.{same}
-use Rattle.desk_types.specs.Tape.{tape_of}
+use Rattle.desk_types.proofs.Common.{◌≡◌, drop, list_any, reverse, same, tape_of}
 use Rattle.look_back.proofs.mounts.is_on_tape.Given as goal
 
 abbrev pub invariant-loop-index : goal.invariant-loop-index

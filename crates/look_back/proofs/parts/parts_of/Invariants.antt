@@ -1,6 +1,4 @@
-use Rattle.std.proofs.Common.{◌≡◌, reverse, take}
-use Rattle.desk_types.specs.Id.{Name}
-use Rattle.desk_types.specs.Setup.{is_part}
+use Rattle.desk_types.proofs.Common.{◌≡◌, is_part, Name, reverse, take}
 use Rattle.setup_sheets.specs.Names.{is_among}
 use Rattle.look_back.proofs.parts.parts_of.Given as goal
 

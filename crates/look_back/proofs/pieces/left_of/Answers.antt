@@ -1,7 +1,7 @@
-use Rattle.std.proofs.Common.{[], ◌∷◌, ◌-◌, ◌^◌, min, reverse, sym, ap, ◌∙◌}
-use Rattle.desk_types.specs.Pieces.{left_of}
+use Rattle.desk_types.proofs.Common.{[], ◌-◌, ◌^◌, ◌∙◌, ◌∷◌, ap, left_of, min, reverse, sym}
+use Rattle.look_back.proofs.ReelsLater.{Going, going-back, going-first, going-none, going-told, reverse-last}
+use Rattle.look_back.proofs.ReelsLater.{reverse-none, takes-there}
 use Rattle.look_back.specs.Kept.{pieces_taken}
-use Rattle.look_back.proofs.ReelsLater.{Going, going-first, going-back, going-told, going-none, reverse-last, reverse-none, takes-there}
 use Rattle.look_back.proofs.pieces.left_of.Goals as goal
 
 pub loop-entry-init : goal.loop-entry-init

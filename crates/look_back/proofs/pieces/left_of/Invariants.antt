@@ -1,5 +1,4 @@
-use Rattle.std.proofs.Common.{reverse, length}
-use Rattle.desk_types.specs.Pieces.{left_of}
+use Rattle.desk_types.proofs.Common.{left_of, length, reverse}
 use Rattle.look_back.proofs.ReelsLater.{Going}
 use Rattle.look_back.proofs.pieces.left_of.Given as goal
 

@@ -1,4 +1,4 @@
-use Rattle.std.proofs.Common.{◌≡◌, ◌-◌, ◌^◌, min, take}
+use Rattle.desk_types.proofs.Common.{◌-◌, ◌^◌, ◌≡◌, min, take}
 use Rattle.look_back.specs.Kept.{pieces_taken}
 use Rattle.look_back.proofs.pieces.pieces_taken.Given as goal
 

@@ -1,9 +1,5 @@
-use Rattle.std.proofs.Common.{sym, ap, ◌∙◌}
+use Rattle.desk_types.proofs.Common.{◌∙◌, ap, CountRow, option_map, pieces_by, same, sym}
 use Rattle.std.specs.List.{find}
-use Rattle.std.specs.Option.{option_map}
-use Rattle.desk_types.specs.declared.count.CountRow.{CountRow}
-use Rattle.desk_types.specs.Id.{same}
-use Rattle.desk_types.specs.Pieces.{pieces_by}
 use Rattle.look_back.proofs.pieces.told_by.Goals as goal
 
 pub returns-in-CountsTaken-clause-value : goal.returns-in-CountsTaken-clause-value

@@ -1,5 +1,4 @@
-use Rattle.std.proofs.Common.{◌≡◌, reverse, length}
-use Rattle.desk_types.specs.Setup.{receipt_of}
+use Rattle.desk_types.proofs.Common.{◌≡◌, length, receipt_of, reverse}
 use Rattle.look_back.proofs.setup.receipt.Given as goal
 
 abbrev pub invariant-loop-entry : goal.invariant-loop-entry

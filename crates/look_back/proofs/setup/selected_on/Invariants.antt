@@ -1,5 +1,4 @@
-use Rattle.std.proofs.Common.{◌≡◌, reverse, length}
-use Rattle.desk_types.specs.Setup.{selected_on}
+use Rattle.desk_types.proofs.Common.{◌≡◌, length, reverse, selected_on}
 use Rattle.look_back.proofs.setup.selected_on.Given as goal
 
 abbrev pub invariant-loop-entry : goal.invariant-loop-entry

@@ -1,5 +1,4 @@
-use Rattle.std.proofs.Common.{◌≡◌, reverse, length}
-use Rattle.desk_types.specs.Setup.{sheet_of}
+use Rattle.desk_types.proofs.Common.{◌≡◌, length, reverse, sheet_of}
 use Rattle.look_back.proofs.setup.sheet_of.Given as goal
 
 abbrev pub invariant-loop-entry : goal.invariant-loop-entry

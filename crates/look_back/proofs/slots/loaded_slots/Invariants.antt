@@ -1,5 +1,4 @@
-use Rattle.std.proofs.Common.{◌≡◌, reverse, take}
-use Rattle.desk_types.specs.View.{loaded_slots}
+use Rattle.desk_types.proofs.Common.{◌≡◌, loaded_slots, reverse, take}
 use Rattle.look_back.proofs.slots.loaded_slots.Given as goal
 
 abbrev pub invariant-loop-entry : goal.invariant-loop-entry

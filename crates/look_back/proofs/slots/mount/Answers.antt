@@ -1,4 +1,4 @@
-use Rattle.std.proofs.Common.{reverse, sym, ◌∙◌}
+use Rattle.desk_types.proofs.Common.{◌∙◌, reverse, sym}
 use Rattle.look_back.proofs.ListedReels.{mount-viewed}
 use Rattle.look_back.proofs.slots.mount.Goals as goal
 

@@ -1,8 +1,5 @@
-use Rattle.std.proofs.Common.{reverse, ◌++◌, ◌∷◌, [], sym, ap, subst, ◌∙◌}
-use Rattle.std.proofs.lemmas.List.Elements.{All-get_or}
-use Rattle.desk_types.specs.View.{mount_of}
-use Rattle.judging.specs.Facts.{IsKnownReel}
-use Rattle.judging.proofs.MountLists.{place-next}
+use Rattle.desk_types.proofs.Common.{[], ◌++◌, ◌∙◌, ◌∷◌, All-get_or, ap, mount_of, reverse, subst, sym}
+use Rattle.judging.{proofs.MountLists.place-next, specs.Facts.IsKnownReel}
 use Rattle.look_back.proofs.slots.put_mounts.Goals as goal
 
 pub mount-requires-clause-received : goal.mount-requires-clause-received

@@ -1,6 +1,4 @@
-use Rattle.std.proofs.Common.{◌≡◌, ◌++◌, map, reverse, take}
-use Rattle.std.specs.List.{enumerate_from}
-use Rattle.desk_types.specs.View.{mount_of}
+use Rattle.desk_types.proofs.Common.{◌++◌, ◌≡◌, enumerate_from, map, mount_of, reverse, take}
 use Rattle.look_back.proofs.slots.put_mounts.Given as goal
 
 abbrev pub invariant-loop-index : goal.invariant-loop-index

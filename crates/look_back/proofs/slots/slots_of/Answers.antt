@@ -1,4 +1,4 @@
-use Rattle.std.proofs.Common.{All, reverse, sym, subst, ◌∙◌}
+use Rattle.desk_types.proofs.Common.{◌∙◌, All, reverse, subst, sym}
 use Rattle.judging.specs.Facts.{IsKnownReel}
 use Rattle.look_back.proofs.ListedReels.{all-known}
 use Rattle.look_back.proofs.slots.slots_of.Goals as goal

@@ -1,6 +1,4 @@
-use Rattle.std.proofs.Common.{◌≡◌, reverse, take}
-use Rattle.std.specs.List.{flat_map}
-use Rattle.desk_types.specs.View.{slot_mounts}
+use Rattle.desk_types.proofs.Common.{◌≡◌, flat_map, reverse, slot_mounts, take}
 use Rattle.look_back.proofs.slots.slots_of.Given as goal
 
 abbrev pub invariant-loop-slot : goal.invariant-loop-slot

@@ -1,8 +1,8 @@
-use Rattle.std.proofs.Common.{◌+◌, ◌++◌, reverse, drop, filter, sym, ap, ◌∙◌}
-use Rattle.desk_types.specs.Tape.{tape_of}
+use Rattle.desk_types.proofs.Common.{◌++◌, ◌+◌, ◌∙◌, ap, drop, filter, reverse, sym, tape_of}
 use Rattle.judging.proofs.Reels.{no-gap}
-use Rattle.look_back.proofs.TapeLists.{has_pieces, live-put, live-passed, live-all}
-use Rattle.look_back.proofs.tapes.live_on.Goals.{in-Some+then-left_of-gt0+in_ok-push, in-Some+else-left_of-gt0, in_default}
+use Rattle.look_back.proofs.TapeLists.{has_pieces, live-all, live-passed, live-put}
+use Rattle.look_back.proofs.tapes.live_on.Goals.{in-Some+else-left_of-gt0, in-Some+then-left_of-gt0+in_ok-push}
+use Rattle.look_back.proofs.tapes.live_on.Goals.{in_default}
 use Rattle.look_back.proofs.tapes.live_on.Goals as goal
 
 pub loop-index-preserved : goal.loop-index-preserved

@@ -1,6 +1,4 @@
-use Rattle.std.proofs.Common.{◌≡◌, ◌++◌, nat_lt, filter, reverse, drop}
-use Rattle.desk_types.specs.Tape.{tape_of}
-use Rattle.desk_types.specs.Pieces.{left_of}
+use Rattle.desk_types.proofs.Common.{◌++◌, ◌≡◌, drop, filter, left_of, nat_lt, reverse, tape_of}
 use Rattle.look_back.proofs.tapes.live_on.Given as goal
 
 abbrev pub invariant-loop-index : goal.invariant-loop-index

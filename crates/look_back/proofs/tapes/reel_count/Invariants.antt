@@ -1,5 +1,4 @@
-use Rattle.std.proofs.Common.{◌≡◌, ◌≤◌, length, reverse, take}
-use Rattle.desk_types.specs.Tape.{tape_of}
+use Rattle.desk_types.proofs.Common.{◌≡◌, ◌≤◌, length, reverse, take, tape_of}
 use Rattle.look_back.proofs.tapes.reel_count.Given as goal
 
 abbrev pub invariant-loop-entry : goal.invariant-loop-entry

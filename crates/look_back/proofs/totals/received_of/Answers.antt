@@ -1,4 +1,4 @@
-use Rattle.std.proofs.Common.{reverse, arith}
+use Rattle.desk_types.proofs.Common.{arith, reverse}
 use Rattle.look_back.proofs.Ranges.{summed}
 use Rattle.look_back.proofs.totals.received_of.Goals as goal
 

@@ -1,4 +1,4 @@
-use Rattle.std.proofs.Common.{◌≡◌, ◌-◌, ◌^◌, min, take}
+use Rattle.desk_types.proofs.Common.{◌-◌, ◌^◌, ◌≡◌, min, take}
 use Rattle.look_back.specs.Totals.{taken_for}
 use Rattle.look_back.proofs.totals.taken_for.Given as goal
 

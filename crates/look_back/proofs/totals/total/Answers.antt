@@ -1,8 +1,6 @@
-use Rattle.std.proofs.Common.{◌-◌, ◌^◌, min, reverse, sum_by, sym, ap, ◌∙◌}
-use Rattle.std.proofs.lemmas.List.{reverse-reverse, take_all}
-use Rattle.look_back.specs.Totals.{taken_for}
-use Rattle.look_back.proofs.Ranges.{total-fits}
-use Rattle.look_back.proofs.SumsOfTakes.{total-kept}
+use Rattle.desk_types.proofs.Common.{◌-◌, ◌^◌, ◌∙◌, ap, min, reverse, sym, take_all}
+use Rattle.look_back.{proofs.Ranges.total-fits, proofs.SumsOfTakes.total-kept, specs.Totals.taken_for}
+use Rattle.std.{proofs.Common.sum_by, proofs.lemmas.List.reverse-reverse}
 use Rattle.look_back.proofs.totals.total.Goals as goal
 
 pub returns : goal.returns

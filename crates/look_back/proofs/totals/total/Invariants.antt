@@ -1,5 +1,6 @@
-use Rattle.std.proofs.Common.{◌≡◌, ◌-◌, ◌^◌, min, take, sum_by}
+use Rattle.desk_types.proofs.Common.{◌-◌, ◌^◌, ◌≡◌, min, take}
 use Rattle.look_back.specs.Totals.{taken_for}
+use Rattle.std.proofs.Common.{sum_by}
 use Rattle.look_back.proofs.totals.total.Given as goal
 
 abbrev pub invariant-loop-last : goal.invariant-loop-last

@@ -1,7 +1,6 @@
-use Rattle.std.proofs.Common.{reverse, sym, ap, ◌∙◌, ◌-◌, unwrap_or, arith}
-use Rattle.look_back.proofs.Ranges.{few-reversed}
+use Rattle.desk_types.proofs.Common.{◌-◌, ◌∙◌, ap, arith, reverse, sym, unwrap_or}
 use Rattle.judging.proofs.EmptyHistory.{no-reel}
-use Rattle.look_back.proofs.ReelViews.{found-is, viewed}
+use Rattle.look_back.proofs.{Ranges.few-reversed, ReelViews.found-is, ReelViews.viewed}
 use Rattle.look_back.proofs.views.reel_view.Goals as goal
 
 pub returns-in_err-minute : goal.returns-in_err-minute

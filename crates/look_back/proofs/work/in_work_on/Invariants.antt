@@ -1,5 +1,4 @@
-use Rattle.std.proofs.Common.{◌≡◌, reverse, length}
-use Rattle.desk_types.specs.Work.{in_work_on}
+use Rattle.desk_types.proofs.Common.{◌≡◌, in_work_on, length, reverse}
 use Rattle.look_back.proofs.work.in_work_on.Given as goal
 
 abbrev pub invariant-loop-entry : goal.invariant-loop-entry

@@ -1,6 +1,4 @@
-use Rattle.std.proofs.Common.{◌≡◌, reverse, length}
-use Rattle.std.specs.Option.{option_or}
-use Rattle.desk_types.specs.Work.{product_of}
+use Rattle.desk_types.proofs.Common.{◌≡◌, length, option_or, product_of, reverse}
 use Rattle.look_back.proofs.work.product_of.Given as goal
 
 -- An earlier start takes precedence over the product found so far.

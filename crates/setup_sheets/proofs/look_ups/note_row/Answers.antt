@@ -1,10 +1,5 @@
-use Rattle.std.proofs.Common.{Some, take, cond, sym, ap, ◌∙◌}
-use Rattle.std.specs.List.{list_any}
-use Rattle.desk_types.specs.Id.{same}
-use Rattle.desk_types.proofs.Keys.{name-written}
-use Rattle.desk_types.proofs.LoopSteps.{take-next}
-use Rattle.setup_sheets.specs.LookUps.{slot_at}
-use Rattle.setup_sheets.proofs.SheetLookUps.{slot-push}
+use Rattle.desk_types.proofs.Common.{◌∙◌, ap, cond, list_any, name-written, same, Some, sym, take, take-next}
+use Rattle.setup_sheets.{proofs.SheetLookUps.slot-push, specs.LookUps.slot_at}
 use Rattle.setup_sheets.proofs.look_ups.note_row.Goals as goal
 
 pub loop-designator-preserved : goal.loop-designator-preserved

@@ -1,7 +1,4 @@
-use Rattle.std.proofs.Common.{◌≡◌, Some, take}
-use Rattle.std.specs.Prelude.{if◌then◌else◌}
-use Rattle.std.specs.List.{list_any}
-use Rattle.desk_types.specs.Id.{Name, same}
+use Rattle.desk_types.proofs.Common.{◌≡◌, if◌then◌else◌, list_any, Name, same, Some, take}
 use Rattle.setup_sheets.specs.LookUps.{slot_at}
 use Rattle.setup_sheets.proofs.look_ups.note_row.Given as goal
 

@@ -1,12 +1,7 @@
-use Rattle.std.proofs.Common.{◌≡◌, ◌+◌, ◌-◌, take, get_or, cond, sym, ap, ◌∙◌, arith}
-use Rattle.std.specs.Option.{option_or, option_and_then}
+use Rattle.desk_types.proofs.Common.{◌+◌, ◌-◌, ◌∙◌, ◌≡◌, ap, arith, cond, get_or, name-written, option_and_then}
+use Rattle.desk_types.proofs.Common.{option_or, row_in, same, SheetRow, sym, take}
+use Rattle.setup_sheets.{proofs.SheetLookUps.row-placed, specs.LookUps.row_at}
 use Rattle.std.specs.List.{slice_get}
-use Rattle.desk_types.specs.declared.sheet.SheetRow.{SheetRow}
-use Rattle.desk_types.specs.Id.{same}
-use Rattle.desk_types.specs.Setup.{row_in}
-use Rattle.desk_types.proofs.Keys.{name-written}
-use Rattle.setup_sheets.specs.LookUps.{row_at}
-use Rattle.setup_sheets.proofs.SheetLookUps.{row-placed}
 use Rattle.setup_sheets.proofs.look_ups.places_in.Goals as goal
 
 pub loop-i-preserved : goal.loop-i-preserved

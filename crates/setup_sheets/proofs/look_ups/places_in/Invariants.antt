@@ -1,7 +1,4 @@
-use Rattle.std.proofs.Common.{◌≡◌, take}
-use Rattle.std.specs.Option.{option_or}
-use Rattle.desk_types.specs.Id.{Name}
-use Rattle.desk_types.specs.Setup.{row_in}
+use Rattle.desk_types.proofs.Common.{◌≡◌, Name, option_or, row_in, take}
 use Rattle.setup_sheets.specs.LookUps.{row_at}
 use Rattle.setup_sheets.proofs.look_ups.places_in.Given as goal
 

@@ -1,8 +1,5 @@
-use Rattle.std.proofs.Common.{sym, ap, ◌∙◌}
-use Rattle.std.specs.Option.{option_or}
-use Rattle.desk_types.specs.Setup.{slot_in}
-use Rattle.setup_sheets.specs.LookUps.{slot_at}
-use Rattle.setup_sheets.proofs.SheetLookUps.{slot_in-last}
+use Rattle.desk_types.proofs.Common.{◌∙◌, ap, option_or, slot_in, sym}
+use Rattle.setup_sheets.{proofs.SheetLookUps.slot_in-last, specs.LookUps.slot_at}
 use Rattle.setup_sheets.proofs.look_ups.slots_in.Goals as goal
 
 pub loop-row-preserved : goal.loop-row-preserved

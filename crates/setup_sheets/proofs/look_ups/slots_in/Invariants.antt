@@ -1,7 +1,4 @@
-use Rattle.std.proofs.Common.{◌≡◌, length}
-use Rattle.std.specs.Option.{option_or}
-use Rattle.desk_types.specs.Id.{Name}
-use Rattle.desk_types.specs.Setup.{slot_in}
+use Rattle.desk_types.proofs.Common.{◌≡◌, length, Name, option_or, slot_in}
 use Rattle.setup_sheets.specs.LookUps.{slot_at}
 use Rattle.setup_sheets.proofs.look_ups.slots_in.Given as goal
 

@@ -1,9 +1,7 @@
-use Rattle.std.proofs.Common.{◌≡◌, Some, None, Ok, [], ◌∷◌, ◌++◌, take, drop, ◌+◌, sym, ap, ◌∙◌, append-nil, arith}
-use Rattle.std.proofs.lemmas.Grind.{flat_map-append}
-use Rattle.desk_types.specs.declared.sheet.SheetRow.{SheetRow}
-use Rattle.desk_types.specs.Refusals.{name_twice, designators_of_rows}
-use Rattle.desk_types.proofs.LoopSteps.{take-next, drop-next}
-use Rattle.setup_sheets.proofs.SeenNames.{name_twice-append_some, name_twice-append_none}
+use Rattle.desk_types.proofs.Common.{[], ◌++◌, ◌+◌, ◌∙◌, ◌∷◌, ◌≡◌, ap, append-nil, arith, drop, drop-next}
+use Rattle.desk_types.proofs.Common.{flat_map-append, name_twice, None, Ok, SheetRow, Some, sym, take, take-next}
+use Rattle.desk_types.specs.Refusals.{designators_of_rows}
+use Rattle.setup_sheets.proofs.SeenNames.{name_twice-append_none, name_twice-append_some}
 use Rattle.setup_sheets.proofs.sheet.designator_twice.Goals as goal
 
 pub returns-in-Some : goal.returns-in-Some

@@ -1,5 +1,5 @@
-use Rattle.std.proofs.Common.{◌≡◌, [], take, drop}
-use Rattle.desk_types.specs.Refusals.{name_twice, designators_of_rows}
+use Rattle.desk_types.proofs.Common.{[], ◌≡◌, drop, name_twice, take}
+use Rattle.desk_types.specs.Refusals.{designators_of_rows}
 use Rattle.setup_sheets.specs.Names.{HasSeen}
 use Rattle.setup_sheets.proofs.sheet.designator_twice.Given as goal
 

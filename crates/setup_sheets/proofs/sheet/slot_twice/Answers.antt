@@ -1,8 +1,5 @@
-use Rattle.std.proofs.Common.{◌≡◌, [], ◌∷◌, ◌++◌, take, drop, ◌+◌, sym, ap, ◌∙◌, arith}
-use Rattle.std.proofs.lemmas.List.{map-append}
-use Rattle.desk_types.specs.declared.sheet.SheetRow.{SheetRow}
-use Rattle.desk_types.specs.Refusals.{name_twice, slots_of_rows}
-use Rattle.desk_types.proofs.LoopSteps.{take-next, drop-next}
+use Rattle.desk_types.proofs.Common.{[], ◌++◌, ◌+◌, ◌∙◌, ◌∷◌, ◌≡◌, ap, arith, drop, drop-next, map-append, name_twice}
+use Rattle.desk_types.proofs.Common.{SheetRow, slots_of_rows, sym, take, take-next}
 use Rattle.setup_sheets.proofs.SeenNames.{HasSeen-push, name_twice-new, was-new}
 use Rattle.setup_sheets.proofs.sheet.slot_twice.Goals as goal
 

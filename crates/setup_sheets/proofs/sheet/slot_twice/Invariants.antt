@@ -1,5 +1,4 @@
-use Rattle.std.proofs.Common.{◌≡◌, [], take, drop}
-use Rattle.desk_types.specs.Refusals.{name_twice, slots_of_rows}
+use Rattle.desk_types.proofs.Common.{[], ◌≡◌, drop, name_twice, slots_of_rows, take}
 use Rattle.setup_sheets.specs.Names.{HasSeen}
 use Rattle.setup_sheets.proofs.sheet.slot_twice.Given as goal
 

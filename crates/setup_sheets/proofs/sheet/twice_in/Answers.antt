@@ -1,7 +1,5 @@
-use Rattle.std.proofs.Common.{◌≡◌, [], ◌∷◌, ◌++◌, take, drop, ◌+◌, sym, ap, ◌∙◌, append_assoc, arith}
-use Rattle.std.proofs.lemmas.List.{take_all}
-use Rattle.desk_types.specs.Refusals.{name_twice}
-use Rattle.desk_types.proofs.LoopSteps.{take-next, drop-next}
+use Rattle.desk_types.proofs.Common.{[], ◌++◌, ◌+◌, ◌∙◌, ◌∷◌, ◌≡◌, ap, append_assoc, arith, drop, drop-next}
+use Rattle.desk_types.proofs.Common.{name_twice, sym, take, take-next, take_all}
 use Rattle.setup_sheets.proofs.SeenNames.{HasSeen-push, name_twice-new, name_twice-seen, was-new, was-seen}
 use Rattle.setup_sheets.proofs.sheet.twice_in.Goals as goal
 

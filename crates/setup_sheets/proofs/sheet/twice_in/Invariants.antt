@@ -1,6 +1,4 @@
-use Rattle.std.proofs.Common.{◌≡◌, List, ◌++◌, take, drop}
-use Rattle.desk_types.specs.Id.{Name}
-use Rattle.desk_types.specs.Refusals.{name_twice}
+use Rattle.desk_types.proofs.Common.{◌++◌, ◌≡◌, drop, List, Name, name_twice, take}
 use Rattle.setup_sheets.specs.Names.{HasSeen}
 use Rattle.setup_sheets.proofs.sheet.twice_in.Given as goal
 

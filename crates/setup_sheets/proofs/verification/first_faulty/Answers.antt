@@ -1,10 +1,6 @@
-use Rattle.std.proofs.Common.{◌≡◌, ℕ, ◌+◌, Some, List, ◌∷◌, length, drop, sym, ap, ◌∙◌, arith}
-use Rattle.std.proofs.lemmas.List.{length-map}
-use Rattle.desk_types.specs.declared.answer.Refusal.{Refusal}
+use Rattle.desk_types.proofs.Common.{◌+◌, ◌∙◌, ◌∷◌, ◌≡◌, ap, arith, drop, drop-next, length, length-map, List, Name}
+use Rattle.desk_types.proofs.Common.{Refusal, SheetRow, Some, sym, ℕ}
 use Rattle.desk_types.specs.declared.front.Front.{Front}
-use Rattle.desk_types.specs.declared.sheet.SheetRow.{SheetRow}
-use Rattle.desk_types.specs.Id.{Name}
-use Rattle.desk_types.proofs.LoopSteps.{drop-next}
 use Rattle.setup_sheets.specs.Verification.{first_fault, front_fault}
 use Rattle.setup_sheets.proofs.verification.first_faulty.Goals as goal
 

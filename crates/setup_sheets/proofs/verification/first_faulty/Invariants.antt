@@ -1,4 +1,4 @@
-use Rattle.std.proofs.Common.{◌≡◌, drop}
+use Rattle.desk_types.proofs.Common.{◌≡◌, drop}
 use Rattle.setup_sheets.specs.Verification.{first_fault}
 use Rattle.setup_sheets.proofs.verification.first_faulty.Given as goal
 

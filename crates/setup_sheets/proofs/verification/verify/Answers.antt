@@ -1,7 +1,7 @@
-use Rattle.std.proofs.Common.{◌≡◌, None, Some, sym, ap, ◌∙◌}
+use Rattle.desk_types.proofs.Common.{◌∙◌, ◌≡◌, ap, None, Some, sym}
 use Rattle.desk_types.proofs.BothRules.{judged-by-two}
+use Rattle.setup_sheets.proofs.VerifiedStarts.{first-told, refusal_in}
 use Rattle.setup_sheets.specs.Verification.{first_fault}
-use Rattle.setup_sheets.proofs.VerifiedStarts.{refusal_in, first-told}
 use Rattle.setup_sheets.proofs.verification.verify.Goals as goal
 
 pub returns-in-Some-clause-slots_at_fault : goal.returns-in-Some-clause-slots_at_fault

@@ -1,4 +1,4 @@
-use Rattle.std.proofs.Common.{◌∙◌}
+use Rattle.desk_types.proofs.Common.{◌∙◌}
 use Rattle.state_rows.proofs.PushedEdits.{count-next}
 use Rattle.state_rows.proofs.counted.count.Goals as goal
 

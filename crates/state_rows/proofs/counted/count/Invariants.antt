@@ -1,6 +1,4 @@
-use Rattle.std.proofs.Common.{◌≡◌, take}
-use Rattle.std.specs.List.{flat_map}
-use Rattle.desk_types.specs.History.{Basis}
+use Rattle.desk_types.proofs.Common.{◌≡◌, Basis, flat_map, take}
 use Rattle.state_rows.specs.EditsOf.{count_edits}
 use Rattle.state_rows.proofs.counted.count.Given as goal
 

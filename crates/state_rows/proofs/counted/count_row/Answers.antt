@@ -1,4 +1,4 @@
-use Rattle.std.proofs.Common.{sym, ◌∙◌, arith}
+use Rattle.desk_types.proofs.Common.{◌∙◌, arith, sym}
 use Rattle.state_rows.proofs.SumsInRange.{count-fits}
 use Rattle.state_rows.proofs.counted.count_row.Goals as goal
 

@@ -1,9 +1,6 @@
-use Rattle.std.proofs.Common.{rules, ◌≡◌, Option, List, [], ◌∷◌, ◌++◌, unwrap_or, cond, ap, ◌∙◌}
-use Rattle.std.specs.BTreeMap.{BTreeMap}
-use Rattle.desk_types.specs.Id.{Name, same}
-use Rattle.desk_types.proofs.Keys.{name-written}
-use Rattle.state_rows.specs.Lists.{kept_at}
-use Rattle.state_rows.proofs.KeptUnderNames.{one-more}
+use Rattle.desk_types.proofs.Common.{[], ◌++◌, ◌∙◌, ◌∷◌, ◌≡◌, ap, BTreeMap, cond, List, Name, name-written, Option}
+use Rattle.desk_types.proofs.Common.{rules, same, unwrap_or}
+use Rattle.state_rows.{proofs.KeptUnderNames.one-more, specs.Lists.kept_at}
 use Rattle.state_rows.proofs.kept.keep.Goals as goal
 
 pub returns-in_ok-push-in-Some : goal.returns-in_ok-push-in-Some

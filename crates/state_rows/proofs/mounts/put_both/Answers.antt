@@ -1,8 +1,6 @@
-use Rattle.std.proofs.Common.{Some, None}
-use Rattle.desk_types.specs.Id.{by_name, same}
-use Rattle.desk_types.proofs.Keys.{is_at-by_name}
-use Rattle.state_rows.proofs.RowLists.{row-written}
+use Rattle.desk_types.proofs.Common.{by_name, is_at-by_name, None, same, Some}
 use Rattle.state_rows.proofs.MountKeeping.{both-written, step-put, undone}
+use Rattle.state_rows.proofs.RowLists.{row-written}
 use Rattle.state_rows.proofs.mounts.put_both.Goals as goal
 
 pub returns-in-Ok-clause-put : goal.returns-in-Ok-clause-put

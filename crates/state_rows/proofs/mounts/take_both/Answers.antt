@@ -1,9 +1,5 @@
-use Rattle.std.proofs.Common.{None, sym, ◌∙◌, refl}
-use Rattle.desk_types.specs.Id.{by_name}
-use Rattle.desk_types.proofs.Keys.{is_at-by_name}
-use Rattle.desk_types.specs.Id.{same}
-use Rattle.state_rows.proofs.RowLists.{row-written}
-use Rattle.state_rows.proofs.MountKeeping.{both-written, step-taken}
+use Rattle.desk_types.proofs.Common.{◌∙◌, by_name, is_at-by_name, None, refl, same, sym}
+use Rattle.state_rows.proofs.{MountKeeping.both-written, MountKeeping.step-taken, RowLists.row-written}
 use Rattle.state_rows.proofs.mounts.take_both.Goals as goal
 
 pub returns-in-Some-clause-taken : goal.returns-in-Some-clause-taken

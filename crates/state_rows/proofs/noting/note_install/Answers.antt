@@ -1,7 +1,5 @@
-use Rattle.std.proofs.Common.{arith}
-use Rattle.desk_types.specs.Id.{same}
-use Rattle.state_rows.specs.Lists.{HasPieces}
-use Rattle.state_rows.proofs.KeptUnderNames.{all-kept}
+use Rattle.desk_types.proofs.Common.{arith, same}
+use Rattle.state_rows.{proofs.KeptUnderNames.all-kept, specs.Lists.HasPieces}
 use Rattle.state_rows.proofs.noting.note_install.Goals as goal
 
 pub returns-in_ok-keep-clause-pieces : goal.returns-in_ok-keep-clause-pieces

@@ -1,7 +1,5 @@
-use Rattle.std.proofs.Common.{◌≡◌, ℕ, ◌+◌, ◌++◌, map, drop}
-use Rattle.desk_types.specs.Id.{Name, same}
-use Rattle.state_rows.specs.Lists.{kept_at, key_of}
-use Rattle.state_rows.specs.Noting.{keys_in}
+use Rattle.desk_types.proofs.Common.{◌++◌, ◌+◌, ◌≡◌, drop, map, Name, same, ℕ}
+use Rattle.state_rows.specs.{Lists.kept_at, Lists.key_of, Noting.keys_in}
 use Rattle.state_rows.proofs.noting.note_pieces.Given as goal
 
 abbrev pub invariant-loop-i : goal.invariant-loop-i

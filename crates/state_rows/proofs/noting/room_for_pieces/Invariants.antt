@@ -1,5 +1,4 @@
-use Rattle.std.proofs.Common.{◌≡◌}
-use Rattle.desk_types.specs.Id.{Name}
+use Rattle.desk_types.proofs.Common.{◌≡◌, Name}
 use Rattle.state_rows.specs.Lists.{kept_at}
 use Rattle.state_rows.proofs.noting.room_for_pieces.Given as goal
 

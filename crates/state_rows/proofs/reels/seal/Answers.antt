@@ -1,9 +1,5 @@
-use Rattle.std.proofs.Common.{◌≡◌, Some, ◌++◌, ◌∷◌, [], sym, ap, ◌∙◌, arith}
-use Rattle.desk_types.specs.declared.edit.RowEdit.TheVariants.{PutReel}
-use Rattle.desk_types.specs.Tables.{reel_row}
-use Rattle.desk_types.specs.Row.{sealed_row}
-use Rattle.state_rows.specs.EditsOf.{reel_edit}
-use Rattle.state_rows.proofs.SumsInRange.{kept-fits}
+use Rattle.desk_types.proofs.Common.{[], ◌++◌, ◌∙◌, ◌∷◌, ◌≡◌, ap, arith, PutReel, reel_row, sealed_row, Some, sym}
+use Rattle.state_rows.{proofs.SumsInRange.kept-fits, specs.EditsOf.reel_edit}
 use Rattle.state_rows.proofs.reels.seal.Goals as goal
 
 pub returns-in_ok-push-in-Some : goal.returns-in_ok-push-in-Some

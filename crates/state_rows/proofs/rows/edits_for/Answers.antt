@@ -1,12 +1,9 @@
-use Rattle.std.proofs.Common.{◌∙◌, sym, ap, subst, map}
-use Rattle.desk_types.specs.Number.{IsMinute}
-use Rattle.desk_types.specs.History.{Basis}
+use Rattle.desk_types.proofs.Common.{◌∙◌, ap, AreBalanced, AreTakesFirst, Basis, IsMinute, map, subst, sym, tables_of}
+use Rattle.desk_types.proofs.Common.{with_edits}
 use Rattle.desk_types.proofs.BothRules.{judged-by-two}
-use Rattle.desk_types.specs.Tables.{tables_of}
-use Rattle.desk_types.specs.Edits.{with_edits, AreNew, AreTakesFirst, AreBalanced}
-use Rattle.state_rows.specs.Kept.{unnumbered}
-use Rattle.state_rows.specs.EditsOf.{pick_of, AreEditsOf, ArePiecesFitting}
-use Rattle.state_rows.proofs.RowsLess.{change-fits, rows-lead, rows-same, rows-new, rows-fit}
+use Rattle.desk_types.specs.Edits.{AreNew}
+use Rattle.state_rows.proofs.RowsLess.{change-fits, rows-fit, rows-lead, rows-new, rows-same}
+use Rattle.state_rows.specs.{EditsOf.AreEditsOf, EditsOf.ArePiecesFitting, EditsOf.pick_of, Kept.unnumbered}
 use Rattle.state_rows.proofs.rows.edits_for.Goals as goal
 
 pub edits_of-requires-clause-judged : goal.edits_of-requires-clause-judged

@@ -1,5 +1,4 @@
-use Rattle.std.proofs.Common.{◌≡◌, ◌∷◌, [], sym, subst, IfOk}
-use Rattle.desk_types.specs.declared.edit.RowEdit.TheVariants.{PutReel}
+use Rattle.desk_types.proofs.Common.{[], ◌∷◌, ◌≡◌, IfOk, PutReel, subst, sym}
 use Rattle.state_rows.specs.EditsOf.{AreEditsOf}
 use Rattle.state_rows.proofs.rows.edits_of.Goals as goal
 

@@ -1,6 +1,4 @@
-use Rattle.std.proofs.Common.{◌∙◌, ap, ◌++◌, ◌∷◌, [], ◌+◌, ◌≡◌, rules}
-use Rattle.desk_types.specs.declared.sheet.SheetRow.{SheetRow}
-use Rattle.desk_types.specs.declared.edit.RowEdit.TheVariants.{PutSheetRow}
+use Rattle.desk_types.proofs.Common.{[], ◌++◌, ◌+◌, ◌∙◌, ◌∷◌, ◌≡◌, ap, PutSheetRow, rules, SheetRow}
 use Rattle.state_rows.proofs.PushedEdits.{put-next}
 use Rattle.state_rows.proofs.sheets.put_new.Goals as goal
 

@@ -1,6 +1,4 @@
-use Rattle.std.proofs.Common.{◌∙◌, ap, ◌++◌, map}
-use Rattle.std.specs.Option.{option_to_list}
-use Rattle.desk_types.specs.declared.edit.RowEdit.TheVariants.{TakeMount}
+use Rattle.desk_types.proofs.Common.{◌++◌, ◌∙◌, ap, map, option_to_list, TakeMount}
 use Rattle.state_rows.proofs.PushedEdits.{mount-next}
 use Rattle.state_rows.proofs.slot_rows.take_mounts.Goals as goal
 

@@ -1,7 +1,6 @@
-use Rattle.std.proofs.Common.{◌≡◌, ◌++◌, take, map}
-use Rattle.std.specs.List.{filter_map}
-use Rattle.desk_types.specs.declared.edit.RowEdit.TheVariants.{TakeMount}
+use Rattle.desk_types.proofs.Common.{◌++◌, ◌≡◌, map, take, TakeMount}
 use Rattle.state_rows.specs.EditsOf.{reel_on_slot}
+use Rattle.std.specs.List.{filter_map}
 use Rattle.state_rows.proofs.slot_rows.take_mounts.Given as goal
 
 abbrev pub invariant-loop-mount : goal.invariant-loop-mount

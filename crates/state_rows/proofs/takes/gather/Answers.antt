@@ -1,6 +1,5 @@
-use Rattle.std.specs.BTreeMap.{get}
-use Rattle.desk_types.specs.Id.{by_name}
-use Rattle.state_rows.proofs.RowsLess.{next-fits, gather-next}
+use Rattle.desk_types.proofs.Common.{by_name, get}
+use Rattle.state_rows.proofs.RowsLess.{gather-next, next-fits}
 use Rattle.state_rows.proofs.takes.gather.Goals as goal
 
 pub note-requires : goal.note-requires

@@ -1,8 +1,4 @@
-use Rattle.std.proofs.Common.{◌≡◌, map, take}
-use Rattle.std.specs.BTreeMap.{get}
-use Rattle.desk_types.specs.Id.{Name, by_name}
-use Rattle.desk_types.specs.History.{Basis}
-use Rattle.desk_types.specs.Tables.{reel_row}
+use Rattle.desk_types.proofs.Common.{◌≡◌, Basis, by_name, get, map, Name, reel_row, take}
 use Rattle.state_rows.specs.EditsOf.{pick_of, picked_rows}
 use Rattle.state_rows.proofs.takes.gather.Given as goal
 

@@ -1,11 +1,6 @@
-use Rattle.std.proofs.Common.{◌≡◌, Some, None, cond, sym, ap, ◌∙◌, rules}
-use Rattle.std.specs.BTreeMap.{get}
-use Rattle.std.specs.Option.{option_or}
-use Rattle.desk_types.specs.Id.{by_name, same}
-use Rattle.desk_types.proofs.Keys.{name-written}
-use Rattle.desk_types.specs.Tables.{reel_row}
-use Rattle.state_rows.specs.EditsOf.{pick_of}
-use Rattle.state_rows.proofs.RowsLess.{noted}
+use Rattle.desk_types.proofs.Common.{◌∙◌, ◌≡◌, ap, by_name, cond, get, name-written, None, option_or, reel_row, rules}
+use Rattle.desk_types.proofs.Common.{same, Some, sym}
+use Rattle.state_rows.{proofs.RowsLess.noted, specs.EditsOf.pick_of}
 use Rattle.state_rows.proofs.takes.note.Goals as goal
 
 pub returns-in-Some : goal.returns-in-Some

@@ -1,4 +1,4 @@
-use Rattle.std.proofs.Common.{◌∙◌}
+use Rattle.desk_types.proofs.Common.{◌∙◌}
 use Rattle.state_rows.proofs.RowsLess.{place-next}
 use Rattle.state_rows.proofs.takes.place_all.Goals as goal
 

@@ -1,4 +1,4 @@
-use Rattle.std.proofs.Common.{◌≡◌, ◌++◌, take}
+use Rattle.desk_types.proofs.Common.{◌++◌, ◌≡◌, take}
 use Rattle.state_rows.specs.EditsOf.{place_rows}
 use Rattle.state_rows.proofs.takes.place_all.Given as goal
 

@@ -1,6 +1,4 @@
-use Rattle.std.proofs.Common.{◌≡◌, ◌++◌, map}
-use Rattle.std.specs.BTreeMap.{values}
-use Rattle.desk_types.specs.declared.edit.RowEdit.TheVariants.{PutReel}
+use Rattle.desk_types.proofs.Common.{◌++◌, ◌≡◌, map, PutReel, values}
 use Rattle.state_rows.proofs.takes.put_all.Given as goal
 
 abbrev pub invariant-loop-row : goal.invariant-loop-row

@@ -1,9 +1,5 @@
-use Rattle.std.proofs.Common.{◌++◌, map, ap, ◌∙◌}
-use Rattle.std.specs.List.{flat_map}
-use Rattle.std.specs.BTreeMap.{values}
-use Rattle.desk_types.specs.declared.edit.RowEdit.TheVariants.{PutReel}
-use Rattle.state_rows.specs.EditsOf.{take_spent, place_rows}
-use Rattle.state_rows.proofs.RowsLess.{taken-all}
+use Rattle.desk_types.proofs.Common.{◌++◌, ◌∙◌, ap, flat_map, map, PutReel, values}
+use Rattle.state_rows.{proofs.RowsLess.taken-all, specs.EditsOf.place_rows, specs.EditsOf.take_spent}
 use Rattle.state_rows.proofs.takes.take.Goals as goal
 
 pub returns : goal.returns

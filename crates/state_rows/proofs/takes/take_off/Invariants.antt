@@ -1,6 +1,4 @@
-use Rattle.std.proofs.Common.{◌≡◌, ◌++◌}
-use Rattle.std.specs.List.{flat_map}
-use Rattle.std.specs.BTreeMap.{values}
+use Rattle.desk_types.proofs.Common.{◌++◌, ◌≡◌, flat_map, values}
 use Rattle.state_rows.specs.EditsOf.{take_spent}
 use Rattle.state_rows.proofs.takes.take_off.Given as goal
 

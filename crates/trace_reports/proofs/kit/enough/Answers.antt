@@ -1,13 +1,11 @@
-use Rattle.std.proofs.Common.{◌≡◌, ◌+◌, ◌++◌, Bool, true, false, drop, sym, ap, ◌∙◌, arith}
-use Rattle.std.specs.Prelude.{not}
-use Rattle.std.specs.List.{filter}
-use Rattle.std.proofs.lemmas.List.{drop_all}
-use Rattle.desk_types.specs.declared.view.ReelView.{ReelView}
+use Rattle.desk_types.proofs.Common.{◌++◌, ◌+◌, ◌∙◌, ◌≡◌, ap, arith, Bool, drop, drop_all, false, not, ReelView, sym}
+use Rattle.desk_types.proofs.Common.{true}
 use Rattle.setup_sheets.specs.Names.{is_among}
+use Rattle.std.specs.List.{filter}
+use Rattle.trace_reports.proofs.Prefixes.{end-of_reels, end-reached, step-chosen, step-past}
+use Rattle.trace_reports.proofs.kit.enough.Goals.{else-not-contains, then-not-contains+in_ok-push}
 use Rattle.trace_reports.specs.Kit.{enough}
-use Rattle.trace_reports.proofs.Prefixes.{step-chosen, step-past, end-reached, end-of_reels}
 use Rattle.trace_reports.proofs.kit.enough.Goals as goal
-use Rattle.trace_reports.proofs.kit.enough.Goals.{then-not-contains+in_ok-push, else-not-contains}
 
 pub returns-then-missing-eq0 : goal.returns-then-missing-eq0
 returns-then-missing-eq0 c = λ names has.

@@ -1,9 +1,6 @@
-use Rattle.std.proofs.Common.{◌≡◌, ◌++◌, List, drop}
-use Rattle.std.specs.Prelude.{not}
+use Rattle.desk_types.proofs.Common.{◌++◌, ◌≡◌, drop, List, Name, not, ReelView}
+use Rattle.setup_sheets.specs.Names.{HasSeen, is_among}
 use Rattle.std.specs.List.{filter}
-use Rattle.desk_types.specs.declared.view.ReelView.{ReelView}
-use Rattle.desk_types.specs.Id.{Name}
-use Rattle.setup_sheets.specs.Names.{is_among, HasSeen}
 use Rattle.trace_reports.specs.Kit.{enough}
 use Rattle.trace_reports.proofs.kit.enough.Given as goal
 

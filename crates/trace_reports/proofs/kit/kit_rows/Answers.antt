@@ -1,13 +1,8 @@
-use Rattle.std.proofs.Common.{◌≡◌, ◌++◌, List, map, ap, ◌∙◌, arith}
-use Rattle.std.specs.Prelude.{not}
-use Rattle.std.specs.List.{filter}
-use Rattle.std.proofs.lemmas.List.{drop_all}
-use Rattle.desk_types.specs.declared.view.ReelView.{ReelView}
-use Rattle.desk_types.specs.Id.{Name}
-use Rattle.desk_types.specs.Free.{free_reels}
+use Rattle.desk_types.proofs.Common.{◌++◌, ◌∙◌, ◌≡◌, ap, arith, drop_all, free_reels, List, map, Name, not, ReelView}
 use Rattle.setup_sheets.specs.Names.{is_among}
-use Rattle.trace_reports.specs.Kit.{needed_by, enough, reels_for}
-use Rattle.trace_reports.proofs.KitRows.{kit-next, kit-end}
+use Rattle.std.specs.List.{filter}
+use Rattle.trace_reports.proofs.KitRows.{kit-end, kit-next}
+use Rattle.trace_reports.specs.Kit.{enough, needed_by, reels_for}
 use Rattle.trace_reports.proofs.kit.kit_rows.Goals as goal
 
 pub loop-row-preserved : goal.loop-row-preserved

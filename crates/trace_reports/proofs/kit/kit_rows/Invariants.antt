@@ -1,6 +1,4 @@
-use Rattle.std.proofs.Common.{◌≡◌, ◌++◌, List, [], drop}
-use Rattle.desk_types.specs.Id.{Name}
-use Rattle.desk_types.specs.History.{Basis}
+use Rattle.desk_types.proofs.Common.{[], ◌++◌, ◌≡◌, Basis, drop, List, Name}
 use Rattle.setup_sheets.specs.Names.{HasSeen}
 use Rattle.trace_reports.specs.Kit.{kit_rows}
 use Rattle.trace_reports.proofs.kit.kit_rows.Given as goal

@@ -1,9 +1,6 @@
-use Rattle.std.proofs.Common.{◌++◌, ◌∷◌, [], map, take, sym, ap, subst, ◌∙◌, append_assoc, arith}
-use Rattle.desk_types.specs.declared.view.ReelView.{ReelView}
-use Rattle.setup_sheets.specs.Names.{HasSeen}
-use Rattle.setup_sheets.proofs.SeenNames.{HasSeen-push}
-use Rattle.trace_reports.specs.Kit.{reel_row}
-use Rattle.trace_reports.proofs.KitRows.{read-next, pieces-next}
+use Rattle.desk_types.proofs.Common.{[], ◌++◌, ◌∙◌, ◌∷◌, ap, append_assoc, arith, map, ReelView, subst, sym, take}
+use Rattle.setup_sheets.{proofs.SeenNames.HasSeen-push, specs.Names.HasSeen}
+use Rattle.trace_reports.{proofs.KitRows.pieces-next, proofs.KitRows.read-next, specs.Kit.reel_row}
 use Rattle.trace_reports.proofs.kit.put_rows.Goals as goal
 
 pub loop-reel-preserved : goal.loop-reel-preserved

@@ -1,6 +1,4 @@
-use Rattle.std.proofs.Common.{◌≡◌, ◌-◌, ◌++◌, List, map, take}
-use Rattle.desk_types.specs.declared.view.ReelView.{ReelView}
-use Rattle.desk_types.specs.Id.{Name}
+use Rattle.desk_types.proofs.Common.{◌++◌, ◌-◌, ◌≡◌, List, map, Name, ReelView, take}
 use Rattle.setup_sheets.specs.Names.{HasSeen}
 use Rattle.trace_reports.specs.Kit.{pieces_of_reels, reel_row}
 use Rattle.trace_reports.proofs.kit.put_rows.Given as goal

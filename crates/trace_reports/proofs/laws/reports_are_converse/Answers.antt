@@ -1,15 +1,13 @@
-use Rattle.std.proofs.Common.{◌≡◌, ◌↔◌, ℕ, Some, List, sym, subst₂, ◌∷◌, [], Contains}
-use Rattle.csv.specs.Reading.{records, default_config}
-use Rattle.desk_types.specs.Id.{Name}
-use Rattle.desk_types.specs.History.{History}
-use Rattle.desk_types.specs.Placements.{placements_of}
-use Rattle.line_traces.specs.Pieces as traced
-use Rattle.desk_types.specs.declared.placement.Placement.{Placement}
+use Rattle.desk_types.proofs.Common.{[], ◌↔◌, ◌∷◌, ◌≡◌, Contains, History, List, Name, Placement, placements_of, Some}
+use Rattle.desk_types.proofs.Common.{subst₂, sym, ℕ}
+use Rattle.csv.specs.Reading.{default_config, records}
 use Rattle.desk_types.specs.declared.trace_detail.TraceDetail.{TraceDetail}
-use Rattle.desk_types.specs.declared.trace_detail.TraceDetail.TheVariants.{One, Two, Three}
-use Rattle.trace_reports.specs.Traces.{project, board_columns, lot_columns, board_header, lot_header, board_text, lot_text, board_rows, lot_rows, pieces_on, pieces_of_lot}
-use Rattle.trace_reports.specs.Reports.{board_trace, lot_trace, rows_below}
+use Rattle.desk_types.specs.declared.trace_detail.TraceDetail.TheVariants.{One, Three, Two}
 use Rattle.trace_reports.proofs.ReportedPieces.{found-rows}
+use Rattle.trace_reports.specs.Reports.{board_trace, lot_trace, rows_below}
+use Rattle.trace_reports.specs.Traces.{board_columns, board_header, board_rows, board_text, lot_columns, lot_header}
+use Rattle.trace_reports.specs.Traces.{lot_rows, lot_text, pieces_of_lot, pieces_on, project}
+use Rattle.line_traces.specs.Pieces as traced
 use Rattle.trace_reports.proofs.laws.reports_are_converse.Goals as goal
 
 -- The records read from a board's trace, if its texts can be read back.

@@ -1,10 +1,7 @@
-use Rattle.std.proofs.Common.{◌≡◌, ◌+◌, ◌-◌, ◌∙◌, ◌∷◌, List, drop, map, sym, ap, ap₂, arith}
-use Rattle.std.specs.BTreeSet.{insert_key}
-use Rattle.desk_types.specs.declared.placement.Placement.{Placement}
-use Rattle.desk_types.proofs.LoopSteps.{drop-next}
-use Rattle.trace_reports.specs.Sets.{by_fields, set_of, bytes_of}
-use Rattle.trace_reports.specs.Traces.{project, lot_columns, of_lot}
-use Rattle.trace_reports.proofs.BorrowedSets.{put-same}
+use Rattle.desk_types.proofs.Common.{◌+◌, ◌-◌, ◌∙◌, ◌∷◌, ◌≡◌, ap, ap₂, arith, drop, drop-next, insert_key, List, map}
+use Rattle.desk_types.proofs.Common.{Placement, sym}
+use Rattle.trace_reports.{proofs.BorrowedSets.put-same, specs.Sets.by_fields, specs.Sets.bytes_of, specs.Sets.set_of}
+use Rattle.trace_reports.{specs.Traces.lot_columns, specs.Traces.of_lot, specs.Traces.project}
 use Rattle.trace_reports.proofs.records.lot_rows.Goals as goal
 
 pub loop-i-preserved : goal.loop-i-preserved

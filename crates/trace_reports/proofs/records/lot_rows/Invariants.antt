@@ -1,6 +1,5 @@
-use Rattle.std.proofs.Common.{◌≡◌, drop, map}
-use Rattle.trace_reports.specs.Traces.{project, lot_columns, of_lot}
-use Rattle.trace_reports.specs.Sets.{set_of, bytes_of}
+use Rattle.desk_types.proofs.Common.{◌≡◌, drop, map}
+use Rattle.trace_reports.specs.{Sets.bytes_of, Sets.set_of, Traces.lot_columns, Traces.of_lot, Traces.project}
 use Rattle.trace_reports.proofs.records.lot_rows.Given as goal
 
 -- The set has the rows of the pieces from here on.

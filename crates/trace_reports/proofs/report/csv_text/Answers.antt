@@ -1,6 +1,5 @@
-use Rattle.std.proofs.Common.{map, take, sym, subst}
-use Rattle.trace_reports.specs.Csv.{csv_text, HasWritten}
-use Rattle.trace_reports.proofs.NextRecord.{text-next}
+use Rattle.desk_types.proofs.Common.{map, subst, sym, take}
+use Rattle.trace_reports.{proofs.NextRecord.text-next, specs.Csv.csv_text, specs.Csv.HasWritten}
 use Rattle.trace_reports.proofs.report.csv_text.Goals as goal
 
 pub loop-row-preserved : goal.loop-row-preserved

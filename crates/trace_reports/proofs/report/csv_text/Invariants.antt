@@ -1,4 +1,4 @@
-use Rattle.std.proofs.Common.{map, take}
+use Rattle.desk_types.proofs.Common.{map, take}
 use Rattle.trace_reports.specs.Csv.{csv_text, HasWritten}
 use Rattle.trace_reports.proofs.report.csv_text.Given as goal
 

@@ -1,6 +1,6 @@
-use Rattle.std.proofs.Common.{◌≡◌, ◌∙◌, ◌++◌, ◌∷◌, List, ℕ, map, flat_map, sym, ap, append_assoc}
-use Rattle.trace_reports.specs.Csv.{record_text}
-use Rattle.trace_reports.specs.Sets.{bytes_of}
+use Rattle.desk_types.proofs.Common.{◌++◌, ◌∙◌, ◌∷◌, ◌≡◌, ap, append_assoc, List, map, sym, ℕ}
+use Rattle.std.proofs.Common.{flat_map}
+use Rattle.trace_reports.specs.{Csv.record_text, Sets.bytes_of}
 use Rattle.trace_reports.proofs.trace_texts.text_of_set.Goals as goal
 
 pub loop-row-preserved : goal.loop-row-preserved

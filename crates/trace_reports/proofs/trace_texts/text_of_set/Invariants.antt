@@ -1,7 +1,5 @@
-use Rattle.std.proofs.Common.{◌≡◌, ◌++◌, List, ℕ, map}
-use Rattle.std.specs.List.{flat_map}
-use Rattle.trace_reports.specs.Csv.{record_text, csv_text, HasWritten}
-use Rattle.trace_reports.specs.Sets.{bytes_of}
+use Rattle.desk_types.proofs.Common.{◌++◌, ◌≡◌, flat_map, List, map, ℕ}
+use Rattle.trace_reports.specs.{Csv.csv_text, Csv.HasWritten, Csv.record_text, Sets.bytes_of}
 use Rattle.trace_reports.proofs.trace_texts.text_of_set.Given as goal
 
 -- The written rows, then the remaining ones.

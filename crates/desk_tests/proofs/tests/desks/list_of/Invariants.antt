@@ -1,5 +1,5 @@
-use Rattle.feeder_state.specs.State.{Represents}
 use Rattle.desk_tests.specs.Beside.{AreOfOneList}
+use Rattle.feeder_state.specs.State.{Represents}
 use Rattle.desk_tests.proofs.tests.desks.list_of.Given as goal
 
 -- The desk and the rows belong to the same history.

@@ -1,7 +1,5 @@
-use Rattle.std.proofs.Common.{◌==◌, sym, ◌∙◌}
-use Rattle.std.specs.Cmp.Lexicographic.{pointwise}
-use Rattle.desk_types.proofs.Ascii.{printable-marks}
-use Rattle.desk_types.proofs.EightBytes.{kept-same}
+use Rattle.desk_types.proofs.Common.{◌==◌, ◌∙◌, pointwise, sym}
+use Rattle.desk_types.proofs.{Ascii.printable-marks, EightBytes.kept-same}
 use Rattle.desk_types.proofs.designator.DesignatorPartialEq.eq.Goals as goal
 
 pub returns : goal.returns

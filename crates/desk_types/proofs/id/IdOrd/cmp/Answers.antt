@@ -1,6 +1,4 @@
-use Rattle.std.proofs.Common.{sym, ◌∙◌}
-use Rattle.std.specs.Cmp.Lexicographic.{slice_cmp}
-use Rattle.std.specs.Ordering.{nat_cmp}
+use Rattle.desk_types.proofs.Common.{◌∙◌, nat_cmp, slice_cmp, sym}
 use Rattle.desk_types.proofs.EightBytes.{kept-order}
 use Rattle.desk_types.proofs.id.IdOrd.cmp.Goals as goal
 

@@ -1,5 +1,4 @@
-use Rattle.std.proofs.Common.{◌==◌, sym, ◌∙◌}
-use Rattle.std.specs.Cmp.Lexicographic.{pointwise}
+use Rattle.desk_types.proofs.Common.{◌==◌, ◌∙◌, pointwise, sym}
 use Rattle.desk_types.proofs.EightBytes.{kept-same}
 use Rattle.desk_types.proofs.id.IdPartialEq.eq.Goals as goal
 

@@ -1,4 +1,4 @@
-use Rattle.std.proofs.Common.{sym, ◌∙◌}
+use Rattle.desk_types.proofs.Common.{◌∙◌, sym}
 use Rattle.desk_types.proofs.Tabs.{stored_text-fields_text}
 use Rattle.desk_types.proofs.stored_command.CommandKept.write_text.Goals as goal
 

@@ -1,5 +1,4 @@
-use Rattle.std.proofs.Common.{arith, ap, sym, subst, ◌∙◌, length}
-use Rattle.desk_types.specs.Bounds.{IsListLength}
+use Rattle.desk_types.proofs.Common.{◌∙◌, ap, arith, IsListLength, length, subst, sym}
 use Rattle.desk_types.proofs.Readers.{length_read, list_unread}
 use Rattle.desk_types.proofs.stored_composed.BoundedStored.read.Goals as goal
 

@@ -1,5 +1,6 @@
-use Rattle.std.proofs.Common.{◌≡◌, ◌∷◌, ◌++◌, length, flat_map, take, decimal}
+use Rattle.desk_types.proofs.Common.{◌++◌, ◌∷◌, ◌≡◌, decimal, length, take}
 use Rattle.desk_types.specs.Fields.{after_tabs}
+use Rattle.std.proofs.Common.{flat_map}
 use Rattle.desk_types.proofs.stored_composed.BoundedStored.write.Given as goal
 
 abbrev pub invariant-loop-item : goal.invariant-loop-item

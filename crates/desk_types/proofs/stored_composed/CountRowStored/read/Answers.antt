@@ -1,10 +1,6 @@
-use Rattle.std.proofs.Common.{refl}
-use Rattle.desk_types.specs.Command.{IsCountRow}
-use Rattle.desk_types.specs.Fields.{PairInRange, pair_fields, number_fields}
-use Rattle.desk_types.specs.Id.{IsId}
-use Rattle.desk_types.specs.Number.{IsCountedQuantity}
-use Rattle.desk_types.specs.StoredText.{name_fields, count_fields}
-use Rattle.desk_types.proofs.Readers.{unread_as}
+use Rattle.desk_types.proofs.Common.{count_fields, IsCountedQuantity, IsCountRow, IsId, name_fields, number_fields}
+use Rattle.desk_types.proofs.Common.{refl}
+use Rattle.desk_types.{proofs.Readers.unread_as, specs.Fields.pair_fields, specs.Fields.PairInRange}
 use Rattle.desk_types.proofs.stored_composed.CountRowStored.read.Goals as goal
 
 pub returns-in_err-reel : goal.returns-in_err-reel

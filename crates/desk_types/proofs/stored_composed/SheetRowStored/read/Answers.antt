@@ -1,9 +1,5 @@
-use Rattle.std.proofs.Common.{refl}
-use Rattle.desk_types.specs.Command.{IsSheetRow, IsListOf}
-use Rattle.desk_types.specs.Designator.{IsDesignator}
-use Rattle.desk_types.specs.Fields.{TripleInRange, triple_fields}
-use Rattle.desk_types.specs.Id.{IsId}
-use Rattle.desk_types.specs.StoredText.{name_fields, list_fields, row_fields}
+use Rattle.desk_types.proofs.Common.{IsDesignator, IsId, IsListOf, IsSheetRow, list_fields, name_fields, refl}
+use Rattle.desk_types.proofs.Common.{row_fields, triple_fields, TripleInRange}
 use Rattle.desk_types.proofs.Readers.{unread_as}
 use Rattle.desk_types.proofs.stored_composed.SheetRowStored.read.Goals as goal
 

@@ -1,7 +1,7 @@
-use Rattle.std.proofs.Common.{ℕ, Bor, refl, ◌≡◌, sym, ◌∙◌, Option, Some, None, Bool, true, false, not, IsTrue, List, []}
-use Rattle.std.specs.Option.{option_copied, is_some}
-use Rattle.desk_types.specs.Fields.{fields_left}
-use Rattle.desk_types.proofs.Splitting.{some_field}
+use Rattle.desk_types.proofs.Common.{[], ◌∙◌, ◌≡◌, Bool, Bor, false, IsTrue, List, None, not, Option, refl, Some, sym}
+use Rattle.desk_types.proofs.Common.{true, ℕ}
+use Rattle.desk_types.{proofs.Splitting.some_field, specs.Fields.fields_left}
+use Rattle.std.specs.Option.{is_some, option_copied}
 use Rattle.desk_types.proofs.stored_fields.Fields.is_empty.Goals as goal
 
 none_left : (rest : Option (Bor (List ℕ))) (is : Bool) → is_some rest ≡ not is → (IsTrue is → fields_left (option_copied rest) ≡ []) × (fields_left (option_copied rest) ≡ [] → IsTrue is)

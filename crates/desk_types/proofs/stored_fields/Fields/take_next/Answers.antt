@@ -1,8 +1,6 @@
-use Rattle.std.proofs.Common.{ℕ, ◌+◌, ◌∷◌, take, drop, sym, ap, ◌∙◌, arith}
-use Rattle.std.proofs.lemmas.List.{take_all, length-drop}
+use Rattle.desk_types.proofs.Common.{◌+◌, ◌∙◌, ◌∷◌, ap, arith, drop, fields_in, length-drop, sym, take, take_all, ℕ}
+use Rattle.desk_types.{proofs.Splitting.cut_at, proofs.Splitting.cut_nowhere, specs.Fields.fields_left}
 use Rattle.std.specs.Option.{option_copied}
-use Rattle.desk_types.specs.Fields.{fields_in, fields_left}
-use Rattle.desk_types.proofs.Splitting.{cut_at, cut_nowhere}
 use Rattle.desk_types.proofs.stored_fields.Fields.take_next.Goals as goal
 
 pub returns-in-Some : goal.returns-in-Some

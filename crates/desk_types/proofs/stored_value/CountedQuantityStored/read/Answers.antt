@@ -1,7 +1,5 @@
-use Rattle.std.proofs.Common.{sym, subst, ◌∙◌}
-use Rattle.desk_types.specs.Apart.{numbers_apart, counted_quantities_fit}
-use Rattle.desk_types.specs.Fields.{IsNumber}
-use Rattle.desk_types.specs.Number.{IsCountedQuantity}
+use Rattle.desk_types.proofs.Common.{◌∙◌, IsCountedQuantity, IsNumber, numbers_apart, subst, sym}
+use Rattle.desk_types.specs.Apart.{counted_quantities_fit}
 use Rattle.desk_types.proofs.stored_value.CountedQuantityStored.read.Goals as goal
 
 pub returns-in_default : goal.returns-in_default

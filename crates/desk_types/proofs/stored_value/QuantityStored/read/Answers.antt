@@ -1,7 +1,4 @@
-use Rattle.std.proofs.Common.{sym, subst, ◌∙◌}
-use Rattle.desk_types.specs.Apart.{numbers_apart, quantities_fit}
-use Rattle.desk_types.specs.Fields.{IsNumber}
-use Rattle.desk_types.specs.Number.{IsQuantity}
+use Rattle.desk_types.proofs.Common.{◌∙◌, IsNumber, IsQuantity, numbers_apart, quantities_fit, subst, sym}
 use Rattle.desk_types.proofs.stored_value.QuantityStored.read.Goals as goal
 
 pub returns-in_default : goal.returns-in_default

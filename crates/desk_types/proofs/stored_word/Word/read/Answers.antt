@@ -1,4 +1,4 @@
-use Rattle.std.proofs.Common.{◌∙◌}
+use Rattle.desk_types.proofs.Common.{◌∙◌}
 use Rattle.desk_types.proofs.Words.{word_in-read, word_in-refused}
 use Rattle.desk_types.proofs.stored_word.Word.read.Goals as goal
 

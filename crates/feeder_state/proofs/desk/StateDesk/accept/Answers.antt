@@ -1,6 +1,4 @@
-use Rattle.std.proofs.Common.{ap, ◌∙◌}
-use Rattle.desk_types.specs.Tables.{tables_of}
-use Rattle.desk_types.specs.Edits.{with_edits}
+use Rattle.desk_types.proofs.Common.{◌∙◌, ap, tables_of, with_edits}
 use Rattle.state_rows.specs.Kept.{unnumbered}
 use Rattle.feeder_state.proofs.desk.StateDesk.accept.Goals as goal
 

@@ -1,11 +1,8 @@
-use Rattle.std.proofs.Common.{refl, sym, ap, subst, ◌∙◌}
-use Rattle.desk_types.specs.Number.{IsMinute}
-use Rattle.desk_types.specs.History.{entry_of, accept}
-use Rattle.desk_types.specs.Judged.{IsJudged}
-use Rattle.state_rows.specs.Kept.{unnumbered}
-use Rattle.state_rows.proofs.EditLists.{edits-unnumbered}
-use Rattle.feeder_state.specs.Noted.{IsNoted}
-use Rattle.feeder_state.proofs.AcceptedChanges.{represents-judged, accepted-judged, accepted-noted, accepted-minute, accepted-spends}
+use Rattle.desk_types.proofs.Common.{◌∙◌, accept, ap, entry_of, IsJudged, IsMinute, refl, subst, sym}
+use Rattle.feeder_state.{proofs.AcceptedChanges.accepted-judged, proofs.AcceptedChanges.accepted-minute}
+use Rattle.feeder_state.{proofs.AcceptedChanges.accepted-noted, proofs.AcceptedChanges.accepted-spends}
+use Rattle.feeder_state.{proofs.AcceptedChanges.represents-judged, specs.Noted.IsNoted}
+use Rattle.state_rows.{proofs.EditLists.edits-unnumbered, specs.Kept.unnumbered}
 use Rattle.feeder_state.proofs.desk.StateDesk.apply.Goals as goal
 
 pub note-requires : goal.note-requires

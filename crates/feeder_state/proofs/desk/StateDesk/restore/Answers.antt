@@ -1,9 +1,6 @@
-use Rattle.std.proofs.Common.{refl, sym, ap, subst, ◌∙◌}
-use Rattle.desk_types.specs.declared.rules.Rules.TheVariants.{Two}
-use Rattle.desk_types.specs.History.{basis}
+use Rattle.desk_types.proofs.Common.{◌∙◌, ap, basis, refl, subst, sym, Two}
+use Rattle.feeder_state.{proofs.AcceptedChanges.none-accepted, specs.State.Represents}
 use Rattle.state_rows.specs.Kept.{tables_in, unnumbered}
-use Rattle.feeder_state.specs.State.{Represents}
-use Rattle.feeder_state.proofs.AcceptedChanges.{none-accepted}
 use Rattle.feeder_state.proofs.desk.StateDesk.restore.Goals as goal
 
 pub returns-in_default : goal.returns-in_default

@@ -1,5 +1,5 @@
-use Rattle.std.proofs.Common.{◌∙◌}
-use Rattle.feeder_state.proofs.AcceptedChanges.{state-told, state-alternate}
+use Rattle.desk_types.proofs.Common.{◌∙◌}
+use Rattle.feeder_state.proofs.AcceptedChanges.{state-alternate, state-told}
 use Rattle.feeder_state.proofs.desk.StateDeskDesk.free_reels.Goals as goal
 
 pub returns : goal.returns

@@ -1,4 +1,4 @@
-use Rattle.std.proofs.Common.{◌∙◌}
+use Rattle.desk_types.proofs.Common.{◌∙◌}
 use Rattle.feeder_state.proofs.AcceptedChanges.{state-alternate}
 use Rattle.feeder_state.proofs.desk.StateDeskFacts.alternates.Goals as goal
 

@@ -1,7 +1,7 @@
-use Rattle.std.proofs.Common.{false, sym, ap, ◌∙◌}
-use Rattle.std.specs.Option.{option_map_or, option_copied}
-use Rattle.feeder_state.proofs.AcceptedChanges.{state-two, state-board}
-use Rattle.feeder_state.proofs.RestoredWork.{is_at_work, busy-row}
+use Rattle.desk_types.proofs.Common.{◌∙◌, ap, false, option_map_or, sym}
+use Rattle.feeder_state.proofs.AcceptedChanges.{state-board, state-two}
+use Rattle.feeder_state.proofs.RestoredWork.{busy-row, is_at_work}
+use Rattle.std.specs.Option.{option_copied}
 use Rattle.feeder_state.proofs.desk.StateDeskFacts.is_in_work.Goals as goal
 
 pub returns-in-Some : goal.returns-in-Some

@@ -1,4 +1,4 @@
-use Rattle.std.proofs.Common.{◌∙◌}
+use Rattle.desk_types.proofs.Common.{◌∙◌}
 use Rattle.feeder_state.proofs.AcceptedChanges.{state-mounted}
 use Rattle.feeder_state.proofs.desk.StateDeskFacts.is_mounted.Goals as goal
 

@@ -1,7 +1,6 @@
-use Rattle.std.proofs.Common.{ap, sym, ◌∙◌}
-use Rattle.std.specs.Option.{option_map_or, option_copied}
-use Rattle.desk_types.specs.declared.row.ReelRow.{ReelRow}
+use Rattle.desk_types.proofs.Common.{◌∙◌, ap, option_map_or, ReelRow, sym}
 use Rattle.feeder_state.proofs.AcceptedChanges.{state-left}
+use Rattle.std.specs.Option.{option_copied}
 use Rattle.feeder_state.proofs.desk.StateDeskFacts.left_of.Goals as goal
 
 pub returns-in-Some : goal.returns-in-Some

@@ -1,4 +1,4 @@
-use Rattle.std.proofs.Common.{◌∙◌}
+use Rattle.desk_types.proofs.Common.{◌∙◌}
 use Rattle.feeder_state.proofs.AcceptedChanges.{state-part}
 use Rattle.feeder_state.proofs.desk.StateDeskFacts.parts.Goals as goal
 

@@ -1,8 +1,6 @@
-use Rattle.std.proofs.Common.{Some, sym, ap, ◌∙◌}
-use Rattle.std.specs.Option.{option_and_then, option_copied}
-use Rattle.desk_types.specs.declared.row.BoardRow.{BoardRow}
-use Rattle.feeder_state.proofs.AcceptedChanges.{state-board}
-use Rattle.feeder_state.proofs.RestoredWork.{product-row}
+use Rattle.desk_types.proofs.Common.{◌∙◌, ap, BoardRow, option_and_then, Some, sym}
+use Rattle.feeder_state.proofs.{AcceptedChanges.state-board, RestoredWork.product-row}
+use Rattle.std.specs.Option.{option_copied}
 use Rattle.feeder_state.proofs.desk.StateDeskFacts.product_of.Goals as goal
 
 pub returns-in_err-row : goal.returns-in_err-row

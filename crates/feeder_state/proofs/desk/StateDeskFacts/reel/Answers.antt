@@ -1,8 +1,7 @@
-use Rattle.std.proofs.Common.{None, refl, sym, subst, ◌∙◌}
-use Rattle.judging.specs.Facts.{IsReelOf}
+use Rattle.desk_types.proofs.Common.{◌∙◌, None, refl, subst, sym}
+use Rattle.feeder_state.proofs.{AcceptedChanges.none-accepted, AcceptedChanges.state-told, RowReels.held-reel}
 use Rattle.feeder_state.specs.Rows.{AreRowsAt}
-use Rattle.feeder_state.proofs.AcceptedChanges.{none-accepted, state-told}
-use Rattle.feeder_state.proofs.RowReels.{held-reel}
+use Rattle.judging.specs.Facts.{IsReelOf}
 use Rattle.feeder_state.proofs.desk.StateDeskFacts.reel.Goals as goal
 
 pub returns-in_err-minute : goal.returns-in_err-minute

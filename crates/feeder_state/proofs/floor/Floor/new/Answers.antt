@@ -1,7 +1,4 @@
-use Rattle.std.proofs.Common.{[], unwrap_or, ap, ◌∙◌}
-use Rattle.std.specs.BTreeMap.{is_at}
-use Rattle.std.specs.Map.{lookup}
-use Rattle.desk_types.specs.Pair.{by_pair}
+use Rattle.desk_types.proofs.Common.{[], ◌∙◌, ap, by_pair, is_at, lookup, unwrap_or}
 use Rattle.feeder_state.proofs.FirstFloor.{live_on-none, none-rests}
 use Rattle.feeder_state.proofs.floor.Floor.new.Goals as goal
 

@@ -1,12 +1,6 @@
-use Rattle.std.proofs.Common.{List, sym, ap, ◌∙◌}
-use Rattle.desk_types.specs.Id.{Name}
-use Rattle.desk_types.specs.Pieces.{live_on}
-use Rattle.desk_types.specs.Tape.{tape_after}
-use Rattle.feeder_state.specs.Tape.{tape_at}
-use Rattle.feeder_state.specs.Noted.{may_take}
-use Rattle.feeder_state.specs.Resting.{is_resting, resting_after}
-use Rattle.feeder_state.proofs.AtRest.{rests-next}
-use Rattle.feeder_state.proofs.TapeSteps.{lives-kept}
+use Rattle.desk_types.proofs.Common.{◌∙◌, ap, List, live_on, Name, sym, tape_after}
+use Rattle.feeder_state.proofs.{AtRest.rests-next, TapeSteps.lives-kept}
+use Rattle.feeder_state.specs.{Noted.may_take, Resting.is_resting, Resting.resting_after, Tape.tape_at}
 use Rattle.feeder_state.proofs.floor.Floor.note.Goals as goal
 
 pub note_takes-requires-clause-takes : goal.note_takes-requires-clause-takes

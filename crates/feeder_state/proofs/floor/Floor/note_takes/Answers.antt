@@ -1,13 +1,9 @@
-use Rattle.std.proofs.Common.{rules, not, ◌∷◌, sym, ap, subst, ◌∙◌}
-use Rattle.std.specs.List.{filter, list_any, IsDistinct}
-use Rattle.desk_types.specs.Id.{same}
+use Rattle.desk_types.proofs.Common.{◌∙◌, ◌∷◌, ap, IsDistinct, list_any, not, rules, same, subst, sym}
 use Rattle.desk_laws.proofs.Tapes.{live-distinct}
-use Rattle.feeder_state.specs.Noted.{may_take}
-use Rattle.feeder_state.specs.Rows.{left_at}
-use Rattle.feeder_state.specs.Spending.{is_spent_by}
-use Rattle.feeder_state.proofs.AtRest.{rests-left, rests-taken}
-use Rattle.feeder_state.proofs.RowReels.{row-left}
-use Rattle.feeder_state.proofs.TapeSteps.{lives-taken, lives-stay}
+use Rattle.feeder_state.proofs.{AtRest.rests-left, AtRest.rests-taken, RowReels.row-left, TapeSteps.lives-stay}
+use Rattle.feeder_state.proofs.{TapeSteps.lives-taken}
+use Rattle.feeder_state.specs.{Noted.may_take, Rows.left_at, Spending.is_spent_by}
+use Rattle.std.specs.List.{filter}
 use Rattle.feeder_state.proofs.floor.Floor.note_takes.Goals as goal
 
 pub drop_all_spent-requires : goal.drop_all_spent-requires

@@ -1,8 +1,5 @@
-use Rattle.std.proofs.Common.{rules, ◌≡◌, List, unwrap_or, cond, [], ◌∷◌, ◌++◌, sym, ap, ◌∙◌}
-use Rattle.std.specs.Prelude.{◌&&◌}
-use Rattle.std.specs.BTreeMap.{BTreeMap}
-use Rattle.desk_types.specs.Id.{Name, same}
-use Rattle.desk_types.proofs.Keys.{pair-written, pair-changed}
+use Rattle.desk_types.proofs.Common.{[], ◌&&◌, ◌++◌, ◌∙◌, ◌∷◌, ◌≡◌, ap, BTreeMap, cond, List, Name, pair-changed}
+use Rattle.desk_types.proofs.Common.{pair-written, rules, same, sym, unwrap_or}
 use Rattle.feeder_state.specs.Tape.{tape_at}
 use Rattle.feeder_state.proofs.floor.rows.join.Goals as goal
 

@@ -1,10 +1,6 @@
-use Rattle.std.proofs.Common.{rules, unwrap_or, [], ◌++◌, ap, subst, ◌∙◌}
-use Rattle.std.specs.BTreeMap.{is_at}
-use Rattle.std.specs.Map.{lookup}
-use Rattle.desk_types.specs.Pair.{by_pair}
-use Rattle.state_rows.specs.Kept.{tables_in, ListsMounts}
-use Rattle.desk_types.specs.Tables.{Tables}
-use Rattle.state_rows.proofs.SlotRows.{slot_reels, slot-reels}
+use Rattle.desk_types.proofs.Common.{[], ◌++◌, ◌∙◌, ap, by_pair, is_at, lookup, rules, subst, Tables, unwrap_or}
+use Rattle.state_rows.proofs.SlotRows.{slot-reels, slot_reels}
+use Rattle.state_rows.specs.Kept.{ListsMounts, tables_in}
 use Rattle.feeder_state.proofs.floor.rows.tapes_of.Goals as goal
 
 pub loop-row-init : goal.loop-row-init

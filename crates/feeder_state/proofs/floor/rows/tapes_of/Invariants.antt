@@ -1,10 +1,6 @@
-use Rattle.std.proofs.Common.{◌≡◌, ◌++◌}
-use Rattle.desk_types.specs.Id.{Name}
-use Rattle.desk_types.specs.History.{History}
-use Rattle.desk_types.specs.Pieces.{live_on}
+use Rattle.desk_types.proofs.Common.{◌++◌, ◌≡◌, History, live_on, Name}
+use Rattle.feeder_state.specs.{Restored.AreRowsOf, Tape.tape_at}
 use Rattle.state_rows.proofs.SlotRows.{slot_reels}
-use Rattle.feeder_state.specs.Tape.{tape_at}
-use Rattle.feeder_state.specs.Restored.{AreRowsOf}
 use Rattle.feeder_state.proofs.floor.rows.tapes_of.Given as goal
 
 -- The reels of a slot that are joined, and those that are left to join.

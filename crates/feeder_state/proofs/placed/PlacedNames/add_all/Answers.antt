@@ -1,4 +1,4 @@
-use Rattle.std.proofs.Common.{◌≡◌, ◌++◌, ap, ◌∙◌}
+use Rattle.desk_types.proofs.Common.{◌++◌, ◌∙◌, ◌≡◌, ap}
 use Rattle.feeder_state.proofs.SortedNames.{gathered}
 use Rattle.feeder_state.proofs.placed.PlacedNames.add_all.Goals as goal
 

@@ -1,9 +1,6 @@
-use Rattle.std.proofs.Common.{subst, ap, ◌∙◌}
-use Rattle.std.specs.Prelude.{length}
-use Rattle.std.specs.List.{list_any}
-use Rattle.std.specs.List.Sorted.{IsBinarySearchResult, IsSearchInRange}
-use Rattle.desk_types.specs.Id.{same, by_name}
+use Rattle.desk_types.proofs.Common.{◌∙◌, ap, by_name, length, list_any, same, subst}
 use Rattle.judging.proofs.SortedSearch.{found-or-not}
+use Rattle.std.specs.List.Sorted.{IsBinarySearchResult, IsSearchInRange}
 use Rattle.feeder_state.proofs.placed.PlacedNames.has.Goals as goal
 
 pub returns : goal.returns

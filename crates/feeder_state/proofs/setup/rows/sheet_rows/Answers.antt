@@ -1,9 +1,8 @@
-use Rattle.std.proofs.Common.{rules, ◌≡◌, ◌+◌, [], ◌∷◌, ◌++◌, take, Some, None, unwrap_or, sym, ap, ◌∙◌}
-use Rattle.desk_types.specs.declared.limits.TheConstants.{LONGEST_LIST}
+use Rattle.desk_types.proofs.Common.{[], ◌++◌, ◌+◌, ◌∙◌, ◌∷◌, ◌≡◌, ap, LONGEST_LIST, None, rules, sheet_of, Some, sym}
+use Rattle.desk_types.proofs.Common.{Tables, take, unwrap_or}
+use Rattle.desk_types.specs.Tables.{sheet_row}
+use Rattle.feeder_state.proofs.RestoredSheets.{row-more, rows-all, rows-end, sheet-made}
 use Rattle.std.specs.Option.{option_copied}
-use Rattle.desk_types.specs.Setup.{sheet_of}
-use Rattle.desk_types.specs.Tables.{Tables, sheet_row}
-use Rattle.feeder_state.proofs.RestoredSheets.{row-more, rows-end, rows-all, sheet-made}
 use Rattle.feeder_state.proofs.setup.rows.sheet_rows.Goals as goal
 
 pub loop-index-preserved : goal.loop-index-preserved

@@ -1,6 +1,4 @@
-use Rattle.std.proofs.Common.{◌≡◌, [], take, unwrap_or}
-use Rattle.desk_types.specs.History.{History}
-use Rattle.desk_types.specs.Setup.{sheet_of}
+use Rattle.desk_types.proofs.Common.{[], ◌≡◌, History, sheet_of, take, unwrap_or}
 use Rattle.feeder_state.specs.Restored.{AreRowsOf}
 use Rattle.feeder_state.proofs.setup.rows.sheet_rows.Given as goal
 

@@ -1,14 +1,7 @@
-use Rattle.std.proofs.Common.{rules, sym, ap, subst, ◌∙◌}
-use Rattle.std.specs.Prelude.{◌||◌}
-use Rattle.std.specs.BTreeMap.{is_at}
-use Rattle.std.specs.List.{list_any}
-use Rattle.desk_types.specs.Id.{same, by_name}
-use Rattle.state_rows.specs.Kept.{tables_in, by_sheet_place, Lists}
-use Rattle.desk_types.specs.Tables.{Tables}
+use Rattle.desk_types.proofs.Common.{◌||◌, ◌∙◌, ap, by_name, is_at, list_any, rules, same, subst, sym, Tables}
+use Rattle.feeder_state.proofs.{FilledMaps.set-next, NameSets.put, RestoredSheets.is_for, RestoredSheets.rows-for}
 use Rattle.feeder_state.specs.Setup.{is_sheeted}
-use Rattle.feeder_state.proofs.FilledMaps.{set-next}
-use Rattle.feeder_state.proofs.NameSets.{put}
-use Rattle.feeder_state.proofs.RestoredSheets.{is_for, rows-for}
+use Rattle.state_rows.specs.Kept.{by_sheet_place, Lists, tables_in}
 use Rattle.feeder_state.proofs.setup.rows.sheeted_of.Goals as goal
 
 pub loop-key-init : goal.loop-key-init

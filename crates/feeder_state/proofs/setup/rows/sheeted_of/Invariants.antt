@@ -1,11 +1,5 @@
-use Rattle.std.proofs.Common.{◌≡◌}
-use Rattle.std.specs.Prelude.{◌||◌}
-use Rattle.desk_types.specs.Id.{Name}
-use Rattle.desk_types.specs.History.{History}
-use Rattle.desk_types.specs.View.{has_sheet}
-use Rattle.feeder_state.specs.Restored.{AreRowsOf}
-use Rattle.feeder_state.specs.Setup.{is_sheeted}
-use Rattle.feeder_state.proofs.RestoredSheets.{is_for}
+use Rattle.desk_types.proofs.Common.{◌||◌, ◌≡◌, has_sheet, History, Name}
+use Rattle.feeder_state.{proofs.RestoredSheets.is_for, specs.Restored.AreRowsOf, specs.Setup.is_sheeted}
 use Rattle.feeder_state.proofs.setup.rows.sheeted_of.Given as goal
 
 -- The machines that are in, or are left to be put in.

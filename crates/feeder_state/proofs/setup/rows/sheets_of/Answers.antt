@@ -1,17 +1,8 @@
-use Rattle.std.proofs.Common.{rules, ◌==◌, Some, cond, sym, ap, subst, ◌∙◌}
-use Rattle.std.specs.Prelude.{◌&&◌}
-use Rattle.std.specs.BTreeMap.{is_at}
-use Rattle.std.specs.Map.{lookup}
-use Rattle.std.specs.Option.{option_and_then, option_or}
-use Rattle.desk_types.specs.declared.sheet.SheetRow.{SheetRow}
-use Rattle.desk_types.specs.Id.{same}
-use Rattle.desk_types.specs.Pair.{by_pair}
-use Rattle.desk_types.specs.Setup.{sheet_of}
-use Rattle.desk_types.specs.Tables.{Tables}
-use Rattle.state_rows.specs.Kept.{row_at, tables_in, by_sheet_place, Lists}
-use Rattle.state_rows.proofs.RowLists.{is_at-by_sheet_place}
-use Rattle.feeder_state.specs.Setup.{sheet_at}
-use Rattle.feeder_state.proofs.RestoredSheets.{first-row, sheet-next}
+use Rattle.desk_types.proofs.Common.{◌&&◌, ◌==◌, ◌∙◌, ap, by_pair, cond, is_at, lookup, option_and_then, option_or}
+use Rattle.desk_types.proofs.Common.{rules, same, sheet_of, SheetRow, Some, subst, sym, Tables}
+use Rattle.feeder_state.{proofs.RestoredSheets.first-row, proofs.RestoredSheets.sheet-next, specs.Setup.sheet_at}
+use Rattle.state_rows.{proofs.RowLists.is_at-by_sheet_place, specs.Kept.by_sheet_place, specs.Kept.Lists}
+use Rattle.state_rows.{specs.Kept.row_at, specs.Kept.tables_in}
 use Rattle.feeder_state.proofs.setup.rows.sheets_of.Goals as goal
 
 pub loop-key-init : goal.loop-key-init

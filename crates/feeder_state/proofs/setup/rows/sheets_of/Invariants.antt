@@ -1,12 +1,6 @@
-use Rattle.std.proofs.Common.{◌≡◌}
-use Rattle.std.specs.Option.{option_and_then, option_or}
-use Rattle.desk_types.specs.declared.sheet.SheetRow.{SheetRow}
-use Rattle.desk_types.specs.Id.{Name}
-use Rattle.desk_types.specs.History.{History}
-use Rattle.desk_types.specs.Setup.{sheet_of}
-use Rattle.state_rows.specs.Kept.{row_at, by_sheet_place}
-use Rattle.feeder_state.specs.Restored.{AreRowsOf}
-use Rattle.feeder_state.specs.Setup.{sheet_at}
+use Rattle.desk_types.proofs.Common.{◌≡◌, History, Name, option_and_then, option_or, sheet_of, SheetRow}
+use Rattle.feeder_state.specs.{Restored.AreRowsOf, Setup.sheet_at}
+use Rattle.state_rows.specs.Kept.{by_sheet_place, row_at}
 use Rattle.feeder_state.proofs.setup.rows.sheets_of.Given as goal
 
 -- A sheet is in the map, or its first row is left.

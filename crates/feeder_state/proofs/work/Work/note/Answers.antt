@@ -1,6 +1,4 @@
-use Rattle.std.proofs.Common.{unwrap_or, sym, ap, ◌∙◌}
-use Rattle.std.specs.Prelude.{◌||◌}
-use Rattle.desk_types.specs.Work.{work_by, in_work_on, places, is_placed_on}
+use Rattle.desk_types.proofs.Common.{◌||◌, ◌∙◌, ap, in_work_on, is_placed_on, places, sym, unwrap_or, work_by}
 use Rattle.desk_laws.proofs.BoardsInWork.{work-next}
 use Rattle.feeder_state.proofs.work.Work.note.Goals as goal
 

@@ -1,15 +1,9 @@
-use Rattle.std.proofs.Common.{rules, unwrap_or, [], ◌∷◌, ◌++◌, cond, sym, ap, subst, ◌∙◌}
-use Rattle.std.specs.Prelude.{◌&&◌, ◌||◌}
-use Rattle.std.specs.BTreeMap.{is_at}
-use Rattle.std.specs.List.{list_any}
-use Rattle.std.specs.Map.{lookup}
-use Rattle.desk_types.specs.Id.{same, by_name}
-use Rattle.desk_types.proofs.Keys.{is_at-by_name, same-sym, same-true}
-use Rattle.state_rows.specs.Kept.{tables_in, by_piece, Lists}
-use Rattle.desk_types.specs.Tables.{Tables}
+use Rattle.desk_types.proofs.Common.{[], ◌&&◌, ◌++◌, ◌||◌, ◌∙◌, ◌∷◌, ap, by_name, cond, is_at, is_at-by_name}
+use Rattle.desk_types.proofs.Common.{list_any, lookup, rules, same, same-sym, same-true, subst, sym, Tables}
+use Rattle.desk_types.proofs.Common.{unwrap_or}
+use Rattle.feeder_state.proofs.{GroupedThings.grouped-name, PlacedDesignators.is_spot, PlacedDesignators.rows-placed}
 use Rattle.feeder_state.specs.Restored.{group_at}
-use Rattle.feeder_state.proofs.GroupedThings.{grouped-name}
-use Rattle.feeder_state.proofs.PlacedDesignators.{is_spot, rows-placed}
+use Rattle.state_rows.specs.Kept.{by_piece, Lists, tables_in}
 use Rattle.feeder_state.proofs.work.rows.designators_of.Goals as goal
 
 pub loop-row-init : goal.loop-row-init

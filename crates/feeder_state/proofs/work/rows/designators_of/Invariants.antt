@@ -1,11 +1,5 @@
-use Rattle.std.proofs.Common.{◌≡◌}
-use Rattle.std.specs.Prelude.{◌||◌}
-use Rattle.std.specs.List.{list_any}
-use Rattle.desk_types.specs.Id.{Name, same, by_name}
-use Rattle.desk_types.specs.History.{History}
-use Rattle.desk_types.specs.Work.{is_placed_on}
-use Rattle.feeder_state.specs.Restored.{AreRowsOf, group_at}
-use Rattle.feeder_state.proofs.PlacedDesignators.{is_spot}
+use Rattle.desk_types.proofs.Common.{◌||◌, ◌≡◌, by_name, History, is_placed_on, list_any, Name, same}
+use Rattle.feeder_state.{proofs.PlacedDesignators.is_spot, specs.Restored.AreRowsOf, specs.Restored.group_at}
 use Rattle.feeder_state.proofs.work.rows.designators_of.Given as goal
 
 -- The designators that are gathered, or are left to gather.

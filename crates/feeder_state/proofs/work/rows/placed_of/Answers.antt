@@ -1,15 +1,8 @@
-use Rattle.std.proofs.Common.{rules, ◌≡◌, Bool, true, false, unwrap_or, [], refl, sym, ap, ◌∙◌}
-use Rattle.std.specs.Prelude.{◌&&◌, ◌||◌}
-use Rattle.std.specs.BTreeMap.{is_at}
-use Rattle.std.specs.List.{list_any}
-use Rattle.std.specs.Map.{lookup}
-use Rattle.std.proofs.Math.Bool.{and_comm}
-use Rattle.std.proofs.lemmas.Cmp.{nat_list_cmp_total}
-use Rattle.desk_types.specs.Id.{same, by_name}
+use Rattle.desk_types.proofs.Common.{[], ◌&&◌, ◌||◌, ◌∙◌, ◌≡◌, and_comm, ap, Bool, by_name, false, is_at, list_any}
+use Rattle.desk_types.proofs.Common.{lookup, nat_list_cmp_total, refl, rules, same, sym, true, unwrap_or}
+use Rattle.feeder_state.{proofs.FilledMaps.each-of, proofs.FilledMaps.set-next, proofs.RestoredWork.among-group}
+use Rattle.feeder_state.{proofs.RestoredWork.has_such, proofs.RestoredWork.such-all, specs.Work.is_placed_at}
 use Rattle.state_rows.specs.Kept.{row_at}
-use Rattle.feeder_state.specs.Work.{is_placed_at}
-use Rattle.feeder_state.proofs.FilledMaps.{each-of, set-next}
-use Rattle.feeder_state.proofs.RestoredWork.{has_such, such-all, among-group}
 use Rattle.feeder_state.proofs.work.rows.placed_of.Goals as goal
 
 pub loop-board-init : goal.loop-board-init

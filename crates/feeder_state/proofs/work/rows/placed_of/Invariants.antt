@@ -1,9 +1,5 @@
-use Rattle.std.proofs.Common.{◌≡◌}
-use Rattle.std.specs.Prelude.{◌||◌}
-use Rattle.std.specs.List.{list_any}
-use Rattle.desk_types.specs.Id.{Name, same}
-use Rattle.feeder_state.specs.Work.{is_placed_at}
-use Rattle.feeder_state.proofs.RestoredWork.{has_such}
+use Rattle.desk_types.proofs.Common.{◌||◌, ◌≡◌, list_any, Name, same}
+use Rattle.feeder_state.{proofs.RestoredWork.has_such, specs.Work.is_placed_at}
 use Rattle.feeder_state.proofs.work.rows.placed_of.Given as goal
 
 -- The designators that are in, or are left to be put in.

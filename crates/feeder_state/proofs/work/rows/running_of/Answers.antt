@@ -1,16 +1,9 @@
-use Rattle.std.proofs.Common.{rules, Some, cond, sym, ap, subst, ◌∙◌}
-use Rattle.std.specs.BTreeMap.{is_at}
-use Rattle.std.specs.Map.{lookup}
-use Rattle.std.specs.Option.{option_map_or}
-use Rattle.std.proofs.lemmas.Cmp.{nat_list_cmp_total}
-use Rattle.desk_types.specs.Id.{same, by_name}
-use Rattle.desk_types.proofs.Keys.{name-written}
-use Rattle.desk_types.specs.Work.{in_work_on}
-use Rattle.state_rows.specs.Kept.{tables_in, Lists}
-use Rattle.desk_types.specs.Tables.{Tables}
-use Rattle.feeder_state.specs.Work.{running_at}
+use Rattle.desk_types.proofs.Common.{◌∙◌, ap, by_name, cond, in_work_on, is_at, lookup, name-written}
+use Rattle.desk_types.proofs.Common.{nat_list_cmp_total, option_map_or, rules, same, Some, subst, sym, Tables}
 use Rattle.feeder_state.proofs.FilledMaps.{AreOf, each-of}
-use Rattle.feeder_state.proofs.RestoredWork.{IsRunning, running-first, running-next, running-last}
+use Rattle.feeder_state.proofs.RestoredWork.{IsRunning, running-first, running-last, running-next}
+use Rattle.feeder_state.specs.Work.{running_at}
+use Rattle.state_rows.specs.Kept.{Lists, tables_in}
 use Rattle.feeder_state.proofs.work.rows.running_of.Goals as goal
 
 pub loop-board-init : goal.loop-board-init

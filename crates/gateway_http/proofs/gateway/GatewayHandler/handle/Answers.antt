@@ -1,6 +1,5 @@
-use Rattle.std.proofs.Common.{true, false, refl}
-use Rattle.gateway_http.specs.Asked.{asked_of}
-use Rattle.gateway_http.specs.Requests.{asked_outcome}
+use Rattle.desk_types.proofs.Common.{false, refl, true}
+use Rattle.gateway_http.specs.{Asked.asked_of, Requests.asked_outcome}
 use Rattle.gateway_http.proofs.gateway.GatewayHandler.handle.Goals as goal
 
 pub returns-in-Ok-clause-told : goal.returns-in-Ok-clause-told

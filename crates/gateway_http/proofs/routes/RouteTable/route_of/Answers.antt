@@ -1,4 +1,4 @@
-use Rattle.std.proofs.Common.{sym}
+use Rattle.desk_types.proofs.Common.{sym}
 use Rattle.gateway_http.proofs.NoText.{route_of-none}
 use Rattle.gateway_http.proofs.routes.RouteTable.route_of.Goals as goal
 

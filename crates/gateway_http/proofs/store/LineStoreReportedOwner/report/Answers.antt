@@ -1,8 +1,8 @@
-use Rattle.std.proofs.Common.{refl, ap, sym, subst, true, Some}
+use Rattle.desk_types.proofs.Common.{ap, refl, Some, subst, sym, true}
 use Rattle.desk_answers.specs.Ledger.{Ledger}
 use Rattle.line_schema.specs.Stands.{Kept}
-use Rattle.trace_reports.specs.declared.kind.Kind.TheVariants.{Board, Lot, Reel, Machine, Sheet}
 use Rattle.trace_reports.specs.Reports.{AnswersAlways, overdue_list}
+use Rattle.trace_reports.specs.declared.kind.Kind.TheVariants.{Board, Lot, Machine, Reel, Sheet}
 use Rattle.gateway_http.proofs.store.LineStoreReportedOwner.report.Goals as goal
 
 -- A store as the reports see it: the tables are its own.

@@ -1,6 +1,6 @@
-use Rattle.std.proofs.Common.{refl}
-use Rattle.headline.specs.Failing.{own_kept}
+use Rattle.desk_types.proofs.Common.{refl}
 use Rattle.headline.proofs.FailingDisks.{answer_so, step, watched_so}
+use Rattle.headline.specs.Failing.{own_kept}
 use Rattle.headline.proofs.failing.WatchedStoreOwner.command.Goals as goal
 
 pub returns-clause-answer : goal.returns-clause-answer

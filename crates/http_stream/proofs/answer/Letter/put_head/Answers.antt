@@ -1,6 +1,7 @@
-use Rattle.std.proofs.Common.{◌≡◌, refl, ◌∙◌, [], take, codes, decimal, length}
-use Rattle.http_stream.specs.Answers.{head_bytes, length_line, status_line, type_line, allow_line, close_line, line_end, reply_told}
+use Rattle.desk_types.proofs.Common.{[], ◌∙◌, ◌≡◌, codes, decimal, length, refl, take}
 use Rattle.http_stream.proofs.Letters.{joined}
+use Rattle.http_stream.specs.Answers.{allow_line, close_line, head_bytes, length_line, line_end, reply_told}
+use Rattle.http_stream.specs.Answers.{status_line, type_line}
 use Rattle.http_stream.proofs.answer.Letter.put_head.Goals as goal
 
 pub returns-clause-bytes : goal.returns-clause-bytes

@@ -1,5 +1,4 @@
-use Rattle.std.proofs.Common.{take}
-use Rattle.std.proofs.lemmas.Result.{on_err_weaker}
+use Rattle.desk_types.proofs.Common.{on_err_weaker, take}
 use Rattle.desk_answers.proofs.SentFronts.{front_after}
 use Rattle.http_stream.proofs.answer.Letter.send_with.Goals as goal
 

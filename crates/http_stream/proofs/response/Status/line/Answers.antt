@@ -1,6 +1,6 @@
-use Rattle.std.proofs.Common.{refl}
-use Rattle.std.specs.Fmt.{digits}
+use Rattle.desk_types.proofs.Common.{refl}
 use Rattle.http_stream.specs.Answers.{status_line}
+use Rattle.std.specs.Fmt.{digits}
 use Rattle.http_stream.proofs.response.Status.line.Goals as goal
 
 pub returns-in-Ok-clause-line : goal.returns-in-Ok-clause-line

@@ -1,4 +1,4 @@
-use Rattle.std.proofs.lemmas.Result.{IfOk-weaker}
+use Rattle.desk_types.proofs.Common.{IfOk-weaker}
 use Rattle.line_replay.proofs.Texts.{mount_alone}
 use Rattle.line_replay.proofs.floor.Tuple2RefTuple2U64IdRefMountRowExpectedRow.is_alone.Goals as goal
 

@@ -1,4 +1,4 @@
-use Rattle.std.proofs.lemmas.Result.{IfOk-weaker}
+use Rattle.desk_types.proofs.Common.{IfOk-weaker}
 use Rattle.line_replay.proofs.Texts.{found_alone}
 use Rattle.line_replay.proofs.pieces.Tuple2RefIdRefU64ExpectedRow.is_alone.Goals as goal
 

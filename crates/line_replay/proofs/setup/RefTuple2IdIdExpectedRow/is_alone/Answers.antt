@@ -1,4 +1,4 @@
-use Rattle.std.proofs.lemmas.Result.{IfOk-weaker}
+use Rattle.desk_types.proofs.Common.{IfOk-weaker}
 use Rattle.line_replay.proofs.Texts.{alternate_alone}
 use Rattle.line_replay.proofs.setup.RefTuple2IdIdExpectedRow.is_alone.Goals as goal
 

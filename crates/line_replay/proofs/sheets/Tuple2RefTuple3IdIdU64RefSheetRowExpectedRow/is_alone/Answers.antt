@@ -1,4 +1,4 @@
-use Rattle.std.proofs.lemmas.Result.{IfOk-weaker}
+use Rattle.desk_types.proofs.Common.{IfOk-weaker}
 use Rattle.line_replay.proofs.Texts.{sheet_row_alone}
 use Rattle.line_replay.proofs.sheets.Tuple2RefTuple3IdIdU64RefSheetRowExpectedRow.is_alone.Goals as goal
 

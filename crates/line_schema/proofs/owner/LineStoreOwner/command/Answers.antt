@@ -1,11 +1,8 @@
-use Rattle.std.proofs.Common.{◌≡◌, true, refl, sym, ap, subst}
-use Rattle.desk_types.specs.declared.command.Stamped.{Stamped}
-use Rattle.desk_types.specs.declared.rules.Rules.{Rules}
-use Rattle.desk_types.specs.declared.rules.Rules.TheVariants.{Two}
+use Rattle.desk_types.proofs.Common.{◌≡◌, ap, refl, Rules, Stamped, subst, sym, true, Two}
+use Rattle.desk_answers.specs.Ledger.{IsAnswer, Ledger, ledger_after}
 use Rattle.desk_answers.specs.declared.answer.Answer.{Answer}
-use Rattle.desk_answers.specs.declared.answer.Answer.TheVariants.{Accepted, Refused, IdReused, DeskFull, Unavailable}
-use Rattle.desk_answers.specs.Ledger.{Ledger, IsAnswer, ledger_after}
-use Rattle.line_schema.specs.Stands.{Kept, Stands as StandsFor, kept_after, ledger}
+use Rattle.desk_answers.specs.declared.answer.Answer.TheVariants.{Accepted, DeskFull, IdReused, Refused, Unavailable}
+use Rattle.line_schema.specs.Stands.{Kept, kept_after, ledger, Stands as StandsFor}
 use Rattle.line_schema.proofs.owner.LineStoreOwner.command.Goals as goal
 
 -- The history is represented by rules Two, and only it changes.

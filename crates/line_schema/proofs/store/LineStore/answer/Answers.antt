@@ -1,10 +1,7 @@
-use Rattle.std.proofs.Common.{◌≡◌, inl, inr, None, rules, arith, Some, true, is_some, length, ap, ◌||◌, ◌≤◌}
-use Rattle.std.proofs.lemmas.Bool.{or_right}
-use Rattle.std.proofs.lemmas.Bool.Decides.{nat_tests}
+use Rattle.desk_types.proofs.Common.{◌||◌, ◌≡◌, ◌≤◌, ap, arith, inl, inr, is_some, length, nat_tests, None, or_right}
+use Rattle.desk_types.proofs.Common.{rules, Some, true}
 use Rattle.desk_answers.specs.Commands.{earlier_answer, is_full}
-use Rattle.line_schema.proofs.ListsAfter.{leaves_newly}
-use Rattle.line_schema.proofs.Others.{file_then}
-use Rattle.line_schema.proofs.StandsAfter.{stands_still}
+use Rattle.line_schema.proofs.{ListsAfter.leaves_newly, Others.file_then, StandsAfter.stands_still}
 use Rattle.line_schema.proofs.store.LineStore.answer.Goals as goal
 
 pub returns-clause-crash : goal.returns-clause-crash

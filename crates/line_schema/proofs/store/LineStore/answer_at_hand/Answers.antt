@@ -1,9 +1,7 @@
-use Rattle.std.proofs.Common.{true≢false, sym, rules, arith, ◌<◌}
-use Rattle.desk_types.specs.declared.rules.Rules.TheVariants.{Two}
-use Rattle.desk_types.specs.Desk.{IsChange}
-use Rattle.line_schema.specs.Stands.{HasRows}
+use Rattle.desk_types.proofs.Common.{◌<◌, arith, IsChange, rules, sym, true≢false, Two}
 use Rattle.line_schema.proofs.ListsAfter.{accepted_leaves}
-use Rattle.line_schema.proofs.StandsAfter.{disowned, stands_either, accepted_as, accepted_to, answered_as, first_as}
+use Rattle.line_schema.proofs.StandsAfter.{accepted_as, accepted_to, answered_as, disowned, first_as, stands_either}
+use Rattle.line_schema.specs.Stands.{HasRows}
 use Rattle.line_schema.proofs.store.LineStore.answer_at_hand.Goals as goal
 
 pub returns-in-Ok-clause-kept : goal.returns-in-Ok-clause-kept

@@ -1,6 +1,5 @@
-use Rattle.std.proofs.Common.{inl, inr}
-use Rattle.line_schema.proofs.ListsAfter.{newly_weaker}
-use Rattle.line_schema.proofs.Others.{file_then}
+use Rattle.desk_types.proofs.Common.{inl, inr}
+use Rattle.line_schema.proofs.{ListsAfter.newly_weaker, Others.file_then}
 use Rattle.line_schema.proofs.store.LineStore.answer_new.Goals as goal
 
 pub returns-clause-answers : goal.returns-clause-answers

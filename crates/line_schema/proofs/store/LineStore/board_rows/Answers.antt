@@ -1,9 +1,8 @@
-use Rattle.std.proofs.Common.{rules, sym, subst, refl}
-use Rattle.sqlite.specs.Held.{state}
-use Rattle.line_traces.specs.Pieces.{board_trace, lot_board_names, AreConverse}
+use Rattle.desk_types.proofs.Common.{refl, rules, subst, sym}
+use Rattle.line_tables.proofs.Common.{state}
+use Rattle.line_schema.proofs.{StandsAfter.reads_on, TracesOfLists.told-of}
 use Rattle.line_traces.proofs.Converse.{told-converse}
-use Rattle.line_schema.proofs.TracesOfLists.{told-of}
-use Rattle.line_schema.proofs.StandsAfter.{reads_on}
+use Rattle.line_traces.specs.Pieces.{AreConverse, board_trace, lot_board_names}
 use Rattle.line_schema.proofs.store.LineStore.board_rows.Goals as goal
 
 pub returns-clause-trace : goal.returns-clause-trace

@@ -1,13 +1,11 @@
-use Rattle.std.proofs.Common.{◌≡◌, sym, subst}
-use Rattle.desk_types.specs.declared.command.Stamped.{Stamped}
-use Rattle.desk_types.specs.declared.rules.Rules.TheVariants.{Two}
-use Rattle.desk_answers.specs.declared.answer.Answer.{Answer}
-use Rattle.desk_answers.specs.declared.answer.Answer.TheVariants.{Accepted, Refused, IdReused, DeskFull, Unavailable}
+use Rattle.desk_types.proofs.Common.{◌≡◌, Stamped, subst, sym, Two}
 use Rattle.desk_answers.specs.Commands.{command_answer}
 use Rattle.desk_answers.specs.Ledger.{IsAnswer}
-use Rattle.line_schema.specs.Stands.{Kept, Stands, HasRows, ledger, kept_after}
+use Rattle.desk_answers.specs.declared.answer.Answer.{Answer}
+use Rattle.desk_answers.specs.declared.answer.Answer.TheVariants.{Accepted, DeskFull, IdReused, Refused, Unavailable}
 use Rattle.line_schema.proofs.ListsAfter.{kept_so}
 use Rattle.line_schema.proofs.StandsAfter.{tables_there}
+use Rattle.line_schema.specs.Stands.{HasRows, Kept, kept_after, ledger, Stands}
 use Rattle.line_schema.proofs.store.LineStore.command.Goals as goal
 
 answer_so : (L : Kept) (s : Stamped) (a : Answer) → a ≡ command_answer Two L.greatest L.history s → IsAnswer (ledger L) s a

@@ -1,19 +1,12 @@
-use Rattle.std.proofs.Common.{◌≡◌, ◌∙◌, ◌+◌, sym, ap, refl, rules, arith}
-use Rattle.std.specs.Prelude.{⊤}
+use Rattle.desk_types.proofs.Common.{⊤, ◌+◌, ◌∙◌, ◌≡◌, accept, ap, arith, basis, err_from_is_err_and, IsMinute, refl}
+use Rattle.desk_types.proofs.Common.{rules, sym, Two}
+use Rattle.line_tables.proofs.Common.{command_edits, HasCleanDisk, state}
+use Rattle.line_schema.{proofs.DeskRows.lead_of, proofs.DeskRows.rows_settled, proofs.Others.file_edited}
+use Rattle.line_schema.{proofs.Others.survives_still, proofs.StandsAfter.fails, proofs.StandsAfter.judged_for}
+use Rattle.line_schema.{proofs.StandsAfter.left_on, proofs.StandsAfter.not_committed, proofs.StandsAfter.stands_on}
+use Rattle.line_schema.{proofs.StandsAfter.survives_on, proofs.StandsAfter.works_for, specs.Stands.WorksFor}
+use Rattle.line_tables.{proofs.Keeps.keeps_same, proofs.Leaves.others_kept}
 use Rattle.std.proofs.lemmas.Option.{same_Some}
-use Rattle.std.proofs.lemmas.Result.{err_from_is_err_and}
-use Rattle.sqlite.specs.State.{HasCleanDisk}
-use Rattle.sqlite.specs.Held.{state}
-use Rattle.desk_types.specs.declared.rules.Rules.TheVariants.{Two}
-use Rattle.desk_types.specs.History.{basis, accept}
-use Rattle.desk_types.specs.Number.{IsMinute}
-use Rattle.line_tables.specs.Edit.{command_edits}
-use Rattle.line_tables.proofs.Keeps.{keeps_same}
-use Rattle.line_tables.proofs.Leaves.{others_kept}
-use Rattle.line_schema.specs.Stands.{WorksFor}
-use Rattle.line_schema.proofs.StandsAfter.{fails, judged_for, left_on, not_committed, stands_on, survives_on, works_for}
-use Rattle.line_schema.proofs.DeskRows.{lead_of, rows_settled}
-use Rattle.line_schema.proofs.Others.{file_edited, survives_still}
 use Rattle.line_schema.proofs.store.LineStore.commit_change.Goals as goal
 
 pub returns-in_err-text-clause-answers : goal.returns-in_err-text-clause-answers

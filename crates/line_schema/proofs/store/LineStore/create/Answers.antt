@@ -1,12 +1,8 @@
-use Rattle.std.proofs.Common.{[], inl, refl, subst, rules, arith}
-use Rattle.desk_types.specs.History.{basis}
-use Rattle.desk_types.specs.declared.rules.Rules.TheVariants.{Two}
+use Rattle.desk_types.proofs.Common.{[], arith, basis, inl, refl, rules, subst, Two}
 use Rattle.desk_laws.proofs.JudgedLists.{consistent}
+use Rattle.line_replay.{proofs.ExpectedRows.no_rows, proofs.RowsOfLists.none_yet, specs.Expected.AreKept}
 use Rattle.line_tables.proofs.Ours.{blank_is}
 use Rattle.state_rows.specs.Kept.{KeptRows, tables_in}
-use Rattle.line_replay.specs.Expected.{AreKept}
-use Rattle.line_replay.proofs.ExpectedRows.{no_rows}
-use Rattle.line_schema.proofs.StandsAfter.{none_yet}
 use Rattle.line_schema.proofs.store.LineStore.create.Goals as goal
 
 pub returns-in-Ok-clause-made : goal.returns-in-Ok-clause-made

@@ -1,11 +1,8 @@
-use Rattle.std.proofs.Common.{◌≡◌, ◌∙◌, sym, ap, subst, arith, Some, None, filter, [], ◌∷◌, refl}
-use Rattle.sqlite.specs.State.{HasCleanDisk}
-use Rattle.sqlite.specs.Held.{state}
-use Rattle.line_tables.specs.Calls.{Reads, has_uid, row_of}
-use Rattle.line_tables.specs.Rows.{accepted_in, columns_of}
-use Rattle.line_schema.proofs.Lookup.{none_stood, one_stood, looked_up}
-use Rattle.line_schema.proofs.Others.{let_be_reads}
-use Rattle.line_schema.proofs.StandsAfter.{read_on}
+use Rattle.desk_types.proofs.Common.{[], ◌∙◌, ◌∷◌, ◌≡◌, ap, arith, filter, None, refl, Some, subst, sym}
+use Rattle.line_tables.proofs.Common.{accepted_in, has_uid, HasCleanDisk, Reads, row_of, state}
+use Rattle.line_schema.proofs.{Lookup.looked_up, Lookup.none_stood, Lookup.one_stood, Others.let_be_reads}
+use Rattle.line_schema.proofs.{StandsAfter.read_on}
+use Rattle.line_tables.specs.Rows.{columns_of}
 use Rattle.line_schema.proofs.store.LineStore.earlier.Goals as goal
 
 pub returns-in_ok-answer_under-in-Some-clause-answer : goal.returns-in_ok-answer_under-in-Some-clause-answer

@@ -1,8 +1,7 @@
-use Rattle.std.proofs.Common.{rules, refl}
-use Rattle.sqlite.specs.Held.{state}
+use Rattle.desk_types.proofs.Common.{refl, rules}
+use Rattle.line_tables.proofs.Common.{state}
+use Rattle.line_schema.proofs.{StandsAfter.reads_on, TracesOfLists.told-of}
 use Rattle.line_traces.specs.Pieces.{lot_trace}
-use Rattle.line_schema.proofs.TracesOfLists.{told-of}
-use Rattle.line_schema.proofs.StandsAfter.{reads_on}
 use Rattle.line_schema.proofs.store.LineStore.lot_rows.Goals as goal
 
 pub returns-clause-trace : goal.returns-clause-trace

@@ -1,8 +1,7 @@
-use Rattle.std.proofs.Common.{IsTrue, IfErr, Result, Ok, Err, rules, arith}
-use Rattle.sqlite.specs.State.{HasCleanDisk, KeepsCommit}
-use Rattle.sqlite.specs.Held.{state}
-use Rattle.line_tables.proofs.Keeps.{keeps_then}
+use Rattle.desk_types.proofs.Common.{arith, Err, IfErr, IsTrue, Ok, Result, rules}
+use Rattle.line_tables.proofs.Common.{HasCleanDisk, KeepsCommit, state}
 use Rattle.line_schema.proofs.Versions.{migrated_on, survives_migration}
+use Rattle.line_tables.proofs.Keeps.{keeps_then}
 use Rattle.line_schema.proofs.store.LineStore.migrate.Goals as goal
 
 pub returns-clause-migrated : goal.returns-clause-migrated

@@ -1,15 +1,10 @@
-use Rattle.std.proofs.Common.{IsTrue, inl, refl, sym, subst, rules}
-use Rattle.sqlite.specs.Effect.{Database}
-use Rattle.sqlite.specs.Held.{state}
-use Rattle.desk_types.specs.declared.rules.Rules.TheVariants.{Two}
+use Rattle.desk_types.proofs.Common.{inl, IsTrue, refl, rules, subst, sym, Two}
+use Rattle.line_tables.proofs.Common.{Database, Holds, is_ours, state}
 use Rattle.desk_laws.proofs.JudgedLists.{consistent}
-use Rattle.line_tables.specs.Line.{is_ours}
-use Rattle.line_tables.specs.Rows.{Holds}
-use Rattle.line_tables.proofs.Ours.{ours_is}
 use Rattle.line_replay.specs.Rows.{ledger_tables}
+use Rattle.line_schema.proofs.{ReadOfCommitted.opened_holds, ReadOfCommitted.opened_lawful, StandsAfter.still_open}
 use Rattle.line_schema.specs.Stands.{Kept}
-use Rattle.line_schema.proofs.ReadOfCommitted.{opened_lawful, opened_holds}
-use Rattle.line_schema.proofs.StandsAfter.{still_open}
+use Rattle.line_tables.proofs.Ours.{ours_is}
 use Rattle.line_schema.proofs.store.LineStore.open.Goals as goal
 
 pub returns-in-Ok-clause-opened : goal.returns-in-Ok-clause-opened

@@ -1,8 +1,6 @@
-use Rattle.std.proofs.Common.{rules, refl}
-use Rattle.sqlite.specs.Held.{state}
-use Rattle.desk_types.specs.Placements.{overdue_of}
-use Rattle.line_schema.proofs.TracesOfLists.{told-of}
-use Rattle.line_schema.proofs.StandsAfter.{reads_on}
+use Rattle.desk_types.proofs.Common.{overdue_of, refl, rules}
+use Rattle.line_tables.proofs.Common.{state}
+use Rattle.line_schema.proofs.{StandsAfter.reads_on, TracesOfLists.told-of}
 use Rattle.line_schema.proofs.store.LineStore.overdue_rows.Goals as goal
 
 pub returns-clause-rows : goal.returns-clause-rows

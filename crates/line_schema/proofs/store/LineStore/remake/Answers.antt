@@ -1,10 +1,7 @@
-use Rattle.std.proofs.Common.{IsTrue, refl, sym, subst, arith}
-use Rattle.sqlite.specs.State.{HasCleanDisk}
-use Rattle.sqlite.specs.Held.{state}
-use Rattle.line_tables.specs.Rows.{Holds}
+use Rattle.desk_types.proofs.Common.{arith, IsTrue, refl, subst, sym}
+use Rattle.line_tables.proofs.Common.{HasCleanDisk, Holds, state}
 use Rattle.line_replay.specs.Rows.{ledger_tables}
-use Rattle.line_schema.proofs.StandsAfter.{remade, stays, read_on}
-use Rattle.line_schema.proofs.Others.{file_read}
+use Rattle.line_schema.proofs.{Others.file_read, StandsAfter.read_on, StandsAfter.remade, StandsAfter.stays}
 use Rattle.line_schema.proofs.store.LineStore.remake.Goals as goal
 
 pub returns-in-Some-clause-kept : goal.returns-in-Some-clause-kept

@@ -1,4 +1,4 @@
-use Rattle.std.proofs.Common.{inl, inr}
+use Rattle.desk_types.proofs.Common.{inl, inr}
 use Rattle.line_schema.proofs.UnansweredCommands.{again, clean_before, leaves, still_stands}
 use Rattle.line_schema.proofs.store.LineStore.unanswered_commands_leave_the_list.Goals as goal
 

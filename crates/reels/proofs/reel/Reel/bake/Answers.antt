@@ -1,6 +1,5 @@
-use Rattle.std.proofs.Common.{◌∷◌, sym, subst}
-use Rattle.reels.specs.Reel.{RowStandsFor}
-use Rattle.reels.proofs.StandingReels.{StandsFor-bake}
+use Rattle.desk_types.proofs.Common.{◌∷◌, subst, sym}
+use Rattle.reels.{proofs.StandingReels.StandsFor-bake, specs.Reel.RowStandsFor}
 use Rattle.reels.proofs.reel.Reel.bake.Goals as goal
 
 pub returns-clause-stands : goal.returns-clause-stands

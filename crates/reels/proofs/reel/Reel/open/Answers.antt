@@ -1,7 +1,6 @@
-use Rattle.std.proofs.Common.{◌∷◌, sym, subst}
-use Rattle.reels.specs.Fitting.{IsFitting}
-use Rattle.reels.specs.Reel.{RowStandsFor}
+use Rattle.desk_types.proofs.Common.{◌∷◌, subst, sym}
 use Rattle.reels.proofs.StandingReels.{opened-fits, StandsFor-open}
+use Rattle.reels.specs.{Fitting.IsFitting, Reel.RowStandsFor}
 use Rattle.reels.proofs.reel.Reel.open.Goals as goal
 
 pub invariant_of-self : goal.invariant_of-self

@@ -1,7 +1,6 @@
-use Rattle.std.proofs.Common.{◌∷◌, sym, subst, arith}
-use Rattle.reels.specs.Fitting.{IsFitting}
-use Rattle.reels.specs.Reel.{RowStandsFor}
+use Rattle.desk_types.proofs.Common.{◌∷◌, arith, subst, sym}
 use Rattle.reels.proofs.StandingReels.{label-below, StandsFor-receive}
+use Rattle.reels.specs.{Fitting.IsFitting, Reel.RowStandsFor}
 use Rattle.reels.proofs.reel.Reel.receive.Goals as goal
 
 pub invariant_of-result : goal.invariant_of-result

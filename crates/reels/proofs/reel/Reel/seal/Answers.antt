@@ -1,7 +1,6 @@
-use Rattle.std.proofs.Common.{◌∷◌, sym, subst, arith}
-use Rattle.reels.specs.Fitting.{IsFitting}
-use Rattle.reels.specs.Reel.{RowStandsFor}
+use Rattle.desk_types.proofs.Common.{◌∷◌, arith, subst, sym}
 use Rattle.reels.proofs.StandingReels.{exposure-within, sealed-fits, StandsFor-seal}
+use Rattle.reels.specs.{Fitting.IsFitting, Reel.RowStandsFor}
 use Rattle.reels.proofs.reel.Reel.seal.Goals as goal
 
 pub returns-clause-row : goal.returns-clause-row

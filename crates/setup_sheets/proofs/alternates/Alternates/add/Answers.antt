@@ -1,10 +1,5 @@
-use Rattle.std.proofs.Common.{◌∙◌, ap}
-use Rattle.std.specs.BTreeMap.{is_at}
-use Rattle.std.specs.List.{list_any}
-use Rattle.std.specs.Prelude.{◌||◌}
-use Rattle.desk_types.specs.Id.{Name}
-use Rattle.desk_types.specs.Pair.{same_pair, by_pair}
-use Rattle.desk_types.proofs.Keys.{is_at-by_pair, has-after}
+use Rattle.desk_types.proofs.Common.{◌||◌, ◌∙◌, ap, by_pair, is_at, is_at-by_pair, list_any, Name, same_pair}
+use Rattle.desk_types.proofs.Keys.{has-after}
 use Rattle.setup_sheets.proofs.alternates.Alternates.add.Goals as goal
 
 pub returns-clause-has : goal.returns-clause-has

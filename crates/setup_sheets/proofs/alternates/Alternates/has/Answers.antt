@@ -1,9 +1,4 @@
-use Rattle.std.proofs.Common.{◌∙◌, ap}
-use Rattle.std.specs.BTreeMap.{is_at}
-use Rattle.std.specs.List.{list_any}
-use Rattle.desk_types.specs.Id.{Name}
-use Rattle.desk_types.specs.Pair.{same_pair, by_pair}
-use Rattle.desk_types.proofs.Keys.{is_at-by_pair, list_any-same}
+use Rattle.desk_types.proofs.Common.{◌∙◌, ap, by_pair, is_at, is_at-by_pair, list_any, list_any-same, Name, same_pair}
 use Rattle.setup_sheets.proofs.alternates.Alternates.has.Goals as goal
 
 pub returns : goal.returns

@@ -1,9 +1,5 @@
-use Rattle.std.proofs.Common.{◌∙◌, ap}
-use Rattle.std.specs.BTreeMap.{is_at}
-use Rattle.std.specs.List.{list_any}
-use Rattle.std.specs.Prelude.{◌||◌}
-use Rattle.desk_types.specs.Id.{same, by_name}
-use Rattle.desk_types.proofs.Keys.{is_at-by_name, has-after}
+use Rattle.desk_types.proofs.Common.{◌||◌, ◌∙◌, ap, by_name, is_at, is_at-by_name, list_any, same}
+use Rattle.desk_types.proofs.Keys.{has-after}
 use Rattle.setup_sheets.proofs.parts.Parts.add.Goals as goal
 
 pub returns-clause-has : goal.returns-clause-has

@@ -1,10 +1,5 @@
-use Rattle.std.proofs.Common.{ℕ, zero, suc, ◌≡◌, None, [], map, length, unwrap_or, ap, refl, ◌∙◌, arith}
-use Rattle.std.specs.BTreeMap.{is_at}
-use Rattle.std.specs.Map.{lookup}
-use Rattle.std.proofs.lemmas.List.Elements.{All-same}
-use Rattle.desk_types.specs.Id.{by_name}
-use Rattle.desk_types.specs.Number.{IsMinute}
-use Rattle.desk_types.specs.Placements.{takes_of}
+use Rattle.desk_types.proofs.Common.{[], ◌∙◌, ◌≡◌, All-same, ap, arith, by_name, is_at, IsMinute, length, lookup, map}
+use Rattle.desk_types.proofs.Common.{None, refl, suc, takes_of, unwrap_or, zero, ℕ}
 use Rattle.state_rows.specs.Lists.{HasPieces, key_of, keys_of_installs, minute_in}
 use Rattle.state_rows.proofs.lists.TraceLists.new.Goals as goal
 

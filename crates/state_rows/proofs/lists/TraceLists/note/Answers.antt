@@ -1,15 +1,9 @@
-use Rattle.std.proofs.Common.{◌≡◌, ◌++◌, length, sym, ap, ◌∙◌, rules}
-use Rattle.std.proofs.lemmas.List.Elements.{All-push, All-same}
-use Rattle.desk_types.specs.declared.change.Change.{Change}
-use Rattle.desk_types.specs.Id.{same}
-use Rattle.desk_types.specs.History.{entry_of}
-use Rattle.desk_types.specs.Number.{IsMinute}
-use Rattle.desk_types.specs.Outcome.{takes_by}
-use Rattle.state_rows.specs.Lists.{keys_of_installs, minute_in, kept_at}
-use Rattle.state_rows.specs.Noting.{keys_in}
-use Rattle.state_rows.proofs.Installs.{keys-installed}
-use Rattle.state_rows.proofs.Keys.{keys-noted}
-use Rattle.state_rows.proofs.Minutes.{minutes-accepted, count-accepted}
+use Rattle.desk_types.proofs.Common.{◌++◌, ◌∙◌, ◌≡◌, All-same, ap, Change, entry_of, IsMinute, length, rules, same}
+use Rattle.desk_types.proofs.Common.{sym, takes_by}
+use Rattle.state_rows.proofs.{Installs.keys-installed, Keys.keys-noted, Minutes.count-accepted}
+use Rattle.state_rows.proofs.{Minutes.minutes-accepted}
+use Rattle.state_rows.specs.{Lists.kept_at, Lists.keys_of_installs, Lists.minute_in, Noting.keys_in}
+use Rattle.std.proofs.lemmas.List.Elements.{All-push}
 use Rattle.state_rows.proofs.lists.TraceLists.note.Goals as goal
 
 pub returns : goal.returns

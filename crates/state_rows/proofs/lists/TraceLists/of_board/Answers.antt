@@ -1,4 +1,4 @@
-use Rattle.std.proofs.Common.{ap, ◌∙◌}
+use Rattle.desk_types.proofs.Common.{◌∙◌, ap}
 use Rattle.state_rows.specs.Lists.{keys_of_installs}
 use Rattle.state_rows.proofs.lists.TraceLists.of_board.Goals as goal
 

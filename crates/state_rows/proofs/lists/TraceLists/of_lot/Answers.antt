@@ -1,4 +1,4 @@
-use Rattle.std.proofs.Common.{map, ap, ◌∙◌}
+use Rattle.desk_types.proofs.Common.{◌∙◌, ap, map}
 use Rattle.state_rows.specs.Lists.{key_of}
 use Rattle.state_rows.proofs.lists.TraceLists.of_lot.Goals as goal
 

@@ -1,4 +1,4 @@
-use Rattle.std.proofs.Common.{refl}
+use Rattle.desk_types.proofs.Common.{refl}
 use Rattle.state_rows.proofs.KeptUnderNames.{listed-still}
 use Rattle.state_rows.proofs.lists.TraceLists.reserve.Goals as goal
 

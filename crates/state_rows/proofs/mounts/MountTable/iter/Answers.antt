@@ -1,7 +1,5 @@
-use Rattle.std.proofs.Common.{subst}
-use Rattle.desk_types.specs.Id.{by_name}
-use Rattle.state_rows.specs.Kept.{row_at, ListsMounts}
-use Rattle.state_rows.proofs.MountKeeping.{lists-mounts}
+use Rattle.desk_types.proofs.Common.{by_name, subst}
+use Rattle.state_rows.{proofs.MountKeeping.lists-mounts, specs.Kept.ListsMounts, specs.Kept.row_at}
 use Rattle.state_rows.proofs.mounts.MountTable.iter.Goals as goal
 
 pub returns : goal.returns

@@ -1,7 +1,5 @@
-use Rattle.std.proofs.Common.{Some, None, cond, ap, ◌∙◌}
-use Rattle.desk_types.specs.Id.{same, by_name}
-use Rattle.state_rows.specs.Kept.{row_at}
-use Rattle.state_rows.proofs.MountKeeping.{put-over}
+use Rattle.desk_types.proofs.Common.{◌∙◌, ap, by_name, cond, None, same, Some}
+use Rattle.state_rows.{proofs.MountKeeping.put-over, specs.Kept.row_at}
 use Rattle.state_rows.proofs.mounts.MountTable.put.Goals as goal
 
 pub returns : goal.returns

@@ -1,6 +1,5 @@
-use Rattle.std.proofs.Common.{sym, ap, ◌∙◌}
-use Rattle.state_rows.specs.Kept.{tables_in}
-use Rattle.state_rows.proofs.RowLists.{pair-among}
+use Rattle.desk_types.proofs.Common.{◌∙◌, ap, sym}
+use Rattle.state_rows.{proofs.RowLists.pair-among, specs.Kept.tables_in}
 use Rattle.state_rows.proofs.set.RowSet.alternate_set.Goals as goal
 
 pub returns : goal.returns

@@ -1,7 +1,5 @@
-use Rattle.std.proofs.Common.{refl, ap, ◌∙◌}
-use Rattle.desk_types.specs.Pair.{by_pair}
-use Rattle.state_rows.specs.Kept.{tables_in, has_key}
-use Rattle.state_rows.proofs.RowLists.{lists-keys}
+use Rattle.desk_types.proofs.Common.{◌∙◌, ap, by_pair, refl}
+use Rattle.state_rows.{proofs.RowLists.lists-keys, specs.Kept.has_key, specs.Kept.tables_in}
 use Rattle.state_rows.proofs.set.RowSet.alternates.Goals as goal
 
 pub returns : goal.returns

@@ -1,7 +1,5 @@
-use Rattle.std.proofs.Common.{sym, ap, ◌∙◌}
-use Rattle.desk_types.specs.Edits.{with_edit}
-use Rattle.state_rows.specs.Kept.{tables_in}
-use Rattle.state_rows.proofs.EditLists.{edits-next}
+use Rattle.desk_types.proofs.Common.{◌∙◌, ap, sym, with_edit}
+use Rattle.state_rows.{proofs.EditLists.edits-next, specs.Kept.tables_in}
 use Rattle.state_rows.proofs.set.RowSet.apply.Goals as goal
 
 pub loop-edit-preserved : goal.loop-edit-preserved

@@ -1,5 +1,4 @@
-use Rattle.std.proofs.Common.{◌≡◌, take}
-use Rattle.desk_types.specs.Edits.{with_edits}
+use Rattle.desk_types.proofs.Common.{◌≡◌, take, with_edits}
 use Rattle.state_rows.specs.Kept.{tables_in}
 use Rattle.state_rows.proofs.set.RowSet.apply.Given as goal
 

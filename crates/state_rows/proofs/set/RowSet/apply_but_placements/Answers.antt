@@ -1,5 +1,4 @@
-use Rattle.state_rows.specs.Kept.{tables_in}
-use Rattle.state_rows.proofs.RowLists.{but-next}
+use Rattle.state_rows.{proofs.RowLists.but-next, specs.Kept.tables_in}
 use Rattle.state_rows.proofs.set.RowSet.apply_but_placements.Goals as goal
 
 pub loop-edit-preserved : goal.loop-edit-preserved

@@ -1,6 +1,5 @@
-use Rattle.std.proofs.Common.{◌≡◌, take}
-use Rattle.desk_types.specs.Edits.{with_edits}
-use Rattle.state_rows.specs.Kept.{tables_in, but_placements}
+use Rattle.desk_types.proofs.Common.{◌≡◌, take, with_edits}
+use Rattle.state_rows.specs.Kept.{but_placements, tables_in}
 use Rattle.state_rows.proofs.set.RowSet.apply_but_placements.Given as goal
 
 abbrev pub invariant-loop-edit : goal.invariant-loop-edit

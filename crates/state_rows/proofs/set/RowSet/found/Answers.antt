@@ -1,7 +1,5 @@
-use Rattle.std.proofs.Common.{ap}
-use Rattle.desk_types.specs.Id.{by_name}
-use Rattle.state_rows.specs.Kept.{tables_in}
-use Rattle.state_rows.proofs.RowLists.{lists}
+use Rattle.desk_types.proofs.Common.{ap, by_name}
+use Rattle.state_rows.{proofs.RowLists.lists, specs.Kept.tables_in}
 use Rattle.state_rows.proofs.set.RowSet.found.Goals as goal
 
 pub returns : goal.returns

@@ -1,6 +1,5 @@
-use Rattle.std.proofs.Common.{subst}
-use Rattle.desk_types.specs.Id.{by_name}
-use Rattle.state_rows.specs.Kept.{KeptRows, row_at, ListsMounts}
+use Rattle.desk_types.proofs.Common.{by_name, subst}
+use Rattle.state_rows.specs.Kept.{KeptRows, ListsMounts, row_at}
 use Rattle.state_rows.proofs.set.RowSet.mounts.Goals as goal
 
 pub returns : goal.returns

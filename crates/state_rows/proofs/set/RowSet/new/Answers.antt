@@ -1,10 +1,6 @@
-use Rattle.std.proofs.Common.{[], sym, ap, ◌∙◌}
-use Rattle.desk_types.specs.Tables.{tables_of}
-use Rattle.desk_types.specs.Id.{by_name}
-use Rattle.desk_types.specs.Pair.{by_pair}
-use Rattle.state_rows.specs.Kept.{row_at, has_key, by_sheet_place, by_piece}
-use Rattle.state_rows.proofs.EditLists.{same-tables}
-use Rattle.state_rows.proofs.RowLists.{no-placements, none-found}
+use Rattle.desk_types.proofs.Common.{[], ◌∙◌, ap, by_name, by_pair, sym, tables_of}
+use Rattle.state_rows.proofs.{EditLists.same-tables, RowLists.no-placements, RowLists.none-found}
+use Rattle.state_rows.specs.Kept.{by_piece, by_sheet_place, has_key, row_at}
 use Rattle.state_rows.proofs.set.RowSet.new.Goals as goal
 
 pub returns : goal.returns

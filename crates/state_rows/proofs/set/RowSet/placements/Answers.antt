@@ -1,6 +1,5 @@
-use Rattle.std.proofs.Common.{ap}
-use Rattle.state_rows.specs.Kept.{tables_in, by_piece}
-use Rattle.state_rows.proofs.RowLists.{lists}
+use Rattle.desk_types.proofs.Common.{ap}
+use Rattle.state_rows.{proofs.RowLists.lists, specs.Kept.by_piece, specs.Kept.tables_in}
 use Rattle.state_rows.proofs.set.RowSet.placements.Goals as goal
 
 pub returns : goal.returns

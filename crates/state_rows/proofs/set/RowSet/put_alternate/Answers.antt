@@ -1,5 +1,4 @@
-use Rattle.state_rows.specs.contracts.set.RowSet.{the_view}
-use Rattle.state_rows.proofs.RowLists.{alternate-put}
+use Rattle.state_rows.{proofs.RowLists.alternate-put, specs.contracts.set.RowSet.the_view}
 use Rattle.state_rows.proofs.set.RowSet.put_alternate.Goals as goal
 
 pub returns : goal.returns

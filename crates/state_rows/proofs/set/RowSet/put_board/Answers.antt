@@ -1,5 +1,4 @@
-use Rattle.state_rows.specs.contracts.set.RowSet.{the_view}
-use Rattle.state_rows.proofs.RowLists.{board-put}
+use Rattle.state_rows.{proofs.RowLists.board-put, specs.contracts.set.RowSet.the_view}
 use Rattle.state_rows.proofs.set.RowSet.put_board.Goals as goal
 
 pub returns : goal.returns

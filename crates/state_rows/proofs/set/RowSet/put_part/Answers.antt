@@ -1,5 +1,4 @@
-use Rattle.state_rows.specs.contracts.set.RowSet.{the_view}
-use Rattle.state_rows.proofs.RowLists.{part-put}
+use Rattle.state_rows.{proofs.RowLists.part-put, specs.contracts.set.RowSet.the_view}
 use Rattle.state_rows.proofs.set.RowSet.put_part.Goals as goal
 
 pub returns : goal.returns

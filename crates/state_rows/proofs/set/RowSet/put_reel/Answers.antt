@@ -1,8 +1,5 @@
-use Rattle.std.proofs.Common.{Some, cond, ap, ◌∙◌, rules}
-use Rattle.std.specs.BTreeMap.{get, is_at}
-use Rattle.desk_types.specs.Id.{by_name}
-use Rattle.state_rows.specs.contracts.set.RowSet.{the_view}
-use Rattle.state_rows.proofs.RowLists.{reel-put}
+use Rattle.desk_types.proofs.Common.{◌∙◌, ap, by_name, cond, get, is_at, rules, Some}
+use Rattle.state_rows.{proofs.RowLists.reel-put, specs.contracts.set.RowSet.the_view}
 use Rattle.state_rows.proofs.set.RowSet.put_reel.Goals as goal
 
 pub returns-in-Some : goal.returns-in-Some

@@ -1,10 +1,5 @@
-use Rattle.std.proofs.Common.{◌≡◌, ap, ◌∙◌, rules}
-use Rattle.desk_types.specs.declared.sheet.SheetRow.{SheetRow}
-use Rattle.desk_types.specs.declared.edit.RowEdit.TheVariants.{PutSheetRow}
-use Rattle.desk_types.specs.Edits.{with_edit}
-use Rattle.state_rows.specs.Kept.{tables_in}
-use Rattle.state_rows.specs.contracts.set.RowSet.{the_view}
-use Rattle.state_rows.proofs.RowLists.{sheet_row-put}
+use Rattle.desk_types.proofs.Common.{◌∙◌, ◌≡◌, ap, PutSheetRow, rules, SheetRow, with_edit}
+use Rattle.state_rows.{proofs.RowLists.sheet_row-put, specs.Kept.tables_in, specs.contracts.set.RowSet.the_view}
 use Rattle.state_rows.proofs.set.RowSet.put_sheet_row.Goals as goal
 
 pub returns : goal.returns

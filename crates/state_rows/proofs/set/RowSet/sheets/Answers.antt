@@ -1,6 +1,5 @@
-use Rattle.std.proofs.Common.{ap}
-use Rattle.state_rows.specs.Kept.{tables_in, by_sheet_place}
-use Rattle.state_rows.proofs.RowLists.{lists}
+use Rattle.desk_types.proofs.Common.{ap}
+use Rattle.state_rows.{proofs.RowLists.lists, specs.Kept.by_sheet_place, specs.Kept.tables_in}
 use Rattle.state_rows.proofs.set.RowSet.sheets.Goals as goal
 
 pub returns : goal.returns

@@ -1,5 +1,4 @@
-use Rattle.state_rows.specs.contracts.set.RowSet.{the_view}
-use Rattle.state_rows.proofs.RowLists.{mount-taken}
+use Rattle.state_rows.{proofs.RowLists.mount-taken, specs.contracts.set.RowSet.the_view}
 use Rattle.state_rows.proofs.set.RowSet.take_mount.Goals as goal
 
 pub returns : goal.returns

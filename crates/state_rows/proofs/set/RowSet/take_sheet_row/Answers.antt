@@ -1,5 +1,4 @@
-use Rattle.state_rows.specs.contracts.set.RowSet.{the_view}
-use Rattle.state_rows.proofs.RowLists.{sheet_row-taken}
+use Rattle.state_rows.{proofs.RowLists.sheet_row-taken, specs.contracts.set.RowSet.the_view}
 use Rattle.state_rows.proofs.set.RowSet.take_sheet_row.Goals as goal
 
 pub returns : goal.returns

@@ -1,4 +1,4 @@
-use Rattle.std.proofs.Common.{rules}
+use Rattle.desk_types.proofs.Common.{rules}
 use Rattle.trace_reports.proofs.kit.KitListCsvReportKitRow.write_row.Goals as goal
 
 pub returns-in-Short : goal.returns-in-Short
