@@ -19,7 +19,7 @@ day:           ## feeds a made-up shift to a desk, and prints what is asked of i
 	@examples/day
 plant-recall:  ## three lines in one PostgreSQL, and a recall over them, compared with docs/plant.md; the same recalls three ways, what a load can meet, and a company of three plants | 5 min | postgresql
 	$(say)
-	@ops/plant/try
+	@ops/tests/plant-page-test
 	@ops/tests/three-ways-test >&2
 	@ops/tests/plant-load-test >&2
 	@ops/tests/company-test >&2

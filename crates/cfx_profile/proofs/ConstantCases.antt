@@ -1,9 +1,10 @@
 -- Worked cases of the profile's limits.
-use Rattle.desk_types.proofs.Common.{◌≡◌, Err, GREATEST_LABEL, GREATEST_QUANTITY, Ok, pos, refl, Some}
+use Rattle.desk_types.proofs.Common.{◌≡◌, Err, Ok, pos, refl, Some}
 use Rattle.cfx_profile.specs.Forms.{at_most, from_1_to}
 use Rattle.cfx_profile.specs.Minute.{minute_of_day, minute_of_nanos}
 use Rattle.cfx_profile.specs.declared.fault.MessageFault.TheVariants.{BodyMember, OverLimit}
 use Rattle.cfx_profile.specs.declared.member.Member.TheVariants.{LabelMinutes, Quantity}
+use Rattle.desk_types.specs.declared.limits.TheConstants.{GREATEST_LABEL, GREATEST_QUANTITY}
 use Rattle.serde_json.specs.Read.{max_depth}
 
 -- The nesting depth of arrays and objects, including the envelope.

@@ -1,9 +1,10 @@
 -- Lists of items.
-use Rattle.desk_types.proofs.Common.{[], ◌++◌, ◌∙◌, ◌∷◌, ◌≡◌, ap, Err, length, List, Ok, refl, Result, Some, suc, sym}
-use Rattle.desk_types.proofs.Common.{ℕ}
+use Rattle.desk_types.proofs.Common.{[], ◌++◌, ◌∙◌, ◌∷◌, ◌≡◌, ap, Err, length, List, Ok, refl, Result, Some}
+use Rattle.desk_types.proofs.Common.{suc, sym, ℕ}
 use Rattle.cfx_profile.proofs.Readings.{both, both-first, both-nothing, first_of_each}
-use Rattle.cfx_profile.specs.{Lists.each, Lists.items_in, Lists.items_list, Lists.some_items, Member.member_text}
-use Rattle.cfx_profile.specs.{declared.fault.MessageFault.MessageFault, declared.member.Member.Member}
+use Rattle.cfx_profile.specs.{Lists.each, Lists.items_in, Lists.items_list, Lists.some_items}
+use Rattle.cfx_profile.specs.{Member.member_text, declared.fault.MessageFault.MessageFault}
+use Rattle.cfx_profile.specs.{declared.member.Member.Member}
 use Rattle.serde_json.specs.{Data.Data, Find.as_array, Find.get, View.items_of}
 use Rattle.std.proofs.Common.{option_and_then}
 

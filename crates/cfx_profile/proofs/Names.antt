@@ -1,7 +1,7 @@
 -- Names as a test and as a fact.
 use Rattle.desk_types.proofs.Common.{◌≡◌, ◌≤◌, All, AllPass-from_list_all, arith, false, is_designator_byte}
-use Rattle.desk_types.proofs.Common.{IsDesignator, IsId, List, list_all, Name, nat_tests, None, Option, refl, Some}
-use Rattle.desk_types.proofs.Common.{SomeIff, true, ℕ}
+use Rattle.desk_types.proofs.Common.{IsDesignator, IsId, List, list_all, Name, nat_tests, None, Option, refl}
+use Rattle.desk_types.proofs.Common.{Some, SomeIff, true, ℕ}
 use Rattle.cfx_profile.specs.Forms.{designator_of, id_of, is_designator, is_id, is_printable}
 use Rattle.std.proofs.lemmas.List.Sums.{list_all-from_AllPass}
 

@@ -1,23 +1,29 @@
 -- The content of a message only depends on the members that are read.
-use Rattle.desk_types.proofs.Common.{[], ◌==◌, ◌∙◌, ◌∷◌, ◌≡◌, ap, Bool, cond, Err, false, inl, inr, length, Level}
-use Rattle.desk_types.proofs.Common.{List, LONGEST_LIST, nat_le, None, Ok, ok_or, Option, refl, Result, Six, Some}
-use Rattle.desk_types.proofs.Common.{suc, sym, true, Word, ℕ}
+use Rattle.desk_types.proofs.Common.{[], ◌==◌, ◌∙◌, ◌∷◌, ◌≡◌, ap, Bool, cond, Err, false, inl, inr, length}
+use Rattle.desk_types.proofs.Common.{List, nat_le, None, Ok, ok_or, Option, refl, Result, Some, suc, sym}
+use Rattle.desk_types.proofs.Common.{true, ℕ}
 use Rattle.cfx_profile.specs.Bodies.{command_in, count_row_in, sheet_row_in}
 use Rattle.cfx_profile.specs.Fault.{◌>>=◌}
-use Rattle.cfx_profile.specs.Forms.{counted_in, designator_in, id_in, label_in, level_in, number_in, quantity_in}
-use Rattle.cfx_profile.specs.Forms.{text_at}
+use Rattle.cfx_profile.specs.Forms.{counted_in, designator_in, id_in, label_in, level_in, number_in}
+use Rattle.cfx_profile.specs.Forms.{quantity_in, text_at}
 use Rattle.cfx_profile.specs.Lists.{each, items_in, items_list, list_in, row_in, some_items}
-use Rattle.cfx_profile.specs.Message.{envelope_id, envelope_object, envelope_text, said_in, said_under, stamped_in}
-use Rattle.cfx_profile.specs.Skipped.{AgreeOn, AllRowsAgree, BodiesAgree, BodiesAgreeIn, EnvelopesAgree, LabelsAgree}
-use Rattle.cfx_profile.specs.Skipped.{ListsAgree, OthersAreSkipped, RowsAgree, SameOf}
+use Rattle.cfx_profile.specs.Message.{envelope_id, envelope_object, envelope_text, said_in, said_under}
+use Rattle.cfx_profile.specs.Message.{stamped_in}
+use Rattle.cfx_profile.specs.Skipped.{AgreeOn, AllRowsAgree, BodiesAgree, BodiesAgreeIn, EnvelopesAgree}
+use Rattle.cfx_profile.specs.Skipped.{LabelsAgree, ListsAgree, OthersAreSkipped, RowsAgree, SameOf}
 use Rattle.cfx_profile.specs.Word.{word_of}
 use Rattle.cfx_profile.specs.declared.fault.MessageFault.{MessageFault}
 use Rattle.cfx_profile.specs.declared.fault.MessageFault.TheVariants.{EnvelopeMember}
 use Rattle.cfx_profile.specs.declared.member.Member.{Member}
-use Rattle.cfx_profile.specs.declared.member.Member.TheVariants.{Alternate, Board, Counts, Designators, LabelMinutes}
-use Rattle.cfx_profile.specs.declared.member.Member.TheVariants.{Level as level, Lot, Machine, MessageName}
-use Rattle.cfx_profile.specs.declared.member.Member.TheVariants.{PartNumber, Product, Quantity, Reel, Rows, Slot}
-use Rattle.cfx_profile.specs.declared.member.Member.TheVariants.{Source, TimeStamp, UniqueId}
+use Rattle.cfx_profile.specs.declared.member.Member.TheVariants.{Alternate, Board, Counts, Designators}
+use Rattle.cfx_profile.specs.declared.member.Member.TheVariants.{LabelMinutes, Level as level, Lot, Machine}
+use Rattle.cfx_profile.specs.declared.member.Member.TheVariants.{MessageName, PartNumber, Product, Quantity}
+use Rattle.cfx_profile.specs.declared.member.Member.TheVariants.{Reel, Rows, Slot, Source, TimeStamp}
+use Rattle.cfx_profile.specs.declared.member.Member.TheVariants.{UniqueId}
+use Rattle.desk_types.specs.declared.level.Level.{Level}
+use Rattle.desk_types.specs.declared.level.Level.TheVariants.{Six}
+use Rattle.desk_types.specs.declared.limits.TheConstants.{LONGEST_LIST}
+use Rattle.desk_types.specs.declared.stored_word.Word.{Word}
 use Rattle.serde_json.specs.Data.{Data, Members, object}
 use Rattle.desk_types.specs.declared.stored_word.Word.TheVariants as word
 

@@ -1,15 +1,13 @@
 -- Worked cases: lists of small files that are a chain, that are refused, and faults that no chain shows.
-use Rattle.std.proofs.Common.{◌≡◌, ◌∙◌, List, [], ◌∷◌, length, take, refl, sym, ap, unwrap_or, arith}
-use Rattle.desk_types.specs.declared.command.Command.TheVariants.{MaterialsSpliced, MaterialsScrapped, WorkStarted, WorkCompleted, MaterialsInstalled}
-use Rattle.desk_types.specs.declared.command.Stamped.{Stamped}
-use Rattle.desk_types.specs.declared.rules.Rules.TheVariants.{Two}
-use Rattle.desk_types.proofs.RowsCommon.{P, L2, M, S1, K2, B2, R1, R2, at, received}
-use Rattle.desk_laws.proofs.Judgements.{judged-prefix}
-use Rattle.desk_laws.specs.Alike.{AreAlike}
-use Rattle.desk_laws.specs.Chain.{DeskFile, Carries, IsChain}
-use Rattle.desk_laws.proofs.AlikeCases.{with, old, new}
-use Rattle.desk_laws.proofs.ChainCases.{the_files_are_a_chain, the_second_file_is_carried}
+use Rattle.desk_types.proofs.Common.{[], ◌∙◌, ◌∷◌, ◌≡◌, ap, arith, length, List, refl, sym, take, unwrap_or}
+use Rattle.desk_laws.proofs.Common.{AreAlike, at, Carries, DeskFile, IsChain, K2, L2, M, MaterialsInstalled}
+use Rattle.desk_laws.proofs.Common.{MaterialsScrapped, MaterialsSpliced, P, R1, R2, received, S1, Stamped}
+use Rattle.desk_laws.proofs.Common.{Two, WorkCompleted, WorkStarted}
 use Rattle.chain_check.specs.Counted.{IsChainBy}
+use Rattle.desk_laws.proofs.AlikeCases.{new, old, with}
+use Rattle.desk_laws.proofs.ChainCases.{the_files_are_a_chain, the_second_file_is_carried}
+use Rattle.desk_laws.proofs.Judgements.{judged-prefix}
+use Rattle.desk_types.proofs.RowsCommon.{B2}
 
 abbrev first_file : DeskFile
 first_file = record { rules = Two; begun = []; whole = old }

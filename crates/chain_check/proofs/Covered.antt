@@ -1,12 +1,8 @@
 -- What holds of each listed key holds of each key of the table.
-use Rattle.std.proofs.Common.{◌≡◌, Bool, true, false, cond, Some, is_some, List, [], ◌∷◌, sym, subst, refl}
-use Rattle.std.specs.Prelude.{◌||◌}
-use Rattle.std.specs.BTreeMap.{is_at}
-use Rattle.std.specs.Cmp.{Equal-is}
-use Rattle.std.specs.List.{AllByRecursion}
-use Rattle.std.specs.declared.cmp.Ordering.{Ordering}
-use Rattle.std.proofs.lemmas.Map.Lookups.{CmpEqualImpliesEq}
+use Rattle.desk_types.proofs.Common.{[], ◌||◌, ◌∷◌, ◌≡◌, AllByRecursion, Bool, CmpEqualImpliesEq, cond, false}
+use Rattle.desk_types.proofs.Common.{is_at, is_some, List, Ordering, refl, Some, subst, sym, true}
 use Rattle.state_rows.specs.Kept.{has_key, row_at}
+use Rattle.std.specs.Cmp.{Equal-is}
 
 module _ {K : Type 0} (cmp : K → K → Ordering) (exact : CmpEqualImpliesEq cmp) (Good : K → Type 0) where
   same-key : (k q : K) → is_at (cmp k) q ≡ true → q ≡ k

@@ -1,8 +1,7 @@
 -- Lists that have the same elements at each index.
-use Rattle.std.proofs.Common.{◌≡◌, ℕ, ◌<◌, Bool, true, Some, List, [], ◌∷◌, length, suc, refl, arith}
-use Rattle.std.proofs.lemmas.Bool.{and_from as either-way}
-use Rattle.std.specs.Cmp.Lexicographic.{pointwise}
-use Rattle.std.specs.List.{slice_get}
+use Rattle.desk_types.proofs.Common.{[], ◌<◌, ◌∷◌, ◌≡◌, arith, Bool, length, List, pointwise, refl, Some, suc}
+use Rattle.desk_types.proofs.Common.{true, ℕ}
+use Rattle.std.{proofs.lemmas.Bool.and_from as either-way, specs.List.slice_get}
 
 pub gets-same : {X : Type 0} (xs ys : List X) → length xs ≡ length ys → ((k : ℕ) → k < length xs → slice_get xs k ≡ slice_get ys k) → xs ≡ ys
 gets-same [] [] len all = refl

@@ -1,20 +1,15 @@
 -- The rows over a chain are its recall.
-use Rattle.std.proofs.Common.{◌≡◌, ◌↔◌, ◌∙◌, ℕ, Bool, true, Contains, List, [], ◌∷◌, ◌++◌, length, get_or, map, refl, sym, ap}
-use Rattle.std.specs.Prelude.{Any, ◌||◌}
-use Rattle.std.specs.List.{list_any}
-use Rattle.std.proofs.Math.Bool.{or_comm}
-use Rattle.std.proofs.lemmas.List.{map-append}
-use Rattle.std.proofs.lemmas.List.Folds.{list_any-append, Any-from_list_any, list_any-from_Any}
-use Rattle.desk_types.specs.Id.{Name, same}
-use Rattle.desk_types.specs.History.{History}
-use Rattle.desk_types.specs.Placements.{boards_of}
-use Rattle.desk_laws.proofs.Mounts.{has, has-from, from-has}
-use Rattle.desk_laws.specs.Chain.{DeskFile, IsChain, boards_over, lots_over}
-use Rattle.desk_laws.proofs.ChainLots.{boards-union, lots-union}
+use Rattle.desk_types.proofs.Common.{[], ◌++◌, ◌||◌, ◌↔◌, ◌∙◌, ◌∷◌, ◌≡◌, Any, Any-from_list_any, ap}
+use Rattle.desk_types.proofs.Common.{boards_of, Bool, Contains, get_or, History, length, List, list_any}
+use Rattle.desk_types.proofs.Common.{list_any-append, list_any-from_Any, map, map-append, Name, or_comm, refl}
+use Rattle.desk_types.proofs.Common.{same, sym, true, ℕ}
+use Rattle.desk_laws.proofs.Common.{boards_over, DeskFile, IsChain, lots_over}
+use Rattle.chain_check.specs.Rows.{first_field, name_row, names_of, pieces_of, rows_over}
 use Rattle.chain_check.specs.declared.question.Question.TheVariants.{Names}
 use Rattle.chain_check.specs.declared.question.Subject.{Subject}
 use Rattle.chain_check.specs.declared.question.Subject.TheVariants.{Board, Lot}
-use Rattle.chain_check.specs.Rows.{first_field, name_row, names_of, pieces_of, rows_over}
+use Rattle.desk_laws.proofs.ChainLots.{boards-union, lots-union}
+use Rattle.desk_laws.proofs.Mounts.{from-has, has, has-from}
 
 -- The names of a file, and those in the rows of all files.
 abbrev names-in : Subject → DeskFile → List Name

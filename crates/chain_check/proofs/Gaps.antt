@@ -1,16 +1,12 @@
 -- Older files of a chain end before a file that moved on.
-use Rattle.std.proofs.Common.{◌≡◌, ℕ, ◌+◌, ◌≤◌, All, List, [], ◌∷◌, ◌++◌, max, unwrap_or, sym, ap, subst, arith}
-use Rattle.std.specs.List.{AllByRecursion}
-use Rattle.std.proofs.Math.Nat.{le-max_right}
-use Rattle.std.proofs.lemmas.List.Elements.{All-from_recursion}
-use Rattle.std.proofs.lemmas.List.Sums.{sum_by-cons}
-use Rattle.desk_types.specs.declared.command.Entry.{Entry}
-use Rattle.desk_types.specs.History.{History, IsPrefix, now_of}
-use Rattle.desk_types.specs.Id.{Name}
-use Rattle.desk_types.specs.Pieces.{left_of, found_of, placed_of, scrapped_of}
-use Rattle.desk_laws.specs.Chain.{DeskFile, Carries, IsChain, new_in, received_over, placed_over, scrapped_over}
-use Rattle.desk_laws.proofs.ChainPieces.{balance-over}
+use Rattle.desk_types.proofs.Common.{[], ◌++◌, ◌+◌, ◌∷◌, ◌≡◌, ◌≤◌, All, All-from_recursion, AllByRecursion}
+use Rattle.desk_types.proofs.Common.{ap, arith, found_of, History, IsPrefix, le-max_right, left_of, List, max}
+use Rattle.desk_types.proofs.Common.{Name, now_of, placed_of, scrapped_of, subst, sum_by-cons, sym, unwrap_or}
+use Rattle.desk_types.proofs.Common.{ℕ}
+use Rattle.desk_laws.proofs.Common.{Carries, DeskFile, Entry, IsChain, placed_over, received_over}
+use Rattle.desk_laws.proofs.Common.{scrapped_over}
 use Rattle.chain_check.specs.Counted.{Moves}
+use Rattle.desk_laws.{proofs.ChainPieces.balance-over, specs.Chain.new_in}
 
 now-later : (later : List Entry) (G : History) → now_of G ≤ now_of (later ++ G)
 now-later [] G = omega arith

@@ -1,11 +1,13 @@
 -- Histories with a difference: the new desk doesn't carry on the old one.
-use Rattle.std.proofs.Common.{◌≡◌, true, false, sym, ap, unwrap_or, ◌∙◌}
-use Rattle.desk_types.specs.History.{History}
-use Rattle.chain_check.specs.declared.difference.Difference.{Difference}
-use Rattle.chain_check.specs.declared.difference.Difference.TheVariants.{Minute, Part, Alternate, Sheet, Selection, OldWork, NewWork, Board, Reel, Remaining, Received, ReelPart, Lot, Level, Open, Life, Slot}
-use Rattle.chain_check.specs.Difference.{IsDifference, Refutes}
+use Rattle.desk_types.proofs.Common.{◌∙◌, ◌≡◌, ap, false, History, sym, true, unwrap_or}
 use Rattle.chain_check.proofs.SameReels.{same-life}
 use Rattle.chain_check.proofs.StartedBoards.{not-idle}
+use Rattle.chain_check.specs.Difference.{IsDifference, Refutes}
+use Rattle.chain_check.specs.declared.difference.Difference.{Difference}
+use Rattle.chain_check.specs.declared.difference.Difference.TheVariants.{Alternate, Board, Level, Life, Lot}
+use Rattle.chain_check.specs.declared.difference.Difference.TheVariants.{Minute, NewWork, OldWork, Open, Part}
+use Rattle.chain_check.specs.declared.difference.Difference.TheVariants.{Received, Reel, ReelPart, Remaining}
+use Rattle.chain_check.specs.declared.difference.Difference.TheVariants.{Selection, Sheet, Slot}
 
 pub refuted : (H H' : History) (d : Difference) → IsDifference H H' d → Refutes H H' d
 refuted H H' (Minute old new) is = λ alike. is.differ (sym is.old_is ∙ alike.minute ∙ is.new_is)

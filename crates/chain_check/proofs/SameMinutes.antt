@@ -1,16 +1,11 @@
 -- The minutes left of a reel from the desk minute on.
-use Rattle.std.proofs.Common.{◌≡◌, ℕ, ◌+◌, ◌-◌, ◌≤◌, Bool, true, false, is_some, Option, Some, None, refl, ap, unwrap_or, arith}
-use Rattle.std.specs.Prelude.{if◌then◌else◌}
-use Rattle.std.specs.Option.{option_map, option_map_or}
-use Rattle.desk_types.specs.declared.rules.Rules.TheVariants.{Two}
-use Rattle.desk_types.specs.declared.view.Left.TheVariants.{Minutes, Unlimited, Unbaked}
-use Rattle.desk_types.specs.Id.{Name}
-use Rattle.desk_types.specs.History.{History, now_of}
-use Rattle.desk_types.specs.FloorLife.{out_since, exposure_of, floor_life, minutes_left}
-use Rattle.desk_types.specs.Judged.{IsJudged}
+use Rattle.desk_types.proofs.Common.{◌+◌, ◌-◌, ◌≡◌, ◌≤◌, ap, arith, Bool, exposure_of, false, floor_life}
+use Rattle.desk_types.proofs.Common.{History, if◌then◌else◌, is_some, IsJudged, minutes_left, Name, None}
+use Rattle.desk_types.proofs.Common.{now_of, Option, option_map, option_map_or, out_since, refl, Some, true}
+use Rattle.desk_types.proofs.Common.{unwrap_or, ℕ}
+use Rattle.desk_laws.proofs.Common.{Minutes, Two, Unbaked, Unlimited}
 use Rattle.desk_laws.proofs.Judgements.{by-desk_minute}
-use Rattle.state_rows.proofs.Exposed.{since-by}
-use Rattle.state_rows.proofs.ReelRows.{used-then}
+use Rattle.state_rows.proofs.{Exposed.since-by, ReelRows.used-then}
 
 -- Exposure grows minute by minute while the reel is out, and stays while it is in its bag.
 later : (H : History) (reel : Name) (minute : ℕ) (since : Option ℕ) → IsJudged Two H → out_since H reel ≡ since → now_of H ≤ minute

@@ -1,29 +1,23 @@
 -- Reels of two histories, by their views.
-use Rattle.std.specs.Prelude.{◌≢◌}
-use Rattle.std.proofs.Common.{◌≡◌, ℕ, ◌+◌, ◌-◌, ◌<◌, Bool, true, false, is_some, Option, Some, None, [], refl, sym, ap, subst, ◌∙◌, arith}
-use Rattle.std.specs.Prelude.{if◌then◌else◌}
-use Rattle.std.specs.Option.{option_and_then, option_map, option_map_or}
-use Rattle.desk_types.specs.declared.command.Receipt.{Receipt}
-use Rattle.desk_types.specs.declared.level.Level.TheVariants.{One}
-use Rattle.desk_types.specs.declared.rules.Rules.TheVariants.{Two}
-use Rattle.desk_types.specs.declared.view.Left.TheVariants.{Minutes, Unlimited, Unbaked}
-use Rattle.desk_types.specs.declared.view.ReelView.{ReelView}
-use Rattle.desk_types.specs.Id.{Name}
-use Rattle.desk_types.specs.Level.{LevelWithLabel, limit_of}
-use Rattle.desk_types.specs.History.{History, now_of}
-use Rattle.desk_types.specs.Setup.{receipt_of}
-use Rattle.desk_types.specs.Pieces.{left_of, found_of}
-use Rattle.desk_types.specs.FloorLife.{out_since, floor_life, minutes_left, is_unbaked}
-use Rattle.desk_types.specs.View.{part_of, lot_of, view_of, reel_view, life_left}
-use Rattle.desk_types.specs.Judged.{IsJudged}
-use Rattle.desk_laws.proofs.Balance.{unreceived-empty}
-use Rattle.desk_laws.specs.Alike.{IsSameReel}
-use Rattle.desk_laws.specs.Chain.{quantity_of}
+use Rattle.desk_types.proofs.Common.{[], ◌+◌, ◌-◌, ◌<◌, ◌∙◌, ◌≡◌, ◌≢◌, ap, arith, Bool, false, floor_life}
+use Rattle.desk_types.proofs.Common.{found_of, History, if◌then◌else◌, is_some, is_unbaked, IsJudged, left_of}
+use Rattle.desk_types.proofs.Common.{LevelWithLabel, life_left, limit_of, minutes_left, Name, None, now_of}
+use Rattle.desk_types.proofs.Common.{Option, option_and_then, option_map, option_map_or, out_since, part_of}
+use Rattle.desk_types.proofs.Common.{receipt_of, reel_view, refl, Some, subst, sym, true, view_of, ℕ}
+use Rattle.desk_laws.proofs.Common.{IsSameReel, Minutes, quantity_of, Receipt, ReelView, Two, Unbaked}
+use Rattle.desk_laws.proofs.Common.{Unlimited}
+use Rattle.chain_check.proofs.SameMinutes.{life-parts, minutes-same}
+use Rattle.chain_check.specs.Difference.{AreViewsDifferent, Changes, IsDifference, IsViewDifference}
+use Rattle.chain_check.specs.Views.{IsCarried, IsSameView, quantity_in}
 use Rattle.chain_check.specs.declared.difference.Difference.{Difference}
-use Rattle.chain_check.specs.declared.difference.Difference.TheVariants.{Minute, Part, Alternate, Sheet, Selection, OldWork, NewWork, Board, Reel, Remaining, Received, ReelPart, Lot, Level, Open, Life, Slot}
-use Rattle.chain_check.specs.Difference.{Changes, IsDifference, IsViewDifference, AreViewsDifferent}
-use Rattle.chain_check.specs.Views.{IsSameView, IsCarried, quantity_in}
-use Rattle.chain_check.proofs.SameMinutes.{minutes-same, life-parts}
+use Rattle.chain_check.specs.declared.difference.Difference.TheVariants.{Alternate, Board, Level, Life, Lot}
+use Rattle.chain_check.specs.declared.difference.Difference.TheVariants.{Minute, NewWork, OldWork, Open, Part}
+use Rattle.chain_check.specs.declared.difference.Difference.TheVariants.{Received, Reel, ReelPart, Remaining}
+use Rattle.chain_check.specs.declared.difference.Difference.TheVariants.{Selection, Sheet, Slot}
+use Rattle.desk_laws.proofs.Balance.{unreceived-empty}
+use Rattle.desk_types.specs.View.{lot_of}
+use Rattle.desk_types.specs.declared.level.Level.TheVariants.{One}
+use Rattle.judging.proofs.FreeReels.{untold as unreceived}
 
 -- The reel was received, and this is its view.
 record IsReceived (H : History) (reel : Name) (view : ReelView) : Type 0 where
@@ -45,13 +39,6 @@ quantity-by : (H : History) (reel : Name) (view : ReelView) → reel_view H reel
 quantity-by H reel view is =
     let it = received H reel view is in
     without-found (quantity_of H reel) (found_of H reel) (quantity_in view) (ap quantity_in it.view_is)
-
-unreceived : (H : History) (reel : Name) → reel_view H reel ≡ None → receipt_of H reel ≡ None
-unreceived H reel is = by (receipt_of H reel) is
-  where
-    by : (said : Option Receipt) → option_map (view_of H reel) said ≡ None → said ≡ None
-    by None is = refl
-    by (Some receipt) is = cc
 
 same-moisture : (a b : LevelWithLabel) → a.level ≡ b.level → a.label ≡ b.label → a ≡ b
 same-moisture a b level label = λ j. record { level = level j; label = label j }

@@ -1,10 +1,9 @@
 -- Facts of rows, by key.
-use Rattle.std.proofs.Common.{◌≡◌, Bool, true, false, is_some, Option, Some, None, refl}
-use Rattle.std.proofs.Math.Bool.{beq}
-use Rattle.std.specs.Prelude.{not, ◌&&◌, IfNone}
-use Rattle.desk_types.specs.Id.{Name}
-use Rattle.state_rows.specs.Kept.{KeptRows, tables_in}
+use Rattle.desk_types.proofs.Common.{◌&&◌, ◌≡◌, Bool, false, is_some, Name, None, not, Option, refl, Some}
+use Rattle.desk_types.proofs.Common.{true}
 use Rattle.chain_check.specs.Tables.{machine_at}
+use Rattle.state_rows.specs.Kept.{KeptRows, tables_in}
+use Rattle.std.{proofs.Math.Bool.beq, specs.Prelude.IfNone}
 
 abbrev pub SamePart : KeptRows → KeptRows → Name → Type 0
 SamePart old new part = (tables_in old).parts part ≡ (tables_in new).parts part

@@ -1,24 +1,14 @@
 -- Sheets of a history, by the rows of the table.
-use Rattle.std.proofs.Common.{◌≡◌, ℕ, Bool, true, false, is_some, Option, Some, None, List, [], ◌∷◌, length, refl, sym, ap, ◌∙◌, arith}
-use Rattle.std.specs.Prelude.{◌&&◌, ◌==◌}
-use Rattle.std.specs.List.{AllByRecursion}
-use Rattle.std.specs.Option.{option_and_then}
-use Rattle.std.specs.Ordering.{is_eq}
-use Rattle.std.proofs.lemmas.Bool.{eqb-true}
-use Rattle.std.proofs.lemmas.Map.Lookups.{CmpEqualImpliesEq}
-use Rattle.desk_types.specs.declared.rules.Rules.TheVariants.{Two}
-use Rattle.desk_types.specs.declared.sheet.SheetRow.{SheetRow}
-use Rattle.desk_types.specs.Bounds.{IsListLength}
-use Rattle.desk_types.specs.Id.{Name, same}
-use Rattle.desk_types.specs.History.{History}
-use Rattle.desk_types.specs.Setup.{sheet_of}
-use Rattle.desk_types.specs.Tables.{Tables, at_place, sheet_row, tables_of}
-use Rattle.desk_types.specs.Judged.{IsJudged}
-use Rattle.desk_types.proofs.Keys.{same-true}
-use Rattle.state_rows.specs.Kept.{KeptRows, tables_in, unnumbered, by_sheet_place, Lists}
-use Rattle.state_rows.proofs.RowLists.{is_at-by_sheet_place}
-use Rattle.feeder_state.proofs.RestoredSheets.{sheet-range}
+use Rattle.desk_types.proofs.Common.{[], ◌&&◌, ◌==◌, ◌∙◌, ◌∷◌, ◌≡◌, AllByRecursion, ap, arith, at_place, Bool}
+use Rattle.desk_types.proofs.Common.{CmpEqualImpliesEq, eqb-true, false, History, is_eq, is_some, IsJudged}
+use Rattle.desk_types.proofs.Common.{IsListLength, length, List, Name, None, Option, option_and_then, refl}
+use Rattle.desk_types.proofs.Common.{same, same-true, sheet_of, Some, sym, Tables, tables_of, true, ℕ}
+use Rattle.desk_laws.proofs.Common.{SheetRow, Two}
 use Rattle.chain_check.proofs.Covered.{covered-rows}
+use Rattle.desk_types.specs.Tables.{sheet_row}
+use Rattle.feeder_state.proofs.RestoredSheets.{sheet-range}
+use Rattle.state_rows.proofs.RowLists.{is_at-by_sheet_place}
+use Rattle.state_rows.specs.Kept.{by_sheet_place, KeptRows, Lists, tables_in, unnumbered}
 
 -- A sheet whose first row has this key is the same in both histories.
 abbrev pub SameSheet : History → History → Name × Name × ℕ → Type 0

@@ -1,20 +1,13 @@
 -- Slots of a history, by the rows of mounted reels.
-use Rattle.std.proofs.Common.{◌≡◌, ℕ, Bool, true, false, cond, is_some, Option, Some, None, List, [], ◌∷◌, refl, ap, subst, ◌∙◌}
-use Rattle.std.specs.List.{slice_get}
-use Rattle.std.specs.List.{AllByRecursion, list_any}
-use Rattle.std.specs.Map.{lookup}
-use Rattle.std.specs.Option.{option_map, option_map_or}
-use Rattle.std.proofs.lemmas.Bool.{or_left}
+use Rattle.desk_types.proofs.Common.{[], ◌∙◌, ◌∷◌, ◌≡◌, AllByRecursion, ap, Bool, cond, false, first, History}
+use Rattle.desk_types.proofs.Common.{is_some, IsJudged, List, list_any, live_on, lookup, mount_row, Name}
+use Rattle.desk_types.proofs.Common.{None, Option, option_map, option_map_or, or_left, refl, same, same-refl}
+use Rattle.desk_types.proofs.Common.{same-true, Some, subst, Tables, tables_of, true, ℕ}
+use Rattle.desk_laws.proofs.Common.{Two}
 use Rattle.desk_types.specs.declared.row.MountRow.{MountRow}
-use Rattle.desk_types.specs.declared.rules.Rules.TheVariants.{Two}
-use Rattle.desk_types.specs.Id.{Name, same}
-use Rattle.desk_types.specs.History.{History}
-use Rattle.desk_types.specs.Pieces.{live_on, first}
-use Rattle.desk_types.specs.Tables.{Tables, tables_of, mount_row}
-use Rattle.desk_types.specs.Judged.{IsJudged}
-use Rattle.desk_types.proofs.Keys.{same-refl, same-true}
-use Rattle.state_rows.specs.Kept.{KeptRows, tables_in, unnumbered, without_number, ListsMounts}
 use Rattle.state_rows.proofs.MountedRows.{IsMountOf, live-mount}
+use Rattle.state_rows.specs.Kept.{KeptRows, ListsMounts, tables_in, unnumbered, without_number}
+use Rattle.std.specs.List.{slice_get}
 
 -- If the mount's reel is the first one of its slot, this holds of the slot.
 abbrev pub HoldsAtFront : (Name → Name → List Name) → (Name → Name → Type 0) → (ℕ × Name) × MountRow → Type 0

@@ -1,19 +1,10 @@
 -- Tables of two histories, by rows.
-use Rattle.std.proofs.Common.{◌≡◌, true, false, is_some, sym, ap, ◌∙◌}
-use Rattle.std.specs.Option.{option_and_then}
-use Rattle.desk_types.specs.declared.row.BoardRow.{BoardRow}
-use Rattle.desk_types.specs.declared.rules.Rules.TheVariants.{Two}
-use Rattle.desk_types.specs.Id.{Name}
-use Rattle.desk_types.specs.History.{History}
-use Rattle.desk_types.specs.Tables.{Tables, tables_of, board_row}
-use Rattle.desk_types.specs.Judged.{IsJudged}
-use Rattle.desk_types.specs.Work.{is_in_work}
-use Rattle.state_rows.specs.Kept.{KeptRows, tables_in, unnumbered}
-use Rattle.state_rows.proofs.DesksOfRows.{machine_in, in_work-row}
-use Rattle.desk_laws.specs.Alike.{IsIdle}
-use Rattle.desk_laws.specs.Past.{is_started}
-use Rattle.chain_check.specs.Tables.{machine_at}
-use Rattle.chain_check.proofs.StartedBoards.{idle, started-row}
+use Rattle.desk_types.proofs.Common.{◌∙◌, ◌≡◌, ap, board_row, false, History, is_in_work, is_some, IsJudged}
+use Rattle.desk_types.proofs.Common.{Name, option_and_then, sym, Tables, tables_of, true}
+use Rattle.desk_laws.proofs.Common.{BoardRow, is_started, IsIdle, Two}
+use Rattle.chain_check.{proofs.StartedBoards.idle, proofs.StartedBoards.started-row, specs.Tables.machine_at}
+use Rattle.state_rows.{proofs.DesksOfRows.in_work-row, proofs.DesksOfRows.machine_in, specs.Kept.KeptRows}
+use Rattle.state_rows.{specs.Kept.tables_in, specs.Kept.unnumbered}
 
 -- Values that are the same in two tables are the same in their histories, and the other way.
 module _ (H H' : History) (old new : KeptRows) (is : unnumbered (tables_in old) ≡ unnumbered (tables_of H)) (is' : unnumbered (tables_in new) ≡ unnumbered (tables_of H')) where

@@ -1,18 +1,11 @@
 -- Boards of a history, by their rows.
-use Rattle.std.proofs.Common.{◌≡◌, Bool, true, false, is_some, Option, Some, None, refl, ap, ◌∙◌}
-use Rattle.std.specs.Option.{option_map}
-use Rattle.desk_types.specs.declared.row.BoardRow.{BoardRow}
-use Rattle.desk_types.specs.declared.rules.Rules.TheVariants.{Two}
-use Rattle.desk_types.specs.Id.{Name}
-use Rattle.desk_types.specs.History.{History}
-use Rattle.desk_types.specs.Work.{in_work_on, is_in_work, product_of}
-use Rattle.desk_types.specs.Tables.{board_row, work_machine}
-use Rattle.desk_types.specs.Judged.{IsJudged}
+use Rattle.desk_types.proofs.Common.{◌∙◌, ◌≡◌, ap, board_row, Bool, false, History, in_work_on, is_in_work}
+use Rattle.desk_types.proofs.Common.{is_some, IsJudged, Name, None, Option, option_map, product_of, refl}
+use Rattle.desk_types.proofs.Common.{Some, true, work_machine}
+use Rattle.desk_laws.proofs.Common.{BoardRow, is_started, IsIdle, Two}
+use Rattle.desk_laws.proofs.FromAlike.{started-product, unstarted-product}
 use Rattle.desk_laws.proofs.Lookups.{in_work-somewhere}
 use Rattle.state_rows.proofs.DesksOfRows.{machine_in, work-on_row}
-use Rattle.desk_laws.specs.Alike.{IsIdle}
-use Rattle.desk_laws.specs.Past.{is_started}
-use Rattle.desk_laws.proofs.FromAlike.{started-product, unstarted-product}
 
 -- ---- boards in work
 

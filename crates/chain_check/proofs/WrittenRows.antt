@@ -1,14 +1,12 @@
 -- One more row, or the rows of one more file, of an answer.
-use Rattle.std.proofs.Common.{◌≡◌, ◌∙◌, ℕ, ◌+◌, ◌<◌, List, [], ◌∷◌, ◌++◌, length, take, map, get_or, sym, ap, append_assoc}
-use Rattle.std.specs.List.{flat_map}
-use Rattle.std.proofs.lemmas.List.{flat_map_more, map-append}
-use Rattle.std.proofs.lemmas.List.Concat.{flat_map-append}
-use Rattle.desk_types.proofs.LoopSteps.{take-next}
-use Rattle.trace_reports.specs.Csv.{csv_text, record_text}
-use Rattle.trace_reports.specs.Sets.{Fields}
-use Rattle.desk_laws.specs.Chain.{DeskFile}
-use Rattle.chain_check.specs.declared.question.Question.{Question}
-use Rattle.chain_check.specs.Rows.{answer_over, asked_of, facts_of, header_of, rows_in, rows_over, rows_text}
+use Rattle.desk_types.proofs.Common.{[], ◌++◌, ◌+◌, ◌<◌, ◌∙◌, ◌∷◌, ◌≡◌, ap, append_assoc, flat_map}
+use Rattle.desk_types.proofs.Common.{flat_map-append, get_or, length, List, map, map-append, sym, take}
+use Rattle.desk_types.proofs.Common.{take-next, ℕ}
+use Rattle.desk_laws.proofs.Common.{DeskFile}
+use Rattle.chain_check.specs.{Rows.answer_over, Rows.asked_of, Rows.facts_of, Rows.header_of, Rows.rows_in}
+use Rattle.chain_check.specs.{Rows.rows_over, Rows.rows_text, declared.question.Question.Question}
+use Rattle.std.proofs.lemmas.List.{flat_map_more}
+use Rattle.trace_reports.specs.{Csv.csv_text, Csv.record_text, Sets.Fields}
 
 pub row-next : {X : Type 0} (fields : X → Fields) (rows : List X) (i : ℕ) (row : X) (text : List ℕ) → i < length rows → row ≡ get_or rows i row
     → (text ++ rows_text (map fields (take i rows))) ++ record_text (fields row) ≡ text ++ rows_text (map fields (take (i + 1) rows))

@@ -1,9 +1,8 @@
 -- The chain of an answer; and which statuses a run without an answer has.
-use Rattle.std.proofs.Common.{◌≡◌, ◌⊎◌, ℕ, Option, Some, None, List, sym, subst, inl, inr, arith}
-use Rattle.desk_laws.specs.Chain.{DeskFile, IsChain}
+use Rattle.desk_types.proofs.Common.{◌≡◌, ◌⊎◌, arith, inl, inr, List, None, Option, Some, subst, sym, ℕ}
+use Rattle.desk_laws.proofs.Common.{DeskFile, IsChain}
 use Rattle.chain_check.specs.declared.chain.Chain.{Chain}
-use Rattle.chain_files.specs.Files.{Continues}
-use Rattle.chain_files.specs.Whole.{IsStopped}
+use Rattle.chain_files.specs.{Files.Continues, Whole.IsStopped}
 
 pub are-chain : (chain : Option Chain) (files : List DeskFile) → Continues chain files → IsChain files
 are-chain None files none = subst (λ (fs : List DeskFile). IsChain fs) (sym none) tt

@@ -1,32 +1,21 @@
 -- The pieces of a lot or reel, or on a board, by what a store's calls return.
-use Rattle.std.proofs.Common.{◌≡◌, ◌∙◌, Bool, true, false, Contains, Option, Some, None, is_some, List, [], ◌∷◌, filter, map, refl, sym, ap, subst}
-use Rattle.std.specs.Prelude.{if◌then◌else◌, unwrap_or, ◌||◌}
-use Rattle.std.specs.Option.{option_map, option_map_or}
-use Rattle.std.specs.List.{AllByRecursion}
-use Rattle.std.specs.Cmp.Lexicographic.{nat_list_eq_equiv}
-use Rattle.std.proofs.lemmas.List.Elements.{recursion_from_All}
-use Rattle.std.proofs.lemmas.Map.Views.{Contains-from_any, list_any-from_Contains}
-use Rattle.sqlite_trees.proofs.ListLemmas.{filter_none}
-use Rattle.sqlite_keyed.proofs.ListLemmas.{all_weaker}
-use Rattle.desk_types.specs.declared.command.Receipt.{Receipt}
-use Rattle.desk_types.specs.declared.placement.Placement.{Placement}
-use Rattle.desk_types.specs.declared.rules.Rules.TheVariants.{Two}
-use Rattle.desk_types.specs.Id.{Name, same}
-use Rattle.desk_types.specs.History.{History}
-use Rattle.desk_types.specs.Judged.{IsJudged}
-use Rattle.desk_types.specs.Placements.{placements_of, boards_of}
-use Rattle.desk_types.specs.Setup.{receipt_of}
-use Rattle.desk_types.proofs.Keys.{same-refl, same-true}
-use Rattle.desk_laws.specs.Verified.{IsRightlyPlaced}
-use Rattle.desk_laws.proofs.InstalledPieces.{rightly-placed}
-use Rattle.desk_laws.proofs.Mounts.{has}
-use Rattle.desk_laws.proofs.NameSets.{has-set, traces-agree}
-use Rattle.line_traces.specs.Pieces.{AreConverse, board_trace, is_board, is_lot, lot_board_names, lot_trace, pieces_on}
-use Rattle.line_traces.proofs.Converse.{names-told, told-converse, told-all}
-use Rattle.line_traces.proofs.PlacedColumns.{receipt-there}
-use Rattle.line_traces.proofs.StartedAndReceived.{receipt-lot}
-use Rattle.chain_check.specs.declared.question.Subject.TheVariants.{Board, Lot, Reel}
-use Rattle.chain_check.specs.Rows.{is_of, pieces_of}
+use Rattle.desk_types.proofs.Common.{[], ◌||◌, ◌∙◌, ◌∷◌, ◌≡◌, AllByRecursion, ap, boards_of, Bool, Contains}
+use Rattle.desk_types.proofs.Common.{Contains-from_any, false, filter, History, if◌then◌else◌, is_some}
+use Rattle.desk_types.proofs.Common.{IsJudged, List, list_any-from_Contains, map, Name, nat_list_eq_equiv}
+use Rattle.desk_types.proofs.Common.{None, Option, option_map, option_map_or, placements_of, receipt_of}
+use Rattle.desk_types.proofs.Common.{recursion_from_All, refl, same, same-refl, same-true, Some, subst, sym}
+use Rattle.desk_types.proofs.Common.{true, unwrap_or}
+use Rattle.desk_laws.proofs.Common.{IsRightlyPlaced, Placement, Receipt, Two}
+use Rattle.line_tables.proofs.Common.{all_weaker, filter_none}
+use Rattle.chain_check.specs.{Rows.is_of, Rows.pieces_of, declared.question.Subject.TheVariants.Board}
+use Rattle.chain_check.specs.{declared.question.Subject.TheVariants.Lot}
+use Rattle.chain_check.specs.{declared.question.Subject.TheVariants.Reel}
+use Rattle.desk_laws.proofs.{InstalledPieces.rightly-placed, Mounts.has, NameSets.has-set}
+use Rattle.desk_laws.proofs.{NameSets.traces-agree}
+use Rattle.line_traces.proofs.{Converse.names-told, Converse.told-all, Converse.told-converse}
+use Rattle.line_traces.proofs.{PlacedColumns.receipt-there, StartedAndReceived.receipt-lot}
+use Rattle.line_traces.specs.Pieces.{AreConverse, board_trace, is_board, is_lot, lot_board_names, lot_trace}
+use Rattle.line_traces.specs.Pieces.{pieces_on}
 
 all-right : (H : History) → IsJudged Two H → AllByRecursion (IsRightlyPlaced H) (placements_of H)
 all-right H judged = recursion_from_All (IsRightlyPlaced H) (placements_of H) (rightly-placed H judged)

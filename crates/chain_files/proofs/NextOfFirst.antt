@@ -1,26 +1,15 @@
 -- The row of the number that follows a first part of a history is that of its next entry.
-use Rattle.std.proofs.Common.{◌≡◌, ◌∙◌, ◌+◌, ◌<◌, ℕ, pos, Bool, true, false, List, [], ◌∷◌, ◌++◌, length, filter, refl, sym, ap, subst, if◌then◌else◌, is_eq, Greater, arith, length-append}
-use Rattle.std.proofs.lemmas.Bool.Decides.{nat_tests}
-use Rattle.std.proofs.lemmas.Int.{ints}
-use Rattle.std.specs.List.Sorted.{IsPermutation}
-use Rattle.std.proofs.lemmas.List.Sorted.{IsPermutation-refl}
-use Rattle.sqlite_trees.proofs.ListLemmas.{filter_none, IsPermutation-filter}
-use Rattle.sqlite.proofs.Callers.{one_permutation}
-use Rattle.sqlite.specs.declared.types.Value.TheVariants.{Int}
-use Rattle.sqlite_value.specs.Order.{Row, value_cmp}
-use Rattle.sqlite_value.proofs.OrderLemmas.{value_cmp-Int}
-use Rattle.sqlite.specs.State.{State}
-use Rattle.desk_types.specs.declared.command.Entry.{Entry}
-use Rattle.desk_types.specs.declared.rules.Rules.{Rules}
-use Rattle.desk_types.specs.declared.rules.Rules.TheVariants.{Two}
-use Rattle.desk_types.specs.History.{History, Basis, IsPrefix}
-use Rattle.desk_types.specs.Judged.{IsJudged}
-use Rattle.line_tables.specs.Calls.{has_number}
-use Rattle.line_tables.specs.Rows.{accepted_in}
-use Rattle.line_replay.specs.Rows.{entry_row, rows_of}
-use Rattle.line_replay.proofs.RowsOfLists.{none_numbered}
-use Rattle.chain_files.specs.First.{TakesNext, HoldsHistory}
+use Rattle.desk_types.proofs.Common.{[], ◌++◌, ◌+◌, ◌<◌, ◌∙◌, ◌∷◌, ◌≡◌, ap, arith, Basis, Bool, false, filter}
+use Rattle.desk_types.proofs.Common.{History, if◌then◌else◌, ints, IsJudged, IsPermutation}
+use Rattle.desk_types.proofs.Common.{IsPermutation-refl, IsPrefix, length, length-append, List, nat_tests}
+use Rattle.desk_types.proofs.Common.{pos, refl, subst, sym, true, ℕ}
+use Rattle.desk_laws.proofs.Common.{Entry, Rules, Two}
+use Rattle.line_tables.proofs.Common.{accepted_in, filter_none, has_number, Int, IsPermutation-filter}
+use Rattle.line_tables.proofs.Common.{one_permutation, Row, State, value_cmp, value_cmp-Int}
+use Rattle.chain_files.specs.First.{HoldsHistory, TakesNext}
+use Rattle.line_replay.{proofs.RowsOfLists.none_numbered, specs.Rows.entry_row, specs.Rows.rows_of}
 use Rattle.line_tables.proofs.Keyed.{number_test}
+use Rattle.std.proofs.Common.{Greater, is_eq}
 
 -- ---- numbers
 

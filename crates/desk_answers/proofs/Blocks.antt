@@ -1,7 +1,7 @@
 -- Bytes taken from a block.
-use Rattle.desk_types.proofs.Common.{[], ◌++◌, ◌+◌, ◌-◌, ◌∙◌, ◌≡◌, ◌≤◌, ap, append_assoc, arith, Consumes, drop}
-use Rattle.desk_types.proofs.Common.{IsAtEnd, length, List, None, Option, prepend_known, refl, Some, subst, sym, take}
-use Rattle.desk_types.proofs.Common.{ℕ}
+use Rattle.desk_types.proofs.Common.{[], ◌++◌, ◌+◌, ◌-◌, ◌∙◌, ◌≡◌, ◌≤◌, ap, append_assoc, arith, Consumes}
+use Rattle.desk_types.proofs.Common.{drop, IsAtEnd, length, List, None, Option, prepend_known, refl, Some}
+use Rattle.desk_types.proofs.Common.{subst, sym, take, ℕ}
 use Rattle.std.{proofs.lemmas.List.take-take, specs.List.slice_range}
 
 pub front_goes : (xs ys zs : List ℕ) (known : Option (List ℕ)) → xs ≡ ys ++ zs → Consumes (prepend_known xs known) (prepend_known zs known) ys

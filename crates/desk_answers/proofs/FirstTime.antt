@@ -1,7 +1,8 @@
 -- A message that is sent for the first time.
-use Rattle.desk_types.proofs.Common.{[], ◌∙◌, ◌∷◌, ◌≡◌, AllByRecursion, Bool, cond, Entry, false, History, List, map}
-use Rattle.desk_types.proofs.Common.{Name, None, Option, refl, same, same-sym, Some, Stamped, true}
+use Rattle.desk_types.proofs.Common.{[], ◌∙◌, ◌∷◌, ◌≡◌, AllByRecursion, Bool, cond, false, History, List, map}
+use Rattle.desk_types.proofs.Common.{Name, None, Option, refl, same, same-sym, Some, true}
 use Rattle.desk_answers.specs.Commands.{answer_under, earlier_answer}
+use Rattle.desk_types.specs.{declared.command.Entry.Entry, declared.command.Stamped.Stamped}
 
 pub first-uid : (H : History) (s : Stamped) → earlier_answer H s ≡ None → AllByRecursion (λ uid. same s.uid uid ≡ false) (map (λ (e : Entry). e.stamped.uid) H)
 first-uid [] s none = tt

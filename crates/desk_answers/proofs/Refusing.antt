@@ -1,13 +1,17 @@
 -- A refused command leaves the history unchanged.
-use Rattle.desk_types.proofs.Common.{◌||◌, ◌≡◌, accept, ap, Bool, change_of, cond, false, History, is_some, None}
-use Rattle.desk_types.proofs.Common.{Option, option_map_or, refl, Refusal, refusal_of, Rules, Some, Stamped, sym}
-use Rattle.desk_types.proofs.Common.{true, unwrap_or, ℕ}
+use Rattle.desk_types.proofs.Common.{◌||◌, ◌≡◌, accept, ap, Bool, change_of, cond, false, History, is_some}
+use Rattle.desk_types.proofs.Common.{None, Option, option_map_or, refl, refusal_of, Some, sym, true}
+use Rattle.desk_types.proofs.Common.{unwrap_or, ℕ}
 use Rattle.desk_answers.specs.Commands.{command_after, command_answer, earlier_answer, is_full, is_refused}
 use Rattle.desk_answers.specs.Commands.{judged_answer}
 use Rattle.desk_answers.specs.Ledger.{IsAnswer, Ledger, ledger_after}
 use Rattle.desk_answers.specs.declared.answer.Answer.{Answer}
-use Rattle.desk_answers.specs.declared.answer.Answer.TheVariants.{Accepted, DeskFull, IdReused, Refused, Unavailable}
+use Rattle.desk_answers.specs.declared.answer.Answer.TheVariants.{Accepted, DeskFull, IdReused, Refused}
+use Rattle.desk_answers.specs.declared.answer.Answer.TheVariants.{Unavailable}
 use Rattle.desk_types.specs.declared.answer.Detail.{Detail}
+use Rattle.desk_types.specs.declared.answer.Refusal.{Refusal}
+use Rattle.desk_types.specs.declared.command.Stamped.{Stamped}
+use Rattle.desk_types.specs.declared.rules.Rules.{Rules}
 use Rattle.desk_types.specs.declared.answer.Reply.TheVariants as reply
 
 by_cases : (H grown : History) (s : Stamped) (detail : Detail) (earlier : Option Answer) (full : Bool) (refusal : Option Refusal)

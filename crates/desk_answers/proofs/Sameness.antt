@@ -1,10 +1,6 @@
 -- Messages that compare equal by `==` are equal.
-use Rattle.desk_types.proofs.Common.{◌&&◌, ◌==◌, ◌∙◌, ◌≡◌, AlternateAllowed, and_parts, ap, ClockSet, Command}
-use Rattle.desk_types.proofs.Common.{CountRow, CountsTaken, eqb-true, false, Five, FiveA, Four, Level, LevelWithLabel}
-use Rattle.desk_types.proofs.Common.{MaterialsInstalled, MaterialsLoaded, MaterialsScrapped, MaterialsSpliced}
-use Rattle.desk_types.proofs.Common.{MaterialsUnloaded, PartDefined, pointwise, ProductSelected, ReelBaked}
-use Rattle.desk_types.proofs.Common.{ReelOpened, ReelReceived, ReelSealed, refl, same, same-true, SheetDefined, Six}
-use Rattle.desk_types.proofs.Common.{Stamped, sym, Three, true, TwoA, WorkCompleted, WorkStarted}
+use Rattle.desk_types.proofs.Common.{◌&&◌, ◌==◌, ◌∙◌, ◌≡◌, and_parts, ap, eqb-true, false, LevelWithLabel}
+use Rattle.desk_types.proofs.Common.{pointwise, refl, same, same-true, sym, true}
 use Rattle.desk_answers.specs.Repeats.{is_same}
 use Rattle.desk_types.proofs.Sameness.{lists-same, sheet_rows-same}
 use Rattle.desk_types.specs.contracts.command.CommandPartialEq.TheImpl.{ghosts as command}
@@ -13,7 +9,18 @@ use Rattle.desk_types.specs.contracts.count.CountRowPartialEq.TheImpl.{ghosts as
 use Rattle.desk_types.specs.contracts.level.LevelPartialEq.TheImpl.{ghosts as levels}
 use Rattle.desk_types.specs.contracts.level.MoisturePartialEq.TheImpl.{ghosts as moisture}
 use Rattle.desk_types.specs.contracts.sheet.SheetRowPartialEq.TheImpl.{ghosts as sheet_row}
-use Rattle.desk_types.specs.declared.level.Level.TheVariants.{One, Two}
+use Rattle.desk_types.specs.declared.command.Command.{Command}
+use Rattle.desk_types.specs.declared.command.Command.TheVariants.{AlternateAllowed, ClockSet, CountsTaken}
+use Rattle.desk_types.specs.declared.command.Command.TheVariants.{MaterialsInstalled, MaterialsLoaded}
+use Rattle.desk_types.specs.declared.command.Command.TheVariants.{MaterialsScrapped, MaterialsSpliced}
+use Rattle.desk_types.specs.declared.command.Command.TheVariants.{MaterialsUnloaded, PartDefined}
+use Rattle.desk_types.specs.declared.command.Command.TheVariants.{ProductSelected, ReelBaked, ReelOpened}
+use Rattle.desk_types.specs.declared.command.Command.TheVariants.{ReelReceived, ReelSealed, SheetDefined}
+use Rattle.desk_types.specs.declared.command.Command.TheVariants.{WorkCompleted, WorkStarted}
+use Rattle.desk_types.specs.declared.command.Stamped.{Stamped}
+use Rattle.desk_types.specs.declared.count.CountRow.{CountRow}
+use Rattle.desk_types.specs.declared.level.Level.{Level}
+use Rattle.desk_types.specs.declared.level.Level.TheVariants.{Five, FiveA, Four, One, Six, Three, Two, TwoA}
 use Rattle.std.proofs.lemmas.Bool.{false≢true}
 
 count_rows_same : (a b : CountRow) → count_row.eq a b ≡ true → a ≡ b

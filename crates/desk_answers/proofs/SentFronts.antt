@@ -1,6 +1,6 @@
 -- Bytes sent in pieces.
-use Rattle.desk_types.proofs.Common.{◌++◌, ◌+◌, Appends, Appends-trans, arith, length, length-append, List, Option}
-use Rattle.desk_types.proofs.Common.{subst, sym, take, take-append-add, ℕ}
+use Rattle.desk_types.proofs.Common.{◌++◌, ◌+◌, Appends, Appends-trans, arith, length, length-append, List}
+use Rattle.desk_types.proofs.Common.{Option, subst, sym, take, take-append-add, ℕ}
 use Rattle.desk_answers.specs.Sent.{SendsFront}
 
 pub front_after : (a b c : Option (List ℕ)) (text more : List ℕ) → Appends a b text → SendsFront b c more → SendsFront a c (text ++ more)

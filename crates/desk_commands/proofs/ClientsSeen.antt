@@ -1,8 +1,8 @@
 -- The events of clients, one after another.
-use Rattle.desk_types.proofs.Common.{[], ◌++◌, ◌∷◌, ◌≡◌, ◌≢◌, append-nil, append_assoc, flat_map-append, List, Option}
-use Rattle.desk_types.proofs.Common.{refl, subst, sym, ℕ}
-use Rattle.desk_commands.specs.Clients.{Event, events_at, events_in, events_on, Exchange, no_client, no_line, no_port}
-use Rattle.desk_commands.specs.Clients.{Sees, served_all, ServesAt, ServesOn, Serving, Stop}
+use Rattle.desk_types.proofs.Common.{[], ◌++◌, ◌∷◌, ◌≡◌, ◌≢◌, append-nil, append_assoc, flat_map-append, List}
+use Rattle.desk_types.proofs.Common.{Option, refl, subst, sym, ℕ}
+use Rattle.desk_commands.specs.Clients.{Event, events_at, events_in, events_on, Exchange, no_client, no_line}
+use Rattle.desk_commands.specs.Clients.{no_port, Sees, served_all, ServesAt, ServesOn, Serving, Stop}
 use Rattle.std.specs.Prelude.{flat_map}
 
 -- The port was open.

@@ -1,29 +1,33 @@
 -- The files that a command left open, after they are closed.
-use Rattle.desk_types.proofs.Common.{∥∥₁_map, ⊤, ◌∙◌, ◌≡◌, ◌⊎◌, ap, arith, cases_Bool, History, inl, inr, IsTrue}
-use Rattle.desk_types.proofs.Common.{length, None, One, Option, refl, Some, subst, sym, true, ℕ}
-use Rattle.line_tables.proofs.Common.{Database, file_state, HasCleanDisk, Held, LeavesMigrated, Opens, over_files}
-use Rattle.line_tables.proofs.Common.{State, Trees}
+use Rattle.desk_types.proofs.Common.{∥∥₁_map, ⊤, ◌∙◌, ◌≡◌, ◌⊎◌, ap, arith, cases_Bool, History, inl, inr}
+use Rattle.desk_types.proofs.Common.{IsTrue, length, None, Option, refl, Some, subst, sym, true, ℕ}
+use Rattle.line_tables.proofs.Common.{Database, file_state, HasCleanDisk, Held, LeavesMigrated, One, Opens}
+use Rattle.line_tables.proofs.Common.{over_files, State, Trees}
 use Rattle.desk_answers.specs.Ledger.{Ledger}
-use Rattle.desk_commands.specs.{Closed.AuditsTo, Closed.Close, Closed.ClosesLeft, Closed.failed, Closed.HoldsDesk}
-use Rattle.desk_commands.specs.{Closed.HoldsFound, Closed.IsRefusedTo, Closed.MigratesTo, Closed.RefusesTo}
-use Rattle.desk_commands.specs.{Closed.RefusesToMigrateTo, Closed.RunsTo, Closed.whole, Runs.Audits, Runs.Migrates}
-use Rattle.desk_commands.specs.{Runs.Refuses, Runs.RefusesToMigrate, Runs.RunsOn, declared.left.ToClose.ToClose}
-use Rattle.desk_commands.specs.{declared.left.ToClose.TheVariants.Desk, declared.left.ToClose.TheVariants.Migrated}
-use Rattle.desk_commands.specs.{declared.left.ToClose.TheVariants.Nothing, declared.left.ToClose.TheVariants.Refused}
+use Rattle.desk_commands.specs.Closed.{AuditsTo, Close, ClosesLeft, failed, HoldsDesk, HoldsFound}
+use Rattle.desk_commands.specs.Closed.{IsRefusedTo, MigratesTo, RefusesTo, RefusesToMigrateTo, RunsTo, whole}
+use Rattle.desk_commands.specs.Runs.{Audits, Migrates, Refuses, RefusesToMigrate, RunsOn}
+use Rattle.desk_commands.specs.declared.left.ToClose.{ToClose}
+use Rattle.desk_commands.specs.declared.left.ToClose.TheVariants.{Desk, Migrated, Nothing, Refused}
 use Rattle.desk_file.proofs.FirstLists.{found}
-use Rattle.desk_file.specs.{Files.IsFoundIn, Files.IsLeft, Refused.idle_state, Refused.IsFaultFor, Refused.IsFaultIn}
-use Rattle.desk_file.specs.{Refused.IsRefused, Refused.IsUnchangedSince, Refused.LeavesMade}
-use Rattle.feeder_state.specs.{contracts.desk.StateDeskDesk.TheImpl.ghosts as state}
-use Rattle.feeder_state.specs.{declared.desk.StateDesk.StateDesk}
+use Rattle.desk_file.specs.Files.{IsFoundIn, IsLeft}
+use Rattle.desk_file.specs.Refused.{idle_state, IsFaultFor, IsFaultIn, IsRefused, IsUnchangedSince}
+use Rattle.desk_file.specs.Refused.{LeavesMade}
+use Rattle.feeder_state.specs.contracts.desk.StateDeskDesk.TheImpl.{ghosts as state}
+use Rattle.feeder_state.specs.declared.desk.StateDesk.{StateDesk}
 use Rattle.line_replay.specs.Rows.{ledger_tables}
-use Rattle.line_schema.specs.{Stands.conn_of, Stands.Kept, Stands.Stands, declared.fault.OpenFault.OpenFault}
-use Rattle.line_schema.specs.{declared.fault.OpenFault.TheVariants.NotADesk}
-use Rattle.line_schema.specs.{declared.fault.OpenFault.TheVariants.Unavailable, declared.store.LineStore.LineStore}
+use Rattle.line_schema.specs.Stands.{conn_of, Kept, Stands}
+use Rattle.line_schema.specs.declared.fault.OpenFault.{OpenFault}
+use Rattle.line_schema.specs.declared.fault.OpenFault.TheVariants.{NotADesk, Unavailable}
+use Rattle.line_schema.specs.declared.store.LineStore.{LineStore}
 use Rattle.sqlite.specs.Closing.{HoldsAlone, IsCopied}
 use Rattle.sqlite_disk.specs.declared.Files.{Files}
-use Rattle.sqlite_store.specs.{Laws.settled_at, declared.store.FileStore.FileStore}
+use Rattle.sqlite_store.specs.Laws.{settled_at}
+use Rattle.sqlite_store.specs.declared.store.FileStore.{FileStore}
 use Rattle.sqlite_wal.proofs.LogLemmas.{SeenMayStay}
-use Rattle.sqlite_wal.specs.{Files.image_at, Reads.AreClean, Recovery.Image}
+use Rattle.sqlite_wal.specs.Files.{image_at}
+use Rattle.sqlite_wal.specs.Reads.{AreClean}
+use Rattle.sqlite_wal.specs.Recovery.{Image}
 use Rattle.std.proofs.lemmas.Bool.{both_ways}
 use Rattle.std.specs.Prelude.{MatchOption}
 use Rattle.sqlite_disk.specs.declared.Disk as disk

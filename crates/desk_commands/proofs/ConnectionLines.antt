@@ -2,8 +2,9 @@
 use Rattle.desk_types.proofs.Common.{[], ◌++◌, ◌+◌, ◌∙◌, ◌∷◌, ◌≡◌, ap, append-nil, append_assoc, Appends}
 use Rattle.desk_types.proofs.Common.{Appends-trans, arith, length, length-append, List, Option, subst, sym}
 use Rattle.desk_types.proofs.Common.{take-append-le, ℕ}
-use Rattle.desk_answers.{proofs.SentFronts.front_after, specs.Sent.SendsFront}
-use Rattle.desk_commands.{specs.Clients.Ended, specs.Connections.connection_line, specs.Connections.lines_from}
+use Rattle.desk_answers.proofs.SentFronts.{front_after}
+use Rattle.desk_answers.specs.Sent.{SendsFront}
+use Rattle.desk_commands.specs.{Clients.Ended, Connections.connection_line, Connections.lines_from}
 
 pub lines_more : (n : ℕ) (ends : List Ended) (ended : Ended) (number : ℕ) → number ≡ n + length ends → lines_from n (ends ++ ended ∷ []) ≡ lines_from n ends ++ connection_line number ended
 lines_more n [] ended number is =

@@ -1,9 +1,11 @@
 -- The end of a run, with facts that follow from its own.
-use Rattle.desk_types.proofs.Common.{◌≡◌, arith, History, inl, inr, List, Option, refl, Wire, ℕ}
+use Rattle.desk_types.proofs.Common.{◌≡◌, arith, History, inl, inr, List, Option, refl, ℕ}
+use Rattle.desk_laws.proofs.Common.{Wire}
 use Rattle.desk_answers.specs.Ledger.{Ledger}
 use Rattle.desk_commands.specs.{Clients.Serving, Connections.AnswersEach, Ends.FeedEnds, Ends.ImportEnds}
 use Rattle.desk_commands.specs.{Ends.PrintEnds, Ends.ReportEnds, Ends.ServingEnds, OpenRuns.AnswersAll}
-use Rattle.desk_commands.specs.{OpenRuns.AnswersImport, OpenRuns.AnswersUpTo, OpenRuns.CutsImport, OpenRuns.StaysSame}
+use Rattle.desk_commands.specs.{OpenRuns.AnswersImport, OpenRuns.AnswersUpTo, OpenRuns.CutsImport}
+use Rattle.desk_commands.specs.{OpenRuns.StaysSame}
 use Rattle.http_stream.specs.{Answers.Told, Stream.RuleBy}
 use Rattle.imports.specs.declared.import.Import.{Import}
 

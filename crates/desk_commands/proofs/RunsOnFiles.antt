@@ -1,8 +1,10 @@
 -- A run on a desk in a file.
-use Rattle.desk_types.proofs.Common.{◌≡◌, History, length, None, Option, refl, subst, sym, true, Two, ℕ}
+use Rattle.desk_types.proofs.Common.{◌≡◌, History, length, None, Option, refl, subst, sym, true, ℕ}
+use Rattle.desk_laws.proofs.Common.{Two}
 use Rattle.line_tables.proofs.Common.{HasCleanDisk, over_files}
 use Rattle.desk_answers.specs.Ledger.{ForLists, Ledger}
-use Rattle.desk_commands.specs.{OpenRuns.StaysSame, Runs.Audits, Runs.RunsOn, declared.left.ToClose.TheVariants.Desk}
+use Rattle.desk_commands.specs.{OpenRuns.StaysSame, Runs.Audits, Runs.RunsOn}
+use Rattle.desk_commands.specs.{declared.left.ToClose.TheVariants.Desk}
 use Rattle.desk_file.specs.Files.{Begins, HasOursFirst}
 use Rattle.feeder_state.specs.{contracts.desk.StateDeskDesk.TheImpl.ghosts as state}
 use Rattle.feeder_state.specs.{declared.desk.StateDesk.StateDesk}

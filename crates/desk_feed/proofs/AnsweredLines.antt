@@ -1,13 +1,15 @@
 -- Lines answered one after another.
-use Rattle.desk_types.proofs.Common.{[], ◌++◌, ◌+◌, ◌-◌, ◌<◌, ◌==◌, ◌∙◌, ◌∷◌, ◌≡◌, ◌≤◌, ap, append-nil, Appends}
-use Rattle.desk_types.proofs.Common.{Appends-trans, arith, Bool, common_steps, cond, count_by, false, flat_map}
-use Rattle.desk_types.proofs.Common.{flat_map-append, get_or, History, length, length-append, length-take, List}
-use Rattle.desk_types.proofs.Common.{LONGEST_INPUT, lt-ltb, Option, refl, Rules, Some, subst, sym, take, true, ℕ}
+use Rattle.desk_types.proofs.Common.{[], ◌++◌, ◌+◌, ◌-◌, ◌<◌, ◌==◌, ◌∙◌, ◌∷◌, ◌≡◌, ◌≤◌, ap, append-nil}
+use Rattle.desk_types.proofs.Common.{Appends, Appends-trans, arith, Bool, common_steps, cond, count_by, false}
+use Rattle.desk_types.proofs.Common.{flat_map, flat_map-append, get_or, History, length, length-append}
+use Rattle.desk_types.proofs.Common.{length-take, List, lt-ltb, Option, refl, Some, subst, sym, take, true, ℕ}
 use Rattle.desk_answers.specs.declared.serving.Served.{Served}
 use Rattle.desk_feed.specs.{LineAnswers.AnswersRaw, Lines.is_empty, Lines.without_return, Messages.answer_to}
 use Rattle.desk_feed.specs.{Messages.list_after, Stream.after_lines, Stream.Answered, Stream.answers_to}
 use Rattle.desk_feed.specs.{Stream.line_after, Stream.line_answer, Stream.sent_line, Verdicts.is_refused}
-use Rattle.desk_feed.specs.{declared.line.LineAnswer.TheVariants.TooLong, declared.message.AnswerText.AnswerText}
+use Rattle.desk_feed.specs.{declared.line.LineAnswer.TheVariants.TooLong}
+use Rattle.desk_feed.specs.{declared.message.AnswerText.AnswerText}
+use Rattle.desk_types.specs.{declared.limits.TheConstants.LONGEST_INPUT, declared.rules.Rules.Rules}
 
 one_counted : (b : Bool) (n m : ℕ) (told : AnswerText) → is_refused told ≡ b → m ≡ cond b (n + 1) n → m ≡ n + count_by is_refused (told ∷ [])
 one_counted true n m told e h = grind (arith, common_steps, e, h)

@@ -1,16 +1,19 @@
 -- The first bytes of a file.
-use Rattle.desk_types.proofs.Common.{[], ◌++◌, ◌∙◌, ◌≡◌, ◌≤◌, ap, ap₂, arith, Bool, Command, cond, Err, false, IfSome}
-use Rattle.desk_types.proofs.Common.{leb-false, leb-true, length, length-take-le, List, LONGEST_INPUT, nat_le, None}
-use Rattle.desk_types.proofs.Common.{Ok, Option, refl, Result, Some, subst, suc, sym, take, take_all, true, ℕ}
+use Rattle.desk_types.proofs.Common.{[], ◌++◌, ◌∙◌, ◌≡◌, ◌≤◌, ap, ap₂, arith, Bool, cond, Err, false, IfSome}
+use Rattle.desk_types.proofs.Common.{leb-false, leb-true, length, length-take-le, List, nat_le, None, Ok}
+use Rattle.desk_types.proofs.Common.{Option, refl, Result, Some, subst, suc, sym, take, take_all, true, ℕ}
 use Rattle.cfx_profile.specs.Fault.{◌>>=◌}
 use Rattle.desk_feed.specs.{Folder.IsRead, Import.IsSaidBy}
+use Rattle.desk_types.specs.{declared.command.Command.Command, declared.limits.TheConstants.LONGEST_INPUT}
 use Rattle.imports.specs.{File.counts_said, File.file_rows, File.Record, File.records_of, File.rows_of}
 use Rattle.imports.specs.{File.setup_said, Import.command_said, Import.rows_said, Import.stamped_by}
-use Rattle.imports.specs.{declared.fault.ImportFault.ImportFault, declared.fault.ImportFault.TheVariants.OverLimit}
-use Rattle.imports.specs.{declared.import.Content.Content, declared.import.Content.TheVariants.Counts}
+use Rattle.imports.specs.{declared.fault.ImportFault.ImportFault}
+use Rattle.imports.specs.{declared.fault.ImportFault.TheVariants.OverLimit, declared.import.Content.Content}
+use Rattle.imports.specs.{declared.import.Content.TheVariants.Counts}
 use Rattle.imports.specs.{declared.import.Content.TheVariants.Sheet, declared.import.Import.Import}
 use Rattle.std.proofs.{Common.option_map, lemmas.Bool.lt-leb}
-use Rattle.std.specs.{Io.Take.take_inner, Io.Take.take_limit, Io.Take.take_remaining, declared.io.traits.Take.Take}
+use Rattle.std.specs.{Io.Take.take_inner, Io.Take.take_limit, Io.Take.take_remaining}
+use Rattle.std.specs.{declared.io.traits.Take.Take}
 use Rattle.desk_types.specs.declared.command.Command.TheVariants as command
 
 -- ---- reading

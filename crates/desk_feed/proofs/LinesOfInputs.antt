@@ -1,8 +1,9 @@
 -- The lines of an input, one after another.
-use Rattle.desk_types.proofs.Common.{[], ◌++◌, ◌+◌, ◌∙◌, ◌∷◌, ◌≡◌, ap, append-nil, append_assoc, arith, Bool, cond}
-use Rattle.desk_types.proofs.Common.{Consumes, Consumes-trans, count_by, false, IfSome, IsAtEnd, length}
-use Rattle.desk_types.proofs.Common.{length-append, length-slice_split, List, map, None, not, Option, prepend_known}
-use Rattle.desk_types.proofs.Common.{refl, slice_split_at, slice_split_none, Some, subst, suc, sym, take, true, ℕ}
+use Rattle.desk_types.proofs.Common.{[], ◌++◌, ◌+◌, ◌∙◌, ◌∷◌, ◌≡◌, ap, append-nil, append_assoc, arith, Bool}
+use Rattle.desk_types.proofs.Common.{cond, Consumes, Consumes-trans, count_by, false, IfSome, IsAtEnd, length}
+use Rattle.desk_types.proofs.Common.{length-append, length-slice_split, List, map, None, not, Option}
+use Rattle.desk_types.proofs.Common.{prepend_known, refl, slice_split_at, slice_split_none, Some, subst, suc}
+use Rattle.desk_types.proofs.Common.{sym, take, true, ℕ}
 use Rattle.desk_answers.specs.declared.serving.Served.{Served}
 use Rattle.desk_feed.specs.Lines.{ended_lines, is_empty, is_feed, lines_in, lines_of, without_return}
 use Rattle.desk_feed.specs.Stream.{AnswersEnded, IsFront}

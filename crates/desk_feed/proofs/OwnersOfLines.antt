@@ -1,6 +1,7 @@
 -- An owner whose lines are answered one after another.
 use Rattle.desk_types.proofs.Common.{[], ◌++◌, ◌∷◌, ◌≡◌, Appends-nil, IfSome, List, Option, subst, sym, ℕ}
-use Rattle.desk_answers.specs.{Counts.none_served, Ledger.ForLists, Ledger.Ledger, declared.serving.Served.Served}
+use Rattle.desk_answers.specs.{Counts.none_served, Ledger.ForLists, Ledger.Ledger}
+use Rattle.desk_answers.specs.{declared.serving.Served.Served}
 use Rattle.desk_feed.proofs.AnsweredLines.{answered_more, none_answered}
 use Rattle.desk_feed.specs.{LineAnswers.Breaks, LineAnswers.Serves, Lines.lines_of, Stream.AnsweredInto}
 use Rattle.desk_feed.specs.{Stream.IsFront}

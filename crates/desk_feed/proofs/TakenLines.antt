@@ -1,7 +1,7 @@
 -- Bytes taken as a line.
-use Rattle.desk_types.proofs.Common.{[], ◌++◌, ◌+◌, ◌<◌, ◌∙◌, ◌∷◌, ◌≡◌, ap, append-nil, append_assoc, arith, Consumes}
-use Rattle.desk_types.proofs.Common.{drop, drop_all, get_or, length, List, Option, prepend_known, sym, take}
-use Rattle.desk_types.proofs.Common.{take-append-drop, ℕ}
+use Rattle.desk_types.proofs.Common.{[], ◌++◌, ◌+◌, ◌<◌, ◌∙◌, ◌∷◌, ◌≡◌, ap, append-nil, append_assoc, arith}
+use Rattle.desk_types.proofs.Common.{Consumes, drop, drop_all, get_or, length, List, Option, prepend_known}
+use Rattle.desk_types.proofs.Common.{sym, take, take-append-drop, ℕ}
 use Rattle.desk_answers.proofs.Blocks.{front_goes}
 use Rattle.std.proofs.lemmas.List.{drop_more}
 

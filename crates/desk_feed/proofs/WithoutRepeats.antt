@@ -1,13 +1,15 @@
 -- A law of inputs: if no line is answered Unavailable, removing the repeats keeps the final
 -- history.
 use Rattle.desk_types.proofs.Common.{[], ◌||◌, ◌∙◌, ◌∷◌, ◌≡◌, after_command, ap, Bool, Err, false, History}
-use Rattle.desk_types.proofs.Common.{if◌then◌else◌, is_some, length, List, LONGEST_INPUT, nat_lt, None, Ok, Option}
-use Rattle.desk_types.proofs.Common.{refl, Result, Rules, Some, sym, true, ℕ}
-use Rattle.cfx_profile.specs.{Message.said_in, declared.fault.MessageFault.MessageFault, declared.message.Said.Said}
-use Rattle.cfx_profile.specs.{declared.message.Said.TheVariants.Asked, declared.message.Said.TheVariants.Ignored}
+use Rattle.desk_types.proofs.Common.{if◌then◌else◌, is_some, length, List, nat_lt, None, Ok, Option, refl}
+use Rattle.desk_types.proofs.Common.{Result, Some, sym, true, ℕ}
+use Rattle.cfx_profile.specs.{Message.said_in, declared.fault.MessageFault.MessageFault}
+use Rattle.cfx_profile.specs.{declared.message.Said.Said, declared.message.Said.TheVariants.Asked}
+use Rattle.cfx_profile.specs.{declared.message.Said.TheVariants.Ignored}
 use Rattle.desk_answers.specs.{Commands.earlier_answer, Commands.is_full, declared.answer.Answer.Answer}
 use Rattle.desk_feed.specs.{Messages.after_heard, Messages.list_after, Repeats.after_all, Repeats.is_again}
 use Rattle.desk_feed.specs.{Repeats.is_repeat, Repeats.repeats, Repeats.without_repeats, Stream.line_after}
+use Rattle.desk_types.specs.{declared.limits.TheConstants.LONGEST_INPUT, declared.rules.Rules.Rules}
 
 is_earlier : (o : Option Answer) → is_again o ≡ true → is_some o ≡ true
 is_earlier (Some a) again = refl

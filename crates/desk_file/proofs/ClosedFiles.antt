@@ -4,7 +4,8 @@ use Rattle.line_tables.proofs.Common.{file_state, HasCleanDisk, Held, Holds, IsL
 use Rattle.desk_file.specs.Files.{Closes, KeepsTables, Leaves, MayRead, ReadsAs}
 use Rattle.line_replay.specs.Rows.{ledger_tables}
 use Rattle.line_schema.specs.{Stands.conn_of, declared.store.LineStore.LineStore}
-use Rattle.sqlite.specs.{Closing.HoldsAlone, Closing.IsCopied, Files.image_of, Files.IsClosed, Held.AreDatabases}
+use Rattle.sqlite.specs.{Closing.HoldsAlone, Closing.IsCopied, Files.image_of, Files.IsClosed}
+use Rattle.sqlite.specs.{Held.AreDatabases}
 use Rattle.sqlite_disk.specs.declared.Files.{Files}
 use Rattle.sqlite_pool.proofs.{ResealLemmas.adopts_of, StateLemmas.clean_is, StateLemmas.may_leave_is}
 use Rattle.sqlite_pool.proofs.{StateLemmas.size_is_allowed}

@@ -1,11 +1,12 @@
 -- The initial history of a run on the files.
-use Rattle.desk_types.proofs.Common.{[], ◌∙◌, ◌≡◌, ap, Bool, false, History, inl, inr, IsJudged, IsPermutation}
-use Rattle.desk_types.proofs.Common.{IsPermutation-sym, IsPermutation-trans, list_any, None, One, Option, refl, Rules}
-use Rattle.desk_types.proofs.Common.{Some, sym, true, true≢false, Two, ℕ}
-use Rattle.line_tables.proofs.Common.{Database, Holds, HoldsAt, HoldsDatabase, is_ours, IsLive, Layout, no_schema}
-use Rattle.line_tables.proofs.Common.{Opens, Reads, same_name, schema_of, State, Trees}
-use Rattle.desk_file.specs.{Files.Begins, Files.FindsNoTable, Files.HasOursFirst, Files.IsFoundIn, Files.IsOfOne}
-use Rattle.desk_file.specs.{Found.FindsAs}
+use Rattle.desk_types.proofs.Common.{[], ◌∙◌, ◌≡◌, ap, Bool, false, History, inl, inr, IsJudged}
+use Rattle.desk_types.proofs.Common.{IsPermutation, IsPermutation-sym, IsPermutation-trans, list_any, None}
+use Rattle.desk_types.proofs.Common.{Option, refl, Some, sym, true, true≢false, ℕ}
+use Rattle.line_tables.proofs.Common.{Database, Holds, HoldsAt, HoldsDatabase, is_ours, IsLive, Layout}
+use Rattle.line_tables.proofs.Common.{no_schema, One, Opens, Reads, Rules, same_name, schema_of, State, Trees}
+use Rattle.line_tables.proofs.Common.{Two}
+use Rattle.desk_file.specs.{Files.Begins, Files.FindsNoTable, Files.HasOursFirst, Files.IsFoundIn}
+use Rattle.desk_file.specs.{Files.IsOfOne, Found.FindsAs}
 use Rattle.line_replay.specs.Rows.{ledger_tables, rows_of}
 use Rattle.line_schema.specs.{Opening.IsNamed, Opening.IsNamedBy, Versions.IsMigrated}
 use Rattle.line_tables.proofs.{Holding.held_at, Ours.is_blank_of, Ours.is_ours_of}

@@ -1,18 +1,18 @@
 -- Files that are refused.
-use Rattle.desk_types.proofs.Common.{◌≡◌, ◌≢◌, ◌⊎◌, ap, arith, Err, false, IfErr, inl, inr, list_any, None, Ok}
-use Rattle.desk_types.proofs.Common.{Option, refl, Result, Rules, Some, subst, sym, true, Two, ℕ}
-use Rattle.line_tables.proofs.Common.{Database, file_state, has_state, HasCleanDisk, Held, KeepsCommit, Opens, Reads}
-use Rattle.line_tables.proofs.Common.{State, Survives, Trees}
+use Rattle.desk_types.proofs.Common.{◌≡◌, ◌≢◌, ◌⊎◌, ap, arith, Err, false, IfErr, inl, inr, list_any, None}
+use Rattle.desk_types.proofs.Common.{Ok, Option, refl, Result, Some, subst, sym, true, ℕ}
+use Rattle.line_tables.proofs.Common.{Database, file_state, has_state, HasCleanDisk, Held, KeepsCommit, Opens}
+use Rattle.line_tables.proofs.Common.{Reads, Rules, State, Survives, Trees, Two}
 use Rattle.desk_file.proofs.FirstLists.{found}
 use Rattle.desk_file.specs.Files.{IsFoundIn}
 use Rattle.desk_file.specs.Found.{FindsAs}
-use Rattle.desk_file.specs.Refused.{idle_state, IsFaultFor, IsFaultIn, IsRefused, IsUnchangedSince, LeavesMade}
-use Rattle.desk_file.specs.Refused.{RefusesRun}
+use Rattle.desk_file.specs.Refused.{idle_state, IsFaultFor, IsFaultIn, IsRefused, IsUnchangedSince}
+use Rattle.desk_file.specs.Refused.{LeavesMade, RefusesRun}
 use Rattle.desk_file.specs.declared.refusal.RefusedFile.{RefusedFile}
 use Rattle.line_schema.specs.Opening.{IsFaultBy, IsNamedBy, IsNoDeskBy, IsToldBy}
 use Rattle.line_schema.specs.declared.fault.OpenFault.{OpenFault}
-use Rattle.line_schema.specs.declared.fault.OpenFault.TheVariants.{NotADesk, NotBlank, NotLawful, OtherVersion}
-use Rattle.line_schema.specs.declared.fault.OpenFault.TheVariants.{TableDiffers, Unavailable}
+use Rattle.line_schema.specs.declared.fault.OpenFault.TheVariants.{NotADesk, NotBlank, NotLawful}
+use Rattle.line_schema.specs.declared.fault.OpenFault.TheVariants.{OtherVersion, TableDiffers, Unavailable}
 use Rattle.line_tables.specs.Names.{has_name, is_accepted, is_version}
 use Rattle.sqlite.specs.Files.{IsOpened}
 use Rattle.sqlite_schema.specs.declared.schema.Schema.{Schema}

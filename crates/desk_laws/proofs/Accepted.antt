@@ -1,13 +1,15 @@
 -- The tests that an accepted command passed.
-use Rattle.desk_types.proofs.Common.{[], ◌==◌, ◌∙◌, ◌∷◌, ◌≡◌, AllByRecursion, ap, Bool, closing_refusal, Command}
-use Rattle.desk_types.proofs.Common.{command_refusal, effective_minute, Entry, Expired, false, first_refusal, History}
+use Rattle.desk_types.proofs.Common.{[], ◌==◌, ◌∙◌, ◌∷◌, ◌≡◌, AllByRecursion, ap, Bool, closing_refusal}
+use Rattle.desk_types.proofs.Common.{command_refusal, effective_minute, false, first_refusal, History}
 use Rattle.desk_types.proofs.Common.{if◌then◌else◌, is_expired, is_mounted, is_none, is_part, is_some}
-use Rattle.desk_types.proofs.Common.{is_too_far_ahead, is_unbaked, IsNext, left_of, List, MaterialsLoaded}
-use Rattle.desk_types.proofs.Common.{MaterialsSpliced, mounting_refusal, Name, None, NoProduct, not, NotBaked}
-use Rattle.desk_types.proofs.Common.{open_by, opening_refusal, Option, Receipt, receipt_by, receipt_of}
-use Rattle.desk_types.proofs.Common.{receipt_refusal, ReelBaked, ReelExists, ReelMounted, ReelOpened, ReelReceived}
-use Rattle.desk_types.proofs.Common.{ReelSealed, refl, Refusal, refusal_of, row_on, same, same-true, selected_on}
-use Rattle.desk_types.proofs.Common.{Some, Stamped, sym, TooFarAhead, true, Two, UnknownReel, WrongPart, ℕ}
+use Rattle.desk_types.proofs.Common.{is_too_far_ahead, is_unbaked, IsNext, left_of, List, mounting_refusal}
+use Rattle.desk_types.proofs.Common.{Name, None, not, open_by, opening_refusal, Option, receipt_by}
+use Rattle.desk_types.proofs.Common.{receipt_of, receipt_refusal, refl, refusal_of, row_on, same, same-true}
+use Rattle.desk_types.proofs.Common.{selected_on, Some, sym, true, ℕ}
+use Rattle.desk_laws.proofs.Common.{Command, Entry, Expired, MaterialsLoaded, MaterialsSpliced, NoProduct}
+use Rattle.desk_laws.proofs.Common.{NotBaked, Receipt, ReelBaked, ReelExists, ReelMounted, ReelOpened}
+use Rattle.desk_laws.proofs.Common.{ReelReceived, ReelSealed, Refusal, Stamped, TooFarAhead, Two, UnknownReel}
+use Rattle.desk_laws.proofs.Common.{WrongPart}
 use Rattle.desk_types.proofs.Tests.{if-some}
 use Rattle.desk_types.specs.Refusals.{is_wrong_part}
 use Rattle.desk_types.specs.declared.answer.Refusal.TheVariants.{ReelEmpty, SlotNotOnSheet, UnknownPart}

@@ -1,13 +1,14 @@
 -- Two histories that agree except for past boards and reels: runs of commands that name nothing past.
-use Rattle.desk_types.proofs.Common.{[], ◌∙◌, ◌∷◌, ◌≡◌, ◌≤◌, accept, Accepted, after_command, after_commands, All}
-use Rattle.desk_types.proofs.Common.{All-head, All-tail, ap, arith, Bool, change_of, Command, detail_of}
-use Rattle.desk_types.proofs.Common.{effective_minute, false, History, IsJudged, IsStamped, List, Name, None, now_of}
-use Rattle.desk_types.proofs.Common.{Option, option_map_or, refl, Refusal, refusal_of, Refused, replies_to, reply_to}
-use Rattle.desk_types.proofs.Common.{Rules, Some, Stamped, sym}
-use Rattle.desk_laws.proofs.{Accepted.command-accepted, Agreeing.Agree, Agreeing.detail-same, Agreeing.effective-same}
-use Rattle.desk_laws.proofs.{Agreeing.refusal-same, AgreeingNext.agree-next}
+use Rattle.desk_types.proofs.Common.{[], ◌∙◌, ◌∷◌, ◌≡◌, ◌≤◌, accept, after_command, after_commands, All}
+use Rattle.desk_types.proofs.Common.{All-head, All-tail, ap, arith, Bool, change_of, detail_of}
+use Rattle.desk_types.proofs.Common.{effective_minute, false, History, IsJudged, IsStamped, List, Name, None}
+use Rattle.desk_types.proofs.Common.{now_of, Option, option_map_or, refl, refusal_of, replies_to, reply_to}
+use Rattle.desk_types.proofs.Common.{Some, sym}
+use Rattle.desk_laws.proofs.Common.{Accepted, accepted-by-two, Command, judged-by-two, Refusal, Refused}
+use Rattle.desk_laws.proofs.Common.{Rules, Stamped}
+use Rattle.desk_laws.proofs.{Accepted.command-accepted, Agreeing.Agree, Agreeing.detail-same}
+use Rattle.desk_laws.proofs.{Agreeing.effective-same, Agreeing.refusal-same, AgreeingNext.agree-next}
 use Rattle.desk_laws.specs.Past.{boards_named, reels_named}
-use Rattle.desk_types.proofs.BothRules.{accepted-by-two, judged-by-two}
 use Rattle.desk_types.specs.declared.limits.TheConstants.{GREATEST_MINUTE}
 
 -- The desk minute is a minute.

@@ -1,33 +1,37 @@
 -- Two histories that agree except for past boards and reels give the same answer to a command that names nothing past.
 use Rattle.desk_types.proofs.Common.{[], ◌&&◌, ◌++◌, ◌+◌, ◌-◌, ◌==◌, ◌||◌, ◌∙◌, ◌∷◌, ◌≡◌, ◌≤◌, All, All-head}
-use Rattle.desk_types.proofs.Common.{All-tail, alternate_refusal, AlternateAllowed, ap, arith, bench_of, Bool}
-use Rattle.desk_types.proofs.Common.{ClockSet, closing_refusal, Command, command_refusal, completion_refusal}
-use Rattle.desk_types.proofs.Common.{count_picks, CountAbove, CountRow, counts_refusal, CountsTaken}
+use Rattle.desk_types.proofs.Common.{All-tail, alternate_refusal, ap, arith, bench_of, Bool, closing_refusal}
+use Rattle.desk_types.proofs.Common.{command_refusal, completion_refusal, count_picks, counts_refusal}
 use Rattle.desk_types.proofs.Common.{definition_refusal, designators_refusal, desk_minute, detail_of, differ}
-use Rattle.desk_types.proofs.Common.{effective_minute, Expired, exposure_of, false, first, first_refusal, floor_life}
-use Rattle.desk_types.proofs.Common.{front_of, History, if◌then◌else◌, in_work_on, install_picks, install_refusal}
-use Rattle.desk_types.proofs.Common.{is_above, is_alternate, is_expired, is_in_work, is_mounted, is_none, is_part}
-use Rattle.desk_types.proofs.Common.{is_placed_on, is_some, is_unbaked, is_wrong_for, left_of, LevelWithLabel, List}
-use Rattle.desk_types.proofs.Common.{list_any, live_on, MachineBusy, MaterialsInstalled, MaterialsLoaded}
-use Rattle.desk_types.proofs.Common.{MaterialsScrapped, MaterialsSpliced, MaterialsUnloaded, max, minutes_left}
-use Rattle.desk_types.proofs.Common.{MinutesLeft, mounting_refusal, Name, nat_le, nat_lt, nat_tests, None, NoProduct}
-use Rattle.desk_types.proofs.Common.{not, NotBaked, NotInWork, now_of, opening_refusal, Option, option_and_then}
-use Rattle.desk_types.proofs.Common.{option_map, option_map_or, option_or, OtherProduct, out_since, part_refusal}
-use Rattle.desk_types.proofs.Common.{PartDefined, picks_of, pieces_of, product_of, ProductSelected, Receipt}
-use Rattle.desk_types.proofs.Common.{receipt_of, receipt_refusal, ReelBaked, ReelExists, ReelMounted, ReelOpened}
-use Rattle.desk_types.proofs.Common.{ReelReceived, Reels, reels_of, ReelSealed, ReelShort, ReelTwice, refl, Refusal}
-use Rattle.desk_types.proofs.Common.{refusal_of, Rejected, row_in, row_on, Rules, same, scrap_picks, scrap_refusal}
-use Rattle.desk_types.proofs.Common.{selected_on, selection_refusal, sheet_of, sheet_refusal, SheetDefined, SheetRow}
-use Rattle.desk_types.proofs.Common.{slot_in, slot_on, SlotEmpty, Some, Stamped, start_refusal, sum_by, sym, Taken}
-use Rattle.desk_types.proofs.Common.{tape_of, TooFarAhead, true, Two, UnknownReel, unload_refusal, unwrap_or}
-use Rattle.desk_types.proofs.Common.{WorkCompleted, WorkStarted, WrongPart, ℕ}
+use Rattle.desk_types.proofs.Common.{effective_minute, exposure_of, false, first, first_refusal, floor_life}
+use Rattle.desk_types.proofs.Common.{front_of, History, if◌then◌else◌, in_work_on, install_picks}
+use Rattle.desk_types.proofs.Common.{install_refusal, is_above, is_alternate, is_expired, is_in_work}
+use Rattle.desk_types.proofs.Common.{is_mounted, is_none, is_part, is_placed_on, is_some, is_unbaked}
+use Rattle.desk_types.proofs.Common.{is_wrong_for, left_of, LevelWithLabel, List, list_any, live_on, max}
+use Rattle.desk_types.proofs.Common.{minutes_left, mounting_refusal, Name, nat_le, nat_lt, nat_tests, None}
+use Rattle.desk_types.proofs.Common.{not, now_of, opening_refusal, Option, option_and_then, option_map}
+use Rattle.desk_types.proofs.Common.{option_map_or, option_or, out_since, part_refusal, picks_of, pieces_of}
+use Rattle.desk_types.proofs.Common.{product_of, receipt_of, receipt_refusal, reels_of, refl, refusal_of}
+use Rattle.desk_types.proofs.Common.{row_in, row_on, same, scrap_picks, scrap_refusal, selected_on}
+use Rattle.desk_types.proofs.Common.{selection_refusal, sheet_of, sheet_refusal, slot_in, slot_on, Some}
+use Rattle.desk_types.proofs.Common.{start_refusal, sum_by, sym, tape_of, true, unload_refusal, unwrap_or, ℕ}
+use Rattle.desk_laws.proofs.Common.{AlternateAllowed, ClockSet, Command, CountAbove, CountRow, CountsTaken}
+use Rattle.desk_laws.proofs.Common.{Expired, is_started, MachineBusy, MaterialsInstalled, MaterialsLoaded}
+use Rattle.desk_laws.proofs.Common.{MaterialsScrapped, MaterialsSpliced, MaterialsUnloaded, NoProduct}
+use Rattle.desk_laws.proofs.Common.{NotBaked, NotInWork, PartDefined, ProductSelected, Receipt, ReelBaked}
+use Rattle.desk_laws.proofs.Common.{ReelExists, ReelMounted, ReelOpened, ReelReceived, Reels, ReelSealed}
+use Rattle.desk_laws.proofs.Common.{ReelShort, ReelTwice, Refusal, Rejected, Rules, SheetDefined, SheetRow}
+use Rattle.desk_laws.proofs.Common.{SlotEmpty, Stamped, Taken, TooFarAhead, Two, UnknownReel, WorkCompleted}
+use Rattle.desk_laws.proofs.Common.{WorkStarted, WrongPart}
 use Rattle.desk_laws.proofs.Accepted.{mountable}
 use Rattle.desk_laws.proofs.Lives.{designators-live, live_bench, picks-live, scrap-live}
-use Rattle.desk_laws.specs.Past.{boards_named, is_started, reels_named}
+use Rattle.desk_laws.specs.Past.{boards_named, reels_named}
 use Rattle.desk_types.specs.Refusals.{front_refusal, is_clock, is_wrong_part, slots_refusal}
 use Rattle.desk_types.specs.Setup.{sheet_on}
-use Rattle.desk_types.specs.declared.answer.Refusal.TheVariants.{BoardBusy, PartExists, ReelEmpty, SlotNotOnSheet}
-use Rattle.desk_types.specs.declared.answer.Refusal.TheVariants.{SlotTaken, UnknownPart, UnknownSheet}
+use Rattle.desk_types.specs.declared.answer.Detail.TheVariants.{MinutesLeft}
+use Rattle.desk_types.specs.declared.answer.Refusal.TheVariants.{BoardBusy, OtherProduct, PartExists}
+use Rattle.desk_types.specs.declared.answer.Refusal.TheVariants.{ReelEmpty, SlotNotOnSheet, SlotTaken}
+use Rattle.desk_types.specs.declared.answer.Refusal.TheVariants.{UnknownPart, UnknownSheet}
 use Rattle.desk_types.specs.declared.limits.TheConstants.{FURTHEST_AHEAD}
 use Rattle.std.specs.List.{filter}
 

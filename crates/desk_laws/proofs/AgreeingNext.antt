@@ -1,18 +1,21 @@
 -- Two histories that agree except for past boards and reels still agree after a command that both accept.
 use Rattle.desk_types.proofs.Common.{◌-◌, ◌||◌, ◌∙◌, ◌∷◌, ◌≡◌, ◌≤◌, accept, ap, arith, baked_by, Bool}
-use Rattle.desk_types.proofs.Common.{effective_minute, Entry, entry_of, false, floor_life, History, is_some}
-use Rattle.desk_types.proofs.Common.{is_unbaked, IsJudged, left_of, LevelWithLabel, limit_of, max, minutes_left, Name}
-use Rattle.desk_types.proofs.Common.{nat_lt, None, open_by, Option, option_and_then, option_map, option_or, or_right}
-use Rattle.desk_types.proofs.Common.{pieces_by, pieces_picked, places, Receipt, receipt_by, receipt_of, refl}
-use Rattle.desk_types.proofs.Common.{selection_by, sheet_by, Some, Stamped, start_by, sym, tape_after, true, Two}
-use Rattle.desk_types.proofs.Common.{unwrap_or, work_by, ℕ}
+use Rattle.desk_types.proofs.Common.{effective_minute, entry_of, false, floor_life, History, is_some}
+use Rattle.desk_types.proofs.Common.{is_unbaked, IsJudged, left_of, LevelWithLabel, limit_of, max}
+use Rattle.desk_types.proofs.Common.{minutes_left, Name, nat_lt, None, open_by, Option, option_and_then}
+use Rattle.desk_types.proofs.Common.{option_map, option_or, or_right, pieces_by, pieces_picked, places}
+use Rattle.desk_types.proofs.Common.{receipt_by, receipt_of, refl, selection_by, sheet_by, Some, start_by}
+use Rattle.desk_types.proofs.Common.{sym, tape_after, true, unwrap_or, work_by, ℕ}
+use Rattle.desk_laws.proofs.Common.{Entry, is_started, mounted_after, Receipt, Stamped, Two}
 use Rattle.desk_laws.proofs.{Agreeing.Agree, Agreeing.effective-same, Agreeing.IsSame, Agreeing.mark}
-use Rattle.desk_laws.proofs.{Agreeing.marks_of, Agreeing.picks-same, Balance.spent-next, BoardsInWork.in_work-next}
-use Rattle.desk_laws.proofs.{BoardsInWork.or-second, BoardsInWork.work-next, FloorNext.baked-anew, FloorNext.is_anew}
-use Rattle.desk_laws.proofs.{FloorNext.life-marked, FloorNext.minutes-next, FloorNext.out-next, FloorNext.out_after}
-use Rattle.desk_laws.proofs.{FloorNext.remaining, FloorNext.remaining-same, FloorNext.unbaked-next, FloorNext.waiting}
-use Rattle.desk_laws.proofs.{Lives.live-next, Mounted.mounted-next, Mounts.has, ReelsLater.not-again}
-use Rattle.desk_laws.specs.{Past.is_started, Place.mounted_after, Working.in_work_after}
+use Rattle.desk_laws.proofs.{Agreeing.marks_of, Agreeing.picks-same, Balance.spent-next}
+use Rattle.desk_laws.proofs.{BoardsInWork.in_work-next, BoardsInWork.or-second, BoardsInWork.work-next}
+use Rattle.desk_laws.proofs.{FloorNext.baked-anew, FloorNext.is_anew, FloorNext.life-marked}
+use Rattle.desk_laws.proofs.{FloorNext.minutes-next, FloorNext.out-next, FloorNext.out_after}
+use Rattle.desk_laws.proofs.{FloorNext.remaining, FloorNext.remaining-same, FloorNext.unbaked-next}
+use Rattle.desk_laws.proofs.{FloorNext.waiting, Lives.live-next, Mounted.mounted-next, Mounts.has}
+use Rattle.desk_laws.proofs.{ReelsLater.not-again}
+use Rattle.desk_laws.specs.Working.{in_work_after}
 use Rattle.desk_types.specs.Setup.{allows, defines}
 use Rattle.std.specs.List.{filter}
 

@@ -1,19 +1,21 @@
 -- A small desk and one that was begun as it ended, computed by the definitions: they are alike.
-use Rattle.desk_types.proofs.Common.{[], ◌&&◌, ◌++◌, ◌+◌, ◌-◌, ◌<◌, ◌∙◌, ◌∷◌, ◌≡◌, ◌≤◌, accept, after_commands}
-use Rattle.desk_types.proofs.Common.{AllByRecursion, ap, arith, Bool, ClockSet, closing_refusal, command_refusal}
-use Rattle.desk_types.proofs.Common.{completion_refusal, definition_refusal, Entry, entry_of, exposure_of, false}
-use Rattle.desk_types.proofs.Common.{FiveA, History, if◌then◌else◌, install_picks, install_refusal, is_out_at}
-use Rattle.desk_types.proofs.Common.{is_some, left_of, List, live_on, MaterialsInstalled, MaterialsLoaded}
-use Rattle.desk_types.proofs.Common.{minutes_left, mounting_refusal, Name, nat_lt, None, open_by, opening_refusal}
-use Rattle.desk_types.proofs.Common.{option_or, part_refusal, pieces_by, pieces_picked, receipt_of, receipt_refusal}
-use Rattle.desk_types.proofs.Common.{ReelOpened, ReelSealed, refl, refusal_of, same, same-true, selection_refusal}
-use Rattle.desk_types.proofs.Common.{sheet_refusal, Some, Stamped, start_refusal, subst, sym, tape_after, tape_of}
-use Rattle.desk_types.proofs.Common.{true, Two, unwrap_or, WorkCompleted, WorkStarted, ℕ}
-use Rattle.desk_laws.specs.Alike.{AreAlike, IsSameReel}
-use Rattle.desk_types.proofs.Exposure.{exposure-after, exposure-untouched}
-use Rattle.desk_types.proofs.ReelCommands.{exposure_starts-quiet, IsQuiet-untouched}
-use Rattle.desk_types.proofs.RowsCommon.{at, B1, base, K1, M, R1, R2, R3, received_at, received_at_six, S1}
-use Rattle.desk_types.specs.Pieces.{picks_from}
+use Rattle.desk_types.proofs.Common.{[], ◌&&◌, ◌++◌, ◌+◌, ◌-◌, ◌<◌, ◌∙◌, ◌∷◌, ◌≡◌, ◌≤◌, accept}
+use Rattle.desk_types.proofs.Common.{after_commands, AllByRecursion, ap, arith, Bool, closing_refusal}
+use Rattle.desk_types.proofs.Common.{command_refusal, completion_refusal, definition_refusal, entry_of}
+use Rattle.desk_types.proofs.Common.{exposure_of, false, History, if◌then◌else◌, install_picks}
+use Rattle.desk_types.proofs.Common.{install_refusal, is_out_at, is_some, left_of, List, live_on}
+use Rattle.desk_types.proofs.Common.{minutes_left, mounting_refusal, Name, nat_lt, None, open_by}
+use Rattle.desk_types.proofs.Common.{opening_refusal, option_or, part_refusal, pieces_by, pieces_picked}
+use Rattle.desk_types.proofs.Common.{receipt_of, receipt_refusal, refl, refusal_of, same, same-true}
+use Rattle.desk_types.proofs.Common.{selection_refusal, sheet_refusal, Some, start_refusal, subst, sym}
+use Rattle.desk_types.proofs.Common.{tape_after, tape_of, true, unwrap_or, ℕ}
+use Rattle.desk_laws.proofs.Common.{AreAlike, at, B1, base, ClockSet, Entry, exposure-untouched}
+use Rattle.desk_laws.proofs.Common.{exposure_starts-quiet, IsQuiet-untouched, IsSameReel, K1, M}
+use Rattle.desk_laws.proofs.Common.{MaterialsInstalled, MaterialsLoaded, R1, R2, ReelOpened, ReelSealed, S1}
+use Rattle.desk_laws.proofs.Common.{Stamped, Two, WorkCompleted, WorkStarted}
+use Rattle.desk_types.proofs.{Exposure.exposure-after, RowsCommon.R3, RowsCommon.received_at}
+use Rattle.desk_types.proofs.{RowsCommon.received_at_six}
+use Rattle.desk_types.specs.{Pieces.picks_from, declared.level.Level.TheVariants.FiveA}
 use Rattle.std.specs.List.{filter}
 
 -- ---- the two desks

@@ -1,14 +1,16 @@
 -- The balance of a reel: received pieces are placed, scrapped or remaining.
-use Rattle.desk_types.proofs.Common.{[], ◌+◌, ◌-◌, ◌∙◌, ◌∷◌, ◌≡◌, ◌≤◌, all_picks, ap, arith, bench_of, Bool, Command}
-use Rattle.desk_types.proofs.Common.{command_refusal, CountsTaken, Entry, false, found_by, found_of, History}
-use Rattle.desk_types.proofs.Common.{if◌then◌else◌, IsJudged, left_of, ltb-false, MaterialsInstalled}
-use Rattle.desk_types.proofs.Common.{MaterialsScrapped, Name, nat_lt, None, Option, option_map_or, option_or}
-use Rattle.desk_types.proofs.Common.{picks_of, pieces_by, pieces_picked, placed_of, Receipt, receipt_by, receipt_of}
-use Rattle.desk_types.proofs.Common.{received_of, ReelReceived, refl, Rejected, same, scrapped_of, Some, sym, tape_of}
-use Rattle.desk_types.proofs.Common.{true, Two, unwrap_or, ℕ}
-use Rattle.desk_laws.proofs.{Accepted.next-accepted, Accepted.received-once, Judgements.or-none, Picks.and-nothing}
-use Rattle.desk_laws.proofs.{Picks.counted, Picks.install-within, Picks.pieces_picked-append, Picks.scrap-within}
-use Rattle.desk_laws.proofs.{Tapes.tape-distinct, Totals.pieces_picked-split}
+use Rattle.desk_types.proofs.Common.{[], ◌+◌, ◌-◌, ◌∙◌, ◌∷◌, ◌≡◌, ◌≤◌, all_picks, ap, arith, bench_of, Bool}
+use Rattle.desk_types.proofs.Common.{command_refusal, false, found_by, found_of, History, if◌then◌else◌}
+use Rattle.desk_types.proofs.Common.{IsJudged, left_of, ltb-false, Name, nat_lt, None, Option, option_map_or}
+use Rattle.desk_types.proofs.Common.{option_or, picks_of, pieces_by, pieces_picked, placed_of, receipt_by}
+use Rattle.desk_types.proofs.Common.{receipt_of, received_of, refl, same, scrapped_of, Some, sym, tape_of}
+use Rattle.desk_types.proofs.Common.{true, unwrap_or, ℕ}
+use Rattle.desk_laws.proofs.Common.{Command, CountsTaken, Entry, MaterialsInstalled, MaterialsScrapped}
+use Rattle.desk_laws.proofs.Common.{Receipt, ReelReceived, Rejected, Two}
+use Rattle.desk_laws.proofs.{Accepted.next-accepted, Accepted.received-once, Judgements.or-none}
+use Rattle.desk_laws.proofs.{Picks.and-nothing, Picks.counted, Picks.install-within}
+use Rattle.desk_laws.proofs.{Picks.pieces_picked-append, Picks.scrap-within, Tapes.tape-distinct}
+use Rattle.desk_laws.proofs.{Totals.pieces_picked-split}
 
 -- ---- one command
 

@@ -1,14 +1,17 @@
 -- Boards in work after one more entry.
-use Rattle.desk_types.proofs.Common.{[], ◌∙◌, ◌∷◌, ◌≡◌, ap, Bool, both_ways, Command, command_refusal}
-use Rattle.desk_types.proofs.Common.{completion_refusal, differ, Entry, false, first_refusal, History, if◌then◌else◌}
-use Rattle.desk_types.proofs.Common.{in_work_on, is_in_work, is_in_work_on, is_none, is_some, IsJudged, IsNext}
-use Rattle.desk_types.proofs.Common.{latest, List, MachineBusy, Name, None, NoProduct, not, not-false, NotInWork}
-use Rattle.desk_types.proofs.Common.{Option, option_and_then, option_map_or, option_or, OtherProduct, product_of}
-use Rattle.desk_types.proofs.Common.{refl, Refusal, same, same-refl, same-true, selected_on, Some, start_by}
-use Rattle.desk_types.proofs.Common.{start_refusal, sym, true, Two, unwrap_or, work_by, WorkCompleted, WorkStarted, ℕ}
-use Rattle.desk_laws.{proofs.Accepted.next-accepted, proofs.Accepted.none-holds, proofs.Judgements.or-none}
-use Rattle.desk_laws.{proofs.Lookups.in_work-somewhere, proofs.Lookups.somewhere-in_work, specs.Working.in_work_after}
-use Rattle.desk_types.specs.declared.answer.Refusal.TheVariants.{BoardBusy}
+use Rattle.desk_types.proofs.Common.{[], ◌∙◌, ◌∷◌, ◌≡◌, ap, Bool, both_ways, command_refusal}
+use Rattle.desk_types.proofs.Common.{completion_refusal, differ, false, first_refusal, History, if◌then◌else◌}
+use Rattle.desk_types.proofs.Common.{in_work_on, is_in_work, is_in_work_on, is_none, is_some, IsJudged}
+use Rattle.desk_types.proofs.Common.{IsNext, latest, List, Name, None, not, not-false, Option}
+use Rattle.desk_types.proofs.Common.{option_and_then, option_map_or, option_or, product_of, refl, same}
+use Rattle.desk_types.proofs.Common.{same-refl, same-true, selected_on, Some, start_by, start_refusal, sym}
+use Rattle.desk_types.proofs.Common.{true, unwrap_or, work_by, ℕ}
+use Rattle.desk_laws.proofs.Common.{Command, Entry, MachineBusy, NoProduct, NotInWork, Refusal, Two}
+use Rattle.desk_laws.proofs.Common.{WorkCompleted, WorkStarted}
+use Rattle.desk_laws.proofs.{Accepted.next-accepted, Accepted.none-holds, Judgements.or-none}
+use Rattle.desk_laws.proofs.{Lookups.in_work-somewhere, Lookups.somewhere-in_work}
+use Rattle.desk_laws.specs.Working.{in_work_after}
+use Rattle.desk_types.specs.declared.answer.Refusal.TheVariants.{BoardBusy, OtherProduct}
 
 -- ---- tests
 

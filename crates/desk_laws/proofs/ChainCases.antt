@@ -1,23 +1,25 @@
 -- A chain of two small files, computed by the definitions, and two files that are no chain.
-use Rattle.desk_types.proofs.Common.{[], ◌&&◌, ◌++◌, ◌+◌, ◌-◌, ◌==◌, ◌∙◌, ◌∷◌, ◌≡◌, ◌≤◌, accept, after_commands, All}
-use Rattle.desk_types.proofs.Common.{All-append, All-cons, All-nil, all_picks, AllByRecursion, AllPass-from_list_all}
-use Rattle.desk_types.proofs.Common.{ap, append-nil, append_assoc, arith, boards_of, Bool, ClockSet, Command}
-use Rattle.desk_types.proofs.Common.{command_refusal, completion_refusal, drop, entry_of, exposure_of, false}
-use Rattle.desk_types.proofs.Common.{found_of, History, if◌then◌else◌, install_picks, install_refusal}
-use Rattle.desk_types.proofs.Common.{is_designator_byte, is_out_at, is_some, IsCommand, IsDesignator, IsId, IsJudged}
-use Rattle.desk_types.proofs.Common.{IsListOf, IsPrefix, IsSheetRow, IsStamped, left_of, length, List, list_all}
-use Rattle.desk_types.proofs.Common.{live_on, MaterialsInstalled, MaterialsLoaded, MaterialsScrapped}
-use Rattle.desk_types.proofs.Common.{MaterialsSpliced, mounting_refusal, Name, nat_le, nat_lt, nat_tests, None, not}
-use Rattle.desk_types.proofs.Common.{option_or, receipt_of, receipt_refusal, refl, refusal_of, same, same-true}
-use Rattle.desk_types.proofs.Common.{scrap_refusal, Stamped, start_refusal, subst, sym, takes_of, tape_of, true, Two}
-use Rattle.desk_types.proofs.Common.{WorkCompleted, WorkStarted, ℕ}
+use Rattle.desk_types.proofs.Common.{[], ◌&&◌, ◌++◌, ◌+◌, ◌-◌, ◌==◌, ◌∙◌, ◌∷◌, ◌≡◌, ◌≤◌, accept}
+use Rattle.desk_types.proofs.Common.{after_commands, All, All-append, All-cons, All-nil, all_picks}
+use Rattle.desk_types.proofs.Common.{AllByRecursion, AllPass-from_list_all, ap, append-nil, append_assoc}
+use Rattle.desk_types.proofs.Common.{arith, boards_of, Bool, command_refusal, completion_refusal, drop}
+use Rattle.desk_types.proofs.Common.{entry_of, exposure_of, false, found_of, History, if◌then◌else◌}
+use Rattle.desk_types.proofs.Common.{install_picks, install_refusal, is_designator_byte, is_out_at, is_some}
+use Rattle.desk_types.proofs.Common.{IsCommand, IsDesignator, IsId, IsJudged, IsListOf, IsPrefix, IsSheetRow}
+use Rattle.desk_types.proofs.Common.{IsStamped, left_of, length, List, list_all, live_on, mounting_refusal}
+use Rattle.desk_types.proofs.Common.{Name, nat_le, nat_lt, nat_tests, None, not, option_or, receipt_of}
+use Rattle.desk_types.proofs.Common.{receipt_refusal, refl, refusal_of, same, same-true, scrap_refusal}
+use Rattle.desk_types.proofs.Common.{start_refusal, subst, sym, takes_of, tape_of, true, ℕ}
+use Rattle.desk_laws.proofs.Common.{at, B1, base, boards_over, Carries, ClockSet, Command, DeskFile, IsChain}
+use Rattle.desk_laws.proofs.Common.{K1, K2, L2, lots_over, M, MaterialsInstalled, MaterialsLoaded}
+use Rattle.desk_laws.proofs.Common.{MaterialsScrapped, MaterialsSpliced, P, placed_over, quantity_of, R1, R2}
+use Rattle.desk_laws.proofs.Common.{received, received_over, S1, scrapped_over, Stamped, Two, WorkCompleted}
+use Rattle.desk_laws.proofs.Common.{WorkStarted}
 use Rattle.desk_laws.proofs.AfterCommands.{judged-run}
-use Rattle.desk_laws.proofs.AlikeCases.{a_carried_desk_is_alike, new, new_begin, new_is_accepted, old, old_begin}
-use Rattle.desk_laws.proofs.AlikeCases.{old_end, old_is_accepted, with}
-use Rattle.desk_laws.specs.Chain.{boards_over, Carries, DeskFile, IsChain, left_over, lots_over, placed_over}
-use Rattle.desk_laws.specs.Chain.{quantity_of, received_over, scrapped_over}
-use Rattle.desk_types.proofs.RowsCommon.{at, B1, B2, base, K1, K2, L1, L2, M, P, PR, Q, R1, R2, R3, R4, R5, received}
-use Rattle.desk_types.proofs.RowsCommon.{S1}
+use Rattle.desk_laws.proofs.AlikeCases.{a_carried_desk_is_alike, new, new_begin, new_is_accepted, old}
+use Rattle.desk_laws.proofs.AlikeCases.{old_begin, old_end, old_is_accepted, with}
+use Rattle.desk_laws.specs.Chain.{left_over}
+use Rattle.desk_types.proofs.RowsCommon.{B2, L1, PR, Q, R3, R4, R5}
 use Rattle.std.specs.Prelude.{slice_index}
 
 -- The first file: 50 pieces of reel K1, of lot L1, are received, and three of them placed on board B1.

@@ -1,19 +1,18 @@
 -- The lots and boards over a chain of desk files.
-use Rattle.desk_types.proofs.Common.{[], ◌&&◌, ◌++◌, ◌<◌, ◌||◌, ◌↔◌, ◌∙◌, ◌∷◌, ◌≡◌, ◌≤◌, All, All-head, All-tail}
-use Rattle.desk_types.proofs.Common.{and_comm, ap, append_assoc, arith, boards_of, Bool, Command, Contains, false}
-use Rattle.desk_types.proofs.Common.{History, if◌then◌else◌, is_some, IsCommand, IsJudged, List, list_any}
-use Rattle.desk_types.proofs.Common.{list_any-append, list_any-same, lots_of, map, Name, None, Option, option_map}
-use Rattle.desk_types.proofs.Common.{option_map_or, option_or, Placement, placements_of, Receipt, receipt_by}
-use Rattle.desk_types.proofs.Common.{receipt_of, ReelReceived, refl, same, same-sym, Some, sym, true, Two, ℕ}
-use Rattle.desk_laws.proofs.{InstalledPieces.rightly-placed, Judgements.judged-prefix, Mounts.from-has, Mounts.has}
-use Rattle.desk_laws.proofs.{Mounts.has-from, NameSets.has-read, NameSets.has-set, NameSets.traces-converse}
-use Rattle.desk_laws.proofs.{ReelsLater.receipt-prefix}
-use Rattle.desk_laws.specs.{Chain.boards_over, Chain.Carries, Chain.DeskFile, Chain.IsChain, Chain.lot_over}
-use Rattle.desk_laws.specs.{Chain.lots_over, Chain.origin, Chain.pieces_over, Chain.receipt_over}
-use Rattle.desk_laws.specs.{Verified.IsRightlyPlaced}
-use Rattle.desk_types.proofs.BothRules.{judged-by-two}
-use Rattle.std.proofs.lemmas.List.Folds.{Any-from_list_any, list_any-from_Any}
-use Rattle.std.specs.Prelude.{Any, slice_index_or}
+use Rattle.desk_types.proofs.Common.{[], ◌&&◌, ◌++◌, ◌<◌, ◌||◌, ◌↔◌, ◌∙◌, ◌∷◌, ◌≡◌, ◌≤◌, All, All-head}
+use Rattle.desk_types.proofs.Common.{All-tail, and_comm, Any, Any-from_list_any, ap, append_assoc, arith}
+use Rattle.desk_types.proofs.Common.{boards_of, Bool, Contains, false, History, if◌then◌else◌, is_some}
+use Rattle.desk_types.proofs.Common.{IsCommand, IsJudged, List, list_any, list_any-append, list_any-from_Any}
+use Rattle.desk_types.proofs.Common.{list_any-same, lots_of, map, Name, None, Option, option_map}
+use Rattle.desk_types.proofs.Common.{option_map_or, option_or, placements_of, receipt_by, receipt_of, refl}
+use Rattle.desk_types.proofs.Common.{same, same-sym, Some, sym, true, ℕ}
+use Rattle.desk_laws.proofs.Common.{boards_over, Carries, Command, DeskFile, IsChain, IsRightlyPlaced}
+use Rattle.desk_laws.proofs.Common.{judged-by-two, lots_over, Placement, Receipt, ReelReceived, Two}
+use Rattle.desk_laws.proofs.{InstalledPieces.rightly-placed, Judgements.judged-prefix, Mounts.from-has}
+use Rattle.desk_laws.proofs.{Mounts.has, Mounts.has-from, NameSets.has-read, NameSets.has-set}
+use Rattle.desk_laws.proofs.{NameSets.traces-converse, ReelsLater.receipt-prefix}
+use Rattle.desk_laws.specs.Chain.{lot_over, origin, pieces_over, receipt_over}
+use Rattle.std.specs.Prelude.{slice_index_or}
 
 -- ---- receipts
 

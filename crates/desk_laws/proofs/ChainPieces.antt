@@ -1,12 +1,13 @@
 -- The pieces of a reel over a chain of desk files.
-use Rattle.desk_types.proofs.Common.{[], ◌+◌, ◌∙◌, ◌∷◌, ◌≡◌, ap, arith, Bool, false, found_of, if◌then◌else◌, is_some}
-use Rattle.desk_types.proofs.Common.{IsJudged, IsPrefix, left_of, List, Name, None, Option, option_map_or, placed_of}
-use Rattle.desk_types.proofs.Common.{Receipt, receipt_of, refl, scrapped_of, Some, sum_by-cons, sym, true, Two}
+use Rattle.desk_types.proofs.Common.{[], ◌+◌, ◌∙◌, ◌∷◌, ◌≡◌, ap, arith, Bool, false, found_of, if◌then◌else◌}
+use Rattle.desk_types.proofs.Common.{is_some, IsJudged, IsPrefix, left_of, List, Name, None, Option}
+use Rattle.desk_types.proofs.Common.{option_map_or, placed_of, receipt_of, refl, scrapped_of, Some}
+use Rattle.desk_types.proofs.Common.{sum_by-cons, sym, true}
+use Rattle.desk_laws.proofs.Common.{DeskFile, IsChain, judged-by-two, placed_over, quantity_of, Receipt}
+use Rattle.desk_laws.proofs.Common.{received_over, scrapped_over, Two}
 use Rattle.desk_laws.proofs.{Balance.balance, Balance.unreceived-empty, Judgements.judged-prefix}
 use Rattle.desk_laws.proofs.{ReelsLater.receipt-prefix}
-use Rattle.desk_laws.specs.Chain.{DeskFile, Follows, IsChain, left_over, new_in, placed_over, quantity_of}
-use Rattle.desk_laws.specs.Chain.{received_over, scrapped_over}
-use Rattle.desk_types.proofs.BothRules.{judged-by-two}
+use Rattle.desk_laws.specs.Chain.{Follows, left_over, new_in}
 
 quantity-none : (o : Option Receipt) → is_some o ≡ false → option_map_or (λ (r : Receipt). r.quantity) o 0 ≡ 0
 quantity-none None none = refl

@@ -1,6 +1,6 @@
 -- A third desk that is alike to the second is alike to the first.
 use Rattle.desk_types.proofs.Common.{◌<◌, ◌∙◌, ◌≡◌, ap, arith, History, Name, now_of, subst, sym, unwrap_or}
-use Rattle.desk_laws.specs.Alike.{AreAlike, IsSameReel}
+use Rattle.desk_laws.proofs.Common.{AreAlike, IsSameReel}
 
 same-chain : (F G H : History) (reel : Name) → now_of F ≡ now_of G → IsSameReel F G reel → IsSameReel G H reel → IsSameReel F H reel
 same-chain F G H reel now a b = record {

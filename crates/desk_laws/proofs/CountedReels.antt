@@ -1,11 +1,12 @@
 -- Accepted counts of mounted and of other reels.
-use Rattle.desk_types.proofs.Common.{[], ◌++◌, ◌-◌, ◌||◌, ◌∙◌, ◌∷◌, ◌≡◌, accept, All, All-cons, All-head, All-nil}
-use Rattle.desk_types.proofs.Common.{All-tail, AllByRecursion, ap, arith, Bool, Command, command_refusal, CountRow}
-use Rattle.desk_types.proofs.Common.{counts_refusal, CountsTaken, effective_minute, false, find, found_by, found_of}
-use Rattle.desk_types.proofs.Common.{History, if◌then◌else◌, is_mounted, left_of, List, list_any, list_any-append}
-use Rattle.desk_types.proofs.Common.{Name, None, option_map, option_map_or, picks_of, pieces_by, pieces_picked, refl}
-use Rattle.desk_types.proofs.Common.{refusal_of, same, same-refl, same-sym, same-true, Some, Stamped, sym, true, Two}
-use Rattle.desk_types.proofs.Common.{unwrap_or, ℕ}
+use Rattle.desk_types.proofs.Common.{[], ◌++◌, ◌-◌, ◌||◌, ◌∙◌, ◌∷◌, ◌≡◌, accept, All, All-cons, All-head}
+use Rattle.desk_types.proofs.Common.{All-nil, All-tail, AllByRecursion, ap, arith, Bool, command_refusal}
+use Rattle.desk_types.proofs.Common.{counts_refusal, effective_minute, false, find, found_by, found_of}
+use Rattle.desk_types.proofs.Common.{History, if◌then◌else◌, is_mounted, left_of, List, list_any}
+use Rattle.desk_types.proofs.Common.{list_any-append, Name, None, option_map, option_map_or, picks_of}
+use Rattle.desk_types.proofs.Common.{pieces_by, pieces_picked, refl, refusal_of, same, same-refl, same-sym}
+use Rattle.desk_types.proofs.Common.{same-true, Some, sym, true, unwrap_or, ℕ}
+use Rattle.desk_laws.proofs.Common.{Command, CountRow, CountsTaken, Stamped, Two}
 use Rattle.desk_laws.proofs.{Accepted.command-accepted, Picks.countable, Picks.IsCountable}
 
 -- ---- mounted reels

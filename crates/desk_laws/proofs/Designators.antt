@@ -1,17 +1,18 @@
 -- No designator of a board is placed twice.
 use Rattle.desk_types.proofs.Common.{[], ◌&&◌, ◌++◌, ◌+◌, ◌||◌, ◌∙◌, ◌∷◌, ◌≡◌, AllByRecursion, and-false, ap}
-use Rattle.desk_types.proofs.Common.{bench_of, Bool, Command, command_refusal, cons_option, Counted, CountsTaken}
-use Rattle.desk_types.proofs.Common.{Entry, entry_takes, enumerate_from, false, filter_map, filter_map-append}
-use Rattle.desk_types.proofs.Common.{History, is_placed, is_placed_on, IsDistinct, IsJudged, left_of, List, list_any}
-use Rattle.desk_types.proofs.Common.{list_any-append, map, map-append, MaterialsInstalled, MaterialsScrapped, Name}
-use Rattle.desk_types.proofs.Common.{None, Option, Pick, picks_of, Placed, Placement, placement_of, placements_of}
-use Rattle.desk_types.proofs.Common.{places, Purpose, refl, Rejected, same, same-sym, same_pair, Some, subst, sym}
-use Rattle.desk_types.proofs.Common.{take_of, takes_of, tape_of, true, Two, ℕ}
+use Rattle.desk_types.proofs.Common.{bench_of, Bool, command_refusal, cons_option, entry_takes}
+use Rattle.desk_types.proofs.Common.{enumerate_from, false, filter_map, filter_map-append, History, is_placed}
+use Rattle.desk_types.proofs.Common.{is_placed_on, IsDistinct, IsJudged, left_of, List, list_any}
+use Rattle.desk_types.proofs.Common.{list_any-append, map, map-append, Name, None, Option, or_comm, picks_of}
+use Rattle.desk_types.proofs.Common.{placement_of, placements_of, places, refl, same, same-sym, same_pair}
+use Rattle.desk_types.proofs.Common.{Some, subst, sym, take_of, takes_of, tape_of, true, ℕ}
+use Rattle.desk_laws.proofs.Common.{Command, Counted, CountsTaken, Entry, MaterialsInstalled}
+use Rattle.desk_laws.proofs.Common.{MaterialsScrapped, Pick, Placed, Placement, Purpose, Rejected, Two}
 use Rattle.desk_laws.proofs.{Accepted.next-accepted, Distinct.distinct-join, InstalledPieces.AreUnplaced}
-use Rattle.desk_laws.proofs.{InstalledPieces.unplaced-count, InstalledPieces.unplaced-scrap, Installs.ArePlacedFor}
-use Rattle.desk_laws.proofs.{Installs.designators-differ, Installs.designators-new, Installs.each-placed}
-use Rattle.desk_laws.proofs.{Installs.installable}
-use Rattle.std.proofs.{Math.Bool.or_comm, lemmas.Bool.and_right}
+use Rattle.desk_laws.proofs.{InstalledPieces.unplaced-count, InstalledPieces.unplaced-scrap}
+use Rattle.desk_laws.proofs.{Installs.ArePlacedFor, Installs.designators-differ, Installs.designators-new}
+use Rattle.desk_laws.proofs.{Installs.each-placed, Installs.installable}
+use Rattle.std.proofs.lemmas.Bool.{and_right}
 
 -- ---- spots: a board and one of its designators
 

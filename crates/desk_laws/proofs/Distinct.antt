@@ -1,6 +1,6 @@
 -- Lists without duplicates.
-use Rattle.desk_types.proofs.Common.{[], ◌++◌, ◌∙◌, ◌∷◌, ◌≡◌, AllByRecursion, Bool, false, filter, if◌then◌else◌}
-use Rattle.desk_types.proofs.Common.{IsDistinct, List, list_any, or_parts, true}
+use Rattle.desk_types.proofs.Common.{[], ◌++◌, ◌∙◌, ◌∷◌, ◌≡◌, AllByRecursion, Bool, false, filter}
+use Rattle.desk_types.proofs.Common.{if◌then◌else◌, IsDistinct, List, list_any, or_parts, true}
 
 pub all-append : {K : Type 0} (P : K → Type 0) (xs ys : List K) → AllByRecursion P xs → AllByRecursion P ys → AllByRecursion P (xs ++ ys)
 all-append P [] ys all rest = rest

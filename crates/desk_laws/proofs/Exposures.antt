@@ -1,13 +1,14 @@
 -- Exposure over time and over later entries.
-use Rattle.desk_types.proofs.Common.{[], ◌++◌, ◌-◌, ◌<◌, ◌∙◌, ◌∷◌, ◌≡◌, ◌≢◌, ◌≤◌, All, All-head, All-tail, ap, arith}
-use Rattle.desk_types.proofs.Common.{bake_by, Bool, Command, count_by, Entry, exposure_of, exposure_starts, false}
-use Rattle.desk_types.proofs.Common.{History, if◌then◌else◌, is_out_at, is_some, IsJudged, IsUntouched, last_bake}
-use Rattle.desk_types.proofs.Common.{leb-false, leb-true, List, minutes_between, Name, nat_le, None, Option}
-use Rattle.desk_types.proofs.Common.{option_map, option_or, Receipt, receipt_of, ReelBaked, refl, same, same-true}
-use Rattle.desk_types.proofs.Common.{Some, subst, true, Two, unwrap_or, ℕ}
+use Rattle.desk_types.proofs.Common.{[], ◌++◌, ◌-◌, ◌<◌, ◌∙◌, ◌∷◌, ◌≡◌, ◌≢◌, ◌≤◌, All, All-head, All-tail, ap}
+use Rattle.desk_types.proofs.Common.{arith, bake_by, Bool, count_by, exposure_of, exposure_starts, false}
+use Rattle.desk_types.proofs.Common.{History, if◌then◌else◌, is_out_at, is_some, IsJudged, IsUntouched}
+use Rattle.desk_types.proofs.Common.{last_bake, leb-false, leb-true, List, minutes_between, Name, nat_le}
+use Rattle.desk_types.proofs.Common.{None, Option, option_map, option_or, receipt_of, refl, same, same-true}
+use Rattle.desk_types.proofs.Common.{Some, subst, true, unwrap_or, ℕ}
+use Rattle.desk_laws.proofs.Common.{Command, count-one, count-split, Entry, is_out-untouched, Receipt}
+use Rattle.desk_laws.proofs.Common.{ReelBaked, Two}
 use Rattle.desk_laws.proofs.{Judgements.judged-prefix, Judgements.untouched, ReelsLater.receipt-prefix}
-use Rattle.desk_types.proofs.{Exposure.is_out-before, Exposure.is_out-untouched, Minutes.count-agree}
-use Rattle.desk_types.proofs.{Minutes.count-one, Minutes.count-split}
+use Rattle.desk_types.proofs.{Exposure.is_out-before, Minutes.count-agree}
 use Rattle.std.proofs.{lemmas.List.FromFn.length-range_with_len, lemmas.List.Sums.count_by-le-length}
 
 -- ---- one history

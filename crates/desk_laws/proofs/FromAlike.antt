@@ -1,19 +1,21 @@
 -- Alike histories agree except for past boards and reels. Histories that agree so are alike if no board is in work.
-use Rattle.desk_types.proofs.Common.{[], ◌&&◌, ◌-◌, ◌<◌, ◌==◌, ◌||◌, ◌∙◌, ◌∷◌, ◌≡◌, and_parts, ap, arith, bench_of}
-use Rattle.desk_types.proofs.Common.{Bool, both_ways, Command, command_refusal, Contains, designators_refusal, Entry}
-use Rattle.desk_types.proofs.Common.{eqb-true, exposure_of, false, History, if◌then◌else◌, in_work_on}
-use Rattle.desk_types.proofs.Common.{install_refusal, is_baked, is_in_work, is_in_work_on, is_mounted, is_placed_on}
-use Rattle.desk_types.proofs.Common.{is_six, is_some, IsJudged, IsNext, IsUntouched, left_of, LevelWithLabel}
-use Rattle.desk_types.proofs.Common.{limit_of, List, list_any, MaterialsInstalled, Name, nat_lt, nat_tests, None, not}
-use Rattle.desk_types.proofs.Common.{NotInWork, Option, option_and_then, option_map, option_map_or, option_or}
-use Rattle.desk_types.proofs.Common.{or_parts, out_since, places, product_of, Receipt, receipt_of, refl, same}
-use Rattle.desk_types.proofs.Common.{same-true, selected_on, since_after, Some, start_by, subst, sym, true, Two}
-use Rattle.desk_types.proofs.Common.{WorkStarted, ℕ}
+use Rattle.desk_types.proofs.Common.{[], ◌&&◌, ◌-◌, ◌<◌, ◌==◌, ◌||◌, ◌∙◌, ◌∷◌, ◌≡◌, and_parts, ap, arith}
+use Rattle.desk_types.proofs.Common.{bench_of, Bool, both_ways, command_refusal, Contains}
+use Rattle.desk_types.proofs.Common.{designators_refusal, eqb-true, exposure_of, false, History}
+use Rattle.desk_types.proofs.Common.{if◌then◌else◌, in_work_on, install_refusal, is_baked, is_in_work}
+use Rattle.desk_types.proofs.Common.{is_in_work_on, is_mounted, is_placed_on, is_six, is_some, IsJudged}
+use Rattle.desk_types.proofs.Common.{IsNext, IsUntouched, left_of, LevelWithLabel, limit_of, List, list_any}
+use Rattle.desk_types.proofs.Common.{Name, nat_lt, nat_tests, None, not, Option, option_and_then, option_map}
+use Rattle.desk_types.proofs.Common.{option_map_or, option_or, or_parts, out_since, places, product_of}
+use Rattle.desk_types.proofs.Common.{receipt_of, refl, same, same-true, selected_on, since_after, Some}
+use Rattle.desk_types.proofs.Common.{start_by, subst, sym, true, ℕ}
+use Rattle.desk_laws.proofs.Common.{AreAlike, Command, Entry, is_started, IsIdle, IsSameReel}
+use Rattle.desk_laws.proofs.Common.{MaterialsInstalled, NotInWork, Receipt, Two, WorkStarted}
 use Rattle.desk_laws.proofs.{Accepted.next-accepted, Accepted.not-some, Agreeing.Agree, Agreeing.IsSame}
 use Rattle.desk_laws.proofs.{Agreeing.known, Agreeing.left-new, Agreeing.mark, Agreeing.marked}
 use Rattle.desk_laws.proofs.{BoardsInWork.work-product, BoardsInWork.work-selected, Judgements.untouched}
 use Rattle.desk_laws.proofs.{Lookups.in_work-somewhere, Lookups.mounted-live, Lookups.mounted-there}
-use Rattle.desk_laws.specs.{Alike.AreAlike, Alike.IsIdle, Alike.IsSameReel, Past.is_spent, Past.is_started}
+use Rattle.desk_laws.specs.Past.{is_spent}
 
 -- ---- boards
 

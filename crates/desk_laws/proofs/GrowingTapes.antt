@@ -1,8 +1,8 @@
 -- Tapes grow at their ends.
 use Rattle.desk_types.proofs.Common.{[], ◌&&◌, ◌++◌, ◌∙◌, ◌∷◌, ◌≡◌, All, All-head, All-tail, ap, append-nil}
-use Rattle.desk_types.proofs.Common.{append_assoc, Bool, Command, Entry, false, History, if◌then◌else◌, List}
-use Rattle.desk_types.proofs.Common.{MaterialsLoaded, MaterialsSpliced, MaterialsUnloaded, Name, refl, same, sym}
-use Rattle.desk_types.proofs.Common.{tape_after, tape_of, tape_with, true}
+use Rattle.desk_types.proofs.Common.{append_assoc, Bool, false, History, if◌then◌else◌, List, Name, refl}
+use Rattle.desk_types.proofs.Common.{same, sym, tape_after, tape_of, tape_with, true}
+use Rattle.desk_laws.proofs.Common.{Command, Entry, MaterialsLoaded, MaterialsSpliced, MaterialsUnloaded}
 use Rattle.desk_laws.specs.TapeOrder.{restarts}
 
 -- The first tape is the second with reels joined to its end.

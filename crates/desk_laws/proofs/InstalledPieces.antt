@@ -1,19 +1,20 @@
 -- The pieces that an accepted install places.
-use Rattle.desk_types.proofs.Common.{[], ⊤, ◌++◌, ◌+◌, ◌-◌, ◌||◌, ◌∙◌, ◌∷◌, ◌≡◌, All, All-append, All-cons, All-nil}
-use Rattle.desk_types.proofs.Common.{AllByRecursion, ap, append-nil, append_assoc, arith, bench_of, Bool, Command}
-use Rattle.desk_types.proofs.Common.{cons_option, count_picks, Counted, CountRow, CountsTaken, Entry, entry_takes}
-use Rattle.desk_types.proofs.Common.{enumerate_from, false, filter_map, filter_map-append, find, History}
-use Rattle.desk_types.proofs.Common.{if◌then◌else◌, install_picks, is_placed, IsJudged, left_of, length}
-use Rattle.desk_types.proofs.Common.{length-append, List, map, MaterialsInstalled, MaterialsScrapped, min, Name, None}
-use Rattle.desk_types.proofs.Common.{Option, option_and_then, option_map, option_map_or, option_to_list, Pick}
-use Rattle.desk_types.proofs.Common.{pick_for, picks_of, pieces_off, Placed, Placement, placement_of, placements_of}
-use Rattle.desk_types.proofs.Common.{Purpose, Receipt, receipt_of, refl, Rejected, same, same-refl, scrap_picks}
-use Rattle.desk_types.proofs.Common.{slice_get, slot_on, Some, subst, sym, take, take_of, takes_of, tape_of, true}
-use Rattle.desk_types.proofs.Common.{Two, ℕ}
-use Rattle.desk_laws.proofs.{Accepted.next-accepted, Distinct.all-append, Installs.ArePlacedFor, Installs.each-placed}
-use Rattle.desk_laws.proofs.{Installs.placed-at, Mounts.has, Mounts.unreceived-nowhere, Picks.all-off}
-use Rattle.desk_laws.proofs.{VerifiedReels.tape-verified}
-use Rattle.desk_laws.specs.Verified.{IsRightlyPlaced, next_reel}
+use Rattle.desk_types.proofs.Common.{[], ⊤, ◌++◌, ◌+◌, ◌-◌, ◌||◌, ◌∙◌, ◌∷◌, ◌≡◌, All, All-append, All-cons}
+use Rattle.desk_types.proofs.Common.{All-nil, AllByRecursion, ap, append-nil, append_assoc, arith, bench_of}
+use Rattle.desk_types.proofs.Common.{Bool, cons_option, count_picks, entry_takes, enumerate_from, false}
+use Rattle.desk_types.proofs.Common.{filter_map, filter_map-append, find, History, if◌then◌else◌}
+use Rattle.desk_types.proofs.Common.{install_picks, is_placed, IsJudged, left_of, length, length-append, List}
+use Rattle.desk_types.proofs.Common.{map, min, Name, None, Option, option_and_then, option_map, option_map_or}
+use Rattle.desk_types.proofs.Common.{option_to_list, pick_for, picks_of, pieces_off, placement_of}
+use Rattle.desk_types.proofs.Common.{placements_of, receipt_of, refl, same, same-refl, scrap_picks, slice_get}
+use Rattle.desk_types.proofs.Common.{slot_on, Some, subst, sym, take, take_of, takes_of, tape_of, true, ℕ}
+use Rattle.desk_laws.proofs.Common.{Command, Counted, CountRow, CountsTaken, Entry, IsRightlyPlaced}
+use Rattle.desk_laws.proofs.Common.{MaterialsInstalled, MaterialsScrapped, Pick, Placed, Placement, Purpose}
+use Rattle.desk_laws.proofs.Common.{Receipt, Rejected, Two}
+use Rattle.desk_laws.proofs.{Accepted.next-accepted, Distinct.all-append, Installs.ArePlacedFor}
+use Rattle.desk_laws.proofs.{Installs.each-placed, Installs.placed-at, Mounts.has, Mounts.unreceived-nowhere}
+use Rattle.desk_laws.proofs.{Picks.all-off, VerifiedReels.tape-verified}
+use Rattle.desk_laws.specs.Verified.{next_reel}
 use Rattle.std.proofs.lemmas.List.{take_at}
 
 -- ---- picks in turn

@@ -1,14 +1,16 @@
 -- The designators of an accepted install, and its one pick for each.
-use Rattle.desk_types.proofs.Common.{[], ⊤, ◌++◌, ◌∙◌, ◌∷◌, ◌≡◌, AllByRecursion, AlreadyPlaced, ap, append-nil}
-use Rattle.desk_types.proofs.Common.{append_assoc, Bench, bench_of, Bool, Command, command_refusal}
-use Rattle.desk_types.proofs.Common.{designators_refusal, false, find, first_refusal, History, if◌then◌else◌}
-use Rattle.desk_types.proofs.Common.{install_picks, install_refusal, is_in_work_on, is_none, is_placed_on, IsDistinct}
-use Rattle.desk_types.proofs.Common.{length, List, list_any, MaterialsInstalled, Name, nat_lt, None, NotInWork}
-use Rattle.desk_types.proofs.Common.{Option, option_and_then, option_map, option_to_list, Pick, pick_for, picks_of}
-use Rattle.desk_types.proofs.Common.{pieces_picked, Placed, ReelShort, refl, Refusal, same, slice_get, Some, subst}
-use Rattle.desk_types.proofs.Common.{sym, true, Two, ℕ}
+use Rattle.desk_types.proofs.Common.{[], ⊤, ◌++◌, ◌∙◌, ◌∷◌, ◌≡◌, AllByRecursion, ap, append-nil, append_assoc}
+use Rattle.desk_types.proofs.Common.{Bench, bench_of, Bool, command_refusal, designators_refusal, false, find}
+use Rattle.desk_types.proofs.Common.{first_refusal, History, if◌then◌else◌, install_picks, install_refusal}
+use Rattle.desk_types.proofs.Common.{is_in_work_on, is_none, is_placed_on, IsDistinct, length, List, list_any}
+use Rattle.desk_types.proofs.Common.{Name, nat_lt, None, Option, option_and_then, option_map, option_to_list}
+use Rattle.desk_types.proofs.Common.{pick_for, picks_of, pieces_picked, refl, same, slice_get, Some, subst}
+use Rattle.desk_types.proofs.Common.{sym, true, ℕ}
+use Rattle.desk_laws.proofs.Common.{Command, MaterialsInstalled, NotInWork, Pick, Placed, ReelShort, Refusal}
+use Rattle.desk_laws.proofs.Common.{Two}
 use Rattle.desk_laws.proofs.{Accepted.none-holds, Judgements.or-none, Tapes.one-more}
-use Rattle.desk_types.specs.declared.answer.Refusal.TheVariants.{DesignatorNotOnSheet, DesignatorTwice}
+use Rattle.desk_types.specs.declared.answer.Refusal.TheVariants.{AlreadyPlaced, DesignatorNotOnSheet}
+use Rattle.desk_types.specs.declared.answer.Refusal.TheVariants.{DesignatorTwice}
 
 -- ---- picks in the order of designators
 

@@ -1,8 +1,9 @@
 -- Accepted histories are consistent.
-use Rattle.desk_types.proofs.Common.{History, IsJudged, Rules}
-use Rattle.desk_laws.{proofs.Balance.balance, proofs.InstalledPieces.rightly-placed, proofs.NameSets.traces-converse}
-use Rattle.desk_laws.{proofs.Places.one-slot, proofs.Tapes.live-distinct, specs.Consistent.IsConsistent}
-use Rattle.desk_types.proofs.BothRules.{judged-by-two}
+use Rattle.desk_types.proofs.Common.{History, IsJudged}
+use Rattle.desk_laws.proofs.Common.{judged-by-two, Rules}
+use Rattle.desk_laws.proofs.{Balance.balance, InstalledPieces.rightly-placed, NameSets.traces-converse}
+use Rattle.desk_laws.proofs.{Places.one-slot, Tapes.live-distinct}
+use Rattle.desk_laws.specs.Consistent.{IsConsistent}
 
 pub consistent : (rules : Rules) (H : History) → IsJudged rules H → IsConsistent H
 consistent rules H judged =

@@ -1,10 +1,11 @@
 -- Facts about the histories that a desk can reach.
-use Rattle.desk_types.proofs.Common.{[], ◌++◌, ◌∙◌, ◌∷◌, ◌≡◌, ◌≤◌, AllByRecursion, ap, arith, Bool, desk_minute}
-use Rattle.desk_types.proofs.Common.{Entry, History, IsJudged, IsPrefix, IsUntouched, List, max, Name, None, now_of}
-use Rattle.desk_types.proofs.Common.{open_by, Option, option_or, receipt_by, receipt_of, refl, Some, subst, Two}
-use Rattle.desk_types.proofs.Common.{unwrap_or, ℕ}
+use Rattle.desk_types.proofs.Common.{[], ◌++◌, ◌∙◌, ◌∷◌, ◌≡◌, ◌≤◌, AllByRecursion, ap, arith, Bool}
+use Rattle.desk_types.proofs.Common.{desk_minute, History, IsJudged, IsPrefix, IsUntouched, le-max_right}
+use Rattle.desk_types.proofs.Common.{List, max, Name, None, now_of, open_by, Option, option_or, receipt_by}
+use Rattle.desk_types.proofs.Common.{receipt_of, refl, Some, subst, unwrap_or, ℕ}
+use Rattle.desk_laws.proofs.Common.{Entry, Two}
 use Rattle.desk_laws.proofs.Accepted.{handled-received}
-use Rattle.std.proofs.Math.Nat.{le-max_left, le-max_right}
+use Rattle.std.proofs.Math.Nat.{le-max_left}
 
 -- ---- reels
 

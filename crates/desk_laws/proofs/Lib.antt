@@ -39,3 +39,4 @@ pub mod Totals
 pub mod UnlikeCases
 pub mod VerifiedReels
 pub mod WholeInstalls
+pub mod Common

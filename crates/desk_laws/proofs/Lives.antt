@@ -1,15 +1,17 @@
 -- Live reels after one more entry. Picks come only from live reels.
-use Rattle.desk_types.proofs.Common.{[], ◌&&◌, ◌++◌, ◌-◌, ◌∙◌, ◌∷◌, ◌≡◌, ap, arith, Bench, bench_of, Bool, Command}
-use Rattle.desk_types.proofs.Common.{command_refusal, designators_refusal, Entry, false, filter-append, find, first}
+use Rattle.desk_types.proofs.Common.{[], ◌&&◌, ◌++◌, ◌-◌, ◌∙◌, ◌∷◌, ◌≡◌, ap, arith, Bench, bench_of, Bool}
+use Rattle.desk_types.proofs.Common.{command_refusal, designators_refusal, false, filter-append, find, first}
 use Rattle.desk_types.proofs.Common.{History, if◌then◌else◌, install_picks, is_none, IsJudged, left_of, List}
-use Rattle.desk_types.proofs.Common.{list_any, live_on, lt-ltb, ltb-false, ltb-true, MaterialsLoaded}
-use Rattle.desk_types.proofs.Common.{MaterialsSpliced, MaterialsUnloaded, min, Name, nat_lt, None, Option}
-use Rattle.desk_types.proofs.Common.{option_and_then, option_map, option_or, option_to_list, or_left, or_right, Pick}
-use Rattle.desk_types.proofs.Common.{pick_for, pieces_off, pieces_picked, Placed, Purpose, Receipt, receipt_by, refl}
-use Rattle.desk_types.proofs.Common.{Refusal, same, same-refl, scrap_picks, slot_on, Some, sym, tape_after, tape_of}
-use Rattle.desk_types.proofs.Common.{tape_with, true, Two, ℕ}
-use Rattle.desk_laws.proofs.{Accepted.mountable, Accepted.next-accepted, Accepted.received-once, Balance.some-next}
-use Rattle.desk_laws.proofs.{Mounts.has, Mounts.unreceived-nowhere, Places.joined, Places.vacant-same}
+use Rattle.desk_types.proofs.Common.{list_any, live_on, lt-ltb, ltb-false, ltb-true, min, Name, nat_lt, None}
+use Rattle.desk_types.proofs.Common.{Option, option_and_then, option_map, option_or, option_to_list, or_left}
+use Rattle.desk_types.proofs.Common.{or_right, pick_for, pieces_off, pieces_picked, receipt_by, refl, same}
+use Rattle.desk_types.proofs.Common.{same-refl, scrap_picks, slot_on, Some, sym, tape_after, tape_of}
+use Rattle.desk_types.proofs.Common.{tape_with, true, ℕ}
+use Rattle.desk_laws.proofs.Common.{Command, Entry, MaterialsLoaded, MaterialsSpliced, MaterialsUnloaded}
+use Rattle.desk_laws.proofs.Common.{Pick, Placed, Purpose, Receipt, Refusal, Two}
+use Rattle.desk_laws.proofs.{Accepted.mountable, Accepted.next-accepted, Accepted.received-once}
+use Rattle.desk_laws.proofs.{Balance.some-next, Mounts.has, Mounts.unreceived-nowhere, Places.joined}
+use Rattle.desk_laws.proofs.{Places.vacant-same}
 use Rattle.desk_types.specs.{Pieces.bench_by, Refusals.designator_refusal}
 use Rattle.std.specs.List.{filter}
 

@@ -1,16 +1,18 @@
 -- Searches in the definitions agree with the plain rules.
-use Rattle.desk_types.proofs.Common.{[], ◌&&◌, ◌||◌, ◌∙◌, ◌∷◌, ◌≡◌, ◌≢◌, and_parts, ap, Bool, Command, cons_option}
-use Rattle.desk_types.proofs.Common.{Contains, Contains-from_any, Entry, false, filter_map, first, History}
-use Rattle.desk_types.proofs.Common.{if◌then◌else◌, in_work_on, is_in_work, is_in_work_on, is_live_where_loaded}
-use Rattle.desk_types.proofs.Common.{is_mounted, is_none, is_placed_on, IsJudged, latest, List, list_any}
-use Rattle.desk_types.proofs.Common.{list_any-from_Contains, live_on, loaded_slots, MaterialsLoaded, Name}
-use Rattle.desk_types.proofs.Common.{nat_list_eq_equiv, None, Option, option_map_or, option_or, or_left, or_right}
-use Rattle.desk_types.proofs.Common.{Placement, placements_of, refl, same, same-refl, same-true, same_pair, Some, sym}
-use Rattle.desk_types.proofs.Common.{tape_of, true, Two, unwrap_or, work_by, WorkCompleted, WorkStarted}
+use Rattle.desk_types.proofs.Common.{[], ◌&&◌, ◌||◌, ◌∙◌, ◌∷◌, ◌≡◌, ◌≢◌, and_parts, Any, Any-from_list_any}
+use Rattle.desk_types.proofs.Common.{ap, Bool, cons_option, Contains, Contains-from_any, false, filter_map}
+use Rattle.desk_types.proofs.Common.{first, History, if◌then◌else◌, in_work_on, is_in_work, is_in_work_on}
+use Rattle.desk_types.proofs.Common.{is_live_where_loaded, is_mounted, is_none, is_placed_on, IsJudged}
+use Rattle.desk_types.proofs.Common.{latest, List, list_any, list_any-from_Any, list_any-from_Contains}
+use Rattle.desk_types.proofs.Common.{live_on, loaded_slots, Name, nat_list_eq_equiv, None, Option}
+use Rattle.desk_types.proofs.Common.{option_map_or, option_or, or_left, or_right, placements_of, refl, same}
+use Rattle.desk_types.proofs.Common.{same-refl, same-true, same_pair, Some, sym, tape_of, true, unwrap_or}
+use Rattle.desk_types.proofs.Common.{work_by}
+use Rattle.desk_laws.proofs.Common.{Command, Entry, MaterialsLoaded, Placement, Two, WorkCompleted}
+use Rattle.desk_laws.proofs.Common.{WorkStarted}
 use Rattle.desk_laws.proofs.{Designators.spot-placed, Designators.spots_of, Mounts.has, Mounts.live-mounted}
 use Rattle.desk_laws.proofs.{Mounts.loaded-by, NameSets.has-set}
 use Rattle.desk_types.specs.{View.slot_by, Work.is_in_work_where_started}
-use Rattle.std.proofs.{Common.Any, lemmas.List.Folds.Any-from_list_any, lemmas.List.Folds.list_any-from_Any}
 
 -- ---- mounted reels
 

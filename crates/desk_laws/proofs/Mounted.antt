@@ -1,16 +1,18 @@
 -- Mounted reels after one more entry.
-use Rattle.desk_types.proofs.Common.{[], ◌&&◌, ◌-◌, ◌||◌, ◌∙◌, ◌∷◌, ◌≡◌, and-false, and-true, and_from, and_parts, ap}
-use Rattle.desk_types.proofs.Common.{arith, Bool, both_ways, Command, command_refusal, CountsTaken, Entry, false}
-use Rattle.desk_types.proofs.Common.{first, History, if◌then◌else◌, is_live_where_loaded, is_mounted, is_none}
-use Rattle.desk_types.proofs.Common.{is_some, is_vacant, IsJudged, left_of, List, list_any, live_on}
-use Rattle.desk_types.proofs.Common.{MaterialsInstalled, MaterialsLoaded, MaterialsScrapped, MaterialsSpliced}
-use Rattle.desk_types.proofs.Common.{MaterialsUnloaded, Name, nat_lt, None, not, not-false, Option, picks_of}
-use Rattle.desk_types.proofs.Common.{pieces_by, pieces_picked, Receipt, receipt_by, ReelReceived, refl, same}
-use Rattle.desk_types.proofs.Common.{same-refl, Some, sym, tape_of, true, Two, unwrap_or, ℕ}
-use Rattle.desk_laws.proofs.{Accepted.mountable, Accepted.next-accepted, Accepted.received-by, Balance.some-next}
-use Rattle.desk_laws.proofs.{Judgements.untouched, Mounts.has, Mounts.has-live_on, Mounts.live-mounted}
-use Rattle.desk_laws.proofs.{Places.live-placed, Places.placed, Places.untouched-unplaced}
-use Rattle.desk_laws.specs.Place.{is_at, mounted_after, place_after, place_of}
+use Rattle.desk_types.proofs.Common.{[], ◌&&◌, ◌-◌, ◌||◌, ◌∙◌, ◌∷◌, ◌≡◌, and-false, and-true, and_from}
+use Rattle.desk_types.proofs.Common.{and_parts, ap, arith, Bool, both_ways, command_refusal, false, first}
+use Rattle.desk_types.proofs.Common.{History, if◌then◌else◌, is_live_where_loaded, is_mounted, is_none}
+use Rattle.desk_types.proofs.Common.{is_some, is_vacant, IsJudged, left_of, List, list_any, live_on, Name}
+use Rattle.desk_types.proofs.Common.{nat_lt, None, not, not-false, Option, picks_of, pieces_by, pieces_picked}
+use Rattle.desk_types.proofs.Common.{receipt_by, refl, same, same-refl, Some, sym, tape_of, true, unwrap_or}
+use Rattle.desk_types.proofs.Common.{ℕ}
+use Rattle.desk_laws.proofs.Common.{Command, CountsTaken, Entry, MaterialsInstalled, MaterialsLoaded}
+use Rattle.desk_laws.proofs.Common.{MaterialsScrapped, MaterialsSpliced, MaterialsUnloaded, mounted_after}
+use Rattle.desk_laws.proofs.Common.{place_after, place_of, Receipt, ReelReceived, Two}
+use Rattle.desk_laws.{proofs.Accepted.mountable, proofs.Accepted.next-accepted, proofs.Accepted.received-by}
+use Rattle.desk_laws.{proofs.Balance.some-next, proofs.Judgements.untouched, proofs.Mounts.has}
+use Rattle.desk_laws.{proofs.Mounts.has-live_on, proofs.Mounts.live-mounted, proofs.Places.live-placed}
+use Rattle.desk_laws.{proofs.Places.placed, proofs.Places.untouched-unplaced, specs.Place.is_at}
 
 -- ---- pieces left
 

@@ -1,12 +1,14 @@
 -- The reels on slots, and the entries that put them there.
-use Rattle.desk_types.proofs.Common.{[], ◌&&◌, ◌||◌, ◌∙◌, ◌∷◌, ◌≡◌, AllByRecursion, and_parts, ap, Bool, Command}
-use Rattle.desk_types.proofs.Common.{Contains, Contains-from_any, Entry, false, first, front_of, History}
-use Rattle.desk_types.proofs.Common.{if◌then◌else◌, is_live_where_loaded, is_mounted, is_none, is_some, IsJudged}
-use Rattle.desk_types.proofs.Common.{IsUntouched, left_of, List, list_any, list_any-append, list_any-from_Contains}
-use Rattle.desk_types.proofs.Common.{live_on, MaterialsLoaded, MaterialsSpliced, MaterialsUnloaded, Name}
-use Rattle.desk_types.proofs.Common.{nat_list_eq_equiv, nat_lt, None, open_by, Option, or_left, or_right, Receipt}
-use Rattle.desk_types.proofs.Common.{receipt_of, refl, same, same-refl, same-sym, same-true, Some, subst, sym}
-use Rattle.desk_types.proofs.Common.{tape_after, tape_of, tape_with, true, Two}
+use Rattle.desk_types.proofs.Common.{[], ◌&&◌, ◌||◌, ◌∙◌, ◌∷◌, ◌≡◌, AllByRecursion, and_parts, ap, Bool}
+use Rattle.desk_types.proofs.Common.{Contains, Contains-from_any, false, first, front_of, History}
+use Rattle.desk_types.proofs.Common.{if◌then◌else◌, is_live_where_loaded, is_mounted, is_none, is_some}
+use Rattle.desk_types.proofs.Common.{IsJudged, IsUntouched, left_of, List, list_any, list_any-append}
+use Rattle.desk_types.proofs.Common.{list_any-from_Contains, live_on, Name, nat_list_eq_equiv, nat_lt, None}
+use Rattle.desk_types.proofs.Common.{open_by, Option, or_left, or_right, receipt_of, refl, same, same-refl}
+use Rattle.desk_types.proofs.Common.{same-sym, same-true, Some, subst, sym, tape_after, tape_of, tape_with}
+use Rattle.desk_types.proofs.Common.{true}
+use Rattle.desk_laws.proofs.Common.{Command, Entry, MaterialsLoaded, MaterialsSpliced, MaterialsUnloaded}
+use Rattle.desk_laws.proofs.Common.{Receipt, Two}
 use Rattle.desk_laws.{proofs.Judgements.untouched, specs.Verified.mounts}
 use Rattle.std.{proofs.lemmas.Map.Views.any-filter_same, specs.List.filter}
 

@@ -1,11 +1,12 @@
 -- Sets of names, and traces.
-use Rattle.desk_types.proofs.Common.{[], ◌&&◌, ◌||◌, ◌↔◌, ◌∙◌, ◌∷◌, ◌≡◌, AllByRecursion, and_comm, ap, boards_of}
-use Rattle.desk_types.proofs.Common.{Bool, by_name, CmpEqualImpliesEq, Contains, Contains-from_any, Equal}
-use Rattle.desk_types.proofs.Common.{exact_bytes, false, filter, Greater, History, if◌then◌else◌, insert_key}
-use Rattle.desk_types.proofs.Common.{IsStrictlySortedBy, IsTotalOrder, Less, List, list_any, list_any-from_Contains}
-use Rattle.desk_types.proofs.Common.{list_any-same, lots_of, map, match_ordering, Name, nat_list_cmp_total}
-use Rattle.desk_types.proofs.Common.{nat_list_eq_equiv, Ordering, ordering_reverse, Placement, placements_of, refl}
-use Rattle.desk_types.proofs.Common.{same, same-sym, same-true, set_of, sym, true}
+use Rattle.desk_types.proofs.Common.{[], ◌&&◌, ◌||◌, ◌↔◌, ◌∙◌, ◌∷◌, ◌≡◌, AllByRecursion, and_comm, ap}
+use Rattle.desk_types.proofs.Common.{boards_of, Bool, by_name, CmpEqualImpliesEq, Contains, Contains-from_any}
+use Rattle.desk_types.proofs.Common.{Equal, exact_bytes, false, filter, Greater, History, if◌then◌else◌}
+use Rattle.desk_types.proofs.Common.{insert_key, IsStrictlySortedBy, IsTotalOrder, Less, List, list_any}
+use Rattle.desk_types.proofs.Common.{list_any-from_Contains, list_any-same, lots_of, map, match_ordering}
+use Rattle.desk_types.proofs.Common.{Name, nat_list_cmp_total, nat_list_eq_equiv, Ordering, ordering_reverse}
+use Rattle.desk_types.proofs.Common.{placements_of, refl, same, same-sym, same-true, set_of, sym, true}
+use Rattle.desk_laws.proofs.Common.{Placement}
 use Rattle.desk_laws.proofs.Mounts.{has}
 use Rattle.desk_types.proofs.Tests.{swap-or}
 use Rattle.std.proofs.Math.Bool.{or_self_left}

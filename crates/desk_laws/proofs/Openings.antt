@@ -1,17 +1,17 @@
 -- Mounted reels are out of their bags, so their exposure grows.
-use Rattle.desk_types.proofs.Common.{[], ◌+◌, ◌-◌, ◌∙◌, ◌∷◌, ◌≡◌, ◌≤◌, and_parts, ap, arith, bake_by, Bool, Command}
-use Rattle.desk_types.proofs.Common.{command_refusal, CountsTaken, exposure_of, exposure_starts, false, History}
-use Rattle.desk_types.proofs.Common.{if◌then◌else◌, is_mounted, is_out_at, is_some, IsJudged, last_bake}
-use Rattle.desk_types.proofs.Common.{MaterialsInstalled, MaterialsLoaded, MaterialsScrapped, MaterialsSpliced}
-use Rattle.desk_types.proofs.Common.{MaterialsUnloaded, Name, None, now_of, open_by, Option, option_map, option_or}
-use Rattle.desk_types.proofs.Common.{out_since, Receipt, receipt_by, receipt_of, ReelBaked, ReelOpened, ReelReceived}
-use Rattle.desk_types.proofs.Common.{ReelSealed, refl, same, same-true, since_after, Some, sym, true, Two, unwrap_or}
-use Rattle.desk_types.proofs.Common.{ℕ}
-use Rattle.desk_laws.proofs.{Accepted.at-rest, Accepted.next-accepted, Judgements.AreBy, Judgements.by-desk_minute}
-use Rattle.desk_laws.proofs.{Judgements.by-later, Mounted.mounted-next}
-use Rattle.desk_laws.specs.Place.{mounted_after}
-use Rattle.desk_types.proofs.{Exposure.is_out-after, Exposure.is_out-untouched, Minutes.count-one}
-use Rattle.desk_types.proofs.{Minutes.count-split}
+use Rattle.desk_types.proofs.Common.{[], ◌+◌, ◌-◌, ◌∙◌, ◌∷◌, ◌≡◌, ◌≤◌, and_parts, ap, arith, bake_by, Bool}
+use Rattle.desk_types.proofs.Common.{command_refusal, exposure_of, exposure_starts, false, History}
+use Rattle.desk_types.proofs.Common.{if◌then◌else◌, is_mounted, is_out_at, is_some, IsJudged, last_bake, Name}
+use Rattle.desk_types.proofs.Common.{None, now_of, open_by, Option, option_map, option_or, out_since}
+use Rattle.desk_types.proofs.Common.{receipt_by, receipt_of, refl, same, same-true, since_after, Some, sym}
+use Rattle.desk_types.proofs.Common.{true, unwrap_or, ℕ}
+use Rattle.desk_laws.proofs.Common.{Command, count-one, count-split, CountsTaken, is_out-untouched}
+use Rattle.desk_laws.proofs.Common.{MaterialsInstalled, MaterialsLoaded, MaterialsScrapped, MaterialsSpliced}
+use Rattle.desk_laws.proofs.Common.{MaterialsUnloaded, mounted_after, Receipt, ReelBaked, ReelOpened}
+use Rattle.desk_laws.proofs.Common.{ReelReceived, ReelSealed, Two}
+use Rattle.desk_laws.proofs.{Accepted.at-rest, Accepted.next-accepted, Judgements.AreBy}
+use Rattle.desk_laws.proofs.{Judgements.by-desk_minute, Judgements.by-later, Mounted.mounted-next}
+use Rattle.desk_types.proofs.Exposure.{is_out-after}
 
 -- ---- out of its bag
 

@@ -1,13 +1,15 @@
 -- The pieces that a command takes off a reel.
-use Rattle.desk_types.proofs.Common.{[], ◌&&◌, ◌++◌, ◌+◌, ◌-◌, ◌==◌, ◌||◌, ◌∙◌, ◌∷◌, ◌≡◌, ◌≤◌, AllByRecursion, ap}
-use Rattle.desk_types.proofs.Common.{arith, Bench, Bool, count_picks, CountAbove, Counted, CountRow, counts_refusal}
-use Rattle.desk_types.proofs.Common.{CountsTaken, false, find, first_refusal, found_by, History, if◌then◌else◌}
-use Rattle.desk_types.proofs.Common.{install_picks, is_mounted, is_none, IsDistinct, left_of, List, list_any}
+use Rattle.desk_types.proofs.Common.{[], ◌&&◌, ◌++◌, ◌+◌, ◌-◌, ◌==◌, ◌||◌, ◌∙◌, ◌∷◌, ◌≡◌, ◌≤◌, AllByRecursion}
+use Rattle.desk_types.proofs.Common.{ap, arith, Bench, Bool, count_picks, counts_refusal, false, find}
+use Rattle.desk_types.proofs.Common.{first_refusal, found_by, History, if◌then◌else◌, install_picks}
+use Rattle.desk_types.proofs.Common.{is_mounted, is_none, IsDistinct, left_of, List, list_any}
 use Rattle.desk_types.proofs.Common.{list_any-append, ltb-false, ltb-true, min, Name, nat_lt, None, Option}
-use Rattle.desk_types.proofs.Common.{option_and_then, option_map, option_map_or, option_to_list, Pick, pick_for}
-use Rattle.desk_types.proofs.Common.{pieces_off, pieces_picked, Placed, Purpose, receipt_of, ReelMounted, ReelTwice}
-use Rattle.desk_types.proofs.Common.{refl, Refusal, same, same-refl, same-sym, same-true, scrap_picks, Some, subst}
-use Rattle.desk_types.proofs.Common.{sum_by-append, sym, true, Two, UnknownReel, unwrap_or, zero-add, ℕ}
+use Rattle.desk_types.proofs.Common.{option_and_then, option_map, option_map_or, option_to_list, pick_for}
+use Rattle.desk_types.proofs.Common.{pieces_off, pieces_picked, receipt_of, refl, same, same-refl, same-sym}
+use Rattle.desk_types.proofs.Common.{same-true, scrap_picks, Some, subst, sum_by-append, sym, true, unwrap_or}
+use Rattle.desk_types.proofs.Common.{zero-add, ℕ}
+use Rattle.desk_laws.proofs.Common.{CountAbove, Counted, CountRow, CountsTaken, Pick, Placed, Purpose}
+use Rattle.desk_laws.proofs.Common.{ReelMounted, ReelTwice, Refusal, Two, UnknownReel}
 use Rattle.desk_laws.proofs.{Accepted.none-holds, Judgements.or-none}
 use Rattle.std.proofs.lemmas.Map.Keys.{IsDistinct-head, IsDistinct-tail}
 

@@ -1,15 +1,17 @@
 -- Each pick comes from the only slot where its reel is live.
-use Rattle.desk_types.proofs.Common.{[], ◌&&◌, ◌++◌, ◌-◌, ◌∙◌, ◌∷◌, ◌≡◌, AllByRecursion, and_from, and_parts, ap}
-use Rattle.desk_types.proofs.Common.{Command, command_refusal, Contains-from_any, count_picks, Counted, CountRow}
-use Rattle.desk_types.proofs.Common.{counts_refusal, CountsTaken, Entry, find, History, install_picks, IsJudged}
-use Rattle.desk_types.proofs.Common.{left_of, List, live_on, MaterialsInstalled, MaterialsScrapped, min, Name, nat_lt}
-use Rattle.desk_types.proofs.Common.{None, Option, option_and_then, option_map, option_to_list, or_left, or_right}
-use Rattle.desk_types.proofs.Common.{Pick, pick_for, picks_of, pieces_off, pieces_picked, Placed, refl, Rejected}
-use Rattle.desk_types.proofs.Common.{same, same-refl, same-true, scrap_picks, slot_on, Some, subst, sym, tape_of}
-use Rattle.desk_types.proofs.Common.{true, Two, ℕ}
+use Rattle.desk_types.proofs.Common.{[], ◌&&◌, ◌++◌, ◌-◌, ◌∙◌, ◌∷◌, ◌≡◌, AllByRecursion, and_from, and_parts}
+use Rattle.desk_types.proofs.Common.{ap, command_refusal, Contains-from_any, count_picks, counts_refusal}
+use Rattle.desk_types.proofs.Common.{find, History, install_picks, IsJudged, left_of, List, live_on, min}
+use Rattle.desk_types.proofs.Common.{Name, nat_lt, None, Option, option_and_then, option_map, option_to_list}
+use Rattle.desk_types.proofs.Common.{or_left, or_right, pick_for, picks_of, pieces_off, pieces_picked, refl}
+use Rattle.desk_types.proofs.Common.{same, same-refl, same-true, scrap_picks, slot_on, Some, subst, sym}
+use Rattle.desk_types.proofs.Common.{tape_of, true, ℕ}
+use Rattle.desk_laws.proofs.Common.{Command, Counted, CountRow, CountsTaken, Entry, MaterialsInstalled}
+use Rattle.desk_laws.proofs.Common.{MaterialsScrapped, Pick, Placed, Rejected, Two}
 use Rattle.desk_laws.proofs.{Accepted.next-accepted, Distinct.all-append, InstalledPieces.find-there}
-use Rattle.desk_laws.proofs.{Lives.live_bench, Lives.picks-live, Lives.scrap-live, Mounts.has, Mounts.has-live_on}
-use Rattle.desk_laws.proofs.{Mounts.live-mounted, Picks.all-off, Picks.countable, Places.one-slot}
+use Rattle.desk_laws.proofs.{Lives.live_bench, Lives.picks-live, Lives.scrap-live, Mounts.has}
+use Rattle.desk_laws.proofs.{Mounts.has-live_on, Mounts.live-mounted, Picks.all-off, Picks.countable}
+use Rattle.desk_laws.proofs.{Places.one-slot}
 use Rattle.desk_laws.specs.Slots.{IsOnItsSlot}
 
 pub live-pieces : (H : History) (machine slot reel : Name) → has (live_on H machine slot) reel ≡ true → nat_lt 0 (left_of H reel) ≡ true

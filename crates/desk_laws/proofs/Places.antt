@@ -1,15 +1,17 @@
 -- Each reel with pieces left is on the slot of its place and on no other.
-use Rattle.desk_types.proofs.Common.{[], ◌&&◌, ◌++◌, ◌∙◌, ◌∷◌, ◌≡◌, and_parts, ap, Bool, Command, command_refusal}
-use Rattle.desk_types.proofs.Common.{Contains, false, filter, first, History, if◌then◌else◌, is_mounted, is_none}
-use Rattle.desk_types.proofs.Common.{is_vacant, IsJudged, IsUntouched, left_of, List, list_any-from_Contains, live_on}
-use Rattle.desk_types.proofs.Common.{MaterialsLoaded, MaterialsSpliced, MaterialsUnloaded, Name, nat_list_eq_equiv}
-use Rattle.desk_types.proofs.Common.{nat_lt, None, open_by, Option, Receipt, receipt_by, ReelReceived, refl, same}
-use Rattle.desk_types.proofs.Common.{same-true, Some, sym, tape_after, tape_of, tape_with, true, Two, ℕ}
-use Rattle.desk_laws.proofs.{Accepted.mountable, Accepted.next-accepted, Accepted.received-by, Balance.some-next}
-use Rattle.desk_laws.proofs.{Judgements.untouched, Mounts.has, Mounts.has-live_on, Mounts.unreceived-nowhere}
-use Rattle.desk_laws.proofs.{SlotsLater.IsOn, SlotsLater.on-load, SlotsLater.on-splice, SlotsLater.on-unload}
-use Rattle.desk_laws.proofs.{Tapes.unmounted-nowhere}
-use Rattle.desk_laws.specs.Place.{is_at, place_after, place_of}
+use Rattle.desk_types.proofs.Common.{[], ◌&&◌, ◌++◌, ◌∙◌, ◌∷◌, ◌≡◌, and_parts, ap, Bool, command_refusal}
+use Rattle.desk_types.proofs.Common.{Contains, false, filter, first, History, if◌then◌else◌, is_mounted}
+use Rattle.desk_types.proofs.Common.{is_none, is_vacant, IsJudged, IsUntouched, left_of, List}
+use Rattle.desk_types.proofs.Common.{list_any-from_Contains, live_on, Name, nat_list_eq_equiv, nat_lt, None}
+use Rattle.desk_types.proofs.Common.{open_by, Option, receipt_by, refl, same, same-true, Some, sym}
+use Rattle.desk_types.proofs.Common.{tape_after, tape_of, tape_with, true, ℕ}
+use Rattle.desk_laws.proofs.Common.{Command, MaterialsLoaded, MaterialsSpliced, MaterialsUnloaded}
+use Rattle.desk_laws.proofs.Common.{place_after, place_of, Receipt, ReelReceived, Two}
+use Rattle.desk_laws.proofs.{Accepted.mountable, Accepted.next-accepted, Accepted.received-by}
+use Rattle.desk_laws.proofs.{Balance.some-next, Judgements.untouched, Mounts.has, Mounts.has-live_on}
+use Rattle.desk_laws.proofs.{Mounts.unreceived-nowhere, SlotsLater.IsOn, SlotsLater.on-load}
+use Rattle.desk_laws.proofs.{SlotsLater.on-splice, SlotsLater.on-unload, Tapes.unmounted-nowhere}
+use Rattle.desk_laws.specs.Place.{is_at}
 
 -- ---- splices
 

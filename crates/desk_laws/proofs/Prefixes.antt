@@ -1,8 +1,9 @@
 -- Runs in two parts, and facts that later entries keep.
 use Rattle.desk_types.proofs.Common.{[], ◌++◌, ◌∙◌, ◌∷◌, ◌≡◌, after_command, after_commands, ap, append-nil}
-use Rattle.desk_types.proofs.Common.{append_assoc, Entry, entry_takes, EntryTake, filter_map, filter_map-append}
-use Rattle.desk_types.proofs.Common.{History, IsPrefix, List, Placement, placement_of, placements_of, refl}
-use Rattle.desk_types.proofs.Common.{replies_to, reply_to, Rules, Stamped, sym, takes_of}
+use Rattle.desk_types.proofs.Common.{append_assoc, entry_takes, EntryTake, filter_map, filter_map-append}
+use Rattle.desk_types.proofs.Common.{History, IsPrefix, List, placement_of, placements_of, refl, replies_to}
+use Rattle.desk_types.proofs.Common.{reply_to, sym, takes_of}
+use Rattle.desk_laws.proofs.Common.{Entry, Placement, Rules, Stamped}
 
 pub replies-append : (rules : Rules) (H : History) (first second : List Stamped) → replies_to rules H (first ++ second) ≡ replies_to rules H first ++ replies_to rules (after_commands rules H first) second
 replies-append rules H [] second = refl

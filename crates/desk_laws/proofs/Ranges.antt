@@ -1,10 +1,12 @@
 -- The greatest number of pieces on a reel.
-use Rattle.desk_types.proofs.Common.{[], ◌*◌, ◌+◌, ◌-◌, ◌∷◌, ◌≡◌, ◌≤◌, All, All-head, All-tail, ap, arith, Bool}
-use Rattle.desk_types.proofs.Common.{Command, cond, CountRow, CountsTaken, false, found_by, found_of}
-use Rattle.desk_types.proofs.Common.{GREATEST_QUANTITY, History, if◌then◌else◌, IsCommand, IsCountRow, IsJudged}
-use Rattle.desk_types.proofs.Common.{left_of, length, List, Name, None, Option, option_map, option_map_or, option_or}
-use Rattle.desk_types.proofs.Common.{picks_of, pieces_by, pieces_picked, Receipt, receipt_by, receipt_of, received_of}
-use Rattle.desk_types.proofs.Common.{ReelReceived, refl, same, Some, true, Two, unwrap_or, ℕ}
+use Rattle.desk_types.proofs.Common.{[], ◌*◌, ◌+◌, ◌-◌, ◌∷◌, ◌≡◌, ◌≤◌, All, All-head, All-tail, ap, arith}
+use Rattle.desk_types.proofs.Common.{Bool, cond, false, found_by, found_of, History, if◌then◌else◌, IsCommand}
+use Rattle.desk_types.proofs.Common.{IsCountRow, IsJudged, left_of, length, List, Name, None, Option}
+use Rattle.desk_types.proofs.Common.{option_map, option_map_or, option_or, picks_of, pieces_by, pieces_picked}
+use Rattle.desk_types.proofs.Common.{receipt_by, receipt_of, received_of, refl, same, Some, true, unwrap_or}
+use Rattle.desk_types.proofs.Common.{ℕ}
+use Rattle.desk_laws.proofs.Common.{Command, CountRow, CountsTaken, GREATEST_QUANTITY, Receipt, ReelReceived}
+use Rattle.desk_laws.proofs.Common.{Two}
 use Rattle.std.specs.List.{find}
 
 -- ---- one command

@@ -1,7 +1,8 @@
 -- Facts about a reel that later entries keep.
-use Rattle.desk_types.proofs.Common.{[], ◌++◌, ◌∙◌, ◌∷◌, ◌≡◌, ap, Entry, History, is_some, IsJudged, IsPrefix}
-use Rattle.desk_types.proofs.Common.{left_of, List, Name, None, Option, option_or, Receipt, receipt_by, receipt_of}
-use Rattle.desk_types.proofs.Common.{refl, Some, subst, true, Two}
+use Rattle.desk_types.proofs.Common.{[], ◌++◌, ◌∙◌, ◌∷◌, ◌≡◌, ap, History, is_some, IsJudged, IsPrefix}
+use Rattle.desk_types.proofs.Common.{left_of, List, Name, None, Option, option_or, receipt_by, receipt_of}
+use Rattle.desk_types.proofs.Common.{refl, Some, subst, true}
+use Rattle.desk_laws.proofs.Common.{Entry, Receipt, Two}
 use Rattle.desk_laws.proofs.{Accepted.received-once, Balance.spent-next}
 
 pub not-again : (H : History) (e : Entry) (reel : Name) → IsJudged Two (e ∷ H) → is_some (receipt_of H reel) ≡ true → receipt_by reel e.effective e.stamped.command ≡ None

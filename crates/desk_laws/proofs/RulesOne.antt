@@ -1,13 +1,13 @@
 -- The difference between the rules: under rules One, no count exceeds the remaining pieces.
-use Rattle.desk_types.proofs.Common.{[], ◌++◌, ◌-◌, ◌∷◌, ◌≡◌, ◌≢◌, ap, arith, Bool, Command, command_refusal}
-use Rattle.desk_types.proofs.Common.{CountAbove, CountRow, counts_refusal, CountsTaken, effective_minute, false, find}
-use Rattle.desk_types.proofs.Common.{found_by, found_of, History, if◌then◌else◌, is_mounted, is_none}
-use Rattle.desk_types.proofs.Common.{is_too_far_ahead, IsJudged, left_of, List, list_any, ltb-false, Name, nat_lt}
-use Rattle.desk_types.proofs.Common.{None, One, option_map_or, receipt_of, ReelMounted, ReelTwice, refl, Refusal}
-use Rattle.desk_types.proofs.Common.{refusal_of, same, same-true, Some, Stamped, TooFarAhead, true, Two, UnknownReel}
-use Rattle.desk_types.proofs.Common.{ℕ}
+use Rattle.desk_types.proofs.Common.{[], ◌++◌, ◌-◌, ◌∷◌, ◌≡◌, ◌≢◌, ap, arith, Bool, command_refusal}
+use Rattle.desk_types.proofs.Common.{counts_refusal, effective_minute, false, find, found_by, found_of}
+use Rattle.desk_types.proofs.Common.{History, if◌then◌else◌, is_mounted, is_none, is_too_far_ahead, IsJudged}
+use Rattle.desk_types.proofs.Common.{left_of, List, list_any, ltb-false, Name, nat_lt, None, option_map_or}
+use Rattle.desk_types.proofs.Common.{receipt_of, refl, refusal_of, same, same-true, Some, true, ℕ}
+use Rattle.desk_laws.proofs.Common.{Command, CountAbove, CountRow, CountsTaken, ReelMounted, ReelTwice}
+use Rattle.desk_laws.proofs.Common.{Refusal, Stamped, TooFarAhead, Two, UnknownReel}
 use Rattle.desk_laws.proofs.{Accepted.none-holds, Judgements.or-none}
-use Rattle.desk_types.specs.Refusals.{count_refusal}
+use Rattle.desk_types.specs.{Refusals.count_refusal, declared.rules.Rules.TheVariants.One}
 
 -- ---- found pieces
 

@@ -1,7 +1,7 @@
 -- Slots and places after one command, for any tape.
-use Rattle.desk_types.proofs.Common.{[], ◌&&◌, ◌++◌, ◌||◌, ◌∙◌, ◌∷◌, ◌≡◌, and_parts, ap, Bool, false, if◌then◌else◌}
-use Rattle.desk_types.proofs.Common.{List, list_any-append, Name, None, Option, or-false, refl, same, same-sym}
-use Rattle.desk_types.proofs.Common.{same-true, Some, sym, tape_with, true}
+use Rattle.desk_types.proofs.Common.{[], ◌&&◌, ◌++◌, ◌||◌, ◌∙◌, ◌∷◌, ◌≡◌, and_parts, ap, Bool, false}
+use Rattle.desk_types.proofs.Common.{if◌then◌else◌, List, list_any-append, Name, None, Option, or-false, refl}
+use Rattle.desk_types.proofs.Common.{same, same-sym, same-true, Some, sym, tape_with, true}
 use Rattle.desk_laws.{proofs.Mounts.has, specs.Place.is_at}
 
 cleared : (machine slot : Name) (place : Option (Name × Name)) → is_at machine slot (if is_at machine slot place then None else place) ≡ false

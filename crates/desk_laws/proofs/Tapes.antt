@@ -1,8 +1,9 @@
 -- Tapes of accepted histories.
-use Rattle.desk_types.proofs.Common.{[], ◌&&◌, ◌++◌, ◌==◌, ◌∙◌, ◌∷◌, ◌≡◌, ap, arith, Bool, Command, command_refusal}
-use Rattle.desk_types.proofs.Common.{false, History, if◌then◌else◌, is_mounted, IsDistinct, IsJudged, left_of, List}
-use Rattle.desk_types.proofs.Common.{live_on, ltb-false, MaterialsLoaded, MaterialsSpliced, MaterialsUnloaded, Name}
-use Rattle.desk_types.proofs.Common.{nat_lt, None, refl, same, same-sym, tape_after, tape_of, tape_with, true, Two, ℕ}
+use Rattle.desk_types.proofs.Common.{[], ◌&&◌, ◌++◌, ◌==◌, ◌∙◌, ◌∷◌, ◌≡◌, ap, arith, Bool, command_refusal}
+use Rattle.desk_types.proofs.Common.{false, History, if◌then◌else◌, is_mounted, IsDistinct, IsJudged, left_of}
+use Rattle.desk_types.proofs.Common.{List, live_on, ltb-false, Name, nat_lt, None, refl, same, same-sym}
+use Rattle.desk_types.proofs.Common.{tape_after, tape_of, tape_with, true, ℕ}
+use Rattle.desk_laws.proofs.Common.{Command, MaterialsLoaded, MaterialsSpliced, MaterialsUnloaded, Two}
 use Rattle.desk_laws.proofs.{Accepted.mountable, Accepted.next-accepted, Distinct.distinct-filter}
 use Rattle.desk_laws.proofs.{Distinct.distinct-join, Mounts.has, Mounts.has-live_on, Mounts.live-mounted}
 

@@ -1,7 +1,8 @@
 -- A reel's placed and scrapped pieces after one more entry.
-use Rattle.desk_types.proofs.Common.{◌++◌, ◌+◌, ◌∙◌, ◌∷◌, ◌≡◌, all_picks, ap, Bool, Entry, filter-append, History}
-use Rattle.desk_types.proofs.Common.{if◌then◌else◌, is_placed, List, Name, not, Pick, picks_of, pieces_picked}
+use Rattle.desk_types.proofs.Common.{◌++◌, ◌+◌, ◌∙◌, ◌∷◌, ◌≡◌, all_picks, ap, Bool, filter-append, History}
+use Rattle.desk_types.proofs.Common.{if◌then◌else◌, is_placed, List, Name, not, picks_of, pieces_picked}
 use Rattle.desk_types.proofs.Common.{placed_of, refl, same, scrapped_of, sym}
+use Rattle.desk_laws.proofs.Common.{Entry, Pick}
 use Rattle.desk_laws.proofs.Picks.{pieces_picked-append}
 use Rattle.std.{proofs.lemmas.List.Filters.sum_by-filter_both, specs.List.filter}
 

@@ -1,21 +1,24 @@
 -- Faults of a roll-over: for each an old desk and a new one that are not alike. In two of them the new desk knows a name that the old one
 -- doesn't. Each but the case of the lot has a command that the two desks answer differently.
-use Rattle.desk_types.proofs.Common.{[], ◌++◌, ◌==◌, ◌∷◌, ◌≡◌, Accepted, after_commands, AlreadyPlaced}
-use Rattle.desk_types.proofs.Common.{alternate_refusal, AlternateAllowed, ap, arith, Bool, ClockSet, closing_refusal}
-use Rattle.desk_types.proofs.Common.{command_refusal, completion_refusal, definition_refusal, Expired, exposure_of}
-use Rattle.desk_types.proofs.Common.{false, first, FiveA, History, install_picks, install_refusal, is_out_at, is_some}
-use Rattle.desk_types.proofs.Common.{left_of, List, live_on, MachineBusy, MaterialsInstalled, MaterialsLoaded}
-use Rattle.desk_types.proofs.Common.{MaterialsScrapped, MaterialsSpliced, MinutesLeft, mounting_refusal, Name, None}
-use Rattle.desk_types.proofs.Common.{NotBaked, opening_refusal, Option, option_and_then, option_map_or, part_refusal}
-use Rattle.desk_types.proofs.Common.{PartDefined, ProductSelected, receipt_refusal, ReelBaked, ReelExists, ReelOpened}
-use Rattle.desk_types.proofs.Common.{Reels, ReelShort, refl, refusal_of, Refused, replies_to, Reply, same}
-use Rattle.desk_types.proofs.Common.{scrap_refusal, selection_refusal, sheet_refusal, SheetDefined, SheetRow}
-use Rattle.desk_types.proofs.Common.{SlotEmpty, Some, Stamped, start_refusal, Taken, tape_of, true, Two}
-use Rattle.desk_types.proofs.Common.{WorkCompleted, WorkStarted, WrongPart, ℕ}
-use Rattle.desk_laws.specs.Alike.{AreAlike}
-use Rattle.desk_types.proofs.RowsCommon.{at, B1, base, K1, K2, L1, L2, M, P, PR, Q, R1, R2, received, received_at}
-use Rattle.desk_types.proofs.RowsCommon.{received_at_six, S1, S2, said, sheet_row}
-use Rattle.desk_types.specs.{declared.answer.Detail.TheVariants.Plain, declared.answer.Refusal.TheVariants.PartExists}
+use Rattle.desk_types.proofs.Common.{[], ◌++◌, ◌==◌, ◌∷◌, ◌≡◌, after_commands, alternate_refusal, ap, arith}
+use Rattle.desk_types.proofs.Common.{Bool, closing_refusal, command_refusal, completion_refusal}
+use Rattle.desk_types.proofs.Common.{definition_refusal, exposure_of, false, first, History, install_picks}
+use Rattle.desk_types.proofs.Common.{install_refusal, is_out_at, is_some, left_of, List, live_on}
+use Rattle.desk_types.proofs.Common.{mounting_refusal, Name, None, opening_refusal, Option, option_and_then}
+use Rattle.desk_types.proofs.Common.{option_map_or, part_refusal, receipt_refusal, refl, refusal_of}
+use Rattle.desk_types.proofs.Common.{replies_to, same, scrap_refusal, selection_refusal, sheet_refusal, Some}
+use Rattle.desk_types.proofs.Common.{start_refusal, tape_of, true, ℕ}
+use Rattle.desk_laws.proofs.Common.{Accepted, AlternateAllowed, AreAlike, at, B1, base, ClockSet, Expired, K1}
+use Rattle.desk_laws.proofs.Common.{K2, L2, M, MachineBusy, MaterialsInstalled, MaterialsLoaded}
+use Rattle.desk_laws.proofs.Common.{MaterialsScrapped, MaterialsSpliced, NotBaked, P, PartDefined}
+use Rattle.desk_laws.proofs.Common.{ProductSelected, R1, R2, received, ReelBaked, ReelExists, ReelOpened}
+use Rattle.desk_laws.proofs.Common.{Reels, ReelShort, Refused, S1, SheetDefined, SheetRow, SlotEmpty, Stamped}
+use Rattle.desk_laws.proofs.Common.{Taken, Two, WorkCompleted, WorkStarted, WrongPart}
+use Rattle.desk_types.proofs.RowsCommon.{L1, PR, Q, received_at, received_at_six, S2, said, sheet_row}
+use Rattle.desk_types.specs.declared.answer.Detail.TheVariants.{MinutesLeft, Plain}
+use Rattle.desk_types.specs.declared.answer.Refusal.TheVariants.{AlreadyPlaced, PartExists}
+use Rattle.desk_types.specs.declared.answer.Reply.{Reply}
+use Rattle.desk_types.specs.declared.level.Level.TheVariants.{FiveA}
 
 -- The history of a desk that got these commands.
 abbrev after : List Stamped → History

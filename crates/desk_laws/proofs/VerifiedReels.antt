@@ -1,9 +1,10 @@
 -- The verification of the reels that feed slots.
-use Rattle.desk_types.proofs.Common.{[], ◌&&◌, ◌||◌, ◌∙◌, ◌∷◌, ◌≡◌, and_parts, ap, Bool, Command, command_refusal}
-use Rattle.desk_types.proofs.Common.{Entry, false, History, is_allowed, is_expired, is_wrong_for, IsJudged, IsNext}
-use Rattle.desk_types.proofs.Common.{IsPrefix, list_any, MaterialsLoaded, MaterialsSpliced, Name, None, not}
-use Rattle.desk_types.proofs.Common.{not-false, Option, option_map_or, Receipt, receipt_of, refl, row_on, same}
-use Rattle.desk_types.proofs.Common.{same-true, SheetRow, Some, subst, sym, tape_of, true, Two, ℕ}
+use Rattle.desk_types.proofs.Common.{[], ◌&&◌, ◌||◌, ◌∙◌, ◌∷◌, ◌≡◌, and_parts, ap, Bool, command_refusal}
+use Rattle.desk_types.proofs.Common.{false, History, is_allowed, is_expired, is_wrong_for, IsJudged, IsNext}
+use Rattle.desk_types.proofs.Common.{IsPrefix, list_any, Name, None, not, not-false, Option, option_map_or}
+use Rattle.desk_types.proofs.Common.{receipt_of, refl, row_on, same, same-true, Some, subst, sym, tape_of}
+use Rattle.desk_types.proofs.Common.{true, ℕ}
+use Rattle.desk_laws.proofs.Common.{Command, Entry, MaterialsLoaded, MaterialsSpliced, Receipt, SheetRow, Two}
 use Rattle.desk_laws.proofs.{Accepted.IsMountable, Accepted.mountable, Accepted.next-accepted}
 use Rattle.desk_laws.proofs.{Judgements.judged-prefix, Mounts.has, Mounts.mounted-step}
 use Rattle.desk_laws.specs.Verified.{IsVerified, mounts, WasVerified}

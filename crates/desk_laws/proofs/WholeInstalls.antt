@@ -1,13 +1,14 @@
 -- Accepted installs and scraps are whole.
-use Rattle.desk_types.proofs.Common.{[], ◌++◌, ◌+◌, ◌-◌, ◌∙◌, ◌∷◌, ◌≡◌, ◌≤◌, accept, ap, arith, Bool, command_refusal}
-use Rattle.desk_types.proofs.Common.{cons_option, detail_of, effective_minute, Entry, entry_of, entry_takes}
-use Rattle.desk_types.proofs.Common.{enumerate_from, false, filter_map, filter_map-append, History, if◌then◌else◌}
-use Rattle.desk_types.proofs.Common.{is_vacant, left_of, List, live_on, ltb-false, map, MaterialsInstalled}
-use Rattle.desk_types.proofs.Common.{MaterialsScrapped, min, Name, nat_lt, None, Pick, picks_of, pieces_of}
-use Rattle.desk_types.proofs.Common.{pieces_off, Placement, placement_of, placements_of, Purpose, Reels, reels_of}
-use Rattle.desk_types.proofs.Common.{ReelShort, refl, Refusal, refusal_of, Rejected, scrap_picks, scrap_refusal}
-use Rattle.desk_types.proofs.Common.{SlotEmpty, Stamped, sum_by, sum_by-append, sym, take_of, takes_of, true, Two}
+use Rattle.desk_types.proofs.Common.{[], ◌++◌, ◌+◌, ◌-◌, ◌∙◌, ◌∷◌, ◌≡◌, ◌≤◌, accept, ap, arith, Bool}
+use Rattle.desk_types.proofs.Common.{command_refusal, cons_option, detail_of, effective_minute, entry_of}
+use Rattle.desk_types.proofs.Common.{entry_takes, enumerate_from, false, filter_map, filter_map-append}
+use Rattle.desk_types.proofs.Common.{History, if◌then◌else◌, is_vacant, left_of, List, live_on, ltb-false}
+use Rattle.desk_types.proofs.Common.{map, min, Name, nat_lt, None, picks_of, pieces_of, pieces_off}
+use Rattle.desk_types.proofs.Common.{placement_of, placements_of, reels_of, refl, refusal_of, scrap_picks}
+use Rattle.desk_types.proofs.Common.{scrap_refusal, sum_by, sum_by-append, sym, take_of, takes_of, true}
 use Rattle.desk_types.proofs.Common.{zero-add, ℕ}
+use Rattle.desk_laws.proofs.Common.{Entry, MaterialsInstalled, MaterialsScrapped, Pick, Placement, Purpose}
+use Rattle.desk_laws.proofs.Common.{Reels, ReelShort, Refusal, Rejected, SlotEmpty, Stamped, Two}
 use Rattle.desk_laws.proofs.{Accepted.command-accepted, Accepted.none-holds, Installs.ArePlacedFor}
 use Rattle.desk_laws.proofs.{Installs.each-placed, Lives.scrap-live}
 use Rattle.desk_laws.specs.Whole.{spot_of, spots_from, spots_named}

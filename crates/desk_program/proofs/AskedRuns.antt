@@ -1,20 +1,22 @@
 -- A run that the arguments ask for.
-use Rattle.desk_types.proofs.Common.{◌≡◌, ◌≢◌, ◌⊎◌, Appends, arith, failures_of, false, History, inl, inner_of, inr}
-use Rattle.desk_types.proofs.Common.{List, None, Option, refl, Some, subst, true, Wire, ℕ}
+use Rattle.desk_types.proofs.Common.{◌≡◌, ◌≢◌, ◌⊎◌, Appends, arith, failures_of, false, History, inl}
+use Rattle.desk_types.proofs.Common.{inner_of, inr, List, None, Option, refl, Some, subst, true, ℕ}
+use Rattle.desk_laws.proofs.Common.{Wire}
 use Rattle.desk_answers.specs.{Counts.none_served, Ledger.Ledger, Sent.SendsFront}
 use Rattle.desk_answers.specs.{declared.serving.ServeFault.TheVariants.Write}
 use Rattle.desk_commands.specs.{Clients.ends_of, Clients.Exchange, Clients.Serving, Connections.AnswersEach}
 use Rattle.desk_commands.specs.{Connections.TellsConnections, Ends.FeedEnds, Ends.ImportEnds, Ends.PrintEnds}
-use Rattle.desk_commands.specs.{Ends.ReportEnds, Ends.ServingEnds, OpenRuns.AnswersAll, OpenRuns.AnswersImport}
-use Rattle.desk_commands.specs.{OpenRuns.AnswersReport, OpenRuns.AnswersUpTo, OpenRuns.CutsImport, OpenRuns.StaysSame}
-use Rattle.desk_commands.specs.{Runs.HasNoDesk, Runs.LeavesDesk, Runs.LeavesFile, Runs.RunsInMemory, Runs.ServesEach}
-use Rattle.desk_commands.specs.{Told.lawful_line, Told.report_output, Told.TellsLine, Told.unavailable_line}
-use Rattle.desk_commands.specs.{Told.version_line, declared.left.ToClose.ToClose}
-use Rattle.desk_program.specs.{Program.Bad, Program.LeavesAs, Program.Names, Program.NamesDesk, Program.NamesMigrated}
-use Rattle.desk_program.specs.{Program.RefusesNamed, Program.RunsAs, Program.RunsAsked, Program.RunsImport}
-use Rattle.desk_program.specs.{Program.RunsReport, Program.RunsServing, Ways.Ways}
-use Rattle.desk_words.specs.CommandLine.{AsksForAudit, AsksForFeed, AsksForImport, AsksForMigration, AsksForReport}
-use Rattle.desk_words.specs.CommandLine.{AsksForServing}
+use Rattle.desk_commands.specs.{Ends.ReportEnds, Ends.ServingEnds, OpenRuns.AnswersAll}
+use Rattle.desk_commands.specs.{OpenRuns.AnswersImport, OpenRuns.AnswersReport, OpenRuns.AnswersUpTo}
+use Rattle.desk_commands.specs.{OpenRuns.CutsImport, OpenRuns.StaysSame, Runs.HasNoDesk, Runs.LeavesDesk}
+use Rattle.desk_commands.specs.{Runs.LeavesFile, Runs.RunsInMemory, Runs.ServesEach, Told.lawful_line}
+use Rattle.desk_commands.specs.{Told.report_output, Told.TellsLine, Told.unavailable_line, Told.version_line}
+use Rattle.desk_commands.specs.{declared.left.ToClose.ToClose}
+use Rattle.desk_program.specs.{Program.Bad, Program.LeavesAs, Program.Names, Program.NamesDesk}
+use Rattle.desk_program.specs.{Program.NamesMigrated, Program.RefusesNamed, Program.RunsAs, Program.RunsAsked}
+use Rattle.desk_program.specs.{Program.RunsImport, Program.RunsReport, Program.RunsServing, Ways.Ways}
+use Rattle.desk_words.specs.CommandLine.{AsksForAudit, AsksForFeed, AsksForImport, AsksForMigration}
+use Rattle.desk_words.specs.CommandLine.{AsksForReport, AsksForServing}
 use Rattle.gateway_http.specs.Reports.{report_of}
 use Rattle.http_stream.specs.{Answers.code_of, Answers.Told, Stream.RuleBy}
 use Rattle.imports.specs.declared.import.Import.{Import}

@@ -1,19 +1,21 @@
 -- The table of a run, by its open files and by the files that it closed.
-use Rattle.desk_types.proofs.Common.{◌+◌, ◌≡◌, ◌≢◌, ◌≤◌, ◌⊎◌, ap, Appends, arith, failures_of, false, History, inl}
-use Rattle.desk_types.proofs.Common.{inner_of, inr, List, None, Option, refl, Some, subst, suc, sym, true, Wire, zero}
-use Rattle.desk_types.proofs.Common.{ℕ}
+use Rattle.desk_types.proofs.Common.{◌+◌, ◌≡◌, ◌≢◌, ◌≤◌, ◌⊎◌, ap, Appends, arith, failures_of, false, History}
+use Rattle.desk_types.proofs.Common.{inl, inner_of, inr, List, None, Option, refl, Some, subst, suc, sym}
+use Rattle.desk_types.proofs.Common.{true, zero, ℕ}
+use Rattle.desk_laws.proofs.Common.{Wire}
 use Rattle.desk_answers.specs.{Ledger.Ledger, Sent.SendsFront}
 use Rattle.desk_commands.proofs.ClosedFiles.{audits_to, migrates_to, refuses_to, refuses_to_migrate, runs_to}
 use Rattle.desk_commands.specs.{Clients.Serving, Closed.Close, Closed.ClosesLeft, OpenRuns.AnswersAll}
 use Rattle.desk_commands.specs.{OpenRuns.AnswersImport, OpenRuns.AnswersReport, OpenRuns.AnswersUpTo}
 use Rattle.desk_commands.specs.{OpenRuns.CutsImport, OpenRuns.StaysSame, Runs.ServesEach, Told.report_output}
-use Rattle.desk_commands.specs.{Told.TellsEnd, Told.TellsLine, Told.unavailable_line, declared.left.ToClose.ToClose}
+use Rattle.desk_commands.specs.{Told.TellsEnd, Told.TellsLine, Told.unavailable_line}
+use Rattle.desk_commands.specs.{declared.left.ToClose.ToClose}
 use Rattle.desk_program.proofs.AskedRuns.{ends_none, has_none}
-use Rattle.desk_program.specs.{Program.Bad, Program.Done, Program.Failed, Program.ImportUnread, Program.LeavesAs}
-use Rattle.desk_program.specs.{Program.Names, Program.NamesFile, Program.NoDesk, Program.Refused}
-use Rattle.desk_program.specs.{Program.RefusesNamed, Program.RunsAs, Program.RunsAsked, Program.RunsImport}
-use Rattle.desk_program.specs.{Program.RunsReport, Program.RunsServing, Program.Unclosed, Ways.Ways}
-use Rattle.desk_program.specs.{Ways.ways_when_closed, Ways.ways_when_open}
+use Rattle.desk_program.specs.{Program.Bad, Program.Done, Program.Failed, Program.ImportUnread}
+use Rattle.desk_program.specs.{Program.LeavesAs, Program.Names, Program.NamesFile, Program.NoDesk}
+use Rattle.desk_program.specs.{Program.Refused, Program.RefusesNamed, Program.RunsAs, Program.RunsAsked}
+use Rattle.desk_program.specs.{Program.RunsImport, Program.RunsReport, Program.RunsServing, Program.Unclosed}
+use Rattle.desk_program.specs.{Ways.Ways, Ways.ways_when_closed, Ways.ways_when_open}
 use Rattle.gateway_http.specs.Reports.{report_of}
 use Rattle.http_stream.specs.Answers.{code_of, Told}
 use Rattle.imports.specs.declared.import.Import.{Import}

@@ -1,6 +1,6 @@
 -- Names are text.
-use Rattle.desk_types.proofs.Common.{◌<◌, ◌≡◌, ◌≤◌, All, arith, cases_lt, inl, inr, is_designator_byte, IsUtf8}
-use Rattle.desk_types.proofs.Common.{IsUtf8-from_ascii, length, List, nat_tests, true, ℕ}
+use Rattle.desk_types.proofs.Common.{◌<◌, ◌≡◌, ◌≤◌, All, arith, cases_lt, inl, inr, is_designator_byte}
+use Rattle.desk_types.proofs.Common.{IsUtf8, IsUtf8-from_ascii, length, List, nat_tests, true, ℕ}
 use Rattle.std.{proofs.lemmas.List.get_or_past, specs.List.AllPass, specs.List.slice_index}
 
 pub IsUtf8-printable : (bytes : List ℕ) → All (λ b. (0x20 ≤ b) × (b ≤ 0x7e)) bytes → IsUtf8 bytes

@@ -1,15 +1,25 @@
 -- Rules Two accept every command that rules One accept.
-use Rattle.desk_types.proofs.Common.{[], ◌&&◌, ◌++◌, ◌==◌, ◌∙◌, ◌∷◌, ◌≡◌, AlternateAllowed, ap, Bool, ClockSet}
-use Rattle.desk_types.proofs.Common.{Command, command_refusal, CountAbove, CountRow, counts_refusal, CountsTaken}
-use Rattle.desk_types.proofs.Common.{effective_minute, eqb-true, false, first_refusal, History, if◌then◌else◌}
-use Rattle.desk_types.proofs.Common.{is_above, is_mounted, is_none, is_too_far_ahead, IsJudged, left_of, List}
-use Rattle.desk_types.proofs.Common.{list_any, MaterialsInstalled, MaterialsLoaded, MaterialsScrapped}
-use Rattle.desk_types.proofs.Common.{MaterialsSpliced, MaterialsUnloaded, Name, nat_lt, None, One, Option, option_or}
-use Rattle.desk_types.proofs.Common.{PartDefined, ProductSelected, receipt_of, ReelBaked, ReelMounted, ReelOpened}
-use Rattle.desk_types.proofs.Common.{ReelReceived, ReelSealed, ReelTwice, refl, Refusal, refusal_of, Rules, same}
-use Rattle.desk_types.proofs.Common.{SheetDefined, Some, Stamped, sym, TooFarAhead, true, Two, UnknownReel}
-use Rattle.desk_types.proofs.Common.{WorkCompleted, WorkStarted, ℕ}
+use Rattle.desk_types.proofs.Common.{[], ◌&&◌, ◌++◌, ◌==◌, ◌∙◌, ◌∷◌, ◌≡◌, ap, Bool, command_refusal}
+use Rattle.desk_types.proofs.Common.{counts_refusal, effective_minute, eqb-true, false, first_refusal}
+use Rattle.desk_types.proofs.Common.{History, if◌then◌else◌, is_above, is_mounted, is_none, is_too_far_ahead}
+use Rattle.desk_types.proofs.Common.{IsJudged, left_of, List, list_any, Name, nat_lt, None, Option, option_or}
+use Rattle.desk_types.proofs.Common.{receipt_of, refl, refusal_of, same, Some, sym, true, ℕ}
 use Rattle.desk_types.specs.Refusals.{count_refusal}
+use Rattle.desk_types.specs.declared.answer.Refusal.{Refusal}
+use Rattle.desk_types.specs.declared.answer.Refusal.TheVariants.{CountAbove, ReelMounted, ReelTwice}
+use Rattle.desk_types.specs.declared.answer.Refusal.TheVariants.{TooFarAhead, UnknownReel}
+use Rattle.desk_types.specs.declared.command.Command.{Command}
+use Rattle.desk_types.specs.declared.command.Command.TheVariants.{AlternateAllowed, ClockSet, CountsTaken}
+use Rattle.desk_types.specs.declared.command.Command.TheVariants.{MaterialsInstalled, MaterialsLoaded}
+use Rattle.desk_types.specs.declared.command.Command.TheVariants.{MaterialsScrapped, MaterialsSpliced}
+use Rattle.desk_types.specs.declared.command.Command.TheVariants.{MaterialsUnloaded, PartDefined}
+use Rattle.desk_types.specs.declared.command.Command.TheVariants.{ProductSelected, ReelBaked, ReelOpened}
+use Rattle.desk_types.specs.declared.command.Command.TheVariants.{ReelReceived, ReelSealed, SheetDefined}
+use Rattle.desk_types.specs.declared.command.Command.TheVariants.{WorkCompleted, WorkStarted}
+use Rattle.desk_types.specs.declared.command.Stamped.{Stamped}
+use Rattle.desk_types.specs.declared.count.CountRow.{CountRow}
+use Rattle.desk_types.specs.declared.rules.Rules.{Rules}
+use Rattle.desk_types.specs.declared.rules.Rules.TheVariants.{One, Two}
 
 above-by-two : (left counted : ℕ) → nat_lt left counted ≡ false → is_above Two left counted ≡ false
 above-by-two left counted low = by (left == 0) refl

@@ -1,11 +1,16 @@
 -- Worked cases of counts under both sets of rules.
-use Rattle.desk_types.proofs.Common.{[], ◌++◌, ◌∷◌, ◌≡◌, Accepted, after_commands, all_picks, command_refusal}
-use Rattle.desk_types.proofs.Common.{CountAbove, CountsTaken, definition_refusal, found_of, History, left_of, List}
-use Rattle.desk_types.proofs.Common.{live_on, MaterialsLoaded, MinutesLeft, mounting_refusal, None, One, part_refusal}
-use Rattle.desk_types.proofs.Common.{receipt_refusal, received_of, ReelMounted, refl, refusal_of, Refused, replies_to}
-use Rattle.desk_types.proofs.Common.{scrapped_of, selection_refusal, sheet_refusal, Stamped, Taken, tape_of, Two}
+use Rattle.desk_types.proofs.Common.{[], ◌++◌, ◌∷◌, ◌≡◌, after_commands, all_picks, command_refusal}
+use Rattle.desk_types.proofs.Common.{definition_refusal, found_of, History, left_of, List, live_on}
+use Rattle.desk_types.proofs.Common.{mounting_refusal, None, part_refusal, receipt_refusal, received_of, refl}
+use Rattle.desk_types.proofs.Common.{refusal_of, replies_to, scrapped_of, selection_refusal, sheet_refusal}
+use Rattle.desk_types.proofs.Common.{tape_of}
 use Rattle.desk_types.proofs.RowsCommon.{base, base_replies, counted, K1, L1, M, P, received, S1, said}
-use Rattle.desk_types.specs.declared.answer.Detail.TheVariants.{Plain}
+use Rattle.desk_types.specs.declared.answer.Detail.TheVariants.{MinutesLeft, Plain, Taken}
+use Rattle.desk_types.specs.declared.answer.Refusal.TheVariants.{CountAbove, ReelMounted}
+use Rattle.desk_types.specs.declared.answer.Reply.TheVariants.{Accepted, Refused}
+use Rattle.desk_types.specs.declared.command.Command.TheVariants.{CountsTaken, MaterialsLoaded}
+use Rattle.desk_types.specs.declared.command.Stamped.{Stamped}
+use Rattle.desk_types.specs.declared.rules.Rules.TheVariants.{One, Two}
 
 -- A reel of ten pieces is counted at fifteen, then twelve, none and one.
 abbrev counts : List Stamped

@@ -1,9 +1,9 @@
 -- Comparing bytes eight at a time as one number.
-use Rattle.desk_types.proofs.Common.{[], ◌*◌, ◌++◌, ◌+◌, ◌-◌, ◌<◌, ◌==◌, ◌∙◌, ◌∷◌, ◌≡◌, ◌≢◌, ◌≤◌, All, ap, arith}
-use Rattle.desk_types.proofs.Common.{cases_lt, drop, Equal, Greater, inl, inr, is_eq, length, length-drop}
-use Rattle.desk_types.proofs.Common.{length-take, Less, List, nat_cmp, nat_cmp_total, nat_list_cmp_total, nat_tests}
-use Rattle.desk_types.proofs.Common.{Ordering, ordering_then, pointwise, refl, slice_cmp, suc, sym, take, texts_ties}
-use Rattle.desk_types.proofs.Common.{tied_itself, zero, ℕ}
+use Rattle.desk_types.proofs.Common.{[], ◌*◌, ◌++◌, ◌+◌, ◌-◌, ◌<◌, ◌==◌, ◌∙◌, ◌∷◌, ◌≡◌, ◌≢◌, ◌≤◌, All, ap}
+use Rattle.desk_types.proofs.Common.{arith, cases_lt, drop, Equal, Greater, inl, inr, is_eq, length}
+use Rattle.desk_types.proofs.Common.{length-drop, length-take, Less, List, nat_cmp, nat_cmp_total}
+use Rattle.desk_types.proofs.Common.{nat_list_cmp_total, nat_tests, Ordering, ordering_then, pointwise, refl}
+use Rattle.desk_types.proofs.Common.{slice_cmp, suc, sym, take, texts_ties, tied_itself, zero, ℕ}
 use Rattle.desk_types.specs.Fixed.{IsPadded, word_at}
 use Rattle.std.proofs.Common.{replicate, slice_index}
 use Rattle.std.proofs.lemmas.List.{drop-drop, get_or-drop, get_or-take, get_or_past}

@@ -1,9 +1,10 @@
 -- How an entry changes the exposure of a reel.
-use Rattle.desk_types.proofs.Common.{◌+◌, ◌-◌, ◌<◌, ◌∙◌, ◌∷◌, ◌≡◌, ◌≤◌, ap, arith, Bool, cond, count_by, Entry}
-use Rattle.desk_types.proofs.Common.{exposure_of, exposure_starts, false, History, if◌then◌else◌, is_out_at, latest}
-use Rattle.desk_types.proofs.Common.{minutes_between, Name, nat_le, nat_tests, None, open_by, Option, option_or, refl}
-use Rattle.desk_types.proofs.Common.{Some, true, unwrap_or, ℕ}
+use Rattle.desk_types.proofs.Common.{◌+◌, ◌-◌, ◌<◌, ◌∙◌, ◌∷◌, ◌≡◌, ◌≤◌, ap, arith, Bool, cond, count_by}
+use Rattle.desk_types.proofs.Common.{exposure_of, exposure_starts, false, History, if◌then◌else◌, is_out_at}
+use Rattle.desk_types.proofs.Common.{latest, minutes_between, Name, nat_le, nat_tests, None, open_by, Option}
+use Rattle.desk_types.proofs.Common.{option_or, refl, Some, true, unwrap_or, ℕ}
 use Rattle.desk_types.proofs.Minutes.{count-agree, count-one, count-split}
+use Rattle.desk_types.specs.declared.command.Entry.{Entry}
 
 -- How the last command on the reel in effect by the minute leaves it.
 abbrev said_at : History → Name → ℕ → Option Bool

@@ -1,12 +1,18 @@
 -- Worked cases of floor life.
-use Rattle.desk_types.proofs.Common.{[], ◌++◌, ◌∷◌, ◌≡◌, Accepted, closing_refusal, command_refusal}
-use Rattle.desk_types.proofs.Common.{definition_refusal, Expired, exposure_of, FiveA, is_out_at, left_of, List}
-use Rattle.desk_types.proofs.Common.{live_on, MaterialsLoaded, MaterialsUnloaded, MinutesLeft, mounting_refusal}
-use Rattle.desk_types.proofs.Common.{NotBaked, opening_refusal, part_refusal, receipt_refusal, ReelBaked, ReelOpened}
-use Rattle.desk_types.proofs.Common.{ReelSealed, refl, refusal_of, Refused, replies_to, selection_refusal}
-use Rattle.desk_types.proofs.Common.{sheet_refusal, Some, Stamped, tape_of, Three, Two, unload_refusal, ℕ}
+use Rattle.desk_types.proofs.Common.{[], ◌++◌, ◌∷◌, ◌≡◌, closing_refusal, command_refusal, definition_refusal}
+use Rattle.desk_types.proofs.Common.{exposure_of, is_out_at, left_of, List, live_on, mounting_refusal}
+use Rattle.desk_types.proofs.Common.{opening_refusal, part_refusal, receipt_refusal, refl, refusal_of}
+use Rattle.desk_types.proofs.Common.{replies_to, selection_refusal, sheet_refusal, Some, tape_of}
+use Rattle.desk_types.proofs.Common.{unload_refusal, ℕ}
 use Rattle.desk_types.proofs.RowsCommon.{at, base, base_replies, K1, K2, M, received_at, received_at_six, S1}
-use Rattle.desk_types.specs.declared.answer.Detail.TheVariants.{Plain}
+use Rattle.desk_types.specs.declared.answer.Detail.TheVariants.{MinutesLeft, Plain}
+use Rattle.desk_types.specs.declared.answer.Refusal.TheVariants.{Expired, NotBaked}
+use Rattle.desk_types.specs.declared.answer.Reply.TheVariants.{Accepted, Refused}
+use Rattle.desk_types.specs.declared.command.Command.TheVariants.{MaterialsLoaded, MaterialsUnloaded}
+use Rattle.desk_types.specs.declared.command.Command.TheVariants.{ReelBaked, ReelOpened, ReelSealed}
+use Rattle.desk_types.specs.declared.command.Stamped.{Stamped}
+use Rattle.desk_types.specs.declared.level.Level.TheVariants.{FiveA, Three}
+use Rattle.desk_types.specs.declared.rules.Rules.TheVariants.{Two}
 
 -- A reel of level 3 is loaded with one minute left of its 10,080. One minute later another reel,
 -- opened with it, is refused.

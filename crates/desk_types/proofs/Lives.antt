@@ -1,7 +1,8 @@
 -- Remaining floor life as a key of ordered sets.
-use Rattle.desk_types.proofs.Common.{◌≡◌, Left, Minutes, refl, Unlimited}
-use Rattle.desk_types.specs.{Free.by_left, contracts.view.LeftOrd.TheImpl.ghosts}
-use Rattle.desk_types.specs.{declared.view.Left.TheVariants.Unbaked}
+use Rattle.desk_types.proofs.Common.{◌≡◌, refl}
+use Rattle.desk_types.specs.{Free.by_left, contracts.view.LeftOrd.TheImpl.ghosts, declared.view.Left.Left}
+use Rattle.desk_types.specs.{declared.view.Left.TheVariants.Minutes, declared.view.Left.TheVariants.Unbaked}
+use Rattle.desk_types.specs.{declared.view.Left.TheVariants.Unlimited}
 
 left-cmp : (a b : Left) → ghosts.cmp a b ≡ by_left a b
 left-cmp (Minutes a) (Minutes b) = refl

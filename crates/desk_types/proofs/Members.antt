@@ -1,22 +1,29 @@
 -- A command consists of its kind and its members.
-use Rattle.desk_types.proofs.Common.{[], ⊤, ◌++◌, ◌∙◌, ◌∷◌, ◌≡◌, ap, arith, Command, count_fields, CountRow, Err}
-use Rattle.desk_types.proofs.Common.{Field, fields_of, Five, FiveA, Four, IsCommand, IsCountRow, IsDesignator}
-use Rattle.desk_types.proofs.Common.{IsErrAnd, IsId, IsLabel, IsListOf, IsNumber, IsQuantity, IsSheetRow, Level, List}
-use Rattle.desk_types.proofs.Common.{list_fields, members_of, Name, name_fields, NoMemory, NotStored, number_fields}
-use Rattle.desk_types.proofs.Common.{numbers_apart, Ok, quantities_fit, refl, Result, row_fields, SheetRow, Six}
-use Rattle.desk_types.proofs.Common.{subst, sym, Three, triple_fields, TripleInRange, TwoA, Unread, Word, word_text}
-use Rattle.desk_types.proofs.Common.{ℕ}
+use Rattle.desk_types.proofs.Common.{[], ⊤, ◌++◌, ◌∙◌, ◌∷◌, ◌≡◌, ap, arith, count_fields, Err, Field}
+use Rattle.desk_types.proofs.Common.{fields_of, IsCommand, IsCountRow, IsDesignator, IsErrAnd, IsId, IsLabel}
+use Rattle.desk_types.proofs.Common.{IsListOf, IsNumber, IsQuantity, IsSheetRow, List, list_fields}
+use Rattle.desk_types.proofs.Common.{members_of, Name, name_fields, number_fields, numbers_apart, Ok}
+use Rattle.desk_types.proofs.Common.{quantities_fit, refl, Result, row_fields, subst, sym, triple_fields}
+use Rattle.desk_types.proofs.Common.{TripleInRange, word_text, ℕ}
 use Rattle.desk_types.proofs.Words.{word_text-apart}
-use Rattle.desk_types.specs.Apart.{counts_apart, levels_apart, lists_apart, names_apart, pairs_apart, rows_apart}
-use Rattle.desk_types.specs.Apart.{triples_apart}
+use Rattle.desk_types.specs.Apart.{counts_apart, levels_apart, lists_apart, names_apart, pairs_apart}
+use Rattle.desk_types.specs.Apart.{rows_apart, triples_apart}
 use Rattle.desk_types.specs.Fields.{IsPrefixFree, IsSaidBy, level_fields, Reads}
-use Rattle.desk_types.specs.declared.level.Level.TheVariants.{One, Two}
+use Rattle.desk_types.specs.declared.command.Command.{Command}
+use Rattle.desk_types.specs.declared.count.CountRow.{CountRow}
+use Rattle.desk_types.specs.declared.level.Level.{Level}
+use Rattle.desk_types.specs.declared.level.Level.TheVariants.{Five, FiveA, Four, One, Six, Three, Two, TwoA}
+use Rattle.desk_types.specs.declared.sheet.SheetRow.{SheetRow}
+use Rattle.desk_types.specs.declared.stored_fields.Unread.{Unread}
+use Rattle.desk_types.specs.declared.stored_fields.Unread.TheVariants.{NoMemory, NotStored}
+use Rattle.desk_types.specs.declared.stored_word.Word.{Word}
 use Rattle.desk_types.specs.declared.stored_word.Word.TheVariants.{AlternateAllowed, ClockSet, CountsTaken}
 use Rattle.desk_types.specs.declared.stored_word.Word.TheVariants.{MaterialsInstalled, MaterialsLoaded}
 use Rattle.desk_types.specs.declared.stored_word.Word.TheVariants.{MaterialsScrapped, MaterialsSpliced}
-use Rattle.desk_types.specs.declared.stored_word.Word.TheVariants.{MaterialsUnloaded, PartDefined, ProductSelected}
-use Rattle.desk_types.specs.declared.stored_word.Word.TheVariants.{ReelBaked, ReelOpened, ReelReceived, ReelSealed}
-use Rattle.desk_types.specs.declared.stored_word.Word.TheVariants.{SheetDefined, WorkCompleted, WorkStarted}
+use Rattle.desk_types.specs.declared.stored_word.Word.TheVariants.{MaterialsUnloaded, PartDefined}
+use Rattle.desk_types.specs.declared.stored_word.Word.TheVariants.{ProductSelected, ReelBaked, ReelOpened}
+use Rattle.desk_types.specs.declared.stored_word.Word.TheVariants.{ReelReceived, ReelSealed, SheetDefined}
+use Rattle.desk_types.specs.declared.stored_word.Word.TheVariants.{WorkCompleted, WorkStarted}
 use Rattle.desk_types.specs.declared.command.Command.TheVariants as command
 
 abbrev pub word_of : Command → Word

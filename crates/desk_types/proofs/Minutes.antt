@@ -1,7 +1,7 @@
 -- Counting minutes.
-use Rattle.desk_types.proofs.Common.{◌++◌, ◌+◌, ◌-◌, ◌<◌, ◌∙◌, ◌∷◌, ◌≡◌, ◌≤◌, ap, arith, Bool, cond, count_by, false}
-use Rattle.desk_types.proofs.Common.{minutes_between, range_with_len, refl, suc, sum_by-append, sum_by-cons, sym}
-use Rattle.desk_types.proofs.Common.{true, zero, zero-add, ℕ}
+use Rattle.desk_types.proofs.Common.{◌++◌, ◌+◌, ◌-◌, ◌<◌, ◌∙◌, ◌∷◌, ◌≡◌, ◌≤◌, ap, arith, Bool, cond, count_by}
+use Rattle.desk_types.proofs.Common.{false, minutes_between, range_with_len, refl, suc, sum_by-append}
+use Rattle.desk_types.proofs.Common.{sum_by-cons, sym, true, zero, zero-add, ℕ}
 use Rattle.std.proofs.Common.{add-zero}
 
 range-add : (a m n : ℕ) → range_with_len a (m + n) ≡ range_with_len a m ++ range_with_len (a + m) n

@@ -1,16 +1,24 @@
 -- Worked cases of tapes, pieces and counts.
-use Rattle.desk_types.proofs.Common.{[], ◌++◌, ◌∷◌, ◌≡◌, Accepted, after_commands, all_picks, AlreadyPlaced}
-use Rattle.desk_types.proofs.Common.{command_refusal, CountAbove, CountRow, CountsTaken, definition_refusal, found_of}
-use Rattle.desk_types.proofs.Common.{History, install_picks, install_refusal, left_of, List, live_on, map}
-use Rattle.desk_types.proofs.Common.{MaterialsInstalled, MaterialsLoaded, MaterialsScrapped, MaterialsSpliced}
-use Rattle.desk_types.proofs.Common.{MaterialsUnloaded, MinutesLeft, mounting_refusal, None, part_refusal, placed_of}
-use Rattle.desk_types.proofs.Common.{receipt_refusal, received_of, ReelMounted, Reels, refl, refusal_of, Refused}
-use Rattle.desk_types.proofs.Common.{replies_to, Reply, scrap_refusal, scrapped_of, selection_refusal, sheet_refusal}
-use Rattle.desk_types.proofs.Common.{SlotEmpty, Stamped, start_refusal, Taken, tape_of, Two, unload_refusal}
-use Rattle.desk_types.proofs.Common.{WorkStarted, ℕ}
-use Rattle.desk_types.proofs.RowsCommon.{B1, base, base_replies, counted, K1, K2, K3, K4, L1, M, P, R1, R2, R3, R4}
-use Rattle.desk_types.proofs.RowsCommon.{R5, received, S1, said}
-use Rattle.desk_types.specs.{declared.answer.Detail.TheVariants.Plain, declared.answer.Refusal.TheVariants.SlotTaken}
+use Rattle.desk_types.proofs.Common.{[], ◌++◌, ◌∷◌, ◌≡◌, after_commands, all_picks, command_refusal}
+use Rattle.desk_types.proofs.Common.{definition_refusal, found_of, History, install_picks, install_refusal}
+use Rattle.desk_types.proofs.Common.{left_of, List, live_on, map, mounting_refusal, None, part_refusal}
+use Rattle.desk_types.proofs.Common.{placed_of, receipt_refusal, received_of, refl, refusal_of, replies_to}
+use Rattle.desk_types.proofs.Common.{scrap_refusal, scrapped_of, selection_refusal, sheet_refusal}
+use Rattle.desk_types.proofs.Common.{start_refusal, tape_of, unload_refusal, ℕ}
+use Rattle.desk_types.proofs.RowsCommon.{B1, base, base_replies, counted, K1, K2, K3, K4, L1, M, P, R1, R2}
+use Rattle.desk_types.proofs.RowsCommon.{R3, R4, R5, received, S1, said}
+use Rattle.desk_types.specs.declared.answer.Detail.TheVariants.{MinutesLeft, Plain, Reels, Taken}
+use Rattle.desk_types.specs.declared.answer.Refusal.TheVariants.{AlreadyPlaced, CountAbove, ReelMounted}
+use Rattle.desk_types.specs.declared.answer.Refusal.TheVariants.{SlotEmpty, SlotTaken}
+use Rattle.desk_types.specs.declared.answer.Reply.{Reply}
+use Rattle.desk_types.specs.declared.answer.Reply.TheVariants.{Accepted, Refused}
+use Rattle.desk_types.specs.declared.command.Command.TheVariants.{CountsTaken, MaterialsInstalled}
+use Rattle.desk_types.specs.declared.command.Command.TheVariants.{MaterialsLoaded, MaterialsScrapped}
+use Rattle.desk_types.specs.declared.command.Command.TheVariants.{MaterialsSpliced, MaterialsUnloaded}
+use Rattle.desk_types.specs.declared.command.Command.TheVariants.{WorkStarted}
+use Rattle.desk_types.specs.declared.command.Stamped.{Stamped}
+use Rattle.desk_types.specs.declared.count.CountRow.{CountRow}
+use Rattle.desk_types.specs.declared.rules.Rules.TheVariants.{Two}
 
 -- A reel of fifty pieces is spliced to one of two pieces, and a board takes five.
 abbrev spliced_board : List Stamped

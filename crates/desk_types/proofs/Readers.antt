@@ -1,10 +1,12 @@
 -- Reading composed values.
-use Rattle.desk_types.proofs.Common.{[], ◌++◌, ◌<◌, ◌^◌, ◌∙◌, ◌∷◌, ◌≡◌, AllByRecursion, ap, append_assoc, arith}
-use Rattle.desk_types.proofs.Common.{decimal, Err, Field, IsErrAnd, IsListOf, IsNumber, length, length-append, List}
-use Rattle.desk_types.proofs.Common.{list_fields, NoMemory, NotStored, numbers_apart, Ok, recursion_from_All, Result}
-use Rattle.desk_types.proofs.Common.{subst, sym, Unread, ℕ}
+use Rattle.desk_types.proofs.Common.{[], ◌++◌, ◌<◌, ◌^◌, ◌∙◌, ◌∷◌, ◌≡◌, AllByRecursion, ap, append_assoc}
+use Rattle.desk_types.proofs.Common.{arith, decimal, Err, Field, IsErrAnd, IsListOf, IsNumber, length}
+use Rattle.desk_types.proofs.Common.{length-append, List, list_fields, numbers_apart, Ok, recursion_from_All}
+use Rattle.desk_types.proofs.Common.{Result, subst, sym, ℕ}
 use Rattle.desk_types.specs.Apart.{front_apart, lengths_fit}
 use Rattle.desk_types.specs.Fields.{AreCounted, IsPrefixFree, Reads}
+use Rattle.desk_types.specs.declared.stored_fields.Unread.{Unread}
+use Rattle.desk_types.specs.declared.stored_fields.Unread.TheVariants.{NoMemory, NotStored}
 use Rattle.std.proofs.Common.{flat_map}
 
 pub unread_as : {X Y : Type 0} (Is : X → Type 0) (spelling : X → List Field) (IsY : Y → Type 0) (spelling_y : Y → List Field) (of : Y → X)

@@ -1,9 +1,13 @@
 -- The effects of commands on a reel.
-use Rattle.desk_types.proofs.Common.{[], ◌∙◌, ◌∷◌, ◌≡◌, ap, bake_by, baked_by, Bool, Command, Entry, exposure_starts}
-use Rattle.desk_types.proofs.Common.{false, History, if◌then◌else◌, is_baked, IsUntouched, last_bake, latest, Name}
-use Rattle.desk_types.proofs.Common.{None, open_by, option_map, option_or, Receipt, receipt_by, receipt_of, ReelBaked}
-use Rattle.desk_types.proofs.Common.{ReelReceived, ReelSealed, refl, same, Some, true, unwrap_or, ℕ}
+use Rattle.desk_types.proofs.Common.{[], ◌∙◌, ◌∷◌, ◌≡◌, ap, bake_by, baked_by, Bool, exposure_starts, false}
+use Rattle.desk_types.proofs.Common.{History, if◌then◌else◌, is_baked, IsUntouched, last_bake, latest, Name}
+use Rattle.desk_types.proofs.Common.{None, open_by, option_map, option_or, receipt_by, receipt_of, refl, same}
+use Rattle.desk_types.proofs.Common.{Some, true, unwrap_or, ℕ}
 use Rattle.desk_types.proofs.Tests.{if-none}
+use Rattle.desk_types.specs.declared.command.Command.{Command}
+use Rattle.desk_types.specs.declared.command.Command.TheVariants.{ReelBaked, ReelReceived, ReelSealed}
+use Rattle.desk_types.specs.declared.command.Entry.{Entry}
+use Rattle.desk_types.specs.declared.command.Receipt.{Receipt}
 
 -- The command neither receives nor bakes the reel.
 pub record IsQuiet (name : Name) (minute : ℕ) (command : Command) : Type 0 where

@@ -1,7 +1,14 @@
 -- The names, messages and machine setup shared by the worked cases.
-use Rattle.desk_types.proofs.Common.{[], ◌∷◌, Accepted, codes, Command, CountRow, Level, List, map, Name, PartDefined}
-use Rattle.desk_types.proofs.Common.{ProductSelected, ReelReceived, Reply, SheetDefined, SheetRow, Six, Stamped, ℕ}
-use Rattle.desk_types.specs.{declared.answer.Detail.TheVariants.Plain, declared.level.Level.TheVariants.One}
+use Rattle.desk_types.proofs.Common.{[], ◌∷◌, codes, List, map, Name, ℕ}
+use Rattle.desk_types.specs.{declared.answer.Detail.TheVariants.Plain, declared.answer.Reply.Reply}
+use Rattle.desk_types.specs.{declared.answer.Reply.TheVariants.Accepted, declared.command.Command.Command}
+use Rattle.desk_types.specs.{declared.command.Command.TheVariants.PartDefined}
+use Rattle.desk_types.specs.{declared.command.Command.TheVariants.ProductSelected}
+use Rattle.desk_types.specs.{declared.command.Command.TheVariants.ReelReceived}
+use Rattle.desk_types.specs.{declared.command.Command.TheVariants.SheetDefined}
+use Rattle.desk_types.specs.{declared.command.Stamped.Stamped, declared.count.CountRow.CountRow}
+use Rattle.desk_types.specs.{declared.level.Level.Level, declared.level.Level.TheVariants.One}
+use Rattle.desk_types.specs.{declared.level.Level.TheVariants.Six, declared.sheet.SheetRow.SheetRow}
 
 -- ---- names
 

@@ -1,7 +1,8 @@
 -- Lists and rows of a sheet that compare equal by `==` are equal.
-use Rattle.desk_types.proofs.Common.{[], ◌&&◌, ◌∙◌, ◌∷◌, ◌≡◌, and_parts, ap, Bool, List, pointwise, refl, same}
-use Rattle.desk_types.proofs.Common.{same-true, SheetRow, true}
+use Rattle.desk_types.proofs.Common.{[], ◌&&◌, ◌∙◌, ◌∷◌, ◌≡◌, and_parts, ap, Bool, List, pointwise, refl}
+use Rattle.desk_types.proofs.Common.{same, same-true, true}
 use Rattle.desk_types.specs.contracts.sheet.SheetRowPartialEq.TheImpl.{ghosts as sheet_row}
+use Rattle.desk_types.specs.declared.sheet.SheetRow.{SheetRow}
 
 pub lists-same : {X : Type 0} (eq : X → X → Bool) → ((a b : X) → eq a b ≡ true → a ≡ b) → (xs ys : List X) → pointwise eq xs ys ≡ true → xs ≡ ys
 lists-same eq told [] [] e = refl

@@ -1,13 +1,18 @@
 -- Worked cases of parts, alternates and the clock.
-use Rattle.desk_types.proofs.Common.{[], ◌++◌, ◌∷◌, ◌≡◌, Accepted, after_commands, alternate_refusal}
-use Rattle.desk_types.proofs.Common.{AlternateAllowed, ClockSet, codes, command_refusal, definition_refusal, Entry}
-use Rattle.desk_types.proofs.Common.{left_of, List, live_on, map, MaterialsLoaded, MinutesLeft, mounting_refusal}
-use Rattle.desk_types.proofs.Common.{None, part_refusal, PartDefined, ProductSelected, receipt_refusal, refl}
-use Rattle.desk_types.proofs.Common.{refusal_of, Refused, replies_to, selection_refusal, sheet_refusal, SheetDefined}
-use Rattle.desk_types.proofs.Common.{Stamped, tape_of, TooFarAhead, Two, WrongPart}
-use Rattle.desk_types.proofs.RowsCommon.{at, base, base_replies, K1, K2, L1, M, N, P, PS, Q, R1, received, S1, said}
-use Rattle.desk_types.proofs.RowsCommon.{sheet_row}
-use Rattle.desk_types.specs.declared.answer.Detail.TheVariants.{Plain}
+use Rattle.desk_types.proofs.Common.{[], ◌++◌, ◌∷◌, ◌≡◌, after_commands, alternate_refusal, codes}
+use Rattle.desk_types.proofs.Common.{command_refusal, definition_refusal, left_of, List, live_on, map}
+use Rattle.desk_types.proofs.Common.{mounting_refusal, None, part_refusal, receipt_refusal, refl, refusal_of}
+use Rattle.desk_types.proofs.Common.{replies_to, selection_refusal, sheet_refusal, tape_of}
+use Rattle.desk_types.proofs.RowsCommon.{at, base, base_replies, K1, K2, L1, M, N, P, PS, Q, R1, received, S1}
+use Rattle.desk_types.proofs.RowsCommon.{said, sheet_row}
+use Rattle.desk_types.specs.declared.answer.Detail.TheVariants.{MinutesLeft, Plain}
+use Rattle.desk_types.specs.declared.answer.Refusal.TheVariants.{TooFarAhead, WrongPart}
+use Rattle.desk_types.specs.declared.answer.Reply.TheVariants.{Accepted, Refused}
+use Rattle.desk_types.specs.declared.command.Command.TheVariants.{AlternateAllowed, ClockSet, MaterialsLoaded}
+use Rattle.desk_types.specs.declared.command.Command.TheVariants.{PartDefined, ProductSelected, SheetDefined}
+use Rattle.desk_types.specs.declared.command.Entry.{Entry}
+use Rattle.desk_types.specs.declared.command.Stamped.{Stamped}
+use Rattle.desk_types.specs.declared.rules.Rules.TheVariants.{Two}
 
 pub another_part_is_refused_at_its_slot : replies_to Two [] (base ++ said (
     received K1 Q L1 100

@@ -1,9 +1,9 @@
 -- Splitting a text at its first tab.
-use Rattle.desk_types.proofs.Common.{[], ◌+◌, ◌==◌, ◌∙◌, ◌∷◌, ◌≡◌, ◌≤◌, ap, arith, Bool, cond, drop, false, fields_in}
-use Rattle.desk_types.proofs.Common.{length, length-slice_split, List, nat_lt, nat_tests, None, refl}
-use Rattle.desk_types.proofs.Common.{slice_split_none, Some, take, true, ℕ}
-use Rattle.std.proofs.{Common.position, lemmas.List.Splits.slice_split_first, lemmas.List.Sums.fails_before_first}
-use Rattle.std.specs.List.{position_or_len}
+use Rattle.desk_types.proofs.Common.{[], ◌+◌, ◌==◌, ◌∙◌, ◌∷◌, ◌≡◌, ◌≤◌, ap, arith, Bool, cond, drop, false}
+use Rattle.desk_types.proofs.Common.{fields_in, length, length-slice_split, List, nat_lt, nat_tests, None}
+use Rattle.desk_types.proofs.Common.{refl, slice_split_none, Some, take, true, ℕ}
+use Rattle.std.{proofs.Common.position, proofs.lemmas.List.Splits.slice_split_first}
+use Rattle.std.{proofs.lemmas.List.Sums.fails_before_first, specs.List.position_or_len}
 
 abbrev is_tab : ℕ → Bool
 is_tab byte = byte == 0x09

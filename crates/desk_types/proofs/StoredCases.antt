@@ -1,6 +1,8 @@
 -- Worked cases of the texts of commands.
-use Rattle.desk_types.proofs.Common.{[], ◌∷◌, ◌≡◌, codes, CountsTaken, length, MaterialsLoaded, ReelReceived, refl}
-use Rattle.desk_types.proofs.Common.{SheetDefined, stored_text, Three, word_text, words}
+use Rattle.desk_types.proofs.Common.{[], ◌∷◌, ◌≡◌, codes, length, refl, stored_text, word_text, words}
+use Rattle.desk_types.specs.declared.command.Command.TheVariants.{CountsTaken, MaterialsLoaded, ReelReceived}
+use Rattle.desk_types.specs.declared.command.Command.TheVariants.{SheetDefined}
+use Rattle.desk_types.specs.declared.level.Level.TheVariants.{Three}
 use Rattle.std.specs.Fmt.{digits}
 
 pub seventeen_words : length words ≡ 17

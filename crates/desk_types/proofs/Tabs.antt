@@ -1,22 +1,34 @@
 -- A command's fields have no tabs, so splitting its text gives them back.
 use Rattle.desk_types.proofs.Common.{[], ◌++◌, ◌<◌, ◌==◌, ◌^◌, ◌∙◌, ◌∷◌, ◌≡◌, ◌≤◌, All, AllByRecursion}
-use Rattle.desk_types.proofs.Common.{AllPass-from_list_all, AlternateAllowed, ap, append-nil, arith, ClockSet}
-use Rattle.desk_types.proofs.Common.{Command, count_fields, CountRow, CountsTaken, decimal, drop, false, Field}
-use Rattle.desk_types.proofs.Common.{fields_in, fields_of, Five, FiveA, Four, IsCommand, IsCountRow, IsDesignator}
-use Rattle.desk_types.proofs.Common.{IsId, IsListOf, IsSheetRow, join_with_byte, length, Level, List, list_all}
-use Rattle.desk_types.proofs.Common.{list_fields, MaterialsInstalled, MaterialsLoaded, MaterialsScrapped}
-use Rattle.desk_types.proofs.Common.{MaterialsSpliced, MaterialsUnloaded, members_of, name_fields, nat_tests, not}
-use Rattle.desk_types.proofs.Common.{PartDefined, ProductSelected, quantities_fit, recursion_from_All, ReelBaked}
-use Rattle.desk_types.proofs.Common.{ReelOpened, ReelReceived, ReelSealed, refl, row_fields, SheetDefined, SheetRow}
-use Rattle.desk_types.proofs.Common.{Six, slice_split_at, slice_split_none, stored_text, sym, Three, true, TwoA, Word}
-use Rattle.desk_types.proofs.Common.{word_text, WorkCompleted, WorkStarted, ℕ}
-use Rattle.desk_types.proofs.{Ascii.printable-marks, Members.commands_apart, Members.fields_are, Members.label_fits}
-use Rattle.desk_types.proofs.{Members.word_of}
-use Rattle.desk_types.specs.{Apart.counted_quantities_fit, Apart.lengths_fit, Fields.after_tabs, Fields.fields_text}
-use Rattle.desk_types.specs.{Level.text_of, declared.level.Level.TheVariants.One}
-use Rattle.desk_types.specs.{declared.level.Level.TheVariants.Two}
-use Rattle.std.proofs.{Common.flat_map, lemmas.Fmt.decimal_is_IsNumeral, lemmas.List.Elements.All-from_get_or}
-use Rattle.std.proofs.{lemmas.List.Splits.join_with_byte-slice_split, lemmas.Str.Parse.digit_at}
+use Rattle.desk_types.proofs.Common.{AllPass-from_list_all, ap, append-nil, arith, count_fields, decimal}
+use Rattle.desk_types.proofs.Common.{drop, false, Field, fields_in, fields_of, IsCommand, IsCountRow}
+use Rattle.desk_types.proofs.Common.{IsDesignator, IsId, IsListOf, IsSheetRow, join_with_byte, length, List}
+use Rattle.desk_types.proofs.Common.{list_all, list_fields, members_of, name_fields, nat_tests, not}
+use Rattle.desk_types.proofs.Common.{quantities_fit, recursion_from_All, refl, row_fields, slice_split_at}
+use Rattle.desk_types.proofs.Common.{slice_split_none, stored_text, sym, true, word_text, ℕ}
+use Rattle.desk_types.proofs.Ascii.{printable-marks}
+use Rattle.desk_types.proofs.Members.{commands_apart, fields_are, label_fits, word_of}
+use Rattle.desk_types.specs.Apart.{counted_quantities_fit, lengths_fit}
+use Rattle.desk_types.specs.Fields.{after_tabs, fields_text}
+use Rattle.desk_types.specs.Level.{text_of}
+use Rattle.desk_types.specs.declared.command.Command.{Command}
+use Rattle.desk_types.specs.declared.command.Command.TheVariants.{AlternateAllowed, ClockSet, CountsTaken}
+use Rattle.desk_types.specs.declared.command.Command.TheVariants.{MaterialsInstalled, MaterialsLoaded}
+use Rattle.desk_types.specs.declared.command.Command.TheVariants.{MaterialsScrapped, MaterialsSpliced}
+use Rattle.desk_types.specs.declared.command.Command.TheVariants.{MaterialsUnloaded, PartDefined}
+use Rattle.desk_types.specs.declared.command.Command.TheVariants.{ProductSelected, ReelBaked, ReelOpened}
+use Rattle.desk_types.specs.declared.command.Command.TheVariants.{ReelReceived, ReelSealed, SheetDefined}
+use Rattle.desk_types.specs.declared.command.Command.TheVariants.{WorkCompleted, WorkStarted}
+use Rattle.desk_types.specs.declared.count.CountRow.{CountRow}
+use Rattle.desk_types.specs.declared.level.Level.{Level}
+use Rattle.desk_types.specs.declared.level.Level.TheVariants.{Five, FiveA, Four, One, Six, Three, Two, TwoA}
+use Rattle.desk_types.specs.declared.sheet.SheetRow.{SheetRow}
+use Rattle.desk_types.specs.declared.stored_word.Word.{Word}
+use Rattle.std.proofs.Common.{flat_map}
+use Rattle.std.proofs.lemmas.Fmt.{decimal_is_IsNumeral}
+use Rattle.std.proofs.lemmas.List.Elements.{All-from_get_or}
+use Rattle.std.proofs.lemmas.List.Splits.{join_with_byte-slice_split}
+use Rattle.std.proofs.lemmas.Str.Parse.{digit_at}
 use Rattle.desk_types.specs.declared.stored_word.Word.TheVariants as word
 
 abbrev HasNoTab : Field → Type 0

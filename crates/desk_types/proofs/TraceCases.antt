@@ -1,16 +1,24 @@
 -- Worked cases of traces.
-use Rattle.desk_types.proofs.Common.{[], ◌++◌, ◌∷◌, ◌≡◌, Accepted, after_commands, boards_of, Bool, codes}
-use Rattle.desk_types.proofs.Common.{command_refusal, completion_refusal, definition_refusal, Expired, exposure_of}
-use Rattle.desk_types.proofs.Common.{false, FiveA, History, install_picks, install_refusal, is_out_at, left_of, List}
-use Rattle.desk_types.proofs.Common.{live_on, lots_of, map, MaterialsInstalled, MaterialsLoaded, MaterialsSpliced}
-use Rattle.desk_types.proofs.Common.{MaterialsUnloaded, MinutesLeft, mounting_refusal, Name, None, overdue_of}
-use Rattle.desk_types.proofs.Common.{part_refusal, PartDefined, Placement, placements_of, ProductSelected}
-use Rattle.desk_types.proofs.Common.{receipt_refusal, Reels, refl, refusal_of, Refused, replies_to, selection_refusal}
-use Rattle.desk_types.proofs.Common.{sheet_refusal, SheetDefined, Some, Stamped, start_refusal, takes_of, tape_of}
-use Rattle.desk_types.proofs.Common.{true, Two, unload_refusal, WorkCompleted, WorkStarted, ℕ}
-use Rattle.desk_types.proofs.RowsCommon.{at, B1, B2, base, base_replies, K1, K2, K3, L, L1, L2, M, P, PR, R1, R2, R3}
-use Rattle.desk_types.proofs.RowsCommon.{R4, R5, received, received_at, S1, S2, said, sheet_row}
-use Rattle.desk_types.specs.declared.answer.Detail.TheVariants.{Plain}
+use Rattle.desk_types.proofs.Common.{[], ◌++◌, ◌∷◌, ◌≡◌, after_commands, boards_of, Bool, codes}
+use Rattle.desk_types.proofs.Common.{command_refusal, completion_refusal, definition_refusal, exposure_of}
+use Rattle.desk_types.proofs.Common.{false, History, install_picks, install_refusal, is_out_at, left_of, List}
+use Rattle.desk_types.proofs.Common.{live_on, lots_of, map, mounting_refusal, Name, None, overdue_of}
+use Rattle.desk_types.proofs.Common.{part_refusal, placements_of, receipt_refusal, refl, refusal_of}
+use Rattle.desk_types.proofs.Common.{replies_to, selection_refusal, sheet_refusal, Some, start_refusal}
+use Rattle.desk_types.proofs.Common.{takes_of, tape_of, true, unload_refusal, ℕ}
+use Rattle.desk_types.proofs.RowsCommon.{at, B1, B2, base, base_replies, K1, K2, K3, L, L1, L2, M, P, PR, R1}
+use Rattle.desk_types.proofs.RowsCommon.{R2, R3, R4, R5, received, received_at, S1, S2, said, sheet_row}
+use Rattle.desk_types.specs.declared.answer.Detail.TheVariants.{MinutesLeft, Plain, Reels}
+use Rattle.desk_types.specs.declared.answer.Refusal.TheVariants.{Expired}
+use Rattle.desk_types.specs.declared.answer.Reply.TheVariants.{Accepted, Refused}
+use Rattle.desk_types.specs.declared.command.Command.TheVariants.{MaterialsInstalled, MaterialsLoaded}
+use Rattle.desk_types.specs.declared.command.Command.TheVariants.{MaterialsSpliced, MaterialsUnloaded}
+use Rattle.desk_types.specs.declared.command.Command.TheVariants.{PartDefined, ProductSelected, SheetDefined}
+use Rattle.desk_types.specs.declared.command.Command.TheVariants.{WorkCompleted, WorkStarted}
+use Rattle.desk_types.specs.declared.command.Stamped.{Stamped}
+use Rattle.desk_types.specs.declared.level.Level.TheVariants.{FiveA}
+use Rattle.desk_types.specs.declared.placement.Placement.{Placement}
+use Rattle.desk_types.specs.declared.rules.Rules.TheVariants.{Two}
 
 -- A piece of part P, placed from slot 1 of machine M by this entry, at this place in its message.
 abbrev piece : ℕ → ℕ → Name → Name → Name → Name → ℕ → Bool → Placement

@@ -1,16 +1,24 @@
 -- Worked cases of the reported state of reels and slots.
-use Rattle.desk_types.proofs.Common.{[], ◌++◌, ◌∷◌, ◌≡◌, after_commands, all_picks, ClockSet, closing_refusal}
-use Rattle.desk_types.proofs.Common.{command_refusal, CountsTaken, definition_refusal, exposure_of, false, FiveA}
-use Rattle.desk_types.proofs.Common.{found_of, free_reels, History, install_picks, install_refusal, is_out_at, Left}
-use Rattle.desk_types.proofs.Common.{left_of, List, live_on, map, MaterialsInstalled, MaterialsLoaded}
-use Rattle.desk_types.proofs.Common.{MaterialsSpliced, Minutes, mounting_refusal, Name, None, opening_refusal}
-use Rattle.desk_types.proofs.Common.{part_refusal, PartDefined, ProductSelected, receipt_refusal, reel_view}
-use Rattle.desk_types.proofs.Common.{ReelOpened, ReelSealed, ReelView, refl, refusal_of, selection_refusal}
-use Rattle.desk_types.proofs.Common.{sheet_refusal, SheetDefined, Some, Stamped, start_refusal, tape_of, Three, true}
-use Rattle.desk_types.proofs.Common.{Two, Unlimited, WorkStarted, ℕ}
-use Rattle.desk_types.proofs.RowsCommon.{at, B1, base, counted, K1, K2, K3, K4, L1, M, N, P, PR, Q, R1, R2, R3}
-use Rattle.desk_types.proofs.RowsCommon.{received, received_at, received_at_six, S1, S2, said, sheet_row}
-use Rattle.desk_types.specs.{View.mounts_on, declared.level.Level.TheVariants.One, declared.view.Mount.Mount}
+use Rattle.desk_types.proofs.Common.{[], ◌++◌, ◌∷◌, ◌≡◌, after_commands, all_picks, closing_refusal}
+use Rattle.desk_types.proofs.Common.{command_refusal, definition_refusal, exposure_of, false, found_of}
+use Rattle.desk_types.proofs.Common.{free_reels, History, install_picks, install_refusal, is_out_at, left_of}
+use Rattle.desk_types.proofs.Common.{List, live_on, map, mounting_refusal, Name, None, opening_refusal}
+use Rattle.desk_types.proofs.Common.{part_refusal, receipt_refusal, reel_view, refl, refusal_of}
+use Rattle.desk_types.proofs.Common.{selection_refusal, sheet_refusal, Some, start_refusal, tape_of, true, ℕ}
+use Rattle.desk_types.proofs.RowsCommon.{at, B1, base, counted, K1, K2, K3, K4, L1, M, N, P, PR, Q, R1, R2}
+use Rattle.desk_types.proofs.RowsCommon.{R3, received, received_at, received_at_six, S1, S2, said, sheet_row}
+use Rattle.desk_types.specs.View.{mounts_on}
+use Rattle.desk_types.specs.declared.command.Command.TheVariants.{ClockSet, CountsTaken, MaterialsInstalled}
+use Rattle.desk_types.specs.declared.command.Command.TheVariants.{MaterialsLoaded, MaterialsSpliced}
+use Rattle.desk_types.specs.declared.command.Command.TheVariants.{PartDefined, ProductSelected, ReelOpened}
+use Rattle.desk_types.specs.declared.command.Command.TheVariants.{ReelSealed, SheetDefined, WorkStarted}
+use Rattle.desk_types.specs.declared.command.Stamped.{Stamped}
+use Rattle.desk_types.specs.declared.level.Level.TheVariants.{FiveA, One, Three}
+use Rattle.desk_types.specs.declared.rules.Rules.TheVariants.{Two}
+use Rattle.desk_types.specs.declared.view.Left.{Left}
+use Rattle.desk_types.specs.declared.view.Left.TheVariants.{Minutes, Unlimited}
+use Rattle.desk_types.specs.declared.view.Mount.{Mount}
+use Rattle.desk_types.specs.declared.view.ReelView.{ReelView}
 
 -- Slot 2 comes first on the sheet. On slot 1 a reel of fifty pieces is spliced to one of two.
 abbrev two_slots : List Stamped

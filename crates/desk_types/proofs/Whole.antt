@@ -1,9 +1,13 @@
 -- Reading a whole text from its fields.
-use Rattle.desk_types.proofs.Common.{[], ◌++◌, ◌∙◌, ◌∷◌, ◌≡◌, ap, append-nil, Command, Err, Field, fields_in}
-use Rattle.desk_types.proofs.Common.{fields_of, IsCommand, IsErrAnd, List, members_of, NoMemory, NotStored, Ok}
-use Rattle.desk_types.proofs.Common.{Result, stored_text, subst, sym, Unread, Word, word_text, ℕ}
+use Rattle.desk_types.proofs.Common.{[], ◌++◌, ◌∙◌, ◌∷◌, ◌≡◌, ap, append-nil, Err, Field, fields_in}
+use Rattle.desk_types.proofs.Common.{fields_of, IsCommand, IsErrAnd, List, members_of, Ok, Result}
+use Rattle.desk_types.proofs.Common.{stored_text, subst, sym, word_text, ℕ}
 use Rattle.desk_types.proofs.{Members.fields_are, Members.word_of, Tabs.fields_in-stored_text}
-use Rattle.desk_types.specs.Fields.{IsReading, IsSaidBy, Reads}
+use Rattle.desk_types.specs.{Fields.IsReading, Fields.IsSaidBy, Fields.Reads}
+use Rattle.desk_types.specs.{declared.command.Command.Command, declared.stored_fields.Unread.Unread}
+use Rattle.desk_types.specs.{declared.stored_fields.Unread.TheVariants.NoMemory}
+use Rattle.desk_types.specs.{declared.stored_fields.Unread.TheVariants.NotStored}
+use Rattle.desk_types.specs.{declared.stored_word.Word.Word}
 
 pub begins : (text : List ℕ) (c : Command) → IsCommand c → text ≡ stored_text c → fields_in text ≡ word_text (word_of c) ∷ members_of c
 begins text c is e = ap fields_in e ∙ fields_in-stored_text c is ∙ fields_are c

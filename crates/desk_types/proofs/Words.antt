@@ -1,12 +1,15 @@
 -- The kinds of commands in stored texts.
-use Rattle.desk_types.proofs.Common.{[], ◌∙◌, ◌∷◌, ◌≡◌, ap, Bool, cond, false, Field, find, IfSome, List, None}
-use Rattle.desk_types.proofs.Common.{Option, refl, same, same-true, Some, subst, sym, true, Word, word_text, words}
+use Rattle.desk_types.proofs.Common.{[], ◌∙◌, ◌∷◌, ◌≡◌, ap, Bool, cond, false, Field, find, IfSome, List}
+use Rattle.desk_types.proofs.Common.{None, Option, refl, same, same-true, Some, subst, sym, true, word_text}
+use Rattle.desk_types.proofs.Common.{words}
+use Rattle.desk_types.specs.declared.stored_word.Word.{Word}
 use Rattle.desk_types.specs.declared.stored_word.Word.TheVariants.{AlternateAllowed, ClockSet, CountsTaken}
 use Rattle.desk_types.specs.declared.stored_word.Word.TheVariants.{MaterialsInstalled, MaterialsLoaded}
 use Rattle.desk_types.specs.declared.stored_word.Word.TheVariants.{MaterialsScrapped, MaterialsSpliced}
-use Rattle.desk_types.specs.declared.stored_word.Word.TheVariants.{MaterialsUnloaded, PartDefined, ProductSelected}
-use Rattle.desk_types.specs.declared.stored_word.Word.TheVariants.{ReelBaked, ReelOpened, ReelReceived, ReelSealed}
-use Rattle.desk_types.specs.declared.stored_word.Word.TheVariants.{SheetDefined, WorkCompleted, WorkStarted}
+use Rattle.desk_types.specs.declared.stored_word.Word.TheVariants.{MaterialsUnloaded, PartDefined}
+use Rattle.desk_types.specs.declared.stored_word.Word.TheVariants.{ProductSelected, ReelBaked, ReelOpened}
+use Rattle.desk_types.specs.declared.stored_word.Word.TheVariants.{ReelReceived, ReelSealed, SheetDefined}
+use Rattle.desk_types.specs.declared.stored_word.Word.TheVariants.{WorkCompleted, WorkStarted}
 use Rattle.std.proofs.Common.{IfNone}
 
 -- The kind with this text.

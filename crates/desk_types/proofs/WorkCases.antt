@@ -1,15 +1,20 @@
 -- Worked cases of boards in work.
-use Rattle.desk_types.proofs.Common.{[], ◌++◌, ◌∷◌, ◌≡◌, Accepted, codes, command_refusal, completion_refusal}
+use Rattle.desk_types.proofs.Common.{[], ◌++◌, ◌∷◌, ◌≡◌, codes, command_refusal, completion_refusal}
 use Rattle.desk_types.proofs.Common.{definition_refusal, install_picks, install_refusal, left_of, live_on}
-use Rattle.desk_types.proofs.Common.{MachineBusy, MaterialsInstalled, MaterialsLoaded, MaterialsScrapped, MinutesLeft}
-use Rattle.desk_types.proofs.Common.{mounting_refusal, None, NotInWork, OtherProduct, part_refusal, ProductSelected}
-use Rattle.desk_types.proofs.Common.{receipt_refusal, Reels, ReelShort, refl, refusal_of, Refused, replies_to}
-use Rattle.desk_types.proofs.Common.{scrap_refusal, selection_refusal, sheet_refusal, SheetDefined, SlotEmpty}
-use Rattle.desk_types.proofs.Common.{start_refusal, tape_of, Two, WorkCompleted, WorkStarted}
-use Rattle.desk_types.proofs.RowsCommon.{B1, B2, base, base_replies, K1, L1, M, P, PR, PS, R1, R2, R3, received, S1}
-use Rattle.desk_types.proofs.RowsCommon.{said, sheet_row}
-use Rattle.desk_types.specs.declared.answer.Detail.TheVariants.{Plain}
+use Rattle.desk_types.proofs.Common.{mounting_refusal, None, part_refusal, receipt_refusal, refl, refusal_of}
+use Rattle.desk_types.proofs.Common.{replies_to, scrap_refusal, selection_refusal, sheet_refusal}
+use Rattle.desk_types.proofs.Common.{start_refusal, tape_of}
+use Rattle.desk_types.proofs.RowsCommon.{B1, B2, base, base_replies, K1, L1, M, P, PR, PS, R1, R2, R3}
+use Rattle.desk_types.proofs.RowsCommon.{received, S1, said, sheet_row}
+use Rattle.desk_types.specs.declared.answer.Detail.TheVariants.{MinutesLeft, Plain, Reels}
 use Rattle.desk_types.specs.declared.answer.Refusal.TheVariants.{DesignatorNotOnSheet, DesignatorTwice}
+use Rattle.desk_types.specs.declared.answer.Refusal.TheVariants.{MachineBusy, NotInWork, OtherProduct}
+use Rattle.desk_types.specs.declared.answer.Refusal.TheVariants.{ReelShort, SlotEmpty}
+use Rattle.desk_types.specs.declared.answer.Reply.TheVariants.{Accepted, Refused}
+use Rattle.desk_types.specs.declared.command.Command.TheVariants.{MaterialsInstalled, MaterialsLoaded}
+use Rattle.desk_types.specs.declared.command.Command.TheVariants.{MaterialsScrapped, ProductSelected}
+use Rattle.desk_types.specs.declared.command.Command.TheVariants.{SheetDefined, WorkCompleted, WorkStarted}
+use Rattle.desk_types.specs.declared.rules.Rules.TheVariants.{Two}
 
 pub work_needs_loaded_slots : replies_to Two [] (base ++ said (WorkStarted M B1 ∷ [])) ≡
     base_replies ++ Refused (SlotEmpty S1) ∷ []

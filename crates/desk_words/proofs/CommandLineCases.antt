@@ -1,17 +1,17 @@
 -- Worked command lines: their meaning, and the text printed if no command is run.
-use Rattle.desk_types.proofs.Common.{[], ◌∙◌, ◌∷◌, ◌≡◌, codes, false, inl, inr, List, MOST_ENTRIES, None}
-use Rattle.desk_types.proofs.Common.{option_map_or, refl, Some, sym, true≢false, ℕ}
+use Rattle.desk_types.proofs.Common.{[], ◌∙◌, ◌∷◌, ◌≡◌, codes, false, inl, inr, List, None, option_map_or}
+use Rattle.desk_types.proofs.Common.{refl, Some, sym, true≢false, ℕ}
 use Rattle.clap.proofs.OnLiterals.{clap_on_literals}
 use Rattle.clap.proofs.ValueTestLemmas.{Accepts-accepts, accepts-Accepts}
 use Rattle.clap.specs.ValueTests.{is_unsigned_in}
 use Rattle.clap.specs.Walk.{Row}
-use Rattle.clap.specs.declared.error.kind.ErrorKind.TheVariants.{ArgumentConflict, DisplayHelp, DisplayVersion}
-use Rattle.clap.specs.declared.error.kind.ErrorKind.TheVariants.{InvalidSubcommand, InvalidValue}
-use Rattle.clap.specs.declared.error.kind.ErrorKind.TheVariants.{MissingRequiredArgument, MissingSubcommand}
-use Rattle.clap.specs.declared.error.kind.ErrorKind.TheVariants.{UnknownArgument}
-use Rattle.desk_types.specs.declared.limits.TheConstants.{MOST_CONNECTIONS, MOST_PORT}
-use Rattle.desk_words.specs.CommandLine.{AsksForAudit, AsksForFeed, AsksForMigration, AsksForNothing, AsksForReport}
-use Rattle.desk_words.specs.CommandLine.{AsksForServing, IsGreatest, named_by, told_of}
+use Rattle.clap.specs.declared.error.kind.ErrorKind.TheVariants.{ArgumentConflict, DisplayHelp}
+use Rattle.clap.specs.declared.error.kind.ErrorKind.TheVariants.{DisplayVersion, InvalidSubcommand}
+use Rattle.clap.specs.declared.error.kind.ErrorKind.TheVariants.{InvalidValue, MissingRequiredArgument}
+use Rattle.clap.specs.declared.error.kind.ErrorKind.TheVariants.{MissingSubcommand, UnknownArgument}
+use Rattle.desk_types.specs.declared.limits.TheConstants.{MOST_CONNECTIONS, MOST_ENTRIES, MOST_PORT}
+use Rattle.desk_words.specs.CommandLine.{AsksForAudit, AsksForFeed, AsksForMigration, AsksForNothing}
+use Rattle.desk_words.specs.CommandLine.{AsksForReport, AsksForServing, IsGreatest, named_by, told_of}
 use Rattle.clap.specs.declared.builder.value_parser.ValueParser.TheVariants as vp
 
 abbrev rows_in : List (List ℕ) → List Row

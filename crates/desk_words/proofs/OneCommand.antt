@@ -1,10 +1,12 @@
 -- Arguments name one command: if they mean `feed`, they mean nothing else.
-use Rattle.desk_types.proofs.Common.{[], ◌∙◌, ◌∷◌, ◌≡◌, ap, Bool, bytes_eq-Decides, codes, false, inl, inr, IsSomeAnd}
-use Rattle.desk_types.proofs.Common.{List, None, Ok, Option, option_map_or, refl, Result, Some, subst, sym, true}
-use Rattle.desk_types.proofs.Common.{true≢false, ℕ}
-use Rattle.clap.specs.{Kinds.IsAmong, Kinds.Kinds, Walk.first_of, Walk.Row, declared.error.kind.ErrorKind.ErrorKind}
+use Rattle.desk_types.proofs.Common.{[], ◌∙◌, ◌∷◌, ◌≡◌, ap, Bool, bytes_eq-Decides, codes, false, inl, inr}
+use Rattle.desk_types.proofs.Common.{IsSomeAnd, List, None, Ok, Option, option_map_or, refl, Result, Some}
+use Rattle.desk_types.proofs.Common.{subst, sym, true, true≢false, ℕ}
+use Rattle.clap.specs.{Kinds.IsAmong, Kinds.Kinds, Walk.first_of, Walk.Row}
+use Rattle.clap.specs.{declared.error.kind.ErrorKind.ErrorKind}
 use Rattle.desk_feed.specs.declared.options.BadOption.{BadOption}
-use Rattle.desk_words.specs.CommandLine.{AsksForNothing, GoesUpTo, IsGreatest, named_by, Names, NamesImport, told_of}
+use Rattle.desk_words.specs.CommandLine.{AsksForNothing, GoesUpTo, IsGreatest, named_by, Names, NamesImport}
+use Rattle.desk_words.specs.CommandLine.{told_of}
 use Rattle.imports.specs.declared.import.Import.{Import}
 use Rattle.std.specs.Str.{bytes_eq}
 

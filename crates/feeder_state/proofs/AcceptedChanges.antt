@@ -1,18 +1,26 @@
 -- A change that is accepted.
-use Rattle.desk_types.proofs.Common.{[], ◌∙◌, ◌∷◌, ◌≡◌, accept, ap, arith, Basis, board_row, Bool, Change}
+use Rattle.desk_types.proofs.Common.{[], ◌∙◌, ◌∷◌, ◌≡◌, accept, ap, arith, Basis, board_row, Bool}
 use Rattle.desk_types.proofs.Common.{desk_minute, effective_minute, entry_of, false, History, if◌then◌else◌}
 use Rattle.desk_types.proofs.Common.{is_alternate, is_mounted, is_part, is_some, IsChange, IsJudged, IsMinute}
-use Rattle.desk_types.proofs.Common.{IsStamped, left_of, List, list_any, live_on, max, Name, nat_lt, None, now_of}
-use Rattle.desk_types.proofs.Common.{option_map_or, or_parts, PutAlternate, PutBoard, PutFound, PutMount, PutPart}
-use Rattle.desk_types.proofs.Common.{PutPlacement, PutReel, PutSelected, PutSheetRow, ReelRow, refl, RowEdit, Rules}
-use Rattle.desk_types.proofs.Common.{same, selected_on, Some, Stamped, subst, sym, Tables, TakeMount, takes_by}
-use Rattle.desk_types.proofs.Common.{TakeSheetRow, true, Two, with_edit, with_edits, ℕ}
-use Rattle.desk_laws.proofs.{PicksOfOneSlot.live-pieces, Tapes.not-zero}
-use Rattle.desk_types.proofs.BothRules.{judged-by-two}
-use Rattle.feeder_state.proofs.{RowReels.mounts-row, RowReels.row-left, TapeSteps.all-kept, TapeSteps.zero-is}
-use Rattle.feeder_state.specs.{Noted.IsNoted, Rows.AreRows, Rows.AreRowsAt, Rows.left_at, Spending.empties}
-use Rattle.feeder_state.specs.{Spending.NoneIsSpent, State.IsState, State.Represents, Tape.tape_at}
-use Rattle.feeder_state.specs.{declared.desk.StateDesk.StateDesk}
+use Rattle.desk_types.proofs.Common.{IsStamped, left_of, List, list_any, live_on, max, Name, nat_lt, None}
+use Rattle.desk_types.proofs.Common.{now_of, option_map_or, or_parts, refl, same, selected_on, Some, subst}
+use Rattle.desk_types.proofs.Common.{sym, Tables, takes_by, true, with_edit, with_edits, ℕ}
+use Rattle.desk_laws.proofs.Common.{judged-by-two, ReelRow, Rules, Stamped, Two}
+use Rattle.desk_laws.proofs.PicksOfOneSlot.{live-pieces}
+use Rattle.desk_laws.proofs.Tapes.{not-zero}
+use Rattle.desk_types.specs.declared.change.Change.{Change}
+use Rattle.desk_types.specs.declared.edit.RowEdit.{RowEdit}
+use Rattle.desk_types.specs.declared.edit.RowEdit.TheVariants.{PutAlternate, PutBoard, PutFound, PutMount}
+use Rattle.desk_types.specs.declared.edit.RowEdit.TheVariants.{PutPart, PutPlacement, PutReel, PutSelected}
+use Rattle.desk_types.specs.declared.edit.RowEdit.TheVariants.{PutSheetRow, TakeMount, TakeSheetRow}
+use Rattle.feeder_state.proofs.RowReels.{mounts-row, row-left}
+use Rattle.feeder_state.proofs.TapeSteps.{all-kept, zero-is}
+use Rattle.feeder_state.specs.Noted.{IsNoted}
+use Rattle.feeder_state.specs.Rows.{AreRows, AreRowsAt, left_at}
+use Rattle.feeder_state.specs.Spending.{empties, NoneIsSpent}
+use Rattle.feeder_state.specs.State.{IsState, Represents}
+use Rattle.feeder_state.specs.Tape.{tape_at}
+use Rattle.feeder_state.specs.declared.desk.StateDesk.{StateDesk}
 use Rattle.state_rows.specs.Kept.{but_placements, KeptRows, tables_in}
 use Rattle.std.specs.List.{filter}
 

@@ -1,16 +1,17 @@
 -- Reels at rest: after one entry more, and as rows have them.
-use Rattle.desk_types.proofs.Common.{[], ◌&&◌, ◌+◌, ◌<◌, ◌==◌, ◌||◌, ◌∙◌, ◌∷◌, ◌≡◌, and-false, and-true, and_from}
-use Rattle.desk_types.proofs.Common.{and_parts, ap, Bool, by_name, Command, cond, CountsTaken, Entry, eqb-true, false}
-use Rattle.desk_types.proofs.Common.{get_or, History, is_at, is_at-by_name, is_mounted, is_some, IsJudged, left_of}
-use Rattle.desk_types.proofs.Common.{length, List, list_any, list_any-append, live_on, lookup, MaterialsInstalled}
-use Rattle.desk_types.proofs.Common.{MaterialsLoaded, MaterialsScrapped, MaterialsSpliced, MaterialsUnloaded, Name}
-use Rattle.desk_types.proofs.Common.{nat_lt, None, not, Option, option_map_or, Receipt, receipt_by, receipt_of}
-use Rattle.desk_types.proofs.Common.{ReelReceived, ReelRow, refl, same, same-sym, same-true, Some, sym, take}
-use Rattle.desk_types.proofs.Common.{take-next, true, Two, ℕ}
+use Rattle.desk_types.proofs.Common.{[], ◌&&◌, ◌+◌, ◌<◌, ◌==◌, ◌||◌, ◌∙◌, ◌∷◌, ◌≡◌, and-false, and-true}
+use Rattle.desk_types.proofs.Common.{and_from, and_parts, ap, Bool, by_name, cond, eqb-true, false, get_or}
+use Rattle.desk_types.proofs.Common.{History, is_at, is_at-by_name, is_mounted, is_some, IsJudged, left_of}
+use Rattle.desk_types.proofs.Common.{length, List, list_any, list_any-append, live_on, lookup, Name, nat_lt}
+use Rattle.desk_types.proofs.Common.{None, not, Option, option_map_or, receipt_by, receipt_of, refl, same}
+use Rattle.desk_types.proofs.Common.{same-sym, same-true, Some, sym, take, take-next, true, ℕ}
+use Rattle.desk_laws.proofs.Common.{Command, CountsTaken, Entry, MaterialsInstalled, MaterialsLoaded}
+use Rattle.desk_laws.proofs.Common.{MaterialsScrapped, MaterialsSpliced, MaterialsUnloaded, mounted_after}
+use Rattle.desk_laws.proofs.Common.{Receipt, ReelReceived, ReelRow, Two}
 use Rattle.desk_laws.proofs.{Balance.some-next, Balance.unreceived-empty, Mounted.mounted-next, Mounts.has}
-use Rattle.desk_laws.specs.Place.{mounted_after}
 use Rattle.feeder_state.proofs.RowReels.{mounts-row, reels-row, row-left, row-none}
-use Rattle.feeder_state.specs.{Noted.may_take, Resting.resting_after, Resting.rests, Resting.row_rests, Rows.AreRows}
+use Rattle.feeder_state.specs.{Noted.may_take, Resting.resting_after, Resting.rests, Resting.row_rests}
+use Rattle.feeder_state.specs.{Rows.AreRows}
 use Rattle.state_rows.specs.Kept.{KeptRows, row_at, tables_in}
 
 -- ---- one entry more

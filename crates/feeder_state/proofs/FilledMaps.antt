@@ -1,7 +1,7 @@
 -- The entries of a table, and sets that are filled from them.
 use Rattle.desk_types.proofs.Common.{[], ◌||◌, ◌∙◌, ◌∷◌, ◌≡◌, AllByRecursion, ap, Bool, false, is_at, is_eq}
-use Rattle.desk_types.proofs.Common.{IsStrictlySortedBy, IsTotalOrder, keys_of, Less, List, None, Option, Ordering}
-use Rattle.desk_types.proofs.Common.{ordering_reverse, refl, Some, sym, true}
+use Rattle.desk_types.proofs.Common.{IsStrictlySortedBy, IsTotalOrder, keys_of, Less, List, None, Option}
+use Rattle.desk_types.proofs.Common.{Ordering, ordering_reverse, refl, Some, sym, true}
 use Rattle.state_rows.specs.Kept.{Lists, row_at}
 use Rattle.std.proofs.lemmas.Map.Entries.{lookup_head, lookup_tail}
 use Rattle.std.specs.Cmp.{eq_by_cmp_equiv, tied_itself}

@@ -1,10 +1,10 @@
 -- The facts of a floor, from rows.
-use Rattle.desk_types.proofs.Common.{[], ◌&&◌, ◌∙◌, ◌∷◌, ◌≡◌, All, ap, Bool, desk_minute, false, free_reels, History}
-use Rattle.desk_types.proofs.Common.{is_mounted, is_some, IsJudged, left_of, List, live_on, Name, nat_list_eq_equiv}
-use Rattle.desk_types.proofs.Common.{nat_lt, None, now_of, option_map, receipt_of, reel_view, refl, Some, subst, sym}
-use Rattle.desk_types.proofs.Common.{true, Two, unwrap_or, view_of, ℕ}
+use Rattle.desk_types.proofs.Common.{[], ◌&&◌, ◌∙◌, ◌∷◌, ◌≡◌, All, ap, Bool, desk_minute, false, free_reels}
+use Rattle.desk_types.proofs.Common.{History, is_mounted, is_some, IsJudged, left_of, List, live_on, Name}
+use Rattle.desk_types.proofs.Common.{nat_list_eq_equiv, nat_lt, None, now_of, option_map, receipt_of}
+use Rattle.desk_types.proofs.Common.{reel_view, refl, Some, subst, sym, true, unwrap_or, view_of, ℕ}
+use Rattle.desk_laws.proofs.Common.{place_of, Two}
 use Rattle.desk_laws.proofs.{Balance.unreceived-empty, Mounted.mounted-is, Mounts.live-received}
-use Rattle.desk_laws.specs.Place.{place_of}
 use Rattle.feeder_state.specs.Rows.{AreRowsAt}
 use Rattle.state_rows.specs.Kept.{KeptRows}
 use Rattle.std.proofs.lemmas.Map.Views.{All-from_any}

@@ -1,17 +1,19 @@
 -- Free reels in their order, whichever is looked at first.
 use Rattle.desk_types.proofs.Common.{[], ◌&&◌, ◌++◌, ◌||◌, ◌∙◌, ◌∷◌, ◌≡◌, ap, Bool, by_name, by_turn}
-use Rattle.desk_types.proofs.Common.{CmpEqualImpliesEq, Command, cond, cons_option, Equal, exact_bytes, false, filter}
+use Rattle.desk_types.proofs.Common.{CmpEqualImpliesEq, cond, cons_option, Equal, exact_bytes, false, filter}
 use Rattle.desk_types.proofs.Common.{Greater, History, in_order, insert_key, is_allowed, is_at, is_at-by_name}
-use Rattle.desk_types.proofs.Common.{is_expired, is_free, is_mounted, is_some, is_unbaked, IsJudged, IsTotalOrder}
-use Rattle.desk_types.proofs.Common.{Left, left_of, Less, life_left, List, list_any-append, list_any-same, map}
-use Rattle.desk_types.proofs.Common.{Minutes, Name, nat_cmp, nat_cmp_total, nat_list_cmp_total, nat_lt, None, not}
-use Rattle.desk_types.proofs.Common.{now_of, on_total, option_map, option_map_or, option_or, Ordering, ordering_then}
-use Rattle.desk_types.proofs.Common.{Receipt, receipt_by, receipt_of, received_by, ReelReceived, reels_received, refl}
-use Rattle.desk_types.proofs.Common.{same, same-sym, Some, subst, sym, then_total, true, Two, Unlimited, ℕ}
+use Rattle.desk_types.proofs.Common.{is_expired, is_free, is_mounted, is_some, is_unbaked, IsJudged}
+use Rattle.desk_types.proofs.Common.{IsTotalOrder, left_of, Less, life_left, List, list_any-append}
+use Rattle.desk_types.proofs.Common.{list_any-same, map, Name, nat_cmp, nat_cmp_total, nat_list_cmp_total}
+use Rattle.desk_types.proofs.Common.{nat_lt, None, not, now_of, on_total, option_map, option_map_or}
+use Rattle.desk_types.proofs.Common.{option_or, Ordering, ordering_then, part_of, receipt_by, receipt_of}
+use Rattle.desk_types.proofs.Common.{received_by, reels_received, refl, same, same-sym, Some, subst, sym}
+use Rattle.desk_types.proofs.Common.{then_total, true, ℕ}
+use Rattle.desk_laws.proofs.Common.{Command, Left, Minutes, Receipt, ReelReceived, Two, Unbaked, Unlimited}
 use Rattle.desk_laws.proofs.Mounts.{has, has-filter}
-use Rattle.desk_types.{specs.Free.by_left, specs.View.part_of, specs.declared.view.Left.TheVariants.Unbaked}
-use Rattle.feeder_state.{proofs.AtRest.rests-received, proofs.NamesInOrder.in_order-same, specs.Resting.is_resting}
-use Rattle.feeder_state.{specs.Resting.rests}
+use Rattle.desk_types.specs.Free.{by_left}
+use Rattle.feeder_state.{proofs.AtRest.rests-received, proofs.NamesInOrder.in_order-same}
+use Rattle.feeder_state.{specs.Resting.is_resting, specs.Resting.rests}
 use Rattle.judging.{proofs.FreeReels.turn-put, specs.Turns.by_life, specs.Turns.if_free, specs.Turns.turn_of}
 use Rattle.std.{specs.BTreeSet.BTreeSet, specs.Ordering.on, specs.Ordering.then_cmp}
 

@@ -1,6 +1,6 @@
 -- Things that are gathered by keys.
-use Rattle.desk_types.proofs.Common.{[], ◌&&◌, ◌++◌, ◌||◌, ◌∙◌, ◌∷◌, ◌≡◌, ap, Bool, cond, false, List, list_any}
-use Rattle.desk_types.proofs.Common.{list_any-append, Name, refl, same, true}
+use Rattle.desk_types.proofs.Common.{[], ◌&&◌, ◌++◌, ◌||◌, ◌∙◌, ◌∷◌, ◌≡◌, ap, Bool, cond, false, List}
+use Rattle.desk_types.proofs.Common.{list_any, list_any-append, Name, refl, same, true}
 
 pub grouped-name : (here : Bool) (at old new : List Name) (x d : Name) (rest : Bool) → new ≡ cond here (at ++ x ∷ []) old → (here ≡ true → at ≡ old)
     → (list_any (same d) new || rest) ≡ (list_any (same d) old || ((here && same d x) || rest))

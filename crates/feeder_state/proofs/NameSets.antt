@@ -1,6 +1,6 @@
 -- Sets and maps by names after one name is put in or taken out.
-use Rattle.desk_types.proofs.Common.{◌&&◌, ◌||◌, ◌∙◌, ◌≡◌, ap, Bool, by_name, cond, false, is_at, is_at-by_name, Name}
-use Rattle.desk_types.proofs.Common.{None, refl, same, same-true, Some, true, unwrap_or}
+use Rattle.desk_types.proofs.Common.{◌&&◌, ◌||◌, ◌∙◌, ◌≡◌, ap, Bool, by_name, cond, false, is_at}
+use Rattle.desk_types.proofs.Common.{is_at-by_name, Name, None, refl, same, same-true, Some, true, unwrap_or}
 use Rattle.desk_types.proofs.Tests.{or-cond}
 
 pub put : (x q : Name) (new old : Bool) → new ≡ cond (is_at (by_name x) q) true old → new ≡ (same x q || old)

@@ -1,9 +1,10 @@
 -- Names in an order, each once: which names they are says which list it is.
-use Rattle.desk_types.proofs.Common.{[], ◌&&◌, ◌||◌, ◌∙◌, ◌∷◌, ◌≡◌, AllByRecursion, ap, Bool, CmpEqualImpliesEq, cond}
-use Rattle.desk_types.proofs.Common.{Equal, false, flat_map, Greater, in_order, IsStrictlySortedBy, IsTotalOrder}
-use Rattle.desk_types.proofs.Common.{Less, List, Name, or_left, Ordering, ordering_reverse, refl, same, same-refl}
-use Rattle.desk_types.proofs.Common.{same-true, sym, true}
-use Rattle.desk_laws.proofs.{Mounts.all-at, Mounts.has, Mounts.has-filter, NameSets.has-put, NameSets.ordered-put}
+use Rattle.desk_types.proofs.Common.{[], ◌&&◌, ◌||◌, ◌∙◌, ◌∷◌, ◌≡◌, AllByRecursion, ap, Bool}
+use Rattle.desk_types.proofs.Common.{CmpEqualImpliesEq, cond, Equal, false, flat_map, Greater, in_order}
+use Rattle.desk_types.proofs.Common.{IsStrictlySortedBy, IsTotalOrder, Less, List, Name, or_left, Ordering}
+use Rattle.desk_types.proofs.Common.{ordering_reverse, refl, same, same-refl, same-true, sym, true}
+use Rattle.desk_laws.proofs.{Mounts.all-at, Mounts.has, Mounts.has-filter, NameSets.has-put}
+use Rattle.desk_laws.proofs.{NameSets.ordered-put}
 use Rattle.std.proofs.lemmas.List.Kept.{IsStrictlySortedBy-filter}
 use Rattle.std.specs.{Cmp.tied_itself, List.filter, Ordering.is_gt}
 

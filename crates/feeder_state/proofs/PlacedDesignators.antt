@@ -1,10 +1,12 @@
 -- The designators that the rows of placed pieces name.
-use Rattle.desk_types.proofs.Common.{[], ◌&&◌, ◌||◌, ◌∙◌, ◌∷◌, ◌≡◌, ap, Bool, both_ways, cond, false, History, is_at}
-use Rattle.desk_types.proofs.Common.{is_placed_on, IsJudged, IsTotalOrder, List, list_any, map, Name, nat_cmp_total}
-use Rattle.desk_types.proofs.Common.{None, on_total, Option, or_left, or_right, Ordering, Placement, placement_row}
-use Rattle.desk_types.proofs.Common.{PlacementRow, placements_of, refl, same, same_pair, Some, sym, then_total, true}
-use Rattle.desk_types.proofs.Common.{Two, ℕ}
+use Rattle.desk_types.proofs.Common.{[], ◌&&◌, ◌||◌, ◌∙◌, ◌∷◌, ◌≡◌, ap, Bool, both_ways, cond, false, History}
+use Rattle.desk_types.proofs.Common.{is_at, is_placed_on, IsJudged, IsTotalOrder, List, list_any, map, Name}
+use Rattle.desk_types.proofs.Common.{nat_cmp_total, None, on_total, Option, or_left, or_right, Ordering}
+use Rattle.desk_types.proofs.Common.{placement_row, placements_of, refl, same, same_pair, Some, sym}
+use Rattle.desk_types.proofs.Common.{then_total, true, ℕ}
+use Rattle.desk_laws.proofs.Common.{Placement, Two}
 use Rattle.desk_laws.proofs.Designators.{spot-placed, spots_of}
+use Rattle.desk_types.specs.declared.row.PlacementRow.{PlacementRow}
 use Rattle.feeder_state.proofs.FilledMaps.{AreOf, each-of}
 use Rattle.state_rows.proofs.PlacedRows.{entry_of, piece_entries, pieces-listed}
 use Rattle.state_rows.specs.Kept.{by_piece, Lists, row_at}

@@ -1,7 +1,9 @@
 -- Reels that go off tapes.
-use Rattle.desk_types.proofs.Common.{[], ◌&&◌, ◌+◌, ◌<◌, ◌==◌, ◌||◌, ◌∙◌, ◌∷◌, ◌≡◌, AllByRecursion, ap, Bool, cond}
-use Rattle.desk_types.proofs.Common.{Counted, false, get_or, IsDistinct, length, List, list_any, list_any-append}
-use Rattle.desk_types.proofs.Common.{Name, not, refl, same, same-refl, same-true, sym, Take, take, take-next, true, ℕ}
+use Rattle.desk_types.proofs.Common.{[], ◌&&◌, ◌+◌, ◌<◌, ◌==◌, ◌||◌, ◌∙◌, ◌∷◌, ◌≡◌, AllByRecursion, ap, Bool}
+use Rattle.desk_types.proofs.Common.{cond, false, get_or, IsDistinct, length, List, list_any, list_any-append}
+use Rattle.desk_types.proofs.Common.{Name, not, refl, same, same-refl, same-true, sym, take, take-next, true}
+use Rattle.desk_types.proofs.Common.{ℕ}
+use Rattle.desk_laws.proofs.Common.{Counted, Take}
 use Rattle.desk_laws.specs.Slots.{comes_off}
 use Rattle.feeder_state.specs.Spending.{is_spent_by}
 use Rattle.std.{proofs.lemmas.Map.Keys.IsDistinct-head, specs.List.filter}

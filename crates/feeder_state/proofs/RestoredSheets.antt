@@ -1,13 +1,15 @@
 -- Sheets that are made again from their rows.
-use Rattle.desk_types.proofs.Common.{[], ◌&&◌, ◌++◌, ◌+◌, ◌==◌, ◌||◌, ◌∙◌, ◌∷◌, ◌≡◌, ◌≤◌, ap, arith, at_place, Bool}
-use Rattle.desk_types.proofs.Common.{both_ways, Command, cond, defines_on, eq-eqb, false, has_sheet, History}
-use Rattle.desk_types.proofs.Common.{if◌then◌else◌, IsCommand, IsJudged, IsListLength, IsTotalOrder, length, List}
-use Rattle.desk_types.proofs.Common.{list_any, LONGEST_LIST, ltb-false, ltb-true, Name, nat_cmp_total}
-use Rattle.desk_types.proofs.Common.{nat_list_cmp_total, nat_lt, ne_eqb, None, on_total, Option, option_and_then}
-use Rattle.desk_types.proofs.Common.{option_or, or_left, or_right, refl, same, same-refl, same-sym, same-true}
-use Rattle.desk_types.proofs.Common.{sheet_by, sheet_of, SheetDefined, SheetRow, slice_get, Some, SomeIff, subst, suc}
-use Rattle.desk_types.proofs.Common.{sym, take, take-next, take_all, then_total, true, Two, unwrap_or, zero, ℕ}
-use Rattle.desk_types.specs.Tables.{sheet_row}
+use Rattle.desk_types.proofs.Common.{[], ◌&&◌, ◌++◌, ◌+◌, ◌==◌, ◌||◌, ◌∙◌, ◌∷◌, ◌≡◌, ◌≤◌, ap, arith, at_place}
+use Rattle.desk_types.proofs.Common.{Bool, both_ways, cond, defines_on, eq-eqb, false, has_sheet, History}
+use Rattle.desk_types.proofs.Common.{if◌then◌else◌, IsCommand, IsJudged, IsListLength, IsTotalOrder, length}
+use Rattle.desk_types.proofs.Common.{List, list_any, ltb-false, ltb-true, Name, nat_cmp_total}
+use Rattle.desk_types.proofs.Common.{nat_list_cmp_total, nat_lt, ne_eqb, None, on_total, Option}
+use Rattle.desk_types.proofs.Common.{option_and_then, option_or, or_left, or_right, refl, same, same-refl}
+use Rattle.desk_types.proofs.Common.{same-sym, same-true, sheet_by, sheet_of, slice_get, Some, SomeIff, subst}
+use Rattle.desk_types.proofs.Common.{suc, sym, take, take-next, take_all, then_total, true, unwrap_or, zero}
+use Rattle.desk_types.proofs.Common.{ℕ}
+use Rattle.desk_laws.proofs.Common.{Command, SheetDefined, SheetRow, Two}
+use Rattle.desk_types.specs.{Tables.sheet_row, declared.limits.TheConstants.LONGEST_LIST}
 use Rattle.feeder_state.proofs.FilledMaps.{AreOf, each-of}
 use Rattle.judging.proofs.Reels.{no-gap}
 use Rattle.state_rows.proofs.RowLists.{is_at-by_sheet_place}

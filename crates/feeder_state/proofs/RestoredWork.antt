@@ -1,9 +1,10 @@
 -- The work of rows.
-use Rattle.desk_types.proofs.Common.{[], ◌&&◌, ◌||◌, ◌∙◌, ◌∷◌, ◌≡◌, ap, board_row, BoardRow, Bool, by_name, cond}
-use Rattle.desk_types.proofs.Common.{false, History, in_work_on, is_at, is_at-by_name, is_in_work, is_some, IsJudged}
-use Rattle.desk_types.proofs.Common.{List, list_any, lookup, Name, nat_list_cmp_total, None, Option, option_and_then}
-use Rattle.desk_types.proofs.Common.{option_map, option_map_or, product_of, refl, same, same-refl, same-sym}
-use Rattle.desk_types.proofs.Common.{same-true, Some, sym, true, Two, unwrap_or, work_machine}
+use Rattle.desk_types.proofs.Common.{[], ◌&&◌, ◌||◌, ◌∙◌, ◌∷◌, ◌≡◌, ap, board_row, Bool, by_name, cond, false}
+use Rattle.desk_types.proofs.Common.{History, in_work_on, is_at, is_at-by_name, is_in_work, is_some, IsJudged}
+use Rattle.desk_types.proofs.Common.{List, list_any, lookup, Name, nat_list_cmp_total, None, Option}
+use Rattle.desk_types.proofs.Common.{option_and_then, option_map, option_map_or, product_of, refl, same}
+use Rattle.desk_types.proofs.Common.{same-refl, same-sym, same-true, Some, sym, true, unwrap_or, work_machine}
+use Rattle.desk_laws.proofs.Common.{BoardRow, Two}
 use Rattle.feeder_state.proofs.FilledMaps.{AreOf, others}
 use Rattle.state_rows.proofs.DesksOfRows.{in_work-row, machine_in, work-on_row}
 use Rattle.state_rows.specs.Kept.{row_at}

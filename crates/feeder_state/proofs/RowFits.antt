@@ -1,7 +1,8 @@
 -- Rows that fit a reel, by the tests of a desk.
 use Rattle.desk_types.proofs.Common.{◌+◌, ◌-◌, ◌≡◌, ◌≤◌, and_from, and_parts, ap, arith, eq-eqb, eqb-true}
-use Rattle.desk_types.proofs.Common.{GREATEST_LABEL, leb-true, None, Option, option_map_or, ReelRow, refl, Some, true}
-use Rattle.desk_types.proofs.Common.{ℕ}
+use Rattle.desk_types.proofs.Common.{leb-true, None, Option, option_map_or, refl, Some, true, ℕ}
+use Rattle.desk_laws.proofs.Common.{ReelRow}
+use Rattle.desk_types.specs.declared.limits.TheConstants.{GREATEST_LABEL}
 use Rattle.feeder_state.specs.Held.{balances, is_reel, times_fit}
 use Rattle.reels.specs.Fitting.{IsFitting}
 use Rattle.std.{proofs.Common.le-leb, specs.Option.ForNone, specs.Option.ForSome}

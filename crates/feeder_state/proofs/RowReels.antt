@@ -1,19 +1,21 @@
 -- Reels made from their rows.
-use Rattle.desk_types.proofs.Common.{[], ◌+◌, ◌∙◌, ◌∷◌, ◌≡◌, ◌≤◌, ap, arith, Bool, columns_of, Command, exposure_of}
-use Rattle.desk_types.proofs.Common.{false, found_of, GREATEST_LABEL, History, if◌then◌else◌, is_mounted, is_some}
-use Rattle.desk_types.proofs.Common.{IsCommand, IsJudged, last_put, left_of, list_any-from_Contains, live_on}
-use Rattle.desk_types.proofs.Common.{mount_row, MountRow, Name, nat_list_eq_equiv, None, now_of, Option, option_map}
-use Rattle.desk_types.proofs.Common.{option_map_or, option_or, out_since, Receipt, receipt_by, receipt_of, reel_row}
-use Rattle.desk_types.proofs.Common.{ReelReceived, ReelRow, refl, same, Some, subst, sym, Tables, true, Two}
-use Rattle.desk_types.proofs.Common.{unwrap_or, view_of, ℕ}
+use Rattle.desk_types.proofs.Common.{[], ◌+◌, ◌∙◌, ◌∷◌, ◌≡◌, ◌≤◌, ap, arith, Bool, columns_of, exposure_of}
+use Rattle.desk_types.proofs.Common.{false, found_of, History, if◌then◌else◌, is_mounted, is_some, IsCommand}
+use Rattle.desk_types.proofs.Common.{IsJudged, last_put, left_of, list_any-from_Contains, live_on, mount_row}
+use Rattle.desk_types.proofs.Common.{Name, nat_list_eq_equiv, None, now_of, Option, option_map, option_map_or}
+use Rattle.desk_types.proofs.Common.{option_or, out_since, receipt_by, receipt_of, reel_row, refl, same, Some}
+use Rattle.desk_types.proofs.Common.{subst, sym, Tables, true, unwrap_or, view_of, ℕ}
+use Rattle.desk_laws.proofs.Common.{Command, Receipt, ReelReceived, ReelRow, Two}
 use Rattle.desk_laws.proofs.{Balance.balance, Balance.unreceived-empty, Exposures.exposure-within}
 use Rattle.desk_laws.proofs.{Judgements.by-desk_minute, Lookups.mounted-live, Openings.starts-by}
+use Rattle.desk_types.specs.{declared.limits.TheConstants.GREATEST_LABEL, declared.row.MountRow.MountRow}
 use Rattle.feeder_state.specs.{Held.IsHeld, Held.IsHeldOf, Held.with_mount, Rows.AreRows, Rows.left_at}
 use Rattle.feeder_state.specs.{declared.held.Held.Held}
 use Rattle.judging.specs.Facts.{IsReelOf}
 use Rattle.reels.proofs.StandingReels.{label-below}
 use Rattle.reels.specs.{Fitting.IsFitting, Reel.RowStandsFor, declared.reel.Reel.Reel}
-use Rattle.state_rows.proofs.{Exposed.since-by, MountedRows.live-mount, ReelRows.found-kept, ReelRows.used-then}
+use Rattle.state_rows.proofs.{Exposed.since-by, MountedRows.live-mount, ReelRows.found-kept}
+use Rattle.state_rows.proofs.{ReelRows.used-then}
 use Rattle.state_rows.specs.Kept.{KeptRows, tables_in, without_number}
 
 -- ---- the values of a row

@@ -1,9 +1,10 @@
 -- Histories of one state agree on everything that replies depend on.
-use Rattle.desk_types.proofs.Common.{◌&&◌, ◌-◌, ◌∙◌, ◌≡◌, All, ap, arith, BoardRow, Bool, desk_minute, false, History}
+use Rattle.desk_types.proofs.Common.{◌&&◌, ◌-◌, ◌∙◌, ◌≡◌, All, ap, arith, Bool, desk_minute, false, History}
 use Rattle.desk_types.proofs.Common.{is_baked, is_mounted, is_six, is_some, IsJudged, IsStamped, left_of}
-use Rattle.desk_types.proofs.Common.{LevelWithLabel, limit_of, List, Name, None, not, now_of, Option, option_and_then}
-use Rattle.desk_types.proofs.Common.{option_map, option_map_or, receipt_of, refl, replies_to, Some, Stamped, sym}
-use Rattle.desk_types.proofs.Common.{Tables, tables_of, Two, unwrap_or}
+use Rattle.desk_types.proofs.Common.{LevelWithLabel, limit_of, List, Name, None, not, now_of, Option}
+use Rattle.desk_types.proofs.Common.{option_and_then, option_map, option_map_or, receipt_of, refl, replies_to}
+use Rattle.desk_types.proofs.Common.{Some, sym, Tables, tables_of, unwrap_or}
+use Rattle.desk_laws.proofs.Common.{BoardRow, Stamped, Two}
 use Rattle.desk_laws.proofs.{AfterCommands.many-commands, Agreeing.Agree, Agreeing.IsSame, Agreeing.mark}
 use Rattle.desk_laws.proofs.{Agreeing.marked, Agreeing.marks_of, FloorNext.life-marked, FromAlike.same-absent}
 use Rattle.feeder_state.proofs.{AcceptedChanges.state-rows, AcceptedChanges.state-two, FloorTells.absent-left}

@@ -1,12 +1,13 @@
 -- The slots of one machine among all slots.
-use Rattle.desk_types.proofs.Common.{[], ◌&&◌, ◌||◌, ◌∙◌, ◌∷◌, ◌≡◌, AllByRecursion, ap, Bool, BTreeMap, by_name}
-use Rattle.desk_types.proofs.Common.{by_pair, cond, cons_option, Entry, enumerate_from, Equal, exact_bytes, false}
-use Rattle.desk_types.proofs.Common.{first, flat_map, Greater, History, if◌then◌else◌, is_at, is_at-by_pair, is_some}
-use Rattle.desk_types.proofs.Common.{IsStrictlySortedBy, IsTotalOrder, keys_of, left_of, Less, List}
-use Rattle.desk_types.proofs.Common.{list_any-from_Contains, live_on, loaded_slots, lookup, map, mount_of, Name}
-use Rattle.desk_types.proofs.Common.{nat_list_cmp_total, nat_list_eq_equiv, nat_lt, None, on_total, Option, Ordering}
-use Rattle.desk_types.proofs.Common.{ordering_then, refl, same, same-sym, same-true, slot_mounts, Some, sym}
-use Rattle.desk_types.proofs.Common.{then_total, true, unwrap_or}
+use Rattle.desk_types.proofs.Common.{[], ◌&&◌, ◌||◌, ◌∙◌, ◌∷◌, ◌≡◌, AllByRecursion, ap, Bool, BTreeMap}
+use Rattle.desk_types.proofs.Common.{by_name, by_pair, cond, cons_option, enumerate_from, Equal, exact_bytes}
+use Rattle.desk_types.proofs.Common.{false, first, flat_map, Greater, History, if◌then◌else◌, is_at}
+use Rattle.desk_types.proofs.Common.{is_at-by_pair, is_some, IsStrictlySortedBy, IsTotalOrder, keys_of}
+use Rattle.desk_types.proofs.Common.{left_of, Less, List, list_any-from_Contains, live_on, loaded_slots}
+use Rattle.desk_types.proofs.Common.{lookup, map, mount_of, Name, nat_list_cmp_total, nat_list_eq_equiv}
+use Rattle.desk_types.proofs.Common.{nat_lt, None, on_total, Option, Ordering, ordering_then, refl, same}
+use Rattle.desk_types.proofs.Common.{same-sym, same-true, slot_mounts, Some, sym, then_total, true, unwrap_or}
+use Rattle.desk_laws.proofs.Common.{Entry}
 use Rattle.desk_laws.{proofs.Lookups.tape-loaded, proofs.Mounts.has, proofs.NameSets.set-ordered}
 use Rattle.desk_types.specs.View.{slot_by}
 use Rattle.feeder_state.{proofs.NamesInOrder.told-same, specs.Tape.tape_at}

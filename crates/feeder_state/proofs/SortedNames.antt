@@ -1,7 +1,6 @@
 -- Names gathered and sorted.
 use Rattle.desk_types.proofs.Common.{◌++◌, ◌||◌, ◌∙◌, ◌≡◌, ap, IsPermutation, List, list_any, list_any-append}
-use Rattle.desk_types.proofs.Common.{list_any-IsPermutation, Name, same, sym}
-use Rattle.std.proofs.Math.Bool.{or_comm}
+use Rattle.desk_types.proofs.Common.{list_any-IsPermutation, Name, or_comm, same, sym}
 
 pub gathered : (old more both all : List Name) → both ≡ old ++ more → IsPermutation both all → (d : Name)
     → list_any (same d) all ≡ (list_any (same d) more || list_any (same d) old)

@@ -1,15 +1,17 @@
 -- The live reels of slots, entry by entry.
-use Rattle.desk_types.proofs.Common.{[], ◌&&◌, ◌+◌, ◌<◌, ◌==◌, ◌||◌, ◌∙◌, ◌∷◌, ◌≡◌, AllByRecursion, and-false, ap}
-use Rattle.desk_types.proofs.Common.{arith, Bool, Command, command_refusal, cond, CountsTaken, Entry, eqb-true, false}
-use Rattle.desk_types.proofs.Common.{found_by, History, if◌then◌else◌, IsJudged, left_of, List, list_any}
-use Rattle.desk_types.proofs.Common.{list_any-append, live_on, lt-ltb, ltb-false, ltb-true, map, MaterialsInstalled}
-use Rattle.desk_types.proofs.Common.{MaterialsLoaded, MaterialsScrapped, MaterialsSpliced, MaterialsUnloaded, Name}
-use Rattle.desk_types.proofs.Common.{nat_lt, None, not, Option, Pick, picks_of, pieces_picked, Receipt, receipt_by}
-use Rattle.desk_types.proofs.Common.{refl, same, same-refl, same-true, Some, sum_by-cons, sym, Take, take_of}
-use Rattle.desk_types.proofs.Common.{takes_by, tape_after, tape_with, true, Two, ℕ}
-use Rattle.desk_laws.proofs.{Accepted.mountable, Accepted.next-accepted, Accepted.received-once, Balance.left-next}
-use Rattle.desk_laws.proofs.{Balance.unreceived-empty, Lives.live-next, Mounts.has, PicksOfOneSlot.live-pieces}
-use Rattle.desk_laws.proofs.{PicksOfOneSlot.picks-alone, Tapes.not-zero}
+use Rattle.desk_types.proofs.Common.{[], ◌&&◌, ◌+◌, ◌<◌, ◌==◌, ◌||◌, ◌∙◌, ◌∷◌, ◌≡◌, AllByRecursion, and-false}
+use Rattle.desk_types.proofs.Common.{ap, arith, Bool, command_refusal, cond, eqb-true, false, found_by}
+use Rattle.desk_types.proofs.Common.{History, if◌then◌else◌, IsJudged, left_of, List, list_any}
+use Rattle.desk_types.proofs.Common.{list_any-append, live_on, lt-ltb, ltb-false, ltb-true, map, Name, nat_lt}
+use Rattle.desk_types.proofs.Common.{None, not, Option, picks_of, pieces_picked, receipt_by, refl, same}
+use Rattle.desk_types.proofs.Common.{same-refl, same-true, Some, sum_by-cons, sym, take_of, takes_by}
+use Rattle.desk_types.proofs.Common.{tape_after, tape_with, true, ℕ}
+use Rattle.desk_laws.proofs.Common.{Command, CountsTaken, Entry, MaterialsInstalled, MaterialsLoaded}
+use Rattle.desk_laws.proofs.Common.{MaterialsScrapped, MaterialsSpliced, MaterialsUnloaded, Pick, Receipt}
+use Rattle.desk_laws.proofs.Common.{Take, Two}
+use Rattle.desk_laws.proofs.{Accepted.mountable, Accepted.next-accepted, Accepted.received-once}
+use Rattle.desk_laws.proofs.{Balance.left-next, Balance.unreceived-empty, Lives.live-next, Mounts.has}
+use Rattle.desk_laws.proofs.{PicksOfOneSlot.live-pieces, PicksOfOneSlot.picks-alone, Tapes.not-zero}
 use Rattle.desk_laws.specs.Slots.{comes_off, IsOnItsSlot}
 use Rattle.feeder_state.specs.{Noted.IsNoted, Noted.may_take, Spending.is_spent_by}
 use Rattle.std.specs.List.{filter}

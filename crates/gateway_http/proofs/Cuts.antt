@@ -1,7 +1,7 @@
 -- A target is split at its first `?`.
-use Rattle.desk_types.proofs.Common.{[], ◌+◌, ◌-◌, ◌∙◌, ◌≡◌, ◌≤◌, ap, arith, Bool, cond, drop, drop_all, false}
-use Rattle.desk_types.proofs.Common.{length, length-drop, List, nat_lt, nat_tests, None, refl, Some, sym, take}
-use Rattle.desk_types.proofs.Common.{take_all, true, ℕ}
+use Rattle.desk_types.proofs.Common.{[], ◌+◌, ◌-◌, ◌∙◌, ◌≡◌, ◌≤◌, ap, arith, Bool, cond, drop, drop_all}
+use Rattle.desk_types.proofs.Common.{false, length, length-drop, List, nat_lt, nat_tests, None, refl, Some}
+use Rattle.desk_types.proofs.Common.{sym, take, take_all, true, ℕ}
 use Rattle.gateway_http.specs.Asked.{is_mark, path_of, query_of}
 use Rattle.std.specs.List.{position, position_or_len}
 

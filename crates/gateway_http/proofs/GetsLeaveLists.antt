@@ -1,20 +1,22 @@
 -- A GET leaves the history unchanged.
-use Rattle.desk_types.proofs.Common.{[], ⊤, ◌∙◌, ◌≡◌, Bool, codes, Err, false, History, inl, inr, List, None, Ok}
-use Rattle.desk_types.proofs.Common.{ok_or, Option, refl, Result, Some, true, ℕ}
+use Rattle.desk_types.proofs.Common.{[], ⊤, ◌∙◌, ◌≡◌, Bool, codes, Err, false, History, inl, inr, List, None}
+use Rattle.desk_types.proofs.Common.{Ok, ok_or, Option, refl, Result, Some, true, ℕ}
 use Rattle.cfx_profile.specs.Fault.{◌>>=◌}
 use Rattle.desk_answers.specs.Ledger.{Ledger}
-use Rattle.gateway_http.specs.{Asked.asked_at, Asked.asked_of, Asked.boards_in, Asked.by_method, Asked.detail_in}
-use Rattle.gateway_http.specs.{Asked.id_in, Asked.path_of, Asked.query_of, Gateways.AnswersGet, Repeats.get_of}
-use Rattle.gateway_http.specs.{Requests.asked_outcome, Requests.outcome_of, Requests.Reports, Requests.request_rule}
-use Rattle.gateway_http.specs.{Routes.route_of, declared.asked.Asked.Asked, declared.fault.AskFault.AskFault}
-use Rattle.gateway_http.specs.{declared.fault.AskFault.TheVariants.NoPath, declared.routes.Route.Route}
-use Rattle.gateway_http.specs.{declared.routes.Route.TheVariants.ImportCounts}
-use Rattle.gateway_http.specs.{declared.routes.Route.TheVariants.ImportSetup, declared.routes.Route.TheVariants.Kit}
-use Rattle.gateway_http.specs.{declared.routes.Route.TheVariants.Messages, declared.routes.Route.TheVariants.Overdue}
-use Rattle.gateway_http.specs.{declared.routes.Route.TheVariants.Reel, declared.routes.Route.TheVariants.Slots}
-use Rattle.gateway_http.specs.{declared.routes.Route.TheVariants.TraceBoard}
-use Rattle.gateway_http.specs.{declared.routes.Route.TheVariants.TraceLot}
-use Rattle.http_stream.specs.{Answers.Told, Stream.AnswersRequest, Stream.request_outcome}
+use Rattle.gateway_http.specs.Asked.{asked_at, asked_of, boards_in, by_method, detail_in, id_in, path_of}
+use Rattle.gateway_http.specs.Asked.{query_of}
+use Rattle.gateway_http.specs.Gateways.{AnswersGet}
+use Rattle.gateway_http.specs.Repeats.{get_of}
+use Rattle.gateway_http.specs.Requests.{asked_outcome, outcome_of, Reports, request_rule}
+use Rattle.gateway_http.specs.Routes.{route_of}
+use Rattle.gateway_http.specs.declared.asked.Asked.{Asked}
+use Rattle.gateway_http.specs.declared.fault.AskFault.{AskFault}
+use Rattle.gateway_http.specs.declared.fault.AskFault.TheVariants.{NoPath}
+use Rattle.gateway_http.specs.declared.routes.Route.{Route}
+use Rattle.gateway_http.specs.declared.routes.Route.TheVariants.{ImportCounts, ImportSetup, Kit, Messages}
+use Rattle.gateway_http.specs.declared.routes.Route.TheVariants.{Overdue, Reel, Slots, TraceBoard, TraceLot}
+use Rattle.http_stream.specs.Answers.{Told}
+use Rattle.http_stream.specs.Stream.{AnswersRequest, request_outcome}
 use Rattle.gateway_http.specs.declared.asked.Asked.TheVariants as asks
 use Rattle.gateway_http.specs.declared.parameter.Parameter.TheVariants as parameter
 

@@ -1,11 +1,12 @@
 -- A router of paths without parameters finds exactly the row with the requested path.
-use Rattle.desk_types.proofs.Common.{[], ◌-◌, ◌<◌, ◌==◌, ◌∙◌, ◌∷◌, ◌≡◌, ap, arith, Bool, cond, false, length, List}
-use Rattle.desk_types.proofs.Common.{map, nat_tests, None, Option, refl, rules, same, Some, suc, sym, true, zero, ℕ}
-use Rattle.gateway_http.{specs.Routes.route_of, specs.Routes.route_path, specs.Routes.routes, specs.Routes.row}
-use Rattle.gateway_http.{specs.Routes.table, specs.declared.routes.Route.Route}
+use Rattle.desk_types.proofs.Common.{[], ◌-◌, ◌<◌, ◌==◌, ◌∙◌, ◌∷◌, ◌≡◌, ap, arith, Bool, cond, false, length}
+use Rattle.desk_types.proofs.Common.{List, map, nat_tests, None, Option, refl, rules, same, Some, suc, sym}
+use Rattle.desk_types.proofs.Common.{true, zero, ℕ}
+use Rattle.gateway_http.{specs.Routes.route_of, specs.Routes.route_path, specs.Routes.routes}
+use Rattle.gateway_http.{specs.Routes.row, specs.Routes.table, specs.declared.routes.Route.Route}
 use Rattle.matchit.{specs.Level.IsText, specs.Rows.catch_all_token, specs.Rows.param_token, specs.Rows.RowsOf}
-use Rattle.matchit.{specs.Seek.first, specs.Seek.has_slash, specs.Seek.or_else, specs.Seek.own, specs.Seek.param_step}
-use Rattle.matchit.{specs.Seek.same_text, specs.Seek.seek, specs.Seek.step}
+use Rattle.matchit.{specs.Seek.first, specs.Seek.has_slash, specs.Seek.or_else, specs.Seek.own}
+use Rattle.matchit.{specs.Seek.param_step, specs.Seek.same_text, specs.Seek.seek, specs.Seek.step}
 use Rattle.std.{proofs.Common.option_map, specs.List.find}
 
 module _ {K : Type 0} where

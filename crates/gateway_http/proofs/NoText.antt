@@ -3,8 +3,8 @@ use Rattle.desk_types.proofs.Common.{[], ◌∷◌, ◌≡◌, Bool, bytes_eq-De
 use Rattle.desk_types.proofs.Common.{IsUtf8-from_is_utf8, List, None, refl, same, Some, subst, true, ℕ}
 use Rattle.gateway_http.specs.Routes.{route_of, route_path, routes}
 use Rattle.gateway_http.specs.declared.routes.Route.{Route}
-use Rattle.gateway_http.specs.declared.routes.Route.TheVariants.{ImportCounts, ImportSetup, Kit, Messages, Overdue}
-use Rattle.gateway_http.specs.declared.routes.Route.TheVariants.{Reel, Slots, TraceBoard, TraceLot}
+use Rattle.gateway_http.specs.declared.routes.Route.TheVariants.{ImportCounts, ImportSetup, Kit, Messages}
+use Rattle.gateway_http.specs.declared.routes.Route.TheVariants.{Overdue, Reel, Slots, TraceBoard, TraceLot}
 use Rattle.std.specs.List.{find}
 use Rattle.std.specs.Str.{chars}
 use lib.Utf8.{encode}

@@ -1,10 +1,12 @@
 -- A repeat leaves the history unchanged.
-use Rattle.desk_types.proofs.Common.{◌≡◌, Err, false, is_some, List, None, not, Ok, Option, option_map_or, refl}
-use Rattle.desk_types.proofs.Common.{Result, Some, Stamped, true, ℕ}
-use Rattle.cfx_profile.specs.{Message.said_in, declared.fault.MessageFault.MessageFault, declared.message.Said.Said}
-use Rattle.desk_answers.specs.{Commands.command_after, Commands.earlier_answer, Commands.is_refused, Ledger.Ledger}
-use Rattle.desk_answers.specs.{declared.answer.Answer.Answer}
+use Rattle.desk_types.proofs.Common.{◌≡◌, Err, false, is_some, List, None, not, Ok, Option, option_map_or}
+use Rattle.desk_types.proofs.Common.{refl, Result, Some, true, ℕ}
+use Rattle.cfx_profile.specs.{Message.said_in, declared.fault.MessageFault.MessageFault}
+use Rattle.cfx_profile.specs.{declared.message.Said.Said}
+use Rattle.desk_answers.specs.{Commands.command_after, Commands.earlier_answer, Commands.is_refused}
+use Rattle.desk_answers.specs.{Ledger.Ledger, declared.answer.Answer.Answer}
 use Rattle.desk_feed.specs.{Import.after_said, Messages.after_heard}
+use Rattle.desk_types.specs.declared.command.Stamped.{Stamped}
 use Rattle.gateway_http.specs.{Repeats.command_asked, Repeats.import_command, Repeats.is_known}
 use Rattle.gateway_http.specs.{Repeats.message_command, Requests.asked_outcome, Requests.Reports}
 use Rattle.gateway_http.specs.{declared.asked.Asked.Asked, declared.fault.AskFault.AskFault}

@@ -1,12 +1,14 @@
 -- What a crash leaves of a store after a command, if its disk may fail.
-use Rattle.desk_types.proofs.Common.{◌||◌, ◌≡◌, ◌⊎◌, accept, Basis, Bool, change_of, false, if◌then◌else◌, inl, inr}
-use Rattle.desk_types.proofs.Common.{is_some, MatchBool, None, Option, option_map_or, Refusal, refusal_of, Rules}
-use Rattle.desk_types.proofs.Common.{Some, Stamped, subst, sym, true, Two, unwrap_or}
+use Rattle.desk_types.proofs.Common.{◌||◌, ◌≡◌, ◌⊎◌, accept, Basis, Bool, change_of, false, if◌then◌else◌}
+use Rattle.desk_types.proofs.Common.{inl, inr, is_some, MatchBool, None, Option, option_map_or, refusal_of}
+use Rattle.desk_types.proofs.Common.{Some, subst, sym, true, unwrap_or}
+use Rattle.desk_laws.proofs.Common.{Refusal, Rules, Stamped, Two}
 use Rattle.line_tables.proofs.Common.{Ghosts, Trees}
 use Rattle.desk_answers.specs.Commands.{command_after, command_answer, earlier_answer, is_full, judged_answer}
 use Rattle.desk_answers.specs.Ledger.{IsAnswer, Ledger, ledger_after}
 use Rattle.desk_answers.specs.declared.answer.Answer.{Answer}
-use Rattle.desk_answers.specs.declared.answer.Answer.TheVariants.{Accepted, DeskFull, IdReused, Refused, Unavailable}
+use Rattle.desk_answers.specs.declared.answer.Answer.TheVariants.{Accepted, DeskFull, IdReused, Refused}
+use Rattle.desk_answers.specs.declared.answer.Answer.TheVariants.{Unavailable}
 use Rattle.headline.specs.Failing.{HoldsUpToOneMore, IsWatched, own_kept}
 use Rattle.line_schema.proofs.UnansweredCommands.{left}
 use Rattle.line_schema.specs.Stands.{Kept, kept_after, Leaves, ledger, NewlyLeaves}

@@ -1,23 +1,26 @@
 -- The program's contracts give a run in the sense of these definitions.
 use Rattle.desk_types.proofs.Common.{[], ◌∷◌, ap, Err, History, List, Ok, Option, refl, Some, subst, true, ℕ}
-use Rattle.line_tables.proofs.Common.{Database, HasCleanDisk, Holds, HoldsAt, HoldsDatabase, over_files, State, Trees}
+use Rattle.line_tables.proofs.Common.{Database, HasCleanDisk, Holds, HoldsAt, HoldsDatabase, over_files}
+use Rattle.line_tables.proofs.Common.{State, Trees}
 use Rattle.desk_answers.specs.{Ledger.Ledger, declared.serving.ServeFault.TheVariants.Read}
 use Rattle.desk_answers.specs.{declared.serving.ServeFault.TheVariants.TooManyReads}
 use Rattle.desk_answers.specs.{declared.serving.ServeFault.TheVariants.Write}
-use Rattle.desk_commands.specs.{Clients.Ended, Clients.Exchange, Closed.IsRefusedTo, Closed.RunsTo, Closed.whole}
-use Rattle.desk_commands.specs.{Connections.ConnectedSo, OpenRuns.AnswersReport, OpenRuns.StaysSame, Runs.RunsOn}
-use Rattle.desk_commands.specs.{Runs.ServesEach, declared.left.ToClose.TheVariants.Desk}
+use Rattle.desk_commands.specs.{Clients.Ended, Clients.Exchange, Closed.IsRefusedTo, Closed.RunsTo}
+use Rattle.desk_commands.specs.{Closed.whole, Connections.ConnectedSo, OpenRuns.AnswersReport}
+use Rattle.desk_commands.specs.{OpenRuns.StaysSame, Runs.RunsOn, Runs.ServesEach}
+use Rattle.desk_commands.specs.{declared.left.ToClose.TheVariants.Desk}
 use Rattle.desk_file.specs.Files.{IsFoundIn}
 use Rattle.feeder_state.specs.declared.desk.StateDesk.{StateDesk}
 use Rattle.gateway_http.specs.{Reports.report_of, Requests.Reports, Requests.request_rule}
 use Rattle.headline.proofs.CallsInTurn.{goes_on, trusts_back}
-use Rattle.headline.specs.{Calls.AnswersByTheList, Calls.Call, Calls.Calls, Calls.Feeds, Calls.Imports, Calls.Serves}
-use Rattle.headline.specs.{Calls.Call.asked, Calls.Call.fed, Calls.Call.imported, Closed.ClosesTo}
-use Rattle.headline.specs.{Closed.connections_of, Closed.GivesCalls, Closed.ReadsClean, Closed.run_of}
-use Rattle.headline.specs.{Crashed.CrashesTo, Crashed.killed_run_of, Crashed.MakesCalls, Crashed.StandsForList}
-use Rattle.headline.specs.{Runs.by_two, Runs.IsRun, Runs.KeepsList}
+use Rattle.headline.specs.{Calls.AnswersByTheList, Calls.Call, Calls.Calls, Calls.Feeds, Calls.Imports}
+use Rattle.headline.specs.{Calls.Serves, Calls.Call.asked, Calls.Call.fed, Calls.Call.imported}
+use Rattle.headline.specs.{Closed.ClosesTo, Closed.connections_of, Closed.GivesCalls, Closed.ReadsClean}
+use Rattle.headline.specs.{Closed.run_of, Crashed.CrashesTo, Crashed.killed_run_of, Crashed.MakesCalls}
+use Rattle.headline.specs.{Crashed.StandsForList, Runs.by_two, Runs.IsRun, Runs.KeepsList}
 use Rattle.line_replay.specs.Rows.{ledger_tables}
-use Rattle.line_schema.specs.{Stands.state_of, declared.fault.OpenFault.OpenFault, declared.store.LineStore.LineStore}
+use Rattle.line_schema.specs.{Stands.state_of, declared.fault.OpenFault.OpenFault}
+use Rattle.line_schema.specs.{declared.store.LineStore.LineStore}
 use Rattle.sqlite_disk.specs.declared.Files.{Files}
 use Rattle.sqlite_store.specs.declared.store.FileStore.{FileStore}
 use Rattle.sqlite_wal.specs.{Files.image_at, Recovery.Image}

@@ -1,6 +1,7 @@
 -- A run and the next one are equivalent to one run.
-use Rattle.desk_types.proofs.Common.{[], ◌++◌, ◌∷◌, ◌≡◌, ◌⊎◌, History, inl, inr, IsJudged, IsLawful, List, Option}
-use Rattle.desk_types.proofs.Common.{refl, subst, sym, Two, ℕ}
+use Rattle.desk_types.proofs.Common.{[], ◌++◌, ◌∷◌, ◌≡◌, ◌⊎◌, History, inl, inr, IsJudged, IsLawful, List}
+use Rattle.desk_types.proofs.Common.{Option, refl, subst, sym, ℕ}
+use Rattle.desk_laws.proofs.Common.{Two}
 use Rattle.line_tables.proofs.Common.{HoldsAt, HoldsDatabase, Trees}
 use Rattle.desk_answers.specs.Ledger.{Ledger}
 use Rattle.desk_file.specs.Files.{Begins, HasOursFirst}

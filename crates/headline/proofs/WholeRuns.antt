@@ -1,18 +1,20 @@
 -- A whole run of the program after others.
-use Rattle.desk_types.proofs.Common.{[], ◌∷◌, ◌≡◌, ◌≢◌, ◌⊎◌, Appends, Err, false, History, IfSome, inl, inner_of, inr}
-use Rattle.desk_types.proofs.Common.{length, List, None, Ok, Option, refl, Some, sym, true, Wire, ℕ}
+use Rattle.desk_types.proofs.Common.{[], ◌∷◌, ◌≡◌, ◌≢◌, ◌⊎◌, Appends, Err, false, History, IfSome, inl}
+use Rattle.desk_types.proofs.Common.{inner_of, inr, length, List, None, Ok, Option, refl, Some, sym, true, ℕ}
+use Rattle.desk_laws.proofs.Common.{Wire}
 use Rattle.desk_answers.specs.{Ledger.Ledger, Sent.SendsFront}
-use Rattle.desk_commands.specs.{Clients.Ended, Clients.Serving, Closed.RunsTo, Closed.whole, OpenRuns.AnswersAll}
-use Rattle.desk_commands.specs.{OpenRuns.AnswersImport, OpenRuns.AnswersReport, OpenRuns.AnswersUpTo}
-use Rattle.desk_commands.specs.{OpenRuns.CutsImport, OpenRuns.StaysSame, Runs.ServesEach, Told.report_output}
+use Rattle.desk_commands.specs.{Clients.Ended, Clients.Serving, Closed.RunsTo, Closed.whole}
+use Rattle.desk_commands.specs.{OpenRuns.AnswersAll, OpenRuns.AnswersImport, OpenRuns.AnswersReport}
+use Rattle.desk_commands.specs.{OpenRuns.AnswersUpTo, OpenRuns.CutsImport, OpenRuns.StaysSame}
+use Rattle.desk_commands.specs.{Runs.ServesEach, Told.report_output}
 use Rattle.desk_program.proofs.WaysOfRuns.{one_of_five}
-use Rattle.desk_program.specs.{Program.Done, Program.Failed, Program.ImportUnread, Program.Refused, Program.RunsAs}
-use Rattle.desk_program.specs.{Program.RunsAsked, Program.RunsImport, Program.RunsReport, Program.RunsServing}
-use Rattle.desk_program.specs.{Ways.Ways, Ways.ways_when_closed}
+use Rattle.desk_program.specs.{Program.Done, Program.Failed, Program.ImportUnread, Program.Refused}
+use Rattle.desk_program.specs.{Program.RunsAs, Program.RunsAsked, Program.RunsImport, Program.RunsReport}
+use Rattle.desk_program.specs.{Program.RunsServing, Ways.Ways, Ways.ways_when_closed}
 use Rattle.desk_words.specs.CommandLine.{AsksForAudit}
 use Rattle.gateway_http.specs.Reports.{report_of}
-use Rattle.headline.proofs.{ProgramRuns.is_whole_run, ProgramRuns.serves_each, RunsInTurn.are_one, RunsInTurn.joins}
-use Rattle.headline.proofs.{RunsInTurn.OursFirst, RunsInTurn.Same}
+use Rattle.headline.proofs.{ProgramRuns.is_whole_run, ProgramRuns.serves_each, RunsInTurn.are_one}
+use Rattle.headline.proofs.{RunsInTurn.joins, RunsInTurn.OursFirst, RunsInTurn.Same}
 use Rattle.headline.specs.{Calls.AnswersByTheList, Calls.Call, Calls.Feeds, Calls.ImportEnded, Calls.Imports}
 use Rattle.headline.specs.{Calls.Call.asked, Calls.Call.fed, Calls.Call.imported, Closed.connections_of}
 use Rattle.headline.specs.{Closed.run_of, Runs.as_one, Whole.GoesOn, Whole.MakesCalls}

@@ -1,7 +1,8 @@
 -- Portions answered one after another.
-use Rattle.desk_types.proofs.Common.{[], ◌++◌, ◌+◌, ◌∙◌, ◌∷◌, ◌≡◌, ap, append-nil, Appends, Appends-trans, arith}
-use Rattle.desk_types.proofs.Common.{Bool, common_steps, cond, count_by, false, flat_map, flat_map-append, History}
-use Rattle.desk_types.proofs.Common.{length, length-append, List, Option, refl, subst, sym, true, ℕ}
+use Rattle.desk_types.proofs.Common.{[], ◌++◌, ◌+◌, ◌∙◌, ◌∷◌, ◌≡◌, ap, append-nil, Appends, Appends-trans}
+use Rattle.desk_types.proofs.Common.{arith, Bool, common_steps, cond, count_by, false, flat_map}
+use Rattle.desk_types.proofs.Common.{flat_map-append, History, length, length-append, List, Option, refl}
+use Rattle.desk_types.proofs.Common.{subst, sym, true, ℕ}
 use Rattle.desk_answers.specs.declared.serving.Served.{Served}
 use Rattle.http_stream.specs.Cut.{Portion}
 use Rattle.http_stream.specs.Stream.{Answer, answer, Answered, answers, list_after, Rule}

@@ -1,8 +1,8 @@
 -- Bytes taken as a body.
-use Rattle.desk_types.proofs.Common.{[], ◌++◌, ◌+◌, ◌<◌, ◌∙◌, ◌∷◌, ◌≡◌, ◌≤◌, ap, append-nil, append_assoc, arith}
-use Rattle.desk_types.proofs.Common.{Consumes, drop, length, length-append, length-take, List, None, Option}
-use Rattle.desk_types.proofs.Common.{prepend_known, Some, sym, take, take-append-add, take-append-drop}
-use Rattle.desk_types.proofs.Common.{take-append-le, ℕ}
+use Rattle.desk_types.proofs.Common.{[], ◌++◌, ◌+◌, ◌<◌, ◌∙◌, ◌∷◌, ◌≡◌, ◌≤◌, ap, append-nil, append_assoc}
+use Rattle.desk_types.proofs.Common.{arith, Consumes, drop, length, length-append, length-take, List, None}
+use Rattle.desk_types.proofs.Common.{Option, prepend_known, Some, sym, take, take-append-add}
+use Rattle.desk_types.proofs.Common.{take-append-drop, take-append-le, ℕ}
 use borrow.Rule.Slice.PartMut.{post_of, put_mid}
 
 pub split_front : (bytes pend front rest : List ℕ) (n : ℕ) → bytes ≡ pend → front ≡ take n bytes → rest ≡ drop n pend → pend ≡ front ++ rest

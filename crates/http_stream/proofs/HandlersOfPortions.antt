@@ -1,6 +1,7 @@
 -- A handler whose portions are answered one after another.
 use Rattle.desk_types.proofs.Common.{[], ◌++◌, Appends-nil, IfSome, List, Option, subst, sym, ℕ}
-use Rattle.desk_answers.specs.{Counts.none_served, Ledger.ForLists, Ledger.Ledger, declared.serving.Served.Served}
+use Rattle.desk_answers.specs.{Counts.none_served, Ledger.ForLists, Ledger.Ledger}
+use Rattle.desk_answers.specs.{declared.serving.Served.Served}
 use Rattle.http_stream.proofs.AnsweredPortions.{answered_more, none_answered}
 use Rattle.http_stream.specs.{Cut.IsPortion, Cut.Leads, Cut.Portion, Stream.AnsweredInto, Stream.Breaks}
 use Rattle.http_stream.specs.{Stream.RuleBy, Stream.Serves}

@@ -1,7 +1,7 @@
 -- Values under a name, line by line, and the number in a text of digits.
-use Rattle.desk_types.proofs.Common.{[], ◌&&◌, ◌*◌, ◌++◌, ◌+◌, ◌-◌, ◌||◌, ◌∙◌, ◌∷◌, ◌≡◌, ◌≤◌, ap, arith, Bool, codes}
-use Rattle.desk_types.proofs.Common.{common_steps, cond, false, List, list_any, list_any-append, nat_tests, refl, sym}
-use Rattle.desk_types.proofs.Common.{true, ℕ}
+use Rattle.desk_types.proofs.Common.{[], ◌&&◌, ◌*◌, ◌++◌, ◌+◌, ◌-◌, ◌||◌, ◌∙◌, ◌∷◌, ◌≡◌, ◌≤◌, ap, arith, Bool}
+use Rattle.desk_types.proofs.Common.{codes, common_steps, cond, false, List, list_any, list_any-append}
+use Rattle.desk_types.proofs.Common.{nat_tests, refl, sym, true, ℕ}
 use Rattle.http_stream.specs.{Heads.has_close, Heads.values_of, Looks.after_header, Looks.closes_by}
 use Rattle.std.specs.{Char.digit_value, Str.str_eq_ignore_ascii_case, Str.Parse.digits_value_after}
 

@@ -1,16 +1,17 @@
 -- The portion at the start of a stream, from the searched bytes.
-use Rattle.desk_types.proofs.Common.{[], ◌++◌, ◌<◌, ◌∙◌, ◌∷◌, ◌≡◌, ◌≤◌, ap, append-nil, append_assoc, arith, Consumes}
-use Rattle.desk_types.proofs.Common.{drop, Err, false, HEAD_LIMIT, IfSome, inl, inr, IsAtEnd, length, length-append}
-use Rattle.desk_types.proofs.Common.{length-take, List, min, None, Ok, Option, prepend_known, refl, Some, subst, sym}
-use Rattle.desk_types.proofs.Common.{take, take-append-drop, take-append-le, true, ℕ}
-use Rattle.desk_types.specs.declared.limits.TheConstants.{MOST_HEADERS}
-use Rattle.http_stream.specs.{Bodies.ReadsFewer, Cut.bad_head, Cut.EndsInside, Cut.head_too_large, Cut.is_last}
-use Rattle.http_stream.specs.{Cut.IsCut, Cut.IsPortion, Cut.Leads, Cut.Portion, Cut.PortionsGone, Cut.ReadsInside}
-use Rattle.http_stream.specs.{Cut.starved, Cut.TakesPortion, Cut.unread, Cut.whole, Heads.IsBadHead}
-use Rattle.http_stream.specs.{Heads.IsUnfinished, Heads.TakesHead, Heads.window, Looks.IsHeadOf}
-use Rattle.http_stream.specs.{declared.head.Head.Head, declared.head.LengthFault.LengthFault}
-use Rattle.httparse.specs.{Grammar.HasNoRequest, Grammar.NeverHasRequest, Grammar.print_request, Grammar.ReadsRequest}
-use Rattle.httparse.specs.{Grammar.RequestHead, Spans.RequestExceeds, Spans.RequestOverflows, Spans.span_bytes}
+use Rattle.desk_types.proofs.Common.{[], ◌++◌, ◌<◌, ◌∙◌, ◌∷◌, ◌≡◌, ◌≤◌, ap, append-nil, append_assoc, arith}
+use Rattle.desk_types.proofs.Common.{Consumes, drop, Err, false, IfSome, inl, inr, IsAtEnd, length}
+use Rattle.desk_types.proofs.Common.{length-append, length-take, List, min, None, Ok, Option, prepend_known}
+use Rattle.desk_types.proofs.Common.{refl, Some, subst, sym, take, take-append-drop, take-append-le, true, ℕ}
+use Rattle.desk_types.specs.declared.limits.TheConstants.{HEAD_LIMIT, MOST_HEADERS}
+use Rattle.http_stream.specs.{Bodies.ReadsFewer, Cut.bad_head, Cut.EndsInside, Cut.head_too_large}
+use Rattle.http_stream.specs.{Cut.is_last, Cut.IsCut, Cut.IsPortion, Cut.Leads, Cut.Portion, Cut.PortionsGone}
+use Rattle.http_stream.specs.{Cut.ReadsInside, Cut.starved, Cut.TakesPortion, Cut.unread, Cut.whole}
+use Rattle.http_stream.specs.{Heads.IsBadHead, Heads.IsUnfinished, Heads.TakesHead, Heads.window}
+use Rattle.http_stream.specs.{Looks.IsHeadOf, declared.head.Head.Head, declared.head.LengthFault.LengthFault}
+use Rattle.httparse.specs.{Grammar.HasNoRequest, Grammar.NeverHasRequest, Grammar.print_request}
+use Rattle.httparse.specs.{Grammar.ReadsRequest, Grammar.RequestHead, Spans.RequestExceeds}
+use Rattle.httparse.specs.{Spans.RequestOverflows, Spans.span_bytes}
 use Rattle.std.proofs.lemmas.List.{drop-append-le, take-take, take_min}
 use Rattle.std.specs.Io.KnownBytes.{Keeps}
 

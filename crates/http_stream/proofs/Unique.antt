@@ -1,12 +1,14 @@
 -- A stream starts with exactly one portion, outside one open case.
-use Rattle.desk_types.proofs.Common.{[], ◌++◌, ◌+◌, ◌-◌, ◌<◌, ◌∙◌, ◌∷◌, ◌≡◌, ◌⊎◌, ap, append-nil, arith, Bool, Err}
-use Rattle.desk_types.proofs.Common.{false, HEAD_LIMIT, inl, inr, length, length-append, List, Ok, refl, Result}
+use Rattle.desk_types.proofs.Common.{[], ◌++◌, ◌+◌, ◌-◌, ◌<◌, ◌∙◌, ◌∷◌, ◌≡◌, ◌⊎◌, ap, append-nil, arith, Bool}
+use Rattle.desk_types.proofs.Common.{Err, false, inl, inr, length, length-append, List, Ok, refl, Result}
 use Rattle.desk_types.proofs.Common.{subst, sym, take, take-append-add, take_all, true, ℕ}
-use Rattle.http_stream.specs.{Cut.bad_head, Cut.EndsInside, Cut.head_too_large, Cut.is_last, Cut.IsCut, Cut.IsPortion}
-use Rattle.http_stream.specs.{Cut.Portion, Cut.Request, Cut.starved, Cut.unread, Cut.whole, Heads.body_length}
-use Rattle.http_stream.specs.{Heads.closes, Heads.headers_of, Heads.IsBadHead, Heads.IsUnfinished, Heads.TakesHead}
-use Rattle.http_stream.specs.{Heads.window, Unique.is_starved, Unique.IsClear, Unique.IsOnePortion, Unique.IsOpen}
-use Rattle.http_stream.specs.{Unique.NoneStarved, declared.head.LengthFault.LengthFault}
+use Rattle.desk_types.specs.declared.limits.TheConstants.{HEAD_LIMIT}
+use Rattle.http_stream.specs.{Cut.bad_head, Cut.EndsInside, Cut.head_too_large, Cut.is_last, Cut.IsCut}
+use Rattle.http_stream.specs.{Cut.IsPortion, Cut.Portion, Cut.Request, Cut.starved, Cut.unread, Cut.whole}
+use Rattle.http_stream.specs.{Heads.body_length, Heads.closes, Heads.headers_of, Heads.IsBadHead}
+use Rattle.http_stream.specs.{Heads.IsUnfinished, Heads.TakesHead, Heads.window, Unique.is_starved}
+use Rattle.http_stream.specs.{Unique.IsClear, Unique.IsOnePortion, Unique.IsOpen, Unique.NoneStarved}
+use Rattle.http_stream.specs.{declared.head.LengthFault.LengthFault}
 use Rattle.httparse.proofs.GrammarLemmas.{request_unique}
 use Rattle.httparse.specs.Grammar.{print_request, ReadsRequest, RequestHead}
 use Rattle.std.proofs.{Math.Seq.take-append_seam, lemmas.List.append_cancel_left}

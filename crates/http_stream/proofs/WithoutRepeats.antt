@@ -2,10 +2,11 @@
 -- history.
 use Rattle.desk_types.proofs.Common.{[], ◌++◌, ◌∙◌, ◌∷◌, ◌≡◌, ◌⊎◌, ap, append_assoc, Bool, false, History}
 use Rattle.desk_types.proofs.Common.{if◌then◌else◌, inl, inr, List, refl, subst, sym, true, ℕ}
-use Rattle.http_stream.specs.{Cut.bad_head, Cut.EndsInside, Cut.head_too_large, Cut.is_last, Cut.IsCut, Cut.IsPortion}
-use Rattle.http_stream.specs.{Cut.Portion, Cut.starved, Cut.unread, Cut.whole, Repeats.after_all}
-use Rattle.http_stream.specs.{Repeats.after_portion, Repeats.is_repeat, Repeats.IsCutWithout, Repeats.LeavesTheList}
-use Rattle.http_stream.specs.{Repeats.NoRepeatEnds, Repeats.Repeats, Repeats.without_repeats, Stream.Rule}
+use Rattle.http_stream.specs.Cut.{bad_head, EndsInside, head_too_large, is_last, IsCut, IsPortion, Portion}
+use Rattle.http_stream.specs.Cut.{starved, unread, whole}
+use Rattle.http_stream.specs.Repeats.{after_all, after_portion, is_repeat, IsCutWithout, LeavesTheList}
+use Rattle.http_stream.specs.Repeats.{NoRepeatEnds, Repeats, without_repeats}
+use Rattle.http_stream.specs.Stream.{Rule}
 use Rattle.httparse.specs.Grammar.{print_request}
 use Rattle.std.proofs.lemmas.List.{append_cancel_right}
 

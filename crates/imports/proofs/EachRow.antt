@@ -1,7 +1,7 @@
 -- Reading rows one after another.
-use Rattle.desk_types.proofs.Common.{[], ◌++◌, ◌+◌, ◌<◌, ◌∙◌, ◌∷◌, ◌≡◌, ap, append_assoc, arith, drop, Err, get_or}
-use Rattle.desk_types.proofs.Common.{length, length-map, length-take-le, List, map, map-append, Ok, refl, Result, suc}
-use Rattle.desk_types.proofs.Common.{sym, take, take-append-drop, take_more, ℕ}
+use Rattle.desk_types.proofs.Common.{[], ◌++◌, ◌+◌, ◌<◌, ◌∙◌, ◌∷◌, ◌≡◌, ap, append_assoc, arith, drop, Err}
+use Rattle.desk_types.proofs.Common.{get_or, length, length-map, length-take-le, List, map, map-append, Ok}
+use Rattle.desk_types.proofs.Common.{refl, Result, suc, sym, take, take-append-drop, take_more, ℕ}
 use Rattle.cfx_profile.proofs.Readings.{both, both-first, both-nothing, first_of_each}
 use Rattle.imports.specs.{File.each, File.Record, File.row_at, declared.fault.ImportFault.ImportFault}
 

@@ -1,10 +1,11 @@
 -- Worked cases of files.
-use Rattle.desk_types.proofs.Common.{[], ⊤, ◌++◌, ◌∷◌, ◌≡◌, codes, CountsTaken, Err, is_utf8, Ok, refl, SheetDefined}
+use Rattle.desk_types.proofs.Common.{[], ⊤, ◌++◌, ◌∷◌, ◌≡◌, codes, Err, is_utf8, Ok, refl}
 use Rattle.cfx_profile.specs.Forms.{id_of, is_printable}
 use Rattle.csv.proofs.OnLiterals.{csv_on_literals}
 use Rattle.csv.specs.Records.{field_at}
-use Rattle.imports.specs.File.{count_row, counts_said, designators_of, file_rows, quantity_of, setup_said, sheet_row}
-use Rattle.imports.specs.File.{three_texts, two_texts}
+use Rattle.desk_types.specs.declared.command.Command.TheVariants.{CountsTaken, SheetDefined}
+use Rattle.imports.specs.File.{count_row, counts_said, designators_of, file_rows, quantity_of, setup_said}
+use Rattle.imports.specs.File.{sheet_row, three_texts, two_texts}
 use Rattle.imports.specs.declared.fault.ImportFault.TheVariants.{BadField, BadHeader, BadRow}
 use Rattle.std.proofs.Math.Utf8.{encode}
 use Rattle.std.specs.Str.{chars}

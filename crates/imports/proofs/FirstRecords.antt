@@ -1,6 +1,6 @@
 -- Records read one by one are the first of all records.
-use Rattle.desk_types.proofs.Common.{[], ◌∙◌, ◌∷◌, ◌≡◌, ◌≤◌, ◌⊎◌, ap, arith, inl, inr, length, List, None, refl}
-use Rattle.desk_types.proofs.Common.{subst, suc, sym, zero, ℕ}
+use Rattle.desk_types.proofs.Common.{[], ◌∙◌, ◌∷◌, ◌≡◌, ◌≤◌, ◌⊎◌, ap, arith, inl, inr, length, List, None}
+use Rattle.desk_types.proofs.Common.{refl, subst, suc, sym, zero, ℕ}
 use Rattle.csv.specs.{Machine.next_record, Reading.Reached, Reading.records_from, Reading.records_next}
 use Rattle.csv.specs.{declared.parser.Config.Config, declared.parser.State.State}
 

@@ -1,12 +1,13 @@
 -- Later records don't change the content of a file.
-use Rattle.desk_types.proofs.Common.{[], ◌++◌, ◌+◌, ◌<◌, ◌∙◌, ◌∷◌, ◌≡◌, ◌≤◌, ◌⊎◌, ap, arith, Bool, cases_Bool, Err}
-use Rattle.desk_types.proofs.Common.{if◌then◌else◌, inl, inr, length, List, nat_le, nat_tests, None, Ok, Option, refl}
-use Rattle.desk_types.proofs.Common.{Result, Some, suc, zero, ℕ}
+use Rattle.desk_types.proofs.Common.{[], ◌++◌, ◌+◌, ◌<◌, ◌∙◌, ◌∷◌, ◌≡◌, ◌≤◌, ◌⊎◌, ap, arith, Bool, cases_Bool}
+use Rattle.desk_types.proofs.Common.{Err, if◌then◌else◌, inl, inr, length, List, nat_le, nat_tests, None, Ok}
+use Rattle.desk_types.proofs.Common.{Option, refl, Result, Some, suc, zero, ℕ}
 use Rattle.cfx_profile.specs.Fault.{◌>>=◌}
 use Rattle.csv.specs.{Machine.next_record, Machine.Read, Reading.records_from, Reading.records_next}
 use Rattle.csv.specs.{declared.parser.Config.Config, declared.parser.State.State}
 use Rattle.imports.specs.{File.each, File.Record, File.row_at, File.rows_of, File.some_rows}
-use Rattle.imports.specs.{declared.fault.ImportFault.ImportFault, declared.fault.ImportFault.TheVariants.BadHeader}
+use Rattle.imports.specs.{declared.fault.ImportFault.ImportFault}
+use Rattle.imports.specs.{declared.fault.ImportFault.TheVariants.BadHeader}
 use Rattle.imports.specs.{declared.records.TheConstants.MOST_RECORDS, declared.rows.TheConstants.FIRST_ROW}
 use Rattle.imports.specs.{declared.rows.TheConstants.LAST_ROW}
 

@@ -1,27 +1,31 @@
 -- Reading the file of a command gives that command.
-use Rattle.desk_types.proofs.Common.{[], ◌++◌, ◌+◌, ◌<◌, ◌==◌, ◌^◌, ◌∙◌, ◌∷◌, ◌≡◌, ◌≤◌, All, All-append, All-cons}
-use Rattle.desk_types.proofs.Common.{All-head, All-nil, All-tail, ap, arith, Bool, CountRow, decimal, false}
-use Rattle.desk_types.proofs.Common.{GREATEST_QUANTITY, if◌then◌else◌, is_designator_byte, is_utf8}
-use Rattle.desk_types.proofs.Common.{is_utf8-from_IsUtf8, IsCountRow, IsDesignator, IsId, IsListOf, IsSheetRow}
-use Rattle.desk_types.proofs.Common.{IsUtf8-from_ascii, join_with_byte, length, length-map, List, LONGEST_INPUT}
-use Rattle.desk_types.proofs.Common.{LONGEST_LIST, map, Name, nat_le, nat_tests, None, Ok, refl, Result, SheetRow}
-use Rattle.desk_types.proofs.Common.{slice_split_at, slice_split_none, Some, suc, sym, true, zero, ℕ}
+use Rattle.desk_types.proofs.Common.{[], ◌++◌, ◌+◌, ◌<◌, ◌==◌, ◌^◌, ◌∙◌, ◌∷◌, ◌≡◌, ◌≤◌, All, All-append}
+use Rattle.desk_types.proofs.Common.{All-cons, All-head, All-nil, All-tail, ap, arith, Bool, decimal, false}
+use Rattle.desk_types.proofs.Common.{if◌then◌else◌, is_designator_byte, is_utf8, is_utf8-from_IsUtf8}
+use Rattle.desk_types.proofs.Common.{IsCountRow, IsDesignator, IsId, IsListOf, IsSheetRow, IsUtf8-from_ascii}
+use Rattle.desk_types.proofs.Common.{join_with_byte, length, length-map, List, map, Name, nat_le, nat_tests}
+use Rattle.desk_types.proofs.Common.{None, Ok, refl, Result, slice_split_at, slice_split_none, Some, suc, sym}
+use Rattle.desk_types.proofs.Common.{true, zero, ℕ}
 use Rattle.cfx_profile.proofs.Names.{designator_of-read, id_of-read}
 use Rattle.cfx_profile.specs.Forms.{designator_of, id_of, is_designator}
 use Rattle.csv.proofs.{OnLiterals.csv_on_literals, RoundTrip.read-write-many}
 use Rattle.csv.specs.{Machine.next_record, Reading.default_config, Reading.records_from, Reading.strip_bom}
 use Rattle.csv.specs.{Records.field_at, Writing.default_writer, Writing.row_text}
 use Rattle.desk_types.proofs.{Ascii.IsUtf8-printable, Ascii.printable-marks, Numerals.own}
+use Rattle.desk_types.specs.{declared.count.CountRow.CountRow, declared.limits.TheConstants.GREATEST_QUANTITY}
+use Rattle.desk_types.specs.{declared.limits.TheConstants.LONGEST_INPUT}
+use Rattle.desk_types.specs.{declared.limits.TheConstants.LONGEST_LIST, declared.sheet.SheetRow.SheetRow}
 use Rattle.imports.specs.{File.count_row, File.counts_said, File.designators_of, File.each, File.file_rows}
-use Rattle.imports.specs.{File.is_counts_header, File.is_number, File.is_setup_header, File.quantity_of, File.Record}
-use Rattle.imports.specs.{File.records_of, File.setup_said, File.sheet_row, File.some_rows, File.three_texts}
-use Rattle.imports.specs.{File.two_texts, File.words_of, Written.count_fields, Written.counts_header}
-use Rattle.imports.specs.{Written.CountsAreSaid, Written.records_text, Written.sheet_fields, Written.sheet_header}
-use Rattle.imports.specs.{Written.SheetsAreSaid, declared.fault.ImportFault.ImportFault}
-use Rattle.imports.specs.{declared.records.TheConstants.MOST_RECORDS, declared.rows.TheConstants.FIRST_ROW}
-use Rattle.imports.specs.{declared.rows.TheConstants.LAST_ROW}
-use Rattle.std.proofs.{lemmas.Fmt.decimal_nonempty, lemmas.Fmt.digits_decimal, lemmas.Fmt.digits_value-decimal}
-use Rattle.std.proofs.{lemmas.Fmt.IsAscii-decimal, lemmas.Fmt.length-decimal-le, lemmas.List.Elements.All-map}
+use Rattle.imports.specs.{File.is_counts_header, File.is_number, File.is_setup_header, File.quantity_of}
+use Rattle.imports.specs.{File.Record, File.records_of, File.setup_said, File.sheet_row, File.some_rows}
+use Rattle.imports.specs.{File.three_texts, File.two_texts, File.words_of, Written.count_fields}
+use Rattle.imports.specs.{Written.counts_header, Written.CountsAreSaid, Written.records_text}
+use Rattle.imports.specs.{Written.sheet_fields, Written.sheet_header, Written.SheetsAreSaid}
+use Rattle.imports.specs.{declared.fault.ImportFault.ImportFault, declared.records.TheConstants.MOST_RECORDS}
+use Rattle.imports.specs.{declared.rows.TheConstants.FIRST_ROW, declared.rows.TheConstants.LAST_ROW}
+use Rattle.std.proofs.{lemmas.Fmt.decimal_nonempty, lemmas.Fmt.digits_decimal}
+use Rattle.std.proofs.{lemmas.Fmt.digits_value-decimal, lemmas.Fmt.IsAscii-decimal}
+use Rattle.std.proofs.{lemmas.Fmt.length-decimal-le, lemmas.List.Elements.All-map}
 use Rattle.std.proofs.{lemmas.List.Sums.list_all-from_AllPass}
 use Rattle.csv.specs.declared.parser.State.TheVariants as st
 

@@ -1,15 +1,17 @@
 -- The state of a machine's slots after each piece.
 use Rattle.desk_types.proofs.Common.{[], ◌++◌, ◌+◌, ◌-◌, ◌<◌, ◌==◌, ◌∙◌, ◌∷◌, ◌≡◌, ◌≤◌, AllByRecursion, ap}
-use Rattle.desk_types.proofs.Common.{append_assoc, arith, Bool, BTreeMap, cond, Contains-from_any, eqb-true, false}
-use Rattle.desk_types.proofs.Common.{History, IfSome, IsDistinct, IsJudged, left_of, List, list_any-append, live_on}
-use Rattle.desk_types.proofs.Common.{lt-ltb, Name, nat_lt, None, Option, option_map, option_map_or, or_left, or_parts}
-use Rattle.desk_types.proofs.Common.{or_right, Pick, pieces_picked, refl, same, same-refl, same-true, Some, subst}
-use Rattle.desk_types.proofs.Common.{sym, true, Two, ℕ}
+use Rattle.desk_types.proofs.Common.{append_assoc, arith, Bool, BTreeMap, cond, Contains-from_any, eqb-true}
+use Rattle.desk_types.proofs.Common.{false, History, IfSome, IsDistinct, IsJudged, left_of, List}
+use Rattle.desk_types.proofs.Common.{list_any-append, live_on, lt-ltb, Name, nat_lt, None, Option, option_map}
+use Rattle.desk_types.proofs.Common.{option_map_or, or_left, or_parts, or_right, pieces_picked, refl, same}
+use Rattle.desk_types.proofs.Common.{same-refl, same-true, Some, subst, sym, true, ℕ}
+use Rattle.desk_laws.proofs.Common.{Pick, Two}
 use Rattle.desk_laws.proofs.{Distinct.all-append, Mounts.has, Picks.pieces_picked-append, Places.one-slot}
 use Rattle.desk_types.proofs.Keys.{name-changed}
-use Rattle.judging.specs.{Placing.feed_at, Placing.given_by, Placing.IsFed, Placing.IsFeeding, Placing.live_next}
-use Rattle.judging.specs.{Placing.live_past, Placing.one_less, Placing.reel_in_hand, declared.placing.Feed.Feed}
-use Rattle.judging.specs.{declared.placing.Given.TheVariants.Nothing, declared.placing.Given.TheVariants.Reel}
+use Rattle.judging.specs.{Placing.feed_at, Placing.given_by, Placing.IsFed, Placing.IsFeeding}
+use Rattle.judging.specs.{Placing.live_next, Placing.live_past, Placing.one_less, Placing.reel_in_hand}
+use Rattle.judging.specs.{declared.placing.Feed.Feed, declared.placing.Given.TheVariants.Nothing}
+use Rattle.judging.specs.{declared.placing.Given.TheVariants.Reel}
 use Rattle.std.proofs.lemmas.Bool.{eqb-false, le-ltb}
 use Rattle.std.specs.List.{filter, find}
 

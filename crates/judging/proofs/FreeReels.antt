@@ -1,12 +1,12 @@
 -- Free reels and their turns.
-use Rattle.desk_types.proofs.Common.{[], ◌&&◌, ◌∙◌, ◌∷◌, ◌≡◌, ap, Bool, by_turn, cond, cons_option, Equal, false}
-use Rattle.desk_types.proofs.Common.{filter, filter_map, Greater, History, if◌then◌else◌, in_order, insert_key}
-use Rattle.desk_types.proofs.Common.{is_allowed, is_expired, is_free, is_mounted, is_unbaked, IsJudged, Left, left_of}
-use Rattle.desk_types.proofs.Common.{Less, List, map, match_ordering, Name, nat_lt, None, not, now_of, Option}
-use Rattle.desk_types.proofs.Common.{option_map, option_map_or, Ordering, Receipt, receipt_of, reel_view}
-use Rattle.desk_types.proofs.Common.{reels_received, refl, Some, true, Two, view_of, ℕ}
+use Rattle.desk_types.proofs.Common.{[], ◌&&◌, ◌∙◌, ◌∷◌, ◌≡◌, ap, Bool, by_turn, cond, cons_option, Equal}
+use Rattle.desk_types.proofs.Common.{false, filter, filter_map, Greater, History, if◌then◌else◌, in_order}
+use Rattle.desk_types.proofs.Common.{insert_key, is_allowed, is_expired, is_free, is_mounted, is_unbaked}
+use Rattle.desk_types.proofs.Common.{IsJudged, left_of, Less, List, map, match_ordering, Name, nat_lt, None}
+use Rattle.desk_types.proofs.Common.{not, now_of, Option, option_map, option_map_or, Ordering, part_of}
+use Rattle.desk_types.proofs.Common.{receipt_of, reel_view, reels_received, refl, Some, true, view_of, ℕ}
+use Rattle.desk_laws.proofs.Common.{Left, Receipt, Two}
 use Rattle.desk_laws.proofs.Balance.{unreceived-empty}
-use Rattle.desk_types.specs.View.{part_of}
 use Rattle.judging.specs.Turns.{by_life, if_free, turn_of}
 
 none-left : (a b c d : Bool) (n : ℕ) → n ≡ 0 → (a && b && nat_lt 0 n && c && d) ≡ false

@@ -1,6 +1,7 @@
 -- Appending a reel to the list of live reels on slots.
-use Rattle.desk_types.proofs.Common.{[], ◌++◌, ◌+◌, ◌<◌, ◌∙◌, ◌∷◌, ◌≡◌, ap, append_assoc, arith, enumerate_from}
-use Rattle.desk_types.proofs.Common.{get_or, length, length-take-le, List, map, map-append, sym, take, take-next, ℕ}
+use Rattle.desk_types.proofs.Common.{[], ◌++◌, ◌+◌, ◌<◌, ◌∙◌, ◌∷◌, ◌≡◌, ap, append_assoc, arith}
+use Rattle.desk_types.proofs.Common.{enumerate_from, get_or, length, length-take-le, List, map, map-append}
+use Rattle.desk_types.proofs.Common.{sym, take, take-next, ℕ}
 
 enumerate-push : {X : Type 0} (n : ℕ) (xs : List X) (x : X) → enumerate_from n (xs ++ x ∷ []) ≡ enumerate_from n xs ++ (n + length xs, x) ∷ []
 enumerate-push n [] x = let is : n ≡ n + 0 = omega arith in ap (λ k. (k, x) ∷ []) is

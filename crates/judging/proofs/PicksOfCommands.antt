@@ -1,13 +1,15 @@
 -- The picks of commands: their reels and their number.
-use Rattle.desk_types.proofs.Common.{[], ◌*◌, ◌++◌, ◌+◌, ◌-◌, ◌^◌, ◌∷◌, ◌≡◌, ◌≤◌, AllByRecursion, ap, arith, Bench}
-use Rattle.desk_types.proofs.Common.{bench_of, Bool, Command, count_picks, Counted, CountRow, CountsTaken, false}
-use Rattle.desk_types.proofs.Common.{GREATEST_QUANTITY, History, if◌then◌else◌, install_picks, is_some, IsJudged}
-use Rattle.desk_types.proofs.Common.{left_of, length, List, lt-ltb, ltb-true, MaterialsInstalled, MaterialsScrapped}
-use Rattle.desk_types.proofs.Common.{min, Name, nat_lt, None, Option, option_and_then, option_map, option_to_list}
-use Rattle.desk_types.proofs.Common.{Pick, pick_for, picks_of, pieces_of, pieces_off, pieces_picked, Placed, Purpose}
-use Rattle.desk_types.proofs.Common.{Receipt, receipt_of, refl, Rejected, scrap_picks, Some, sum_by-append, tape_of}
-use Rattle.desk_types.proofs.Common.{true, Two, ℕ}
-use Rattle.desk_laws.proofs.{Balance.unreceived-empty, Picks.find-passes, Ranges.left-range, WholeInstalls.pieces-off}
+use Rattle.desk_types.proofs.Common.{[], ◌*◌, ◌++◌, ◌+◌, ◌-◌, ◌^◌, ◌∷◌, ◌≡◌, ◌≤◌, AllByRecursion, ap, arith}
+use Rattle.desk_types.proofs.Common.{Bench, bench_of, Bool, count_picks, false, History, if◌then◌else◌}
+use Rattle.desk_types.proofs.Common.{install_picks, is_some, IsJudged, left_of, length, List, lt-ltb}
+use Rattle.desk_types.proofs.Common.{ltb-true, min, Name, nat_lt, None, Option, option_and_then, option_map}
+use Rattle.desk_types.proofs.Common.{option_to_list, pick_for, picks_of, pieces_of, pieces_off, pieces_picked}
+use Rattle.desk_types.proofs.Common.{receipt_of, refl, scrap_picks, Some, sum_by-append, tape_of, true, ℕ}
+use Rattle.desk_laws.proofs.Common.{Command, Counted, CountRow, CountsTaken, GREATEST_QUANTITY}
+use Rattle.desk_laws.proofs.Common.{MaterialsInstalled, MaterialsScrapped, Pick, Placed, Purpose, Receipt}
+use Rattle.desk_laws.proofs.Common.{Rejected, Two}
+use Rattle.desk_laws.proofs.{Balance.unreceived-empty, Picks.find-passes, Ranges.left-range}
+use Rattle.desk_laws.proofs.{WholeInstalls.pieces-off}
 use Rattle.judging.specs.Facts.{IsKnownReel}
 use Rattle.std.specs.List.{find}
 

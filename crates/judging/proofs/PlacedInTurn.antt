@@ -1,10 +1,12 @@
 -- Designators placed one after another.
-use Rattle.desk_types.proofs.Common.{[], ◌++◌, ◌+◌, ◌<◌, ◌∙◌, ◌∷◌, ◌≡◌, ap, Bench, Bool, designators_refusal, drop}
-use Rattle.desk_types.proofs.Common.{drop-next, false, get_or, install_picks, length, List, Name, nat_lt, None}
-use Rattle.desk_types.proofs.Common.{Option, option_or, option_to_list, Pick, pick_for, pieces_picked, ReelShort}
-use Rattle.desk_types.proofs.Common.{refl, Refusal, Some, sym, take, take-next, ℕ}
+use Rattle.desk_types.proofs.Common.{[], ◌++◌, ◌+◌, ◌<◌, ◌∙◌, ◌∷◌, ◌≡◌, ap, Bench, Bool, designators_refusal}
+use Rattle.desk_types.proofs.Common.{drop, drop-next, false, get_or, install_picks, length, List, Name}
+use Rattle.desk_types.proofs.Common.{nat_lt, None, Option, option_or, option_to_list, pick_for, pieces_picked}
+use Rattle.desk_types.proofs.Common.{refl, Some, sym, take, take-next, ℕ}
+use Rattle.desk_laws.proofs.Common.{Pick, ReelShort, Refusal}
 use Rattle.desk_types.specs.Refusals.{designator_refusal}
-use Rattle.judging.specs.{Placing.Before, Placing.next_refusal, Placing.pick_of, declared.placing.Feeder.Feeder}
+use Rattle.judging.specs.Placing.{Before, next_refusal, pick_of}
+use Rattle.judging.specs.declared.placing.Feeder.{Feeder}
 use Rattle.std.specs.List.{find}
 
 -- ---- one more designator

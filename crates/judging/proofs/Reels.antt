@@ -1,9 +1,10 @@
 -- Searching a slot's reels in order, including spent ones.
-use Rattle.desk_types.proofs.Common.{[], ◌++◌, ◌+◌, ◌-◌, ◌<◌, ◌∙◌, ◌∷◌, ◌≡◌, ◌≤◌, ◌⊎◌, ap, arith, Bool, cond, drop}
-use Rattle.desk_types.proofs.Common.{drop-next, drop_all, false, get_or, History, inl, inr, left_of, length, List}
-use Rattle.desk_types.proofs.Common.{live_on, lt-ltb, ltb-false, ltb-true, min, Name, nat_lt, None, Pick, pieces_off}
-use Rattle.desk_types.proofs.Common.{pieces_picked, Purpose, refl, scrap_picks, slice_get, Some, sum_by, sum_by-cons}
-use Rattle.desk_types.proofs.Common.{sym, tape_of, true, ℕ}
+use Rattle.desk_types.proofs.Common.{[], ◌++◌, ◌+◌, ◌-◌, ◌<◌, ◌∙◌, ◌∷◌, ◌≡◌, ◌≤◌, ◌⊎◌, ap, arith, Bool, cond}
+use Rattle.desk_types.proofs.Common.{drop, drop-next, drop_all, false, get_or, History, inl, inr, left_of}
+use Rattle.desk_types.proofs.Common.{length, List, live_on, lt-ltb, ltb-false, ltb-true, min, Name, nat_lt}
+use Rattle.desk_types.proofs.Common.{None, pieces_off, pieces_picked, refl, scrap_picks, slice_get, Some}
+use Rattle.desk_types.proofs.Common.{sum_by, sum_by-cons, sym, tape_of, true, ℕ}
+use Rattle.desk_laws.proofs.Common.{Pick, Purpose}
 use Rattle.desk_laws.proofs.Lives.{scrap-filter}
 use Rattle.std.proofs.lemmas.Option.{get_or_from_slice_get, slice_get_cases, slice_get_within}
 use Rattle.std.specs.List.{filter, find}

@@ -1,9 +1,10 @@
 -- Scraps: taking pieces off a slot's reels one after another.
-use Rattle.desk_types.proofs.Common.{[], ◌++◌, ◌+◌, ◌-◌, ◌<◌, ◌∙◌, ◌∷◌, ◌≡◌, ap, append-nil, append_assoc, arith}
-use Rattle.desk_types.proofs.Common.{Bool, drop, false, first_refusal, History, is_vacant, left_of, List, live_on}
-use Rattle.desk_types.proofs.Common.{lt-ltb, ltb-true, min, Name, nat_lt, None, Pick, pieces_off, Purpose, ReelShort}
-use Rattle.desk_types.proofs.Common.{refl, scrap_picks, scrap_refusal, slice_get, SlotEmpty, Some, sum_by}
-use Rattle.desk_types.proofs.Common.{sum_by-cons, sym, true, ℕ}
+use Rattle.desk_types.proofs.Common.{[], ◌++◌, ◌+◌, ◌-◌, ◌<◌, ◌∙◌, ◌∷◌, ◌≡◌, ap, append-nil, append_assoc}
+use Rattle.desk_types.proofs.Common.{arith, Bool, drop, false, first_refusal, History, is_vacant, left_of}
+use Rattle.desk_types.proofs.Common.{List, live_on, lt-ltb, ltb-true, min, Name, nat_lt, None, pieces_off}
+use Rattle.desk_types.proofs.Common.{refl, scrap_picks, scrap_refusal, slice_get, Some, sum_by, sum_by-cons}
+use Rattle.desk_types.proofs.Common.{sym, true, ℕ}
+use Rattle.desk_laws.proofs.Common.{Pick, Purpose, ReelShort, SlotEmpty}
 use Rattle.judging.proofs.Reels.{drop-at, scrap-none, sum-live}
 use Rattle.judging.specs.{Scrapping.IsScrapped, declared.scraps.Scrapping.Scrapping}
 use Rattle.std.specs.List.{filter}

@@ -1,8 +1,8 @@
 -- Binary search in sorted names.
-use Rattle.desk_types.proofs.Common.{[], ◌<◌, ◌∙◌, ◌≡◌, ◌≤◌, ◌⊎◌, All, ap, arith, by_name, cases_lt, Equal, Err}
-use Rattle.desk_types.proofs.Common.{false, get_or, Greater, inl, inr, is_at-by_name, is_eq, is_ok, length, Less}
-use Rattle.desk_types.proofs.Common.{List, list_any, Name, nat_list_cmp_total, Ok, Ordering, Result, same, same-sym}
-use Rattle.desk_types.proofs.Common.{sym, ℕ}
+use Rattle.desk_types.proofs.Common.{[], ◌<◌, ◌∙◌, ◌≡◌, ◌≤◌, ◌⊎◌, All, ap, arith, by_name, cases_lt, Equal}
+use Rattle.desk_types.proofs.Common.{Err, false, get_or, Greater, inl, inr, is_at-by_name, is_eq, is_ok}
+use Rattle.desk_types.proofs.Common.{length, Less, List, list_any, Name, nat_list_cmp_total, Ok, Ordering}
+use Rattle.desk_types.proofs.Common.{Result, same, same-sym, sym, ℕ}
 use Rattle.std.proofs.lemmas.List.Folds.{list_any_at, list_any_none}
 use Rattle.std.proofs.lemmas.List.Sorted.{searchable_from_sorted}
 use Rattle.std.specs.List.Sorted.{IsBinarySearchResult, IsPartitionPoint, IsSearchInRange, IsSorted}

@@ -1,14 +1,16 @@
 -- The result of a replay, in terms of the committed rows.
-use Rattle.desk_types.proofs.Common.{[], ◌+◌, ◌==◌, ◌∙◌, ◌≡◌, ◌≤◌, ◌⊎◌, arith, Basis, Bool, eq-eqb, eqb-true, false}
-use Rattle.desk_types.proofs.Common.{filter, History, inl, inr, IsJudged, IsPermutation, IsPermutation-sym}
-use Rattle.desk_types.proofs.Common.{IsPermutation-trans, IsTrue, length, Rules, subst, sym, true, true≢false, Two, ℕ}
-use Rattle.line_tables.proofs.Common.{accepted_in, Database, Ghosts, has_number, HasCleanDisk, Held, Holds, IsOurs}
-use Rattle.line_tables.proofs.Common.{KeepsCommit, Reads, ReadsOnly, State, state}
+use Rattle.desk_types.proofs.Common.{[], ◌+◌, ◌==◌, ◌∙◌, ◌≡◌, ◌≤◌, ◌⊎◌, arith, Basis, Bool, eq-eqb, eqb-true}
+use Rattle.desk_types.proofs.Common.{false, filter, History, inl, inr, IsJudged, IsPermutation}
+use Rattle.desk_types.proofs.Common.{IsPermutation-sym, IsPermutation-trans, IsTrue, length, subst, sym, true}
+use Rattle.desk_types.proofs.Common.{true≢false, ℕ}
+use Rattle.line_tables.proofs.Common.{accepted_in, Database, Ghosts, has_number, HasCleanDisk, Held, Holds}
+use Rattle.line_tables.proofs.Common.{IsOurs, KeepsCommit, Reads, ReadsOnly, Rules, State, state, Two}
 use Rattle.line_replay.proofs.{ReadOfCommitted.reads_back, ReadOfCommitted.reads_two, RowsOfLists.are_rows}
 use Rattle.line_replay.proofs.{StopsOfRows.stops_short, StopsOfRows.stops_stuck}
-use Rattle.line_replay.specs.{Audit.ArePlaced, Expected.Expected, Listed.AreAt, Listed.StopsAt, Placed.HasBefore}
-use Rattle.line_replay.specs.{Replay.IsEnd, Replay.IsFaultOf, Replay.IsNumbered, Replay.IsReplayed, Replay.IsStop}
-use Rattle.line_replay.specs.{Replay.IsStuck, Replay.StandsListed, Replay.TakesAll, Rows.ledger_tables, Rows.rows_of}
+use Rattle.line_replay.specs.{Audit.ArePlaced, Expected.Expected, Listed.AreAt, Listed.StopsAt}
+use Rattle.line_replay.specs.{Placed.HasBefore, Replay.IsEnd, Replay.IsFaultOf, Replay.IsNumbered}
+use Rattle.line_replay.specs.{Replay.IsReplayed, Replay.IsStop, Replay.IsStuck, Replay.StandsListed}
+use Rattle.line_replay.specs.{Replay.TakesAll, Rows.ledger_tables, Rows.rows_of}
 use Rattle.line_replay.specs.{declared.fault.ReplayFault.ReplayFault}
 use Rattle.line_replay.specs.{declared.fault.ReplayFault.TheVariants.NotLawful}
 use Rattle.line_replay.specs.{declared.fault.ReplayFault.TheVariants.Unavailable}

@@ -1,9 +1,10 @@
 -- The effect of a change's edits on the tables of a history.
-use Rattle.desk_types.proofs.Common.{[], ◌+◌, ◌∙◌, ◌∷◌, ◌≡◌, accept, ap, Change, History, IsChange, length, List}
-use Rattle.desk_types.proofs.Common.{refl, RowEdit, Two, with_edit, with_edits, ℕ}
-use Rattle.line_tables.proofs.Common.{after_edits, AreNew, command_edits, Row, row_edits}
+use Rattle.desk_types.proofs.Common.{[], ◌+◌, ◌∙◌, ◌∷◌, ◌≡◌, accept, ap, History, IsChange, length, List}
+use Rattle.desk_types.proofs.Common.{refl, with_edit, with_edits, ℕ}
+use Rattle.line_tables.proofs.Common.{after_edits, AreNew, command_edits, Row, row_edits, RowEdit, Two}
 use Rattle.desk_answers.specs.Texts.{accepted_text}
-use Rattle.desk_types.specs.{Edits.AreNew as AreNewRows, Tables.Tables as StateTables, Tables.tables_of as state_of}
+use Rattle.desk_types.specs.{Edits.AreNew as AreNewRows, Tables.Tables as StateTables}
+use Rattle.desk_types.specs.{Tables.tables_of as state_of, declared.change.Change.Change}
 use Rattle.line_replay.proofs.Judgements.{row_is}
 use Rattle.line_replay.specs.Rows.{columns, ledger_tables, rows_of}
 use Rattle.line_tables.specs.{Rows.columns_of, Rows.Tables, declared.edit.Accepted.Accepted}

@@ -1,17 +1,18 @@
 -- The entries of a set are those of its tables.
-use Rattle.desk_types.proofs.Common.{[], ◌==◌, ◌||◌, ◌∙◌, ◌∷◌, ◌≡◌, AllByRecursion, and_parts, ap, ap₂, Bool, by_name}
-use Rattle.desk_types.proofs.Common.{by_pair, eqb-true, false, if◌then◌else◌, inl, inr, is_at, is_at-by_name}
-use Rattle.desk_types.proofs.Common.{is_at-by_pair, IsStrictlySortedBy, keys_of, List, lookup, map, MountRow, Name}
-use Rattle.desk_types.proofs.Common.{nat_cmp_total, nat_list_cmp_total, None, Option, ordering_then}
-use Rattle.desk_types.proofs.Common.{recursion_from_All, refl, same, same-true, Some, subst, sym, tied_itself, true}
-use Rattle.desk_types.proofs.Common.{ℕ}
+use Rattle.desk_types.proofs.Common.{[], ◌==◌, ◌||◌, ◌∙◌, ◌∷◌, ◌≡◌, AllByRecursion, and_parts, ap, ap₂, Bool}
+use Rattle.desk_types.proofs.Common.{by_name, by_pair, eqb-true, false, if◌then◌else◌, inl, inr, is_at}
+use Rattle.desk_types.proofs.Common.{is_at-by_name, is_at-by_pair, IsStrictlySortedBy, keys_of, List, lookup}
+use Rattle.desk_types.proofs.Common.{map, Name, nat_cmp_total, nat_list_cmp_total, None, Option}
+use Rattle.desk_types.proofs.Common.{ordering_then, recursion_from_All, refl, same, same-true, Some, subst}
+use Rattle.desk_types.proofs.Common.{sym, tied_itself, true, ℕ}
+use Rattle.desk_types.specs.declared.row.MountRow.{MountRow}
 use Rattle.line_replay.specs.Alone.{AreApart, IsNamed, IsNew, Listed}
-use Rattle.line_tables.proofs.Numbers.{some_same}
-use Rattle.line_tables.specs.StateRows.{unit_if}
-use Rattle.state_rows.proofs.RowLists.{is_at-by_sheet_place}
-use Rattle.state_rows.specs.Kept.{by_sheet_place, by_since, has_key, Lists, ListsKeys, ListsMounts, row_at, since_is}
-use Rattle.std.proofs.Common.{Equal, is_eq, Less, Ordering}
-use Rattle.std.proofs.lemmas.Map.Keys.{sorted_head, sorted_tail}
+use Rattle.line_tables.{proofs.Numbers.some_same, specs.StateRows.unit_if}
+use Rattle.state_rows.{proofs.RowLists.is_at-by_sheet_place, specs.Kept.by_sheet_place, specs.Kept.by_since}
+use Rattle.state_rows.{specs.Kept.has_key, specs.Kept.Lists, specs.Kept.ListsKeys, specs.Kept.ListsMounts}
+use Rattle.state_rows.{specs.Kept.row_at, specs.Kept.since_is}
+use Rattle.std.{proofs.Common.Equal, proofs.Common.is_eq, proofs.Common.Less, proofs.Common.Ordering}
+use Rattle.std.{proofs.lemmas.Map.Keys.sorted_head, proofs.lemmas.Map.Keys.sorted_tail}
 
 less_equal : ◌≡◌ {A = Ordering} Less Equal → ⊥
 less_equal e = cc

@@ -1,19 +1,28 @@
 -- The expected rows of a history with one more entry.
-use Rattle.desk_types.proofs.Common.{[], ◌&&◌, ◌++◌, ◌+◌, ◌<◌, ◌==◌, ◌↔◌, ◌∙◌, ◌∷◌, ◌≡◌, ◌⊎◌, AllByRecursion, ap, ap₂}
-use Rattle.desk_types.proofs.Common.{arith, Bool, cons_option, Entry, eq-eqb, eqb-true, false, filter_map-append}
-use Rattle.desk_types.proofs.Common.{get_or, History, if◌then◌else◌, inl, inr, length, List, map, MountRow, Name}
-use Rattle.desk_types.proofs.Common.{None, Option, option_map, option_to_list, placement_row, PlacementRow}
-use Rattle.desk_types.proofs.Common.{PutAlternate, PutBoard, PutFound, PutMount, PutPart, PutPlacement, PutReel}
-use Rattle.desk_types.proofs.Common.{PutSelected, PutSheetRow, refl, RowEdit, Some, subst, sym, Tables, take}
-use Rattle.desk_types.proofs.Common.{take-next, TakeMount, takes_of, TakeSheetRow, true, with_edit, with_edits, ℕ}
-use Rattle.line_tables.proofs.Common.{Database, has_piece, IsOurs, KeepsCommit, placement_columns, rows_in, State}
-use Rattle.desk_types.specs.{Edits.AreNew, Edits.IsNew, Tables.tables_of as state_of}
+use Rattle.desk_types.proofs.Common.{[], ◌&&◌, ◌++◌, ◌+◌, ◌<◌, ◌==◌, ◌↔◌, ◌∙◌, ◌∷◌, ◌≡◌, ◌⊎◌, AllByRecursion}
+use Rattle.desk_types.proofs.Common.{ap, ap₂, arith, Bool, cons_option, eq-eqb, eqb-true, false}
+use Rattle.desk_types.proofs.Common.{filter_map-append, get_or, History, if◌then◌else◌, inl, inr, length}
+use Rattle.desk_types.proofs.Common.{List, map, Name, None, Option, option_map, option_to_list, placement_row}
+use Rattle.desk_types.proofs.Common.{refl, Some, subst, sym, Tables, take, take-next, takes_of, true}
+use Rattle.desk_types.proofs.Common.{with_edit, with_edits, ℕ}
+use Rattle.line_tables.proofs.Common.{Database, has_piece, IsOurs, KeepsCommit, placement_columns, RowEdit}
+use Rattle.line_tables.proofs.Common.{rows_in, State}
+use Rattle.desk_types.specs.Edits.{AreNew, IsNew}
+use Rattle.desk_types.specs.Tables.{tables_of as state_of}
+use Rattle.desk_types.specs.declared.command.Entry.{Entry}
+use Rattle.desk_types.specs.declared.edit.RowEdit.TheVariants.{PutAlternate, PutBoard, PutFound, PutMount}
+use Rattle.desk_types.specs.declared.edit.RowEdit.TheVariants.{PutPart, PutPlacement, PutReel, PutSelected}
+use Rattle.desk_types.specs.declared.edit.RowEdit.TheVariants.{PutSheetRow, TakeMount, TakeSheetRow}
+use Rattle.desk_types.specs.declared.row.MountRow.{MountRow}
+use Rattle.desk_types.specs.declared.row.PlacementRow.{PlacementRow}
 use Rattle.line_replay.proofs.ReadOfCommitted.{reads_back}
-use Rattle.line_replay.specs.{Alone.AreAlone, Alone.IsNamed, Alone.IsNew as IsNewPiece, Alone.Listed}
-use Rattle.line_replay.specs.{Audit.AreByPiece, Audit.ArePlaced, Audit.piece_of, Audit.Pieces, Expected.Adds}
-use Rattle.line_replay.specs.{Expected.AreExpected, Expected.AreKept, Expected.ArePlacedToo, Expected.Expected}
-use Rattle.line_replay.specs.{Expected.HoldsAsRead, Expected.LooksUp, Expected.placement_by, Expected.placements_by}
-use Rattle.line_replay.specs.{Judging.Lead, Placed.HasBefore, Placed.HasMoreBefore, declared.auditing.Placed.Placed}
+use Rattle.line_replay.specs.Alone.{AreAlone, IsNamed, IsNew as IsNewPiece, Listed}
+use Rattle.line_replay.specs.Audit.{AreByPiece, ArePlaced, piece_of, Pieces}
+use Rattle.line_replay.specs.Expected.{Adds, AreExpected, AreKept, ArePlacedToo, Expected, HoldsAsRead}
+use Rattle.line_replay.specs.Expected.{LooksUp, placement_by, placements_by}
+use Rattle.line_replay.specs.Judging.{Lead}
+use Rattle.line_replay.specs.Placed.{HasBefore, HasMoreBefore}
+use Rattle.line_replay.specs.declared.auditing.Placed.{Placed}
 use Rattle.state_rows.specs.Kept.{but_placements, KeptRows, tables_in, unnumbered, without_number}
 use Rattle.line_tables.specs.Line as line
 

@@ -1,9 +1,11 @@
 -- A row, judged again.
-use Rattle.desk_types.proofs.Common.{◌+◌, ◌∙◌, ◌≡◌, ap, Change, detail_of, effective_minute, Entry, entry_of, History}
-use Rattle.desk_types.proofs.Common.{IsChange, IsMinute, IsNext, IsStamped, length, List, None, pos, refl, Refusal}
-use Rattle.desk_types.proofs.Common.{refusal_of, Rules, Some, Stamped, stored_text, subst, sym, ℕ}
-use Rattle.line_tables.proofs.Common.{column, Int, Row, Text}
+use Rattle.desk_types.proofs.Common.{◌+◌, ◌∙◌, ◌≡◌, ap, detail_of, effective_minute, entry_of, History}
+use Rattle.desk_types.proofs.Common.{IsChange, IsMinute, IsNext, IsStamped, length, List, None, pos, refl}
+use Rattle.desk_types.proofs.Common.{refusal_of, Some, stored_text, subst, sym, ℕ}
+use Rattle.line_tables.proofs.Common.{column, Int, Row, Rules, Text}
 use Rattle.desk_answers.specs.{Commands.first_text, Texts.accepted_text}
+use Rattle.desk_types.specs.{declared.answer.Refusal.Refusal, declared.change.Change.Change}
+use Rattle.desk_types.specs.{declared.command.Entry.Entry, declared.command.Stamped.Stamped}
 use Rattle.line_replay.proofs.RowsTellLists.{next_entry, stamped_same, TextsTell}
 use Rattle.line_replay.specs.{Judging.GoesOn, Judging.IsMessageOf, Rows.columns, Rows.entry_row}
 use Rattle.line_tables.proofs.Finds.{seven}

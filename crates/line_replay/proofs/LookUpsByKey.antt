@@ -1,7 +1,8 @@
 -- The result of a look-up by a key.
-use Rattle.desk_types.proofs.Common.{[], ◌↔◌, ◌∷◌, ◌≡◌, Bool, filter, IsPermutation, IsPermutation-sym, IsTrue, List}
-use Rattle.desk_types.proofs.Common.{list_all, Some, subst, ℕ}
-use Rattle.line_tables.proofs.Common.{columns, Ghosts, Held, holds, output, Row, rows_in, state, Table, Term, tree_in}
+use Rattle.desk_types.proofs.Common.{[], ◌↔◌, ◌∷◌, ◌≡◌, Bool, filter, IsPermutation, IsPermutation-sym}
+use Rattle.desk_types.proofs.Common.{IsTrue, List, list_all, Some, subst, ℕ}
+use Rattle.line_tables.proofs.Common.{columns, Ghosts, Held, holds, output, Row, rows_in, state, Table, Term}
+use Rattle.line_tables.proofs.Common.{tree_in}
 use Rattle.line_replay.specs.Alone.{FindsAlone, ShowsOnly}
 use Rattle.line_tables.proofs.{FindTexts.IsSelectBy, FindTexts.rows_from, Finds.finds_rows, Finds.one_order}
 

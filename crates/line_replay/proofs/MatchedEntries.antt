@@ -1,8 +1,9 @@
 -- Entries that are looked up one after another.
-use Rattle.desk_types.proofs.Common.{[], ◌++◌, ◌+◌, ◌==◌, ◌∙◌, ◌∷◌, ◌≡◌, AllByRecursion, ap, append-nil, ap₂, arith}
-use Rattle.desk_types.proofs.Common.{Bool, eq-eqb, eqb-true, false, length, length-append, List, map, map-append}
-use Rattle.desk_types.proofs.Common.{None, Option, refl, Some, subst, sym, true, true≢false, ℕ}
-use Rattle.line_tables.proofs.Common.{all-append, AreRows, Database, IsOurs, KeepsCommit, Row, rows_in, State, Table}
+use Rattle.desk_types.proofs.Common.{[], ◌++◌, ◌+◌, ◌==◌, ◌∙◌, ◌∷◌, ◌≡◌, AllByRecursion, ap, append-nil, ap₂}
+use Rattle.desk_types.proofs.Common.{arith, Bool, eq-eqb, eqb-true, false, length, length-append, List, map}
+use Rattle.desk_types.proofs.Common.{map-append, None, Option, refl, Some, subst, sym, true, true≢false, ℕ}
+use Rattle.line_tables.proofs.Common.{all-append, AreRows, Database, IsOurs, KeepsCommit, Row, rows_in, State}
+use Rattle.line_tables.proofs.Common.{Table}
 use Rattle.line_replay.proofs.SameRows.{same_rows}
 use Rattle.line_replay.specs.Alone.{AreAlone, AreMatched, Decides, FindsAlone, HasOneKey, Listed}
 use Rattle.line_tables.proofs.Keeps.{reads_before}

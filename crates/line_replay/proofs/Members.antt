@@ -1,6 +1,7 @@
 -- If the rows of all entries are in the table, and the table has no more rows, each is the only one with its key.
-use Rattle.desk_types.proofs.Common.{[], ◌∙◌, ◌∷◌, ◌≡◌, ◌≤◌, ◌⊎◌, AllByRecursion, ap, arith, Bool, false, filter}
-use Rattle.desk_types.proofs.Common.{if◌then◌else◌, inl, inr, length, List, not, refl, sym, true, true≢false}
+use Rattle.desk_types.proofs.Common.{[], ◌∙◌, ◌∷◌, ◌≡◌, ◌≤◌, ◌⊎◌, AllByRecursion, ap, arith, Bool, false}
+use Rattle.desk_types.proofs.Common.{filter, if◌then◌else◌, inl, inr, length, List, not, refl, sym, true}
+use Rattle.desk_types.proofs.Common.{true≢false}
 use Rattle.line_tables.proofs.Common.{Has, Row}
 use Rattle.line_replay.proofs.SameRows.{lengths, others, without}
 use Rattle.line_replay.specs.Alone.{AreAlone, AreApart, IsNew}

@@ -1,12 +1,15 @@
 -- One more row is taken.
-use Rattle.desk_types.proofs.Common.{[], ◌+◌, ◌∙◌, ◌∷◌, ◌≡◌, ◌≤◌, ◌⊎◌, ap, arith, Basis, Entry, false, filter}
-use Rattle.desk_types.proofs.Common.{History, inl, inr, length, list_any, Option, Rules, Some, sym, true, true≢false}
+use Rattle.desk_types.proofs.Common.{[], ◌+◌, ◌∙◌, ◌∷◌, ◌≡◌, ◌≤◌, ◌⊎◌, ap, arith, Basis, false, filter}
+use Rattle.desk_types.proofs.Common.{History, inl, inr, length, list_any, Option, Some, sym, true, true≢false}
 use Rattle.desk_types.proofs.Common.{ℕ}
-use Rattle.line_tables.proofs.Common.{accepted_in, Database, has_number, is_before, KeepsCommit, only, Reads, Row}
-use Rattle.line_tables.proofs.Common.{State}
-use Rattle.line_replay.proofs.{ExpectedRows.expected_more, ReadOfCommitted.reads_back, ReadOfCommitted.reads_two}
+use Rattle.line_tables.proofs.Common.{accepted_in, Database, has_number, is_before, KeepsCommit, only, Reads}
+use Rattle.line_tables.proofs.Common.{Row, Rules, State}
+use Rattle.desk_types.specs.declared.command.Entry.{Entry}
+use Rattle.line_replay.proofs.{ExpectedRows.expected_more, ReadOfCommitted.reads_back}
+use Rattle.line_replay.proofs.{ReadOfCommitted.reads_two}
 use Rattle.line_replay.specs.{Expected.Expected, Judging.GoesOn, Listed.IsAt, Replay.Goes, Replay.IsStop}
-use Rattle.line_replay.specs.{Replay.IsStuck, Replay.IsTaken, Rows.entry_row, declared.fault.ReplayFault.ReplayFault}
+use Rattle.line_replay.specs.{Replay.IsStuck, Replay.IsTaken, Rows.entry_row}
+use Rattle.line_replay.specs.{declared.fault.ReplayFault.ReplayFault}
 use Rattle.line_replay.specs.{declared.fault.ReplayFault.TheVariants.NotLawful}
 use Rattle.line_replay.specs.{declared.fault.ReplayFault.TheVariants.Unavailable}
 

@@ -1,13 +1,13 @@
 -- The ends of the table of placements.
-use Rattle.desk_types.proofs.Common.{[], ◌∙◌, ◌∷◌, ◌≡◌, ◌⊎◌, All-from_recursion, All-permutation, AllByRecursion, ap}
-use Rattle.desk_types.proofs.Common.{arith, Bool, codes, filter, if◌then◌else◌, inl, inr, IsPermutation}
-use Rattle.desk_types.proofs.Common.{IsPermutation-map, IsPermutation-sym, length, length-map, length_permutation}
-use Rattle.desk_types.proofs.Common.{List, map, None, Option, pos, recursion_from_All, refl, Some, subst, sym, true}
-use Rattle.desk_types.proofs.Common.{ℕ, ℤ}
-use Rattle.line_tables.proofs.Common.{all_weaker, Binary, col, column, columns, Compare, Database, everything, Ge}
-use Rattle.line_tables.proofs.Common.{Ghosts, Held, Int, IsAnswer, IsLeast, kept_in, lit, op2, Output, output}
-use Rattle.line_tables.proofs.Common.{overlay, Query, Reads, Row, rowid, rows_in, Selects, state, understood}
-use Rattle.line_tables.proofs.Common.{value_cmp}
+use Rattle.desk_types.proofs.Common.{[], ◌∙◌, ◌∷◌, ◌≡◌, ◌⊎◌, All-from_recursion, All-permutation}
+use Rattle.desk_types.proofs.Common.{AllByRecursion, ap, arith, Bool, codes, filter, if◌then◌else◌, inl, inr}
+use Rattle.desk_types.proofs.Common.{IsPermutation, IsPermutation-map, IsPermutation-sym, length, length-map}
+use Rattle.desk_types.proofs.Common.{length_permutation, List, map, None, Option, pos, recursion_from_All}
+use Rattle.desk_types.proofs.Common.{refl, Some, subst, sym, true, ℕ, ℤ}
+use Rattle.line_tables.proofs.Common.{all_weaker, Binary, col, column, columns, Compare, Database, everything}
+use Rattle.line_tables.proofs.Common.{Ge, Ghosts, Held, Int, IsAnswer, IsLeast, kept_in, lit, op2, Output}
+use Rattle.line_tables.proofs.Common.{output, overlay, Query, Reads, Row, rowid, rows_in, Selects, state}
+use Rattle.line_tables.proofs.Common.{understood, value_cmp}
 use Rattle.line_replay.proofs.RowidRanges.{at_most, from_is, from_lower}
 use Rattle.line_replay.specs.Placed.{HasBefore, is_from}
 use Rattle.line_tables.proofs.FindTexts.{IsSelect, least_from, rows_from}

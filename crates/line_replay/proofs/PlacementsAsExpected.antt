@@ -1,11 +1,13 @@
 -- Whether the placements are the expected ones.
-use Rattle.desk_types.proofs.Common.{[], ◌&&◌, ◌==◌, ◌∙◌, ◌∷◌, ◌≡◌, and_parts, ap, ap₂, Bool, eq-eqb, eqb-true, false}
-use Rattle.desk_types.proofs.Common.{length, Option, PlacementRow, refl, subst, sym, true, ℕ}
-use Rattle.line_tables.proofs.Common.{Database, has_piece, IsOurs, KeepsCommit, placement_columns, Reads, rows_in}
-use Rattle.line_tables.proofs.Common.{State}
+use Rattle.desk_types.proofs.Common.{[], ◌&&◌, ◌==◌, ◌∙◌, ◌∷◌, ◌≡◌, and_parts, ap, ap₂, Bool, eq-eqb}
+use Rattle.desk_types.proofs.Common.{eqb-true, false, length, Option, refl, subst, sym, true, ℕ}
+use Rattle.line_tables.proofs.Common.{Database, has_piece, IsOurs, KeepsCommit, placement_columns, Reads}
+use Rattle.line_tables.proofs.Common.{rows_in, State}
+use Rattle.desk_types.specs.declared.row.PlacementRow.{PlacementRow}
 use Rattle.line_replay.proofs.{Members.alone_by_count, Members.AreTrue, SameRows.same_rows}
-use Rattle.line_replay.specs.{Alone.AreAlone, Alone.Decides, Audit.AreByPiece, Audit.ArePlaced, Audit.HasPlacements}
-use Rattle.line_replay.specs.{Audit.IsExpected, Audit.Pieces, Placed.HasBefore, declared.auditing.Placed.Placed}
+use Rattle.line_replay.specs.{Alone.AreAlone, Alone.Decides, Audit.AreByPiece, Audit.ArePlaced}
+use Rattle.line_replay.specs.{Audit.HasPlacements, Audit.IsExpected, Audit.Pieces, Placed.HasBefore}
+use Rattle.line_replay.specs.{declared.auditing.Placed.Placed}
 use Rattle.line_tables.proofs.Keyed.{one_piece, own_piece as piece_true}
 use Rattle.line_tables.specs.Line as line
 

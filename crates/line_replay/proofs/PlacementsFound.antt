@@ -1,18 +1,20 @@
 -- Placements that are looked up, and those that a query shows.
-use Rattle.desk_types.proofs.Common.{[], ◌&&◌, ◌+◌, ◌<◌, ◌∙◌, ◌∷◌, ◌≡◌, ◌≤◌, ◌⊎◌, All-from_recursion, All-permutation}
-use Rattle.desk_types.proofs.Common.{AllByRecursion, ap, ap₂, arith, Bool, codes, false, filter, get_or}
-use Rattle.desk_types.proofs.Common.{if◌then◌else◌, inl, inr, IsPermutation, length, length-map, length_permutation}
-use Rattle.desk_types.proofs.Common.{List, map, PlacementRow, pos, recursion_from_All, refl, Some, subst, sym, true}
-use Rattle.desk_types.proofs.Common.{true≢false, ℕ}
-use Rattle.line_tables.proofs.Common.{Binary, col, column, columns, Compare, Database, everything, Ge, Ghosts, Has}
-use Rattle.line_tables.proofs.Common.{has_piece, has_text, Held, Int, Lt, op2, overlay, placement_columns, Reads, Row}
-use Rattle.line_tables.proofs.Common.{rows_in, Selects, state, Term, understood}
+use Rattle.desk_types.proofs.Common.{[], ◌&&◌, ◌+◌, ◌<◌, ◌∙◌, ◌∷◌, ◌≡◌, ◌≤◌, ◌⊎◌, All-from_recursion}
+use Rattle.desk_types.proofs.Common.{All-permutation, AllByRecursion, ap, ap₂, arith, Bool, codes, false}
+use Rattle.desk_types.proofs.Common.{filter, get_or, if◌then◌else◌, inl, inr, IsPermutation, length}
+use Rattle.desk_types.proofs.Common.{length-map, length_permutation, List, map, pos, recursion_from_All, refl}
+use Rattle.desk_types.proofs.Common.{Some, subst, sym, true, true≢false, ℕ}
+use Rattle.line_tables.proofs.Common.{Binary, col, column, columns, Compare, Database, everything, Ge, Ghosts}
+use Rattle.line_tables.proofs.Common.{Has, has_piece, has_text, Held, Int, Lt, op2, overlay}
+use Rattle.line_tables.proofs.Common.{placement_columns, Reads, Row, rows_in, Selects, state, Term}
+use Rattle.line_tables.proofs.Common.{understood}
+use Rattle.desk_types.specs.declared.row.PlacementRow.{PlacementRow}
 use Rattle.line_replay.proofs.RowidRanges.{in_range, range_is, range_more}
-use Rattle.line_replay.specs.{Alone.AreAlone, Audit.ArePlaced, Audit.piece_of, Placed.AreHere, Placed.has_placement}
-use Rattle.line_replay.specs.{Placed.HasMoreBefore, Placed.is_from, Placed.IsRange}
-use Rattle.line_tables.proofs.{Between.placement_places, Between.shown-in, FindTexts.IsSelect, FindTexts.rows_from}
-use Rattle.line_tables.proofs.{Finds.answer_of, Finds.rows_answer, Finds.shown_is, Finds.shown_of, Finds.whole}
-use Rattle.line_tables.proofs.{Keyed.own_text}
+use Rattle.line_replay.specs.{Alone.AreAlone, Audit.ArePlaced, Audit.piece_of, Placed.AreHere}
+use Rattle.line_replay.specs.{Placed.has_placement, Placed.HasMoreBefore, Placed.is_from, Placed.IsRange}
+use Rattle.line_tables.proofs.{Between.placement_places, Between.shown-in, FindTexts.IsSelect}
+use Rattle.line_tables.proofs.{FindTexts.rows_from, Finds.answer_of, Finds.rows_answer, Finds.shown_is}
+use Rattle.line_tables.proofs.{Finds.shown_of, Finds.whole, Keyed.own_text}
 use Rattle.line_tables.specs.Line as line
 
 -- ---- rows that a query shows are in its table

@@ -1,13 +1,14 @@
 -- A row under the UniqueID of a message.
-use Rattle.desk_types.proofs.Common.{◌∙◌, ◌≡◌, ap, ap₂, cases_Bool, Entry, History, if◌then◌else◌, inl, inr}
-use Rattle.desk_types.proofs.Common.{IsCommand, List, Stamped, stored_text, string_bytes, sym, ℕ}
-use Rattle.desk_answers.{proofs.Sameness.equal_messages, proofs.Sameness.same_messages, specs.Commands.answer_under}
-use Rattle.desk_answers.{specs.Commands.first_text, specs.Repeats.is_same}
-use Rattle.desk_answers.{specs.declared.answer.Answer.TheVariants.Accepted}
-use Rattle.desk_answers.{specs.declared.answer.Answer.TheVariants.IdReused}
-use Rattle.desk_types.specs.Command.{IsEntry}
-use Rattle.line_replay.{proofs.RowsTellLists.stamped_same, proofs.RowsTellLists.TextsTell, specs.Rows.entry_row}
-use Rattle.line_tables.{specs.Rows.columns_of, specs.declared.edit.Accepted.Accepted as Row}
+use Rattle.desk_types.proofs.Common.{◌∙◌, ◌≡◌, ap, ap₂, cases_Bool, History, if◌then◌else◌, inl, inr}
+use Rattle.desk_types.proofs.Common.{IsCommand, List, stored_text, string_bytes, sym, ℕ}
+use Rattle.desk_answers.proofs.Sameness.{equal_messages, same_messages}
+use Rattle.desk_answers.specs.{Commands.answer_under, Commands.first_text, Repeats.is_same}
+use Rattle.desk_answers.specs.{declared.answer.Answer.TheVariants.Accepted}
+use Rattle.desk_answers.specs.{declared.answer.Answer.TheVariants.IdReused}
+use Rattle.desk_types.specs.{Command.IsEntry, declared.command.Entry.Entry, declared.command.Stamped.Stamped}
+use Rattle.line_replay.proofs.RowsTellLists.{stamped_same, TextsTell}
+use Rattle.line_replay.specs.Rows.{entry_row}
+use Rattle.line_tables.specs.{Rows.columns_of, declared.edit.Accepted.Accepted as Row}
 
 module _ (tells : TextsTell) (a : Row) (G : History) (e : Entry) (s : Stamped) (text : List ℕ) (is_entry : IsEntry e) (is_command : IsCommand s.command) (is_text : text ≡ stored_text s.command)
     (uid : e.stamped.uid ≡ s.uid) (row : columns_of a ≡ entry_row G e) where

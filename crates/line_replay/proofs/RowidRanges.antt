@@ -1,18 +1,19 @@
 -- Rows that a query shows by a range of rowids.
 use Rattle.desk_types.proofs.Common.{[], ◌&&◌, ◌+◌, ◌<◌, ◌∙◌, ◌∷◌, ◌≡◌, ◌≤◌, ap, arith, Bool, false, filter}
-use Rattle.desk_types.proofs.Common.{if◌then◌else◌, int_ranked, is_gt, is_lt, length, List, not, ordering_reverse}
-use Rattle.desk_types.proofs.Common.{pos, refl, Some, sym, true, true≢false, ℕ}
-use Rattle.line_tables.proofs.Common.{Binary, binary, column, Compare, Ge, is_true, Lt, Row, value_cmp, value_cmp-Int}
-use Rattle.line_tables.proofs.Common.{value_cmp_total}
+use Rattle.desk_types.proofs.Common.{if◌then◌else◌, int_ranked, is_gt, is_lt, length, List, not}
+use Rattle.desk_types.proofs.Common.{ordering_reverse, pos, refl, Some, sym, true, true≢false, ℕ}
+use Rattle.line_tables.proofs.Common.{Binary, binary, column, Compare, Ge, is_true, Lt, Row, value_cmp}
+use Rattle.line_tables.proofs.Common.{value_cmp-Int, value_cmp_total}
 use Rattle.line_replay.specs.Placed.{is_from}
 use Rattle.line_tables.proofs.Keyed.{truth_told as test_is}
 use Rattle.sqlite_sql.specs.Ops.{from_truth}
-use Rattle.sqlite_value.{proofs.OrderLemmas.value_cmp-Null, specs.declared.value.Value.Value}
-use Rattle.sqlite_value.{specs.declared.value.Value.TheVariants.Blob, specs.declared.value.Value.TheVariants.Int}
-use Rattle.sqlite_value.{specs.declared.value.Value.TheVariants.Null, specs.declared.value.Value.TheVariants.Real}
-use Rattle.sqlite_value.{specs.declared.value.Value.TheVariants.Text}
-use Rattle.std.{proofs.Common.Equal, proofs.Common.Greater, proofs.Common.Less, proofs.Common.Ordering}
-use Rattle.std.{proofs.Math.Facts.ltb_yes, proofs.lemmas.Cmp.upto, specs.Ordering.int_cmp, specs.Ordering.is_ge}
+use Rattle.sqlite_value.proofs.OrderLemmas.{value_cmp-Null}
+use Rattle.sqlite_value.specs.declared.value.Value.{Value}
+use Rattle.sqlite_value.specs.declared.value.Value.TheVariants.{Blob, Int, Null, Real, Text}
+use Rattle.std.proofs.Common.{Equal, Greater, Less, Ordering}
+use Rattle.std.proofs.Math.Facts.{ltb_yes}
+use Rattle.std.proofs.lemmas.Cmp.{upto}
+use Rattle.std.specs.Ordering.{int_cmp, is_ge}
 
 -- ---- a comparison in SQL, by the order of values
 

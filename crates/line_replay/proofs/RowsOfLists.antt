@@ -1,19 +1,21 @@
 -- The rows of a history whose entries have their rows in a table.
 use Rattle.desk_types.proofs.Common.{[], ◌++◌, ◌+◌, ◌<◌, ◌||◌, ◌∙◌, ◌∷◌, ◌≡◌, ◌≤◌, All-from_recursion}
-use Rattle.desk_types.proofs.Common.{All-permutation, AllByRecursion, ap, append-nil, arith, Bool, cases_Bool, Entry}
+use Rattle.desk_types.proofs.Common.{All-permutation, AllByRecursion, ap, append-nil, arith, Bool, cases_Bool}
 use Rattle.desk_types.proofs.Common.{false, filter, filter-append, History, if◌then◌else◌, inl, inr, is_gt}
 use Rattle.desk_types.proofs.Common.{IsDistinct, IsJudged, IsLawful, IsPermutation, IsPermutation-refl}
 use Rattle.desk_types.proofs.Common.{IsPermutation-sym, IsPermutation-trans, length, length-append}
-use Rattle.desk_types.proofs.Common.{length_permutation, List, list_any, map, not, recursion_from_All, refl, Rules}
+use Rattle.desk_types.proofs.Common.{length_permutation, List, list_any, map, not, recursion_from_All, refl}
 use Rattle.desk_types.proofs.Common.{same, same-sym, Some, subst, subst₂, sym, true, ℕ, ℤ}
 use Rattle.line_tables.proofs.Common.{Binary, collated, filter_none, has_number, Int, is_before, IsLeast}
-use Rattle.line_tables.proofs.Common.{IsPermutation-filter, one_permutation, Row}
+use Rattle.line_tables.proofs.Common.{IsPermutation-filter, one_permutation, Row, Rules}
+use Rattle.desk_types.specs.declared.command.Entry.{Entry}
 use Rattle.line_replay.proofs.{RowsTellLists.rows-length, Tests.before_test, Tests.neither_less}
 use Rattle.line_replay.proofs.{Tests.not_below_itself, Tests.other_number}
 use Rattle.line_replay.specs.{Listed.AreAt, Listed.AreRowsOf, Rows.entry_row, Rows.rows_of}
 use Rattle.sqlite_value.specs.declared.value.Value.{Value}
-use Rattle.std.proofs.{lemmas.List.Sorted.IsPermutation-append_right, lemmas.List.Sorted.IsPermutation-filter_both}
-use Rattle.std.proofs.{lemmas.List.Sorted.IsPermutation-middle, lemmas.Map.Keys.IsDistinct-cons}
+use Rattle.std.proofs.{lemmas.List.Sorted.IsPermutation-append_right}
+use Rattle.std.proofs.{lemmas.List.Sorted.IsPermutation-filter_both, lemmas.List.Sorted.IsPermutation-middle}
+use Rattle.std.proofs.{lemmas.Map.Keys.IsDistinct-cons}
 
 -- ---- the least number
 

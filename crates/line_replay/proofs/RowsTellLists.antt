@@ -1,9 +1,11 @@
 -- The rows of a history determine it.
-use Rattle.desk_types.proofs.Common.{[], ◌+◌, ◌<◌, ◌==◌, ◌∙◌, ◌∷◌, ◌≡◌, AllByRecursion, ap, ap₂, arith, Bool, Command}
-use Rattle.desk_types.proofs.Common.{Entry, entry_of, false, filter, History, if◌then◌else◌, IsCommand, IsJudged}
-use Rattle.desk_types.proofs.Common.{IsNext, IsPermutation, length, length_permutation, List, nat_tests, not, pos}
-use Rattle.desk_types.proofs.Common.{refl, Rules, Stamped, stored_text, subst₂, sym, true, ℕ}
-use Rattle.line_tables.proofs.Common.{filter_none, Int, IsPermutation-filter, one_permutation, Row}
+use Rattle.desk_types.proofs.Common.{[], ◌+◌, ◌<◌, ◌==◌, ◌∙◌, ◌∷◌, ◌≡◌, AllByRecursion, ap, ap₂, arith, Bool}
+use Rattle.desk_types.proofs.Common.{entry_of, false, filter, History, if◌then◌else◌, IsCommand, IsJudged}
+use Rattle.desk_types.proofs.Common.{IsNext, IsPermutation, length, length_permutation, List, nat_tests, not}
+use Rattle.desk_types.proofs.Common.{pos, refl, stored_text, subst₂, sym, true, ℕ}
+use Rattle.line_tables.proofs.Common.{filter_none, Int, IsPermutation-filter, one_permutation, Row, Rules}
+use Rattle.desk_types.specs.{declared.command.Command.Command, declared.command.Entry.Entry}
+use Rattle.desk_types.specs.{declared.command.Stamped.Stamped}
 use Rattle.line_replay.specs.Rows.{entry_row, rows_of}
 use Rattle.sqlite_trees.proofs.ListLemmas.{filter_all}
 

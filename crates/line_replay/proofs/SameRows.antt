@@ -1,8 +1,8 @@
 -- If each entry's row is the only one with its key, and there are as many entries as rows, the rows are those of the
 -- map.
-use Rattle.desk_types.proofs.Common.{[], ◌+◌, ◌↔◌, ◌∙◌, ◌∷◌, ◌≡◌, AllByRecursion, ap, arith, Bool, false, filter}
-use Rattle.desk_types.proofs.Common.{if◌then◌else◌, inl, inr, IsTrue, length, List, None, not, Option, option_map}
-use Rattle.desk_types.proofs.Common.{option_to_list, refl, Some, subst, sym, true, true≢false}
+use Rattle.desk_types.proofs.Common.{[], ◌+◌, ◌↔◌, ◌∙◌, ◌∷◌, ◌≡◌, AllByRecursion, ap, arith, Bool, false}
+use Rattle.desk_types.proofs.Common.{filter, if◌then◌else◌, inl, inr, IsTrue, length, List, None, not, Option}
+use Rattle.desk_types.proofs.Common.{option_map, option_to_list, refl, Some, subst, sym, true, true≢false}
 use Rattle.line_tables.proofs.Common.{all_weaker, AreRows, Row}
 use Rattle.line_replay.specs.Alone.{AreAlone, AreApart, IsNamed, IsNew, Listed}
 use Rattle.line_tables.proofs.Numbers.{some_same}

@@ -1,10 +1,12 @@
 -- The place where the rows stop being a history.
-use Rattle.desk_types.proofs.Common.{[], ◌+◌, ◌<◌, ◌∙◌, ◌∷◌, ◌≡◌, ◌≤◌, ◌⊎◌, ap, arith, Entry, filter, History, inl}
-use Rattle.desk_types.proofs.Common.{inr, IsJudged, length, length-map, length_permutation, List, pos, refl, Rules}
+use Rattle.desk_types.proofs.Common.{[], ◌+◌, ◌<◌, ◌∙◌, ◌∷◌, ◌≡◌, ◌≤◌, ◌⊎◌, ap, arith, filter, History, inl}
+use Rattle.desk_types.proofs.Common.{inr, IsJudged, length, length-map, length_permutation, List, pos, refl}
 use Rattle.desk_types.proofs.Common.{Some, sym, ℕ, ℤ}
-use Rattle.line_tables.proofs.Common.{column, has_number, IsLeast, Row}
+use Rattle.line_tables.proofs.Common.{column, has_number, IsLeast, Row, Rules}
+use Rattle.desk_types.specs.declared.command.Entry.{Entry}
 use Rattle.line_replay.proofs.RowsOfLists.{lawful_at, more_rows, no_fewer, one_least}
-use Rattle.line_replay.specs.{Listed.AreAt, Listed.BeginWith, Listed.StopsAt, Replay.IsNumbered, Replay.IsStuck}
+use Rattle.line_replay.specs.Listed.{AreAt, BeginWith, StopsAt}
+use Rattle.line_replay.specs.Replay.{IsNumbered, IsStuck}
 
 some_least : (rows : List Row) (n : ℤ) → IsLeast rows (Some n) → 0 < length rows
 some_least rows n h = omega (arith, length_permutation _ _ h.1, length-map rows (λ row. column row 0))

@@ -1,13 +1,15 @@
 -- SQL's tests of the columns of an entry's row.
-use Rattle.desk_types.proofs.Common.{◌&&◌, ◌<◌, ◌∙◌, ◌≡◌, ap, ap₂, arith, Entry, false, History, int_cmp, int_ranked}
-use Rattle.desk_types.proofs.Common.{is_gt, is_lt, List, nat_tests, ordering_reverse, pos, refl, same, sym}
-use Rattle.desk_types.proofs.Common.{texts_ties, tied_itself, true, ℕ, ℤ}
-use Rattle.line_tables.proofs.Common.{Binary, binary, collated, Compare, equal, has_number, has_uid, Int, is_before}
-use Rattle.line_tables.proofs.Common.{is_true, Lt, Text, value_cmp, value_cmp-Int, value_cmp-Text, value_cmp_total}
+use Rattle.desk_types.proofs.Common.{◌&&◌, ◌<◌, ◌∙◌, ◌≡◌, ap, ap₂, arith, false, History, int_cmp, int_ranked}
+use Rattle.desk_types.proofs.Common.{ints, is_gt, is_lt, List, nat_tests, ordering_reverse, pos, refl, same}
+use Rattle.desk_types.proofs.Common.{sym, texts_ties, tied_itself, true, ℕ, ℤ}
+use Rattle.line_tables.proofs.Common.{Binary, binary, collated, Compare, equal, has_number, has_uid, Int}
+use Rattle.line_tables.proofs.Common.{is_before, is_true, Lt, Text, value_cmp, value_cmp-Int, value_cmp-Text}
+use Rattle.line_tables.proofs.Common.{value_cmp_total}
+use Rattle.desk_types.specs.declared.command.Entry.{Entry}
 use Rattle.line_replay.specs.Rows.{entry_row}
 use Rattle.line_tables.proofs.Keyed.{number_test, truth_told}
-use Rattle.std.proofs.{Common.Equal, Common.Greater, Common.is_eq, Common.Less, Common.Ordering}
-use Rattle.std.proofs.{lemmas.Cmp.int_cmp_total, lemmas.Int.ints}
+use Rattle.std.proofs.Common.{Equal, Greater, is_eq, Less, Ordering}
+use Rattle.std.proofs.lemmas.Cmp.{int_cmp_total}
 
 text_test : (a b : List ℕ) → equal Binary (Text a) (Text b) ≡ is_eq (value_cmp (Text a) (Text b))
 unfolding binary

@@ -1,16 +1,17 @@
 -- The meaning and the results of the texts.
-use Rattle.desk_types.proofs.Common.{[], ◌&&◌, ◌++◌, ◌<◌, ◌∷◌, ◌≡◌, ap, Bool, codes, Err, IfOk, inl, inr, List, Name}
-use Rattle.desk_types.proofs.Common.{Ok, One, PlacementRow, pos, refl, Result, Two, ℕ}
+use Rattle.desk_types.proofs.Common.{[], ◌&&◌, ◌++◌, ◌<◌, ◌∷◌, ◌≡◌, ap, Bool, codes, Err, IfOk, inl, inr}
+use Rattle.desk_types.proofs.Common.{List, Name, Ok, pos, refl, Result, ℕ}
 use Rattle.line_tables.proofs.Common.{Binary, col, columns, Compare, Eq, Error, everything, Ghosts, has_pair}
-use Rattle.line_tables.proofs.Common.{has_sheet_place, has_text, Held, Indexed, Int, op2, Plain, Row, Selects, state}
-use Rattle.line_tables.proofs.Common.{Term, Text, tree_in, understood}
+use Rattle.line_tables.proofs.Common.{has_sheet_place, has_text, Held, Indexed, Int, One, op2, Plain, Row}
+use Rattle.line_tables.proofs.Common.{Selects, state, Term, Text, tree_in, Two, understood}
+use Rattle.desk_types.specs.declared.row.PlacementRow.{PlacementRow}
 use Rattle.line_replay.proofs.LookUpsByKey.{finds_alone}
 use Rattle.line_replay.specs.Alone.{Counts, FindsAlone, ShowsOnly}
 use Rattle.line_replay.specs.Placed.{has_placement}
 use Rattle.line_replay.specs.TableNames.{name_of, table_of}
 use Rattle.line_replay.specs.declared.table.StateTable.{StateTable}
-use Rattle.line_replay.specs.declared.table.StateTable.TheVariants.{Alternate, Board, Found, Mount, Part, Placement}
-use Rattle.line_replay.specs.declared.table.StateTable.TheVariants.{Reel, Selected, SheetRow}
+use Rattle.line_replay.specs.declared.table.StateTable.TheVariants.{Alternate, Board, Found, Mount, Part}
+use Rattle.line_replay.specs.declared.table.StateTable.TheVariants.{Placement, Reel, Selected, SheetRow}
 use Rattle.line_tables.proofs.Between.{placement_places}
 use Rattle.line_tables.proofs.FindTexts.{count_from, IsSelect, IsSelectBy, rows_from}
 use Rattle.line_tables.proofs.Finds.{and_true}

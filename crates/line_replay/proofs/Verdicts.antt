@@ -1,7 +1,7 @@
 -- The verdict over all tables.
-use Rattle.desk_types.proofs.Common.{[], ◌++◌, ◌+◌, ◌<◌, ◌∷◌, ◌≡◌, AllByRecursion, ap, arith, drop, get_or, length}
-use Rattle.desk_types.proofs.Common.{List, Name, None, One, refl, Rules, suc, take, take_more, Two, zero, ℕ}
-use Rattle.line_tables.proofs.Common.{all-append, Database}
+use Rattle.desk_types.proofs.Common.{[], ◌++◌, ◌+◌, ◌<◌, ◌∷◌, ◌≡◌, AllByRecursion, ap, arith, drop, get_or}
+use Rattle.desk_types.proofs.Common.{length, List, Name, None, refl, suc, take, take_more, zero, ℕ}
+use Rattle.line_tables.proofs.Common.{all-append, Database, One, Rules, Two}
 use Rattle.desk_types.specs.Tables.{Tables as StateTables}
 use Rattle.line_replay.specs.Audit.{found_table, HoldsTable, state_tables}
 use Rattle.line_tables.specs.StateRows.{HoldsFoundBy, HoldsStateBy}

@@ -1,7 +1,7 @@
 -- The rows of the desk after the edits that were committed.
-use Rattle.desk_types.proofs.Common.{[], ◌∙◌, ◌∷◌, ◌≡◌, ap, History, IfSome, List, None, Option, refl, RowEdit, Some}
+use Rattle.desk_types.proofs.Common.{[], ◌∙◌, ◌∷◌, ◌≡◌, ap, History, IfSome, List, None, Option, refl, Some}
 use Rattle.desk_types.proofs.Common.{subst, sym, with_edit, with_edits, ℕ}
-use Rattle.line_tables.proofs.Common.{after_edits, command_edits, row_edits}
+use Rattle.line_tables.proofs.Common.{after_edits, command_edits, row_edits, RowEdit}
 use Rattle.desk_types.specs.Tables.{tables_of as state_of}
 use Rattle.line_replay.proofs.ExpectedRows.{kept_more}
 use Rattle.line_replay.specs.{Expected.AreKept, Rows.ledger_tables, Rows.rows_of}

@@ -1,14 +1,18 @@
 -- The history after an answer to a command, and the tables that a crash may leave.
-use Rattle.desk_types.proofs.Common.{[], ◌<◌, ◌∙◌, ◌∷◌, ◌≡◌, ◌⊎◌, accept, ap, Bool, Change, Err, false, History, IfOk}
-use Rattle.desk_types.proofs.Common.{if◌then◌else◌, inl, inr, is_some, IsChange, length, MatchBool, None, Ok, OnOk}
-use Rattle.desk_types.proofs.Common.{Option, refl, Reply, reply_to, Result, same, Some, Stamped, subst, sym, true}
-use Rattle.desk_types.proofs.Common.{Two, unwrap_or}
+use Rattle.desk_types.proofs.Common.{[], ◌<◌, ◌∙◌, ◌∷◌, ◌≡◌, ◌⊎◌, accept, ap, Bool, Err, false, History, IfOk}
+use Rattle.desk_types.proofs.Common.{if◌then◌else◌, inl, inr, is_some, IsChange, length, MatchBool, None, Ok}
+use Rattle.desk_types.proofs.Common.{OnOk, Option, refl, reply_to, Result, same, Some, subst, sym, true}
+use Rattle.desk_types.proofs.Common.{unwrap_or}
+use Rattle.desk_laws.proofs.Common.{Stamped, Two}
 use Rattle.line_tables.proofs.Common.{HoldsAt, Trees}
 use Rattle.desk_answers.specs.Commands.{answer_under, command_after, command_answer, earlier_answer, is_full}
 use Rattle.desk_answers.specs.Commands.{judged_answer}
 use Rattle.desk_answers.specs.Repeats.{is_same}
 use Rattle.desk_answers.specs.declared.answer.Answer.{Answer}
-use Rattle.desk_answers.specs.declared.answer.Answer.TheVariants.{Accepted, DeskFull, IdReused, Refused, Unavailable}
+use Rattle.desk_answers.specs.declared.answer.Answer.TheVariants.{Accepted, DeskFull, IdReused, Refused}
+use Rattle.desk_answers.specs.declared.answer.Answer.TheVariants.{Unavailable}
+use Rattle.desk_types.specs.declared.answer.Reply.{Reply}
+use Rattle.desk_types.specs.declared.change.Change.{Change}
 use Rattle.line_replay.specs.Rows.{ledger_tables}
 use Rattle.line_schema.specs.Stands.{answer_in, Kept, kept_after, Leaves, NewlyLeaves}
 use Rattle.line_schema.specs.declared.unavailable.Unavailable.{Unavailable as Fault}

@@ -1,11 +1,13 @@
 -- The answer by the row that has the UniqueID.
-use Rattle.desk_types.proofs.Common.{[], ◌∙◌, ◌∷◌, ◌≡◌, ap, Bool, cases_Bool, Entry, false, filter, History}
-use Rattle.desk_types.proofs.Common.{if◌then◌else◌, inl, inr, IsJudged, IsTrue, None, Option, refl, Rules, same}
-use Rattle.desk_types.proofs.Common.{same-true, Some, Stamped, sym, true}
+use Rattle.desk_types.proofs.Common.{[], ◌∙◌, ◌∷◌, ◌≡◌, ap, Bool, cases_Bool, false, filter, History}
+use Rattle.desk_types.proofs.Common.{if◌then◌else◌, inl, inr, IsJudged, IsTrue, None, Option, refl, same}
+use Rattle.desk_types.proofs.Common.{same-true, Some, sym, true}
+use Rattle.desk_laws.proofs.Common.{Entry, Rules, Stamped}
 use Rattle.line_tables.proofs.Common.{accepted_in, has_uid, Holds, Reads, Row, row_of, State}
 use Rattle.desk_answers.specs.Commands.{answer_under, earlier_answer}
 use Rattle.desk_types.specs.Command.{IsEntry}
-use Rattle.line_replay.{proofs.Tests.uid_test, specs.Rows.entry_row, specs.Rows.ledger_tables, specs.Rows.rows_of}
+use Rattle.line_replay.{proofs.Tests.uid_test, specs.Rows.entry_row, specs.Rows.ledger_tables}
+use Rattle.line_replay.{specs.Rows.rows_of}
 use Rattle.line_tables.{proofs.Holding.row_held, specs.declared.edit.Accepted.Accepted}
 
 -- The place of an entry with the UniqueID.

@@ -1,5 +1,6 @@
 -- The file and other people's tables in it, over each step of a command.
-use Rattle.desk_types.proofs.Common.{⊤, ◌≡◌, arith, Err, inl, inr, IsTrue, List, Ok, OnOk, refl, Result, subst, sym}
+use Rattle.desk_types.proofs.Common.{⊤, ◌≡◌, arith, Err, inl, inr, IsTrue, List, Ok, OnOk, refl, Result}
+use Rattle.desk_types.proofs.Common.{subst, sym}
 use Rattle.line_tables.proofs.Common.{Database, Edit, Ghosts, HasCleanDisk, Held, KeepsCommit, KeepsOthers}
 use Rattle.line_tables.proofs.Common.{LeavesEdited, ReadsOnly, State, state, Survives, survives_then, Trees}
 use Rattle.line_schema.specs.Frames.{LeavesFile, LeavesOthers, LetsOthersBe}

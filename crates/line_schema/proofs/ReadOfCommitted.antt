@@ -1,12 +1,14 @@
 -- Reads of the version and of the history, in terms of the earlier committed contents.
-use Rattle.desk_types.proofs.Common.{◌==◌, ◌∙◌, ◌≡◌, ◌≢◌, ◌≤◌, ◌⊎◌, ap, Basis, basis, Err, found_row, History, IfErr}
-use Rattle.desk_types.proofs.Common.{if◌then◌else◌, inl, inr, IsJudged, IsLawful, IsTrue, MOST_ENTRIES, Name, None}
-use Rattle.desk_types.proofs.Common.{Ok, One, Option, placement_row, PlacementRow, pos, refl, Result, Rules, Some}
-use Rattle.desk_types.proofs.Common.{subst, sym, true, Two, ℕ, ℤ}
-use Rattle.line_tables.proofs.Common.{Database, Ghosts, has_state, Held, HoldsBy, is_ours, KeepsCommit, Reads}
-use Rattle.line_tables.proofs.Common.{ReadsOnly, State, version_in}
+use Rattle.desk_types.proofs.Common.{◌==◌, ◌∙◌, ◌≡◌, ◌≢◌, ◌≤◌, ◌⊎◌, ap, Basis, basis, Err, found_row, History}
+use Rattle.desk_types.proofs.Common.{IfErr, if◌then◌else◌, inl, inr, IsJudged, IsLawful, IsTrue, Name, None}
+use Rattle.desk_types.proofs.Common.{Ok, Option, placement_row, pos, refl, Result, Some, subst, sym, true, ℕ}
+use Rattle.desk_types.proofs.Common.{ℤ}
+use Rattle.desk_laws.proofs.Common.{MOST_ENTRIES, Rules, Two}
+use Rattle.line_tables.proofs.Common.{Database, Ghosts, has_state, Held, HoldsBy, is_ours, KeepsCommit, One}
+use Rattle.line_tables.proofs.Common.{Reads, ReadsOnly, State, version_in}
 use Rattle.desk_laws.proofs.RulesOne.{nothing-found}
-use Rattle.desk_types.specs.Tables.{Tables as StateTables, tables_of as state_of}
+use Rattle.desk_types.specs.{Tables.Tables as StateTables, Tables.tables_of as state_of}
+use Rattle.desk_types.specs.{declared.row.PlacementRow.PlacementRow}
 use Rattle.line_replay.proofs.{PlacementsAsExpected.expected_after, ReadOfCommitted.reads_as}
 use Rattle.line_replay.proofs.{ReadOfCommitted.reads_back, Verdicts.all_right}
 use Rattle.line_replay.specs.{Audit.IsExpected, Audit.IsVerdict, Audit.Pieces, Audit.state_tables}
@@ -15,9 +17,11 @@ use Rattle.line_replay.specs.{Replay.IsFaultOf as IsReplayFault, Replay.IsReplay
 use Rattle.line_replay.specs.{declared.fault.ReplayFault.ReplayFault, declared.table.StateTable.StateTable}
 use Rattle.line_schema.specs.{Opening.IsFaultBy, Opening.IsGreatest, Opening.IsNamedBy, Opening.IsNoDeskBy}
 use Rattle.line_schema.specs.{Opening.IsOpened, Opening.IsVersion, Opening.opening_fault}
-use Rattle.line_schema.specs.{declared.fault.OpenFault.OpenFault, declared.fault.OpenFault.TheVariants.NotADesk}
+use Rattle.line_schema.specs.{declared.fault.OpenFault.OpenFault}
+use Rattle.line_schema.specs.{declared.fault.OpenFault.TheVariants.NotADesk}
 use Rattle.line_schema.specs.{declared.fault.OpenFault.TheVariants.OtherVersion}
-use Rattle.line_schema.specs.{declared.fault.OpenFault.TheVariants.TableDiffers, declared.opening.Opened.Opened}
+use Rattle.line_schema.specs.{declared.fault.OpenFault.TheVariants.TableDiffers}
+use Rattle.line_schema.specs.{declared.opening.Opened.Opened}
 use Rattle.line_tables.proofs.{Frames.reads_then, Ours.ours_is, Ours.ours_whole}
 use Rattle.line_tables.specs.{Calls.IsVersionOf, Rowids.AreAllApartBy, Rows.version_of}
 use Rattle.line_tables.specs.{declared.version.Version.Version}

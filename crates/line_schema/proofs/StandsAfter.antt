@@ -1,21 +1,24 @@
 -- The history that a store represents after a call.
-use Rattle.desk_types.proofs.Common.{◌+◌, ◌<◌, ◌||◌, ◌∙◌, ◌≡◌, ◌≤◌, ◌⊎◌, accept, Accepted, after_command, ap, arith}
-use Rattle.desk_types.proofs.Common.{Basis, basis, Bool, Change, change_of, Entry, Err, false, History, IfOk, IfSome}
+use Rattle.desk_types.proofs.Common.{◌+◌, ◌<◌, ◌||◌, ◌∙◌, ◌≡◌, ◌≤◌, ◌⊎◌, accept, after_command, ap, arith}
+use Rattle.desk_types.proofs.Common.{Basis, basis, Bool, change_of, Err, false, History, IfOk, IfSome}
 use Rattle.desk_types.proofs.Common.{if◌then◌else◌, inl, inr, is_some, IsChange, IsJudged, IsLawful, IsMinute}
 use Rattle.desk_types.proofs.Common.{IsSomeAnd, IsStamped, IsTrue, length, List, map, None, Ok, OnOk, Option}
-use Rattle.desk_types.proofs.Common.{option_map_or, refl, Refused, reply_to, Result, Rules, same, Some, Stamped}
-use Rattle.desk_types.proofs.Common.{subst, sym, true, true≢false, Two}
+use Rattle.desk_types.proofs.Common.{option_map_or, refl, reply_to, Result, same, Some, subst, sym, true}
+use Rattle.desk_types.proofs.Common.{true≢false}
+use Rattle.desk_laws.proofs.Common.{Accepted, Entry, Refused, Rules, Stamped, Two}
 use Rattle.line_tables.proofs.Common.{after_edits, AreNew, Database, Edit, Edits, Ghosts, HasCleanDisk, Holds}
-use Rattle.line_tables.proofs.Common.{HoldsAt, KeepsCommit, LeavesEdited, ReadsOnly, State, state, Survives, Trees}
+use Rattle.line_tables.proofs.Common.{HoldsAt, KeepsCommit, LeavesEdited, ReadsOnly, State, state, Survives}
+use Rattle.line_tables.proofs.Common.{Trees}
 use Rattle.desk_answers.proofs.FirstTime.{first-uid}
 use Rattle.desk_answers.specs.{Commands.command_after, Commands.earlier_answer, Commands.is_full}
 use Rattle.desk_answers.specs.{Commands.judged_answer, declared.answer.Answer.Answer}
 use Rattle.desk_laws.proofs.JudgedLists.{consistent}
+use Rattle.desk_types.specs.declared.change.Change.{Change}
 use Rattle.line_replay.proofs.Judgements.{next_is, stamped_is}
 use Rattle.line_replay.specs.{Expected.AreKept, Rows.ledger_tables}
 use Rattle.line_schema.specs.{Answered.AnswersOrFails, Answered.Commits, Frames.ReadsStore, Stands.HasRows}
-use Rattle.line_schema.specs.{Stands.Kept, Stands.ShowsTables, Stands.Stands, Stands.StaysOpen, Stands.with_command}
-use Rattle.line_schema.specs.{Stands.WorksFor, declared.store.LineStore.LineStore}
+use Rattle.line_schema.specs.{Stands.Kept, Stands.ShowsTables, Stands.Stands, Stands.StaysOpen}
+use Rattle.line_schema.specs.{Stands.with_command, Stands.WorksFor, declared.store.LineStore.LineStore}
 use Rattle.line_schema.specs.{declared.unavailable.Unavailable.Unavailable as Fault}
 use Rattle.line_tables.specs.Rows.{Tables}
 use Rattle.line_traces.specs.{Working.IsWorking, declared.working.Working.Working}

@@ -1,6 +1,7 @@
 -- The result of a trace, for the history that a store represents.
-use Rattle.desk_types.proofs.Common.{[], ◌∷◌, ◌≡◌, AllZip, arith, Basis, basis, History, IfSome, IsTrue, None, Option}
-use Rattle.desk_types.proofs.Common.{refl, Some, subst, sym, Two}
+use Rattle.desk_types.proofs.Common.{[], ◌∷◌, ◌≡◌, AllZip, arith, Basis, basis, History, IfSome, IsTrue, None}
+use Rattle.desk_types.proofs.Common.{Option, refl, Some, subst, sym}
+use Rattle.desk_laws.proofs.Common.{Two}
 use Rattle.line_tables.proofs.Common.{Ghosts, HasCleanDisk, State, state, Survives}
 use Rattle.line_replay.specs.Rows.{rows_of}
 use Rattle.line_schema.specs.{Stands.Kept, Stands.Stands, Stands.WorksFor, declared.store.LineStore.LineStore}

@@ -1,7 +1,8 @@
 -- The tables that a crash may leave after commands that were answered Unavailable.
-use Rattle.desk_types.proofs.Common.{[], ◌||◌, ◌∷◌, ◌≡◌, ◌⊎◌, accept, after_command, ap, Basis, Bool, entry_of, false}
-use Rattle.desk_types.proofs.Common.{History, if◌then◌else◌, inl, inr, is_some, IsTrue, List, MatchBool, same-refl}
-use Rattle.desk_types.proofs.Common.{Some, Stamped, subst, sym, true, Two}
+use Rattle.desk_types.proofs.Common.{[], ◌||◌, ◌∷◌, ◌≡◌, ◌⊎◌, accept, after_command, ap, Basis, Bool}
+use Rattle.desk_types.proofs.Common.{entry_of, false, History, if◌then◌else◌, inl, inr, is_some, IsTrue, List}
+use Rattle.desk_types.proofs.Common.{MatchBool, same-refl, Some, subst, sym, true}
+use Rattle.desk_laws.proofs.Common.{Stamped, Two}
 use Rattle.line_tables.proofs.Common.{Ghosts, HasCleanDisk, Trees}
 use Rattle.desk_answers.specs.{Commands.answer_under, Commands.command_after, Commands.earlier_answer}
 use Rattle.desk_answers.specs.{Commands.is_full, declared.answer.Answer.TheVariants.Unavailable}

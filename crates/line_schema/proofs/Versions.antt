@@ -1,9 +1,9 @@
 -- A file that was migrated from version 1 to version 2.
-use Rattle.desk_types.proofs.Common.{◌∙◌, ◌≡◌, ap, Basis, History, IsTrue, map, One, subst, sym}
+use Rattle.desk_types.proofs.Common.{◌∙◌, ◌≡◌, ap, Basis, History, IsTrue, map, subst, sym}
+use Rattle.desk_laws.proofs.Common.{judged-by-two}
 use Rattle.line_tables.proofs.Common.{accepted_columns, accepted_in, Database, HasCleanDisk, HoldsBy, IsOurs}
-use Rattle.line_tables.proofs.Common.{KeepsCommit, LeavesMigrated, Migrated, Reads, State, Survives, survives_then}
-use Rattle.line_tables.proofs.Common.{Trees}
-use Rattle.desk_types.proofs.BothRules.{judged-by-two}
+use Rattle.line_tables.proofs.Common.{KeepsCommit, LeavesMigrated, Migrated, One, Reads, State, Survives}
+use Rattle.line_tables.proofs.Common.{survives_then, Trees}
 use Rattle.line_replay.specs.Rows.{ledger_tables}
 use Rattle.line_schema.{proofs.ReadOfCommitted.opened_holds, specs.Opening.IsNamedBy, specs.Opening.IsOpened}
 use Rattle.line_schema.{specs.Versions.IsMigrated, specs.declared.opening.Opened.Opened}

@@ -1,15 +1,16 @@
 -- The effect of each kind of statement on the rows of its table.
-use Rattle.desk_types.proofs.Common.{[], ◌&&◌, ◌∙◌, ◌∷◌, ◌≡◌, ap, ap₂, arith, Bool, cases_Bool, drop, false, filter}
-use Rattle.desk_types.proofs.Common.{inl, inr, IsPermutation, IsPermutation-cons, IsPermutation-map}
-use Rattle.desk_types.proofs.Common.{IsPermutation-refl, IsPermutation-sym, IsPermutation-trans, IsTrue, length, List}
-use Rattle.desk_types.proofs.Common.{map, not, refl, subst, subst₂, sym, true, Two, ℕ}
-use Rattle.line_tables.proofs.Common.{AreApart, cast_row, Chosen, columns, Database, Has, ids_of, is_int, is_taken}
-use Rattle.line_tables.proofs.Common.{IsPermutation-filter, Layout, one_permutation, put_all, put_row, Row, rowid}
-use Rattle.line_tables.proofs.Common.{schema_of, State, Table, Term, with_rowid, without_all}
-use Rattle.line_tables.proofs.{Altering.Alters, Altering.IsKept, Altering.put_in, Altering.rows_at, Altering.Steps}
-use Rattle.line_tables.proofs.{Altering.without, Apart.apart_filter, Apart.apart_put, Apart.taken, Changes.Changed}
-use Rattle.line_tables.proofs.{Changes.passing, Changes.renewed, Changes.shows_of, Inserts.Inserted, Puts.not_taken}
-use Rattle.line_tables.proofs.{Puts.put_permutes}
+use Rattle.desk_types.proofs.Common.{[], ◌&&◌, ◌∙◌, ◌∷◌, ◌≡◌, ap, ap₂, arith, Bool, cases_Bool, drop, false}
+use Rattle.desk_types.proofs.Common.{filter, inl, inr, IsPermutation, IsPermutation-cons, IsPermutation-map}
+use Rattle.desk_types.proofs.Common.{IsPermutation-refl, IsPermutation-sym, IsPermutation-trans, IsTrue}
+use Rattle.desk_types.proofs.Common.{length, List, map, not, refl, subst, subst₂, sym, true, ℕ}
+use Rattle.line_tables.proofs.Common.{AreApart, cast_row, Chosen, columns, Database, Has, ids_of, is_int}
+use Rattle.line_tables.proofs.Common.{is_taken, IsPermutation-filter, Layout, one_permutation, put_all}
+use Rattle.line_tables.proofs.Common.{put_row, Row, rowid, schema_of, State, Table, Term, Two, with_rowid}
+use Rattle.line_tables.proofs.Common.{without_all}
+use Rattle.line_tables.proofs.{Altering.Alters, Altering.IsKept, Altering.put_in, Altering.rows_at}
+use Rattle.line_tables.proofs.{Altering.Steps, Altering.without, Apart.apart_filter, Apart.apart_put}
+use Rattle.line_tables.proofs.{Apart.taken, Changes.Changed, Changes.passing, Changes.renewed}
+use Rattle.line_tables.proofs.{Changes.shows_of, Inserts.Inserted, Puts.not_taken, Puts.put_permutes}
 use Rattle.sqlite_rules.proofs.ListLemmas.{has_filtered}
 use Rattle.sqlite_rules.specs.Edit.{are_fresh}
 

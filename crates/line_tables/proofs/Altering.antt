@@ -1,15 +1,17 @@
 -- A change of one table, and its effect on the set of all tables.
-use Rattle.desk_types.proofs.Common.{[], ◌&&◌, ◌==◌, ◌∙◌, ◌∷◌, ◌≡◌, ◌≢◌, AllByRecursion, and_from, and_parts, ap}
-use Rattle.desk_types.proofs.Common.{Bool, cases_Bool, eq-eqb, eqb-true, false, filter, found_of, inl, inr}
-use Rattle.desk_types.proofs.Common.{IsPermutation, IsPermutation-refl, IsTrue, List, list_all, map, None, not, One}
-use Rattle.desk_types.proofs.Common.{Option, option_map, option_to_list, refl, RowEdit, Rules, subst, sym, takes_of}
-use Rattle.desk_types.proofs.Common.{true, Two, ℕ}
+use Rattle.desk_types.proofs.Common.{[], ◌&&◌, ◌==◌, ◌∙◌, ◌∷◌, ◌≡◌, ◌≢◌, AllByRecursion, and_from, and_parts}
+use Rattle.desk_types.proofs.Common.{ap, Bool, cases_Bool, eq-eqb, eqb-true, false, filter, found_of, inl}
+use Rattle.desk_types.proofs.Common.{inr, IsPermutation, IsPermutation-refl, IsTrue, List, list_all, map}
+use Rattle.desk_types.proofs.Common.{None, not, Option, option_map, option_to_list, refl, subst, sym}
+use Rattle.desk_types.proofs.Common.{takes_of, true, ℕ}
 use Rattle.line_tables.proofs.Common.{accepted, accepted_columns, alternate, AreApart, AreRows, blank, board}
 use Rattle.line_tables.proofs.Common.{changed_tables, columns, Database, found, found_tree, Holds, Indexed}
-use Rattle.line_tables.proofs.Common.{IsDatabase, kept_in, Layout, mount, others_in, part, placement, Plain, reel}
-use Rattle.line_tables.proofs.Common.{Row, rows_in, schema_of, schema_tables, selected, sheet_row, State, Table}
-use Rattle.line_tables.proofs.Common.{tree_in, Trees, version, version_columns}
-use Rattle.desk_types.specs.{Edits.IsNew as IsNewRow, Edits.with_edit as state_with, Tables.Tables as StateTables}
+use Rattle.line_tables.proofs.Common.{IsDatabase, kept_in, Layout, mount, One, others_in, part, placement}
+use Rattle.line_tables.proofs.Common.{Plain, reel, Row, RowEdit, rows_in, Rules, schema_of, schema_tables}
+use Rattle.line_tables.proofs.Common.{selected, sheet_row, State, Table, tree_in, Trees, Two, version}
+use Rattle.line_tables.proofs.Common.{version_columns}
+use Rattle.desk_types.specs.{Edits.IsNew as IsNewRow, Edits.with_edit as state_with}
+use Rattle.desk_types.specs.{Tables.Tables as StateTables}
 use Rattle.line_tables.proofs.{Apart.apart_none, Beside.far_kept, Beside.is_low}
 use Rattle.line_tables.specs.{Calls.WritesRow, Line.found_by, Line.nothing as no_others, Rowids.AreAllApart}
 use Rattle.line_tables.specs.{Rows.Tables, Rows.version_row, StateRows.HoldsAlternates, StateRows.HoldsBoards}

@@ -1,7 +1,7 @@
 -- Rows with distinct rowids, and the rows that remain after those found by a query are removed.
-use Rattle.desk_types.proofs.Common.{[], ◌&&◌, ◌||◌, ◌∙◌, ◌∷◌, ◌≡◌, ap, Bool, cases_Bool, false, filter, inl, inr}
-use Rattle.desk_types.proofs.Common.{is_eq, IsPermutation, IsTrue, List, list_any, list_any-IsPermutation, map, not}
-use Rattle.desk_types.proofs.Common.{refl, subst, sym, tied_itself, true, ℤ}
+use Rattle.desk_types.proofs.Common.{[], ◌&&◌, ◌||◌, ◌∙◌, ◌∷◌, ◌≡◌, ap, Bool, cases_Bool, false, filter, inl}
+use Rattle.desk_types.proofs.Common.{inr, is_eq, IsPermutation, IsTrue, List, list_any}
+use Rattle.desk_types.proofs.Common.{list_any-IsPermutation, map, not, refl, subst, sym, tied_itself, true, ℤ}
 use Rattle.line_tables.proofs.Common.{AreApart, Has, ids_of, is_int, is_taken, put_row, Row, rowid, value_cmp}
 use Rattle.line_tables.proofs.Common.{value_cmp_total, without_all}
 use Rattle.sqlite_rules.proofs.{ListLemmas.has_filtered, ListLemmas.has_kept, ListLemmas.some_from}

@@ -1,10 +1,10 @@
 -- Placements within a range of rowids.
-use Rattle.desk_types.proofs.Common.{[], ◌++◌, ◌∷◌, ◌≡◌, All-from_recursion, All-permutation, AllByRecursion, Bool}
-use Rattle.desk_types.proofs.Common.{codes, false, flat_map, if◌then◌else◌, inl, inr, IsPermutation, List, list_all}
-use Rattle.desk_types.proofs.Common.{map, recursion_from_All, refl, true, ℕ}
-use Rattle.line_tables.proofs.Common.{all_weaker, Binary, col, columns, Compare, everything, Ge, Ghosts, Has, Held}
-use Rattle.line_tables.proofs.Common.{holds, op2, Output, output, overlay, Query, Reads, Row, rows_in, Selects, state}
-use Rattle.line_tables.proofs.Common.{Term, understood}
+use Rattle.desk_types.proofs.Common.{[], ◌++◌, ◌∷◌, ◌≡◌, All-from_recursion, All-permutation, AllByRecursion}
+use Rattle.desk_types.proofs.Common.{Bool, codes, false, flat_map, if◌then◌else◌, inl, inr, IsPermutation}
+use Rattle.desk_types.proofs.Common.{List, list_all, map, recursion_from_All, refl, true, ℕ}
+use Rattle.line_tables.proofs.Common.{all_weaker, Binary, col, columns, Compare, everything, Ge, Ghosts, Has}
+use Rattle.line_tables.proofs.Common.{Held, holds, op2, Output, output, overlay, Query, Reads, Row, rows_in}
+use Rattle.line_tables.proofs.Common.{Selects, state, Term, understood}
 use Rattle.line_tables.{proofs.FindTexts.IsSelect, proofs.FindTexts.rows_from, proofs.Finds.answer_of}
 use Rattle.line_tables.{proofs.Finds.rows_answer, proofs.Finds.shown_of, specs.Shown.AreOf}
 use Rattle.sqlite_sql.specs.declared.ops.CompareOp.TheVariants.{Le}

@@ -1,17 +1,18 @@
 -- The effect of a DELETE and an UPDATE with tests, for any table whose rows each have a rowid.
-use Rattle.desk_types.proofs.Common.{[], ◌^◌, ◌∙◌, ◌∷◌, ◌≡◌, ◌≢◌, AllByRecursion, ap, Bool, cases_Bool, drop, filter}
-use Rattle.desk_types.proofs.Common.{inl, inr, IsPermutation, length, length-map, List, list_all, map, nat_le, None}
-use Rattle.desk_types.proofs.Common.{Ok, refl, slice_get, Some, subst, sym, true, unwrap_or, ℕ}
-use Rattle.line_tables.proofs.Common.{cast_row, command_of, Database, Enforced, holds, ids_of, IsAnswer, IsDatabase}
-use Rattle.line_tables.proofs.Common.{IsPlain, Null, output, overlay, runs_as, Schema, State, statement_of, Tally}
-use Rattle.line_tables.proofs.Common.{Term, understood, Update, works}
-use Rattle.line_tables.proofs.{FindTexts.rows_from, Finds.overlay_none, Finds.rows_answer, Finds.shown_is, Finds.whole}
-use Rattle.line_tables.proofs.{Inserts.concludes_as, Inserts.same_value, Inserts.went}
+use Rattle.desk_types.proofs.Common.{[], ◌^◌, ◌∙◌, ◌∷◌, ◌≡◌, ◌≢◌, AllByRecursion, ap, Bool, cases_Bool, drop}
+use Rattle.desk_types.proofs.Common.{filter, inl, inr, IsPermutation, length, length-map, List, list_all, map}
+use Rattle.desk_types.proofs.Common.{nat_le, None, Ok, refl, slice_get, Some, subst, sym, true, unwrap_or, ℕ}
+use Rattle.line_tables.proofs.Common.{cast_row, command_of, Database, Enforced, holds, ids_of, IsAnswer}
+use Rattle.line_tables.proofs.Common.{IsDatabase, IsPlain, Null, output, overlay, runs_as, Schema, State}
+use Rattle.line_tables.proofs.Common.{statement_of, Tally, Term, understood, Update, works}
+use Rattle.line_tables.proofs.{FindTexts.rows_from, Finds.overlay_none, Finds.rows_answer, Finds.shown_is}
+use Rattle.line_tables.proofs.{Finds.whole, Inserts.concludes_as, Inserts.same_value, Inserts.went}
 use Rattle.sqlite.proofs.Callers.{one_step, through}
 use Rattle.sqlite.specs.{Command.TheVariants.Delete, Does.AtPlace, Does.Concludes, Does.Does, Does.OnRows}
-use Rattle.sqlite.specs.{Edit.are_fresh, Edit.edit_of, Edit.put_all, Edit.taken_by, Edit.without_all, Effect.Answers}
-use Rattle.sqlite.specs.{Order.Row, Rowids.TheVariants.Given, Rows.Deletes, Rows.Edited, Rows.Task, Rows.Updates}
-use Rattle.sqlite.specs.{Rows.Written, State.Executes, State.mode_of, Table.Table, Tree.Trees, declared.run.Mode.Mode}
+use Rattle.sqlite.specs.{Edit.are_fresh, Edit.edit_of, Edit.put_all, Edit.taken_by, Edit.without_all}
+use Rattle.sqlite.specs.{Effect.Answers, Order.Row, Rowids.TheVariants.Given, Rows.Deletes, Rows.Edited}
+use Rattle.sqlite.specs.{Rows.Task, Rows.Updates, Rows.Written, State.Executes, State.mode_of, Table.Table}
+use Rattle.sqlite.specs.{Tree.Trees, declared.run.Mode.Mode}
 use Rattle.sqlite_rules.proofs.PlaceLemmas.{given}
 use Rattle.sqlite_schema.specs.declared.program.Program.{Program}
 

@@ -2,15 +2,17 @@
 -- Each means one thing in all files. A name that fewer than three files use is named where it is used.
 
 -- The other libraries below.
+pub use Rattle.desk_types.specs.{declared.edit.RowEdit.RowEdit, declared.rules.Rules.Rules}
+pub use Rattle.desk_types.specs.{declared.rules.Rules.TheVariants.One, declared.rules.Rules.TheVariants.Two}
 pub use Rattle.sqlite.proofs.Callers.{command_of, IsPlain, one_permutation, runs_as, statement_of}
 pub use Rattle.sqlite.proofs.StateLemmas.{survives_then}
 pub use Rattle.sqlite.specs.{Cast.cast_row, Collation.TheVariants.Binary, Command.TheVariants.Insert}
 pub use Rattle.sqlite.specs.{Command.TheVariants.Update, Does.Tally, Effect.Database, Effect.IsDatabase}
 pub use Rattle.sqlite.specs.{Files.file_state, Files.HoldsDatabase, Files.over_files, Held.Held, Held.state}
-pub use Rattle.sqlite.specs.{Program.overlay, Rowids.TheVariants.Chosen, Schema.Schema, Source.TheVariants.Values}
-pub use Rattle.sqlite.specs.{Values.bound, declared.error.Error.Error, declared.types.Value.Value}
-pub use Rattle.sqlite.specs.{declared.types.Value.TheVariants.Int, declared.types.Value.TheVariants.Null}
-pub use Rattle.sqlite.specs.{declared.types.Value.TheVariants.Text}
+pub use Rattle.sqlite.specs.{Program.overlay, Rowids.TheVariants.Chosen, Schema.Schema}
+pub use Rattle.sqlite.specs.{Source.TheVariants.Values, Values.bound, declared.error.Error.Error}
+pub use Rattle.sqlite.specs.{declared.types.Value.Value, declared.types.Value.TheVariants.Int}
+pub use Rattle.sqlite.specs.{declared.types.Value.TheVariants.Null, declared.types.Value.TheVariants.Text}
 pub use Rattle.sqlite.specs.Query.{end, inner, IsAnswer, Output, output, output_cmp, Query}
 pub use Rattle.sqlite.specs.State.{HasCleanDisk, IsLive, KeepsCommit, Opens, State, Survives}
 pub use Rattle.sqlite.specs.Term.{col, holds, lit, op2, Term}
@@ -38,13 +40,14 @@ unfoldable pub use Rattle.sqlite_value.specs.Order.{value_cmp}
 pub use Rattle.line_tables.specs.{Edit.command_edits, Edit.Edit, Edit.row_edits, Frames.ReadsOnly}
 pub use Rattle.line_tables.specs.{Line.Layout.Indexed, Line.Layout.Plain, Names.has_state, Placing.ArePlacing}
 pub use Rattle.line_tables.specs.{Rising.IsBefore, Rising.IsPast, Rowids.AreApart, Rowids.changed_tables}
-pub use Rattle.line_tables.specs.{declared.pieces.TheConstants.INSERT_PLACEMENTS}
-pub use Rattle.line_tables.specs.Calls.{Edits, has_number, has_uid, is_before, IsLeast, KeepsOthers, LeavesEdited}
-pub use Rattle.line_tables.specs.Calls.{LeavesMigrated, Migrated, only, Reads, row_of, Runs, Selects, Writes}
-pub use Rattle.line_tables.specs.Line.{accepted, alone, alternate, are_quiet, board, found, found_tree, is_ours}
-pub use Rattle.line_tables.specs.Line.{IsOurs, Layout, mount, no_schema, others_in, part, placement, reel, schema_of}
-pub use Rattle.line_tables.specs.Line.{schema_tables, selected, sheet_row, tree_in, version}
-pub use Rattle.line_tables.specs.Rows.{accepted_columns, accepted_in, after_edits, AreNew, blank, Holds, HoldsAt}
-pub use Rattle.line_tables.specs.Rows.{HoldsBy, version_columns, version_in}
-pub use Rattle.line_tables.specs.StateRows.{AreRows, columns, flag, has_pair, has_piece, has_sheet_place, has_text}
-pub use Rattle.line_tables.specs.StateRows.{kept_in, placement_columns, reel_columns, rows_in, values_of}
+pub use Rattle.line_tables.specs.Calls.{Edits, has_number, has_uid, is_before, IsLeast, KeepsOthers}
+pub use Rattle.line_tables.specs.Calls.{LeavesEdited, LeavesMigrated, Migrated, only, Reads, row_of, Runs}
+pub use Rattle.line_tables.specs.Calls.{Selects, Writes}
+pub use Rattle.line_tables.specs.Line.{accepted, alone, alternate, are_quiet, board, found, found_tree}
+pub use Rattle.line_tables.specs.Line.{is_ours, IsOurs, Layout, mount, no_schema, others_in, part, placement}
+pub use Rattle.line_tables.specs.Line.{reel, schema_of, schema_tables, selected, sheet_row, tree_in, version}
+pub use Rattle.line_tables.specs.Rows.{accepted_columns, accepted_in, after_edits, AreNew, blank, Holds}
+pub use Rattle.line_tables.specs.Rows.{HoldsAt, HoldsBy, version_columns, version_in}
+pub use Rattle.line_tables.specs.StateRows.{AreRows, columns, flag, has_pair, has_piece, has_sheet_place}
+pub use Rattle.line_tables.specs.StateRows.{has_text, kept_in, placement_columns, reel_columns, rows_in}
+pub use Rattle.line_tables.specs.StateRows.{values_of}

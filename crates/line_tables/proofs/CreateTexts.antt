@@ -1,15 +1,15 @@
 -- The meaning of the texts that create the tables.
-use Rattle.desk_types.proofs.Common.{[], ◌∷◌, ◌≡◌, List, Ok, One, pos, refl, Two, ℕ}
-use Rattle.line_tables.proofs.Common.{accepted, alone, alternate, board, col, command_of, everything, Indexed, Insert}
-use Rattle.line_tables.proofs.Common.{Int, IsPlain, Layout, lit, mount, Null, part, placement, Plain, reel, Schema}
-use Rattle.line_tables.proofs.Common.{schema_of, selected, sheet_row, statement_of, Term, understood, Update, Values}
-use Rattle.line_tables.proofs.Common.{version}
+use Rattle.desk_types.proofs.Common.{[], ◌∷◌, ◌≡◌, List, Ok, pos, refl, ℕ}
+use Rattle.line_tables.proofs.Common.{accepted, alone, alternate, board, col, command_of, everything, Indexed}
+use Rattle.line_tables.proofs.Common.{Insert, Int, IsPlain, Layout, lit, mount, Null, One, part, placement}
+use Rattle.line_tables.proofs.Common.{Plain, reel, Schema, schema_of, selected, sheet_row, statement_of, Term}
+use Rattle.line_tables.proofs.Common.{Two, understood, Update, Values, version}
 use Rattle.line_tables.proofs.FindTexts.{rows_from}
 use Rattle.line_tables.specs.Line.{first_of_line, found_by, line_schema}
 use Rattle.line_tables.specs.declared.making.TheConstants.{CREATE_ACCEPTED, CREATE_ALTERNATE, CREATE_BOARD}
-use Rattle.line_tables.specs.declared.making.TheConstants.{CREATE_FOUND, CREATE_MOUNT, CREATE_PART, CREATE_PLACEMENT}
-use Rattle.line_tables.specs.declared.making.TheConstants.{CREATE_REEL, CREATE_SELECTED, CREATE_SHEET_ROW}
-use Rattle.line_tables.specs.declared.making.TheConstants.{CREATE_VERSION, INSERT_VERSION}
+use Rattle.line_tables.specs.declared.making.TheConstants.{CREATE_FOUND, CREATE_MOUNT, CREATE_PART}
+use Rattle.line_tables.specs.declared.making.TheConstants.{CREATE_PLACEMENT, CREATE_REEL, CREATE_SELECTED}
+use Rattle.line_tables.specs.declared.making.TheConstants.{CREATE_SHEET_ROW, CREATE_VERSION, INSERT_VERSION}
 use Rattle.line_tables.specs.declared.migrating.TheConstants.{UPDATE_VERSION}
 use Rattle.sqlite.specs.Command.TheVariants.{CreateTable}
 use Rattle.sqlite.specs.Compile.{table_defined_by}

@@ -1,23 +1,25 @@
 -- The effect of CREATE TABLE and CREATE INDEX, for any schema that gives the text a meaning.
-use Rattle.desk_types.proofs.Common.{[], ◌++◌, ◌==◌, ◌∙◌, ◌∷◌, ◌≡◌, ◌≢◌, AllByRecursion, and_parts, ap, false, List}
-use Rattle.desk_types.proofs.Common.{list_all, map, None, not, Ok, One, pos, refl, Result, subst, sym, true, Two, ℕ}
+use Rattle.desk_types.proofs.Common.{[], ◌++◌, ◌==◌, ◌∙◌, ◌∷◌, ◌≡◌, ◌≢◌, AllByRecursion, and_parts, ap, false}
+use Rattle.desk_types.proofs.Common.{List, list_all, map, None, not, Ok, pos, refl, Result, subst, sym, true}
+use Rattle.desk_types.proofs.Common.{ℕ}
 use Rattle.line_tables.proofs.Common.{accepted, alone, alternate, blank, board, cast_row, Chosen, Database}
-use Rattle.line_tables.proofs.Common.{found_tree, Holds, Indexed, Int, IsDatabase, Layout, mount, no_schema, Null}
-use Rattle.line_tables.proofs.Common.{part, placement, Plain, put_row, reel, Runs, runs_as, Schema, schema_of}
-use Rattle.line_tables.proofs.Common.{selected, sheet_row, State, Tally, Trees, version, version_columns, with_rowid}
+use Rattle.line_tables.proofs.Common.{found_tree, Holds, Indexed, Int, IsDatabase, Layout, mount, no_schema}
+use Rattle.line_tables.proofs.Common.{Null, One, part, placement, Plain, put_row, reel, Runs, runs_as, Schema}
+use Rattle.line_tables.proofs.Common.{schema_of, selected, sheet_row, State, Tally, Trees, Two, version}
+use Rattle.line_tables.proofs.Common.{version_columns, with_rowid}
 use Rattle.line_tables.proofs.Altering.{holds_blank, other_tree, state_tables}
 use Rattle.line_tables.proofs.Beside.{quiet}
-use Rattle.line_tables.proofs.CreateTexts.{accepted_is, alternate_is, board_is, found_is, insert_version_is, IsCreate}
-use Rattle.line_tables.proofs.CreateTexts.{mount_is, part_is, placement_is, reel_is, selected_is, sheet_row_is}
-use Rattle.line_tables.proofs.CreateTexts.{version_is, version_terms}
+use Rattle.line_tables.proofs.CreateTexts.{accepted_is, alternate_is, board_is, found_is, insert_version_is}
+use Rattle.line_tables.proofs.CreateTexts.{IsCreate, mount_is, part_is, placement_is, reel_is, selected_is}
+use Rattle.line_tables.proofs.CreateTexts.{sheet_row_is, version_is, version_terms}
 use Rattle.line_tables.proofs.Inserts.{insert_does, same_value, went}
 use Rattle.line_tables.proofs.Puts.{cast_int, cast_null}
 use Rattle.line_tables.specs.Calls.{AddsFound, Extends, Grows, IsBare, Makes}
 use Rattle.line_tables.specs.Line.{first_of_line, found_by, line_schema, nothing as no_others}
 use Rattle.line_tables.specs.declared.making.TheConstants.{CREATE_ACCEPTED, CREATE_ALTERNATE, CREATE_BOARD}
-use Rattle.line_tables.specs.declared.making.TheConstants.{CREATE_FOUND, CREATE_MOUNT, CREATE_PART, CREATE_PLACEMENT}
-use Rattle.line_tables.specs.declared.making.TheConstants.{CREATE_REEL, CREATE_SELECTED, CREATE_SHEET_ROW}
-use Rattle.line_tables.specs.declared.making.TheConstants.{CREATE_VERSION, INSERT_VERSION}
+use Rattle.line_tables.specs.declared.making.TheConstants.{CREATE_FOUND, CREATE_MOUNT, CREATE_PART}
+use Rattle.line_tables.specs.declared.making.TheConstants.{CREATE_PLACEMENT, CREATE_REEL, CREATE_SELECTED}
+use Rattle.line_tables.specs.declared.making.TheConstants.{CREATE_SHEET_ROW, CREATE_VERSION, INSERT_VERSION}
 use Rattle.sqlite.specs.Change.{created, KeepsRows, next_tree}
 use Rattle.sqlite.specs.Command.TheVariants.{CreateTable}
 use Rattle.sqlite.specs.Does.{lacks_sequence}

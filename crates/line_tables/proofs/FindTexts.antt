@@ -1,12 +1,14 @@
 -- The meaning of the texts that read.
-use Rattle.desk_types.proofs.Common.{[], ◌∷◌, ◌≡◌, ◌⊎◌, Bool, codes, false, inl, is_ok, List, negsuc, None, pos, refl}
-use Rattle.desk_types.proofs.Common.{Rules, Some, ℕ}
-use Rattle.line_tables.proofs.Common.{ascending, Binary, col, command_of, Compare, end, Eq, everything, inner, Int}
-use Rattle.line_tables.proofs.Common.{IsPlain, Layout, lit, Lt, Null, op2, Query, Schema, schema_of, Term, understood}
-use Rattle.line_tables.specs.{declared.reading.TheConstants.SELECT_BEFORE, declared.reading.TheConstants.SELECT_COUNT}
-use Rattle.line_tables.specs.{declared.reading.TheConstants.SELECT_LEAST, declared.reading.TheConstants.SELECT_NUMBER}
-use Rattle.line_tables.specs.{declared.reading.TheConstants.SELECT_UID, declared.version.TheConstants.SELECT_VERSION}
-use Rattle.sqlite.specs.{Command.TheVariants.Select, Listing.reads_listing}
+use Rattle.desk_types.proofs.Common.{[], ◌∷◌, ◌≡◌, ◌⊎◌, Bool, codes, false, inl, is_ok, List, negsuc, None}
+use Rattle.desk_types.proofs.Common.{pos, refl, Some, ℕ}
+use Rattle.line_tables.proofs.Common.{ascending, Binary, col, command_of, Compare, end, Eq, everything, inner}
+use Rattle.line_tables.proofs.Common.{Int, IsPlain, Layout, lit, Lt, Null, op2, Query, Rules, Schema}
+use Rattle.line_tables.proofs.Common.{schema_of, Term, understood}
+use Rattle.line_tables.specs.declared.reading.TheConstants.{SELECT_BEFORE, SELECT_COUNT, SELECT_LEAST}
+use Rattle.line_tables.specs.declared.reading.TheConstants.{SELECT_NUMBER, SELECT_UID}
+use Rattle.line_tables.specs.declared.version.TheConstants.{SELECT_VERSION}
+use Rattle.sqlite.specs.Command.TheVariants.{Select}
+use Rattle.sqlite.specs.Listing.{reads_listing}
 use Rattle.sqlite_sql.specs.Group.{Grouping}
 use Rattle.sqlite_sql.specs.declared.aggregate.AggregateOp.TheVariants as by
 

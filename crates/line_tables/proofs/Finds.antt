@@ -1,20 +1,23 @@
 -- The results of the queries.
-use Rattle.desk_types.proofs.Common.{[], ◌&&◌, ◌++◌, ◌==◌, ◌^◌, ◌||◌, ◌∙◌, ◌∷◌, ◌≡◌, ap, ap₂, arith, Bool, Err, false}
-use Rattle.desk_types.proofs.Common.{filter, flat_map, Global, IfOk, if◌then◌else◌, inl, inr, is_ok, IsPermutation}
-use Rattle.desk_types.proofs.Common.{IsPermutation-map, IsPermutation-sym, IsTrue, IsUtf8, length, length-map}
-use Rattle.desk_types.proofs.Common.{length_permutation, List, list_all, list_any, map, nat_le, None, not, Ok, Option}
-use Rattle.desk_types.proofs.Common.{pos, refl, Result, Some, subst, subst₂, sym, true, true≢false, unwrap_or, Vec, ℕ}
-use Rattle.line_tables.proofs.Common.{accepted_columns, accepted_in, column, Database, Error, Ghosts, has_number}
-use Rattle.line_tables.proofs.Common.{has_uid, Held, holds, Int, is_before, IsAnswer, IsOurs, Null, one_permutation}
-use Rattle.line_tables.proofs.Common.{only, Output, output, overlay, Query, Reads, Row, Schema, schema_of, Selects}
-use Rattle.line_tables.proofs.Common.{State, state, Term, Text, Trees, understood, version_columns, version_in}
+use Rattle.desk_types.proofs.Common.{[], ◌&&◌, ◌++◌, ◌==◌, ◌^◌, ◌||◌, ◌∙◌, ◌∷◌, ◌≡◌, ap, ap₂, arith, Bool}
+use Rattle.desk_types.proofs.Common.{Err, false, filter, flat_map, Global, IfOk, if◌then◌else◌, inl, inr}
+use Rattle.desk_types.proofs.Common.{is_ok, IsPermutation, IsPermutation-map, IsPermutation-sym, IsTrue}
+use Rattle.desk_types.proofs.Common.{IsUtf8, length, length-map, length_permutation, List, list_all, list_any}
+use Rattle.desk_types.proofs.Common.{map, nat_le, None, not, Ok, Option, pos, refl, Result, Some, subst}
+use Rattle.desk_types.proofs.Common.{subst₂, sym, true, true≢false, unwrap_or, Vec, ℕ}
+use Rattle.line_tables.proofs.Common.{accepted_columns, accepted_in, column, Database, Error, Ghosts}
+use Rattle.line_tables.proofs.Common.{has_number, has_uid, Held, holds, Int, is_before, IsAnswer, IsOurs}
+use Rattle.line_tables.proofs.Common.{Null, one_permutation, only, Output, output, overlay, Query, Reads, Row}
+use Rattle.line_tables.proofs.Common.{Schema, schema_of, Selects, State, state, Term, Text, Trees, understood}
+use Rattle.line_tables.proofs.Common.{version_columns, version_in}
 use Rattle.line_tables.proofs.{FindTexts.accepted_names, FindTexts.before_query, FindTexts.IsSelect}
 use Rattle.line_tables.proofs.{FindTexts.IsSelectBy, FindTexts.IsSelectIn, FindTexts.number_query}
 use Rattle.line_tables.proofs.{FindTexts.rows_from, FindTexts.select_before_is, FindTexts.select_number_is}
 use Rattle.line_tables.proofs.{FindTexts.select_uid_is, FindTexts.select_version_is, FindTexts.uid_query}
 use Rattle.line_tables.proofs.{FindTexts.version_query, Keeps.shown_open}
 use Rattle.line_tables.specs.{Calls.IsVersionOf, declared.reading.TheConstants.SELECT_BEFORE}
-use Rattle.line_tables.specs.{declared.reading.TheConstants.SELECT_NUMBER, declared.reading.TheConstants.SELECT_UID}
+use Rattle.line_tables.specs.{declared.reading.TheConstants.SELECT_NUMBER}
+use Rattle.line_tables.specs.{declared.reading.TheConstants.SELECT_UID}
 use Rattle.line_tables.specs.{declared.version.TheConstants.SELECT_VERSION, declared.version.Version.Version}
 use Rattle.sqlite.proofs.Callers.{reads_as}
 use Rattle.sqlite.specs.{Command.TheVariants.Select, State.Shown}

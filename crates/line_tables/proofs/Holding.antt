@@ -1,8 +1,8 @@
 -- Reads of the tables that a database holds.
-use Rattle.desk_types.proofs.Common.{◌∙◌, ◌≡◌, ap₂, Bool, filter, IsPermutation, IsPermutation-sym, None, Option}
-use Rattle.desk_types.proofs.Common.{Some, subst, sym, Two}
-use Rattle.line_tables.proofs.Common.{accepted_in, Database, Holds, HoldsAt, IsDatabase, IsPermutation-filter, only}
-use Rattle.line_tables.proofs.Common.{Reads, Row, row_of, Schema, State, Trees}
+use Rattle.desk_types.proofs.Common.{◌∙◌, ◌≡◌, ap₂, Bool, filter, IsPermutation, IsPermutation-sym, None}
+use Rattle.desk_types.proofs.Common.{Option, Some, subst, sym}
+use Rattle.line_tables.proofs.Common.{accepted_in, Database, Holds, HoldsAt, IsDatabase, IsPermutation-filter}
+use Rattle.line_tables.proofs.Common.{only, Reads, Row, row_of, Schema, State, Trees, Two}
 use Rattle.line_tables.{proofs.Finds.one_order, specs.Rows.columns_of, specs.Rows.Tables}
 use Rattle.line_tables.{specs.declared.edit.Accepted.Accepted}
 use Rattle.sqlite_catalog.{proofs.ReadLemmas.lists_once, specs.Listing.Lists}

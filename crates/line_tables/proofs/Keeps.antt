@@ -1,6 +1,7 @@
 -- A statement inside a transaction leaves the last commit unchanged.
-use Rattle.desk_types.proofs.Common.{◌∙◌, ◌≡◌, ◌⊎◌, Bool, Err, Global, IfErr, IfOk, if◌then◌else◌, inl, inr, IsTrue}
-use Rattle.desk_types.proofs.Common.{List, None, Ok, Option, refl, Result, Some, subst, sym, true, Vec, ℕ}
+use Rattle.desk_types.proofs.Common.{◌∙◌, ◌≡◌, ◌⊎◌, Bool, Err, Global, IfErr, IfOk, if◌then◌else◌, inl, inr}
+use Rattle.desk_types.proofs.Common.{IsTrue, List, None, Ok, Option, refl, Result, Some, subst, sym, true}
+use Rattle.desk_types.proofs.Common.{Vec, ℕ}
 use Rattle.line_tables.proofs.Common.{Database, Error, IsOurs, KeepsCommit, Reads, Row, State}
 use Rattle.sqlite.specs.Clock.{timed}
 use Rattle.sqlite.specs.State.{ExecutesInside, FailsToQuery, FailsToShow, IsNotRun, IsRolledBack, IsTooLate}

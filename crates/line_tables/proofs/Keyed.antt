@@ -1,14 +1,16 @@
 -- Rows of a table by key: each key has at most one row, and a change at one key changes the map at that key.
-use Rattle.desk_types.proofs.Common.{[], ◌&&◌, ◌++◌, ◌==◌, ◌||◌, ◌∙◌, ◌∷◌, ◌≡◌, All-from_recursion, All-permutation}
-use Rattle.desk_types.proofs.Common.{AllByRecursion, and_from, and_parts, ap, ap₂, arith, Bool, eq-eqb, eqb-true}
-use Rattle.desk_types.proofs.Common.{false, filter, if◌then◌else◌, int_ranked, IsPermutation, IsPermutation-sym}
-use Rattle.desk_types.proofs.Common.{length_permutation, List, Name, None, not, Option, option_map, option_to_list}
-use Rattle.desk_types.proofs.Common.{PlacementRow, pos, recursion_from_All, refl, same, same-refl, same-true, Some}
-use Rattle.desk_types.proofs.Common.{subst, sym, texts_ties, tied_itself, true, true≢false, ℕ, ℤ}
-use Rattle.line_tables.proofs.Common.{AreRows, Binary, binary, column, equal, has_pair, has_piece, has_sheet_place}
-use Rattle.line_tables.proofs.Common.{has_text, Int, is_true, IsPermutation-filter, Null, one_permutation}
-use Rattle.line_tables.proofs.Common.{placement_columns, Row, Text, Value, value_cmp, value_cmp-Int, value_cmp-Text}
-use Rattle.line_tables.proofs.Common.{value_cmp_total}
+use Rattle.desk_types.proofs.Common.{[], ◌&&◌, ◌++◌, ◌==◌, ◌||◌, ◌∙◌, ◌∷◌, ◌≡◌, All-from_recursion}
+use Rattle.desk_types.proofs.Common.{All-permutation, AllByRecursion, and_from, and_parts, ap, ap₂, arith}
+use Rattle.desk_types.proofs.Common.{Bool, eq-eqb, eqb-true, false, filter, if◌then◌else◌, int_ranked}
+use Rattle.desk_types.proofs.Common.{IsPermutation, IsPermutation-sym, length_permutation, List, Name, None}
+use Rattle.desk_types.proofs.Common.{not, Option, option_map, option_to_list, pos, recursion_from_All, refl}
+use Rattle.desk_types.proofs.Common.{same, same-refl, same-true, Some, subst, sym, texts_ties, tied_itself}
+use Rattle.desk_types.proofs.Common.{true, true≢false, ℕ, ℤ}
+use Rattle.line_tables.proofs.Common.{AreRows, Binary, binary, column, equal, has_pair, has_piece}
+use Rattle.line_tables.proofs.Common.{has_sheet_place, has_text, Int, is_true, IsPermutation-filter, Null}
+use Rattle.line_tables.proofs.Common.{one_permutation, placement_columns, Row, Text, Value, value_cmp}
+use Rattle.line_tables.proofs.Common.{value_cmp-Int, value_cmp-Text, value_cmp_total}
+use Rattle.desk_types.specs.declared.row.PlacementRow.{PlacementRow}
 use Rattle.line_tables.{proofs.Altering.without, specs.StateRows.has_int}
 use Rattle.sqlite_sql.specs.Ops.{from_truth, is_null}
 use Rattle.std.proofs.Common.{Equal, Greater, is_eq, Less, Ordering}

@@ -1,9 +1,9 @@
 -- What a transaction of its own commits, and what may remain after a crash that follows.
-use Rattle.desk_types.proofs.Common.{[], ◌∙◌, ◌≡◌, ap, arith, false, IsTrue, List, on_ok_weaker, One, OnOk, refl}
+use Rattle.desk_types.proofs.Common.{[], ◌∙◌, ◌≡◌, ap, arith, false, IsTrue, List, on_ok_weaker, OnOk, refl}
 use Rattle.desk_types.proofs.Common.{Result, subst, sym, true, ℕ}
-use Rattle.line_tables.proofs.Common.{Database, Edit, Error, Ghosts, HasCleanDisk, Held, Holds, HoldsBy, KeepsOthers}
-use Rattle.line_tables.proofs.Common.{LeavesEdited, LeavesMigrated, Migrated, no_schema, state, Survives}
-use Rattle.line_tables.proofs.Common.{survives_then, Trees, Writes}
+use Rattle.line_tables.proofs.Common.{Database, Edit, Error, Ghosts, HasCleanDisk, Held, Holds, HoldsBy}
+use Rattle.line_tables.proofs.Common.{KeepsOthers, LeavesEdited, LeavesMigrated, Migrated, no_schema, One}
+use Rattle.line_tables.proofs.Common.{state, Survives, survives_then, Trees, Writes}
 use Rattle.line_tables.specs.Calls.{Edited, HoldsBlank, LeavesBlank, Makes, Migrates}
 use Rattle.sqlite.{proofs.Callers.survives_begin, specs.State.KeepsCounts, specs.State.Shows}
 

@@ -1,16 +1,18 @@
 -- A database of version 1 becomes one of version 2.
-use Rattle.desk_types.proofs.Common.{[], ◌++◌, ◌==◌, ◌∙◌, ◌∷◌, ◌≡◌, ◌≢◌, AllByRecursion, and_parts, ap, ap₂, Bool}
-use Rattle.desk_types.proofs.Common.{drop, false, filter, inl, inr, IsPermutation, IsTrue, List, list_all, map, not}
-use Rattle.desk_types.proofs.Common.{One, pos, refl, subst, sym, true, Two, ℕ, ℤ}
-use Rattle.line_tables.proofs.Common.{accepted_columns, alone, alternate, AreApart, board, cast_row, column, found}
-use Rattle.line_tables.proofs.Common.{found_tree, Holds, HoldsBy, ids_of, Indexed, Int, is_int, kept_in, Layout}
-use Rattle.line_tables.proofs.Common.{mount, Null, one_permutation, others_in, part, placement, Plain, put_all, reel}
-use Rattle.line_tables.proofs.Common.{Row, rowid, Runs, schema_of, schema_tables, selected, sheet_row, State, Table}
-use Rattle.line_tables.proofs.Common.{Trees, version, version_columns, version_in, without_all}
-use Rattle.line_tables.proofs.{Alterations.one_of_map, Altering.found_kept, Altering.nothing, Altering.other_tree}
-use Rattle.line_tables.proofs.{Altering.stays, Apart.apart_none, Apart.taken, Beside.quiet, Changes.Changed}
-use Rattle.line_tables.proofs.{Changes.passing, Changes.renewed, Changes.shows_of, Changes.update_does}
-use Rattle.line_tables.proofs.{CreateTexts.update_version_is, CreateTexts.version_renewed, Creates.version_cast}
+use Rattle.desk_types.proofs.Common.{[], ◌++◌, ◌==◌, ◌∙◌, ◌∷◌, ◌≡◌, ◌≢◌, AllByRecursion, and_parts, ap, ap₂}
+use Rattle.desk_types.proofs.Common.{Bool, drop, false, filter, inl, inr, IsPermutation, IsTrue, List}
+use Rattle.desk_types.proofs.Common.{list_all, map, not, pos, refl, subst, sym, true, ℕ, ℤ}
+use Rattle.line_tables.proofs.Common.{accepted_columns, alone, alternate, AreApart, board, cast_row, column}
+use Rattle.line_tables.proofs.Common.{found, found_tree, Holds, HoldsBy, ids_of, Indexed, Int, is_int}
+use Rattle.line_tables.proofs.Common.{kept_in, Layout, mount, Null, One, one_permutation, others_in, part}
+use Rattle.line_tables.proofs.Common.{placement, Plain, put_all, reel, Row, rowid, Runs, schema_of}
+use Rattle.line_tables.proofs.Common.{schema_tables, selected, sheet_row, State, Table, Trees, Two, version}
+use Rattle.line_tables.proofs.Common.{version_columns, version_in, without_all}
+use Rattle.line_tables.proofs.{Alterations.one_of_map, Altering.found_kept, Altering.nothing}
+use Rattle.line_tables.proofs.{Altering.other_tree, Altering.stays, Apart.apart_none, Apart.taken}
+use Rattle.line_tables.proofs.{Beside.quiet, Changes.Changed, Changes.passing, Changes.renewed}
+use Rattle.line_tables.proofs.{Changes.shows_of, Changes.update_does, CreateTexts.update_version_is}
+use Rattle.line_tables.proofs.{CreateTexts.version_renewed, Creates.version_cast}
 use Rattle.line_tables.specs.{Calls.AddsFound, Calls.Grows, Calls.Migrates, Line.found_by, Rows.Tables}
 use Rattle.line_tables.specs.{Rows.version_row, declared.migrating.TheConstants.UPDATE_VERSION}
 use Rattle.sqlite_catalog.specs.Change.{KeepsRows}

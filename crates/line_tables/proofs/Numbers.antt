@@ -1,17 +1,18 @@
 -- The least number, and the number of rows.
 use Rattle.desk_types.proofs.Common.{[], ◌++◌, ◌+◌, ◌<◌, ◌∙◌, ◌∷◌, ◌≡◌, All-from_recursion, All-permutation}
-use Rattle.desk_types.proofs.Common.{AllByRecursion, AllZip, ap, ap₂, arith, Bool, Err, false, flat_map, IfOk, is_gt}
-use Rattle.desk_types.proofs.Common.{is_lt, IsPermutation, IsPermutation-map, IsTotalOrder, IsTrue, length}
-use Rattle.desk_types.proofs.Common.{length-map, length_permutation, List, map, min, None, Ok, Option}
-use Rattle.desk_types.proofs.Common.{ordering_reverse, ordering_then, pos, recursion_from_All, refl, Result, Some}
-use Rattle.desk_types.proofs.Common.{subst, subst₂, suc, sym, true, zero, ℕ, ℤ}
-use Rattle.line_tables.proofs.Common.{accepted_columns, accepted_in, all_weaker, Binary, collated, column, Error}
-use Rattle.line_tables.proofs.Common.{Ghosts, Held, Int, IsAnswer, IsLeast, Null, one_permutation, Output, output}
-use Rattle.line_tables.proofs.Common.{output_cmp, output_cmp_total, overlay, Query, Reads, Row, Schema, Selects}
-use Rattle.line_tables.proofs.Common.{state, Trees, Value}
-use Rattle.line_tables.proofs.{FindTexts.count_all, FindTexts.count_from, FindTexts.IsSelect, FindTexts.IsSelectBy}
-use Rattle.line_tables.proofs.{FindTexts.least_from, FindTexts.least_query, FindTexts.select_count_is}
-use Rattle.line_tables.proofs.{Finds.answer_by, Finds.answer_of, Finds.overlay_none}
+use Rattle.desk_types.proofs.Common.{AllByRecursion, AllZip, ap, ap₂, arith, Bool, Err, false, flat_map, IfOk}
+use Rattle.desk_types.proofs.Common.{is_gt, is_lt, IsPermutation, IsPermutation-map, IsTotalOrder, IsTrue}
+use Rattle.desk_types.proofs.Common.{length, length-map, length_permutation, List, map, min, None, Ok, Option}
+use Rattle.desk_types.proofs.Common.{ordering_reverse, ordering_then, pos, recursion_from_All, refl, Result}
+use Rattle.desk_types.proofs.Common.{Some, subst, subst₂, suc, sym, true, zero, ℕ, ℤ}
+use Rattle.line_tables.proofs.Common.{accepted_columns, accepted_in, all_weaker, Binary, collated, column}
+use Rattle.line_tables.proofs.Common.{Error, Ghosts, Held, Int, IsAnswer, IsLeast, Null, one_permutation}
+use Rattle.line_tables.proofs.Common.{Output, output, output_cmp, output_cmp_total, overlay, Query, Reads}
+use Rattle.line_tables.proofs.Common.{Row, Schema, Selects, state, Trees, Value}
+use Rattle.line_tables.proofs.{FindTexts.count_all, FindTexts.count_from, FindTexts.IsSelect}
+use Rattle.line_tables.proofs.{FindTexts.IsSelectBy, FindTexts.least_from, FindTexts.least_query}
+use Rattle.line_tables.proofs.{FindTexts.select_count_is, Finds.answer_by, Finds.answer_of}
+use Rattle.line_tables.proofs.{Finds.overlay_none}
 use Rattle.line_tables.specs.{Calls.number_row, declared.reading.TheConstants.SELECT_COUNT}
 use Rattle.sqlite.specs.Term.{Env}
 use Rattle.sqlite_sql.specs.Group.{IsSummary, Summarizes, value_over}

@@ -1,9 +1,9 @@
 -- The test of a schema, and facts about our schema.
-use Rattle.desk_types.proofs.Common.{[], ◌&&◌, ◌++◌, ◌∙◌, ◌≡◌, and_from, and_parts, ap, ap₂, drop, eq-eqb, eqb-true}
-use Rattle.desk_types.proofs.Common.{false, inl, inr, length, One, or_left, or_right, refl, Rules, subst, sym, take}
-use Rattle.desk_types.proofs.Common.{take-append-drop, true, true≢false, Two}
-use Rattle.line_tables.proofs.Common.{are_quiet, has_state, Indexed, is_ours, IsOurs, Layout, no_schema, Plain}
-use Rattle.line_tables.proofs.Common.{same_name, Schema, schema_of}
+use Rattle.desk_types.proofs.Common.{[], ◌&&◌, ◌++◌, ◌∙◌, ◌≡◌, and_from, and_parts, ap, ap₂, drop, eq-eqb}
+use Rattle.desk_types.proofs.Common.{eqb-true, false, inl, inr, length, or_left, or_right, refl, subst, sym}
+use Rattle.desk_types.proofs.Common.{take, take-append-drop, true, true≢false}
+use Rattle.line_tables.proofs.Common.{are_quiet, has_state, Indexed, is_ours, IsOurs, Layout, no_schema, One}
+use Rattle.line_tables.proofs.Common.{Plain, Rules, same_name, Schema, schema_of, Two}
 use Rattle.line_tables.specs.Line.{begins_with, first_behind, is_blank, is_same_code, is_same_schema}
 use Rattle.line_tables.specs.Line.{nothing as no_others}
 use Rattle.sqlite_schema.specs.contracts.schema.Schema.{the_row}

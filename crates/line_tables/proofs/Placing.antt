@@ -1,20 +1,24 @@
 -- The effect of the statements on `placement`: they insert rows with their own rowids, one or eight at once.
-use Rattle.desk_types.proofs.Common.{[], ◌&&◌, ◌++◌, ◌+◌, ◌<◌, ◌==◌, ◌∙◌, ◌∷◌, ◌≡◌, ◌≤◌, and_from, and_parts, ap, ap₂}
-use Rattle.desk_types.proofs.Common.{arith, flat_map, get_or, if◌then◌else◌, IsPermutation, IsPermutation-map, IsTrue}
-use Rattle.desk_types.proofs.Common.{length, length-map, length-take-le, List, map, map-append, map_more, Option}
-use Rattle.desk_types.proofs.Common.{PlacementRow, pos, PutPlacement, refl, RowEdit, Some, subst, sym, take, true}
-use Rattle.desk_types.proofs.Common.{Two, ℕ}
-use Rattle.line_tables.proofs.Common.{accepted_columns, after_edits, AreNew, ArePlacing, AreRows, cast_row, Chosen}
-use Rattle.line_tables.proofs.Common.{columns, Edit, flag, has_piece, Holds, INSERT_PLACEMENTS, Layout, placement}
-use Rattle.line_tables.proofs.Common.{placement_columns, put_all, put_row, Row, row_edits, Runs, schema_of, State}
-use Rattle.line_tables.proofs.Common.{version_columns, with_rowid, Writes}
+use Rattle.desk_types.proofs.Common.{[], ◌&&◌, ◌++◌, ◌+◌, ◌<◌, ◌==◌, ◌∙◌, ◌∷◌, ◌≡◌, ◌≤◌, and_from, and_parts}
+use Rattle.desk_types.proofs.Common.{ap, ap₂, arith, flat_map, get_or, if◌then◌else◌, IsPermutation}
+use Rattle.desk_types.proofs.Common.{IsPermutation-map, IsTrue, length, length-map, length-take-le, List, map}
+use Rattle.desk_types.proofs.Common.{map-append, map_more, Option, pos, refl, Some, subst, sym, take, true, ℕ}
+use Rattle.line_tables.proofs.Common.{accepted_columns, after_edits, AreNew, ArePlacing, AreRows, cast_row}
+use Rattle.line_tables.proofs.Common.{Chosen, columns, Edit, flag, has_piece, Holds, Layout, placement}
+use Rattle.line_tables.proofs.Common.{placement_columns, put_all, put_row, Row, row_edits, RowEdit, Runs}
+use Rattle.line_tables.proofs.Common.{schema_of, State, Two, version_columns, with_rowid, Writes}
+use Rattle.desk_types.specs.{declared.edit.RowEdit.TheVariants.PutPlacement}
+use Rattle.desk_types.specs.{declared.row.PlacementRow.PlacementRow}
 use Rattle.line_tables.proofs.{Altering.all_apart_but, Altering.IsElsewhere, Altering.other_tree}
 use Rattle.line_tables.proofs.{Altering.others_hold, Beside.others_behind, Beside.quiet, Inserts.insert_does}
-use Rattle.line_tables.proofs.{Inserts.Inserted, Keyed.added, Keyed.one_piece, Keyed.own_int, Keyed.same_piece}
-use Rattle.line_tables.proofs.{Keyed.tells_piece, Puts.cast_int, Puts.put_permutes, RowTexts.insert_placement_is}
-use Rattle.line_tables.proofs.{RowTexts.insert_placements_is, RowTexts.placement_terms, RowTexts.placements_terms}
-use Rattle.line_tables.specs.{Edit.EditRow, Placing.placement_edit, Placing.placement_kept, Rowids.placement_id}
-use Rattle.line_tables.specs.{Rows.Tables, Rows.with_edit, declared.pieces.TheConstants.INSERT_PLACEMENT}
+use Rattle.line_tables.proofs.{Inserts.Inserted, Keyed.added, Keyed.one_piece, Keyed.own_int}
+use Rattle.line_tables.proofs.{Keyed.same_piece, Keyed.tells_piece, Puts.cast_int, Puts.put_permutes}
+use Rattle.line_tables.proofs.{RowTexts.insert_placement_is, RowTexts.insert_placements_is}
+use Rattle.line_tables.proofs.{RowTexts.placement_terms, RowTexts.placements_terms}
+use Rattle.line_tables.specs.{Edit.EditRow, Placing.placement_edit, Placing.placement_kept}
+use Rattle.line_tables.specs.{Rowids.placement_id, Rows.Tables, Rows.with_edit}
+use Rattle.line_tables.specs.{declared.pieces.TheConstants.INSERT_PLACEMENT}
+use Rattle.line_tables.specs.{declared.pieces.TheConstants.INSERT_PLACEMENTS}
 use Rattle.sqlite_rules.specs.Edit.{are_fresh, numbered}
 use Rattle.std.proofs.{lemmas.Bool.not-true, lemmas.List.flat_map_more}
 

@@ -1,7 +1,7 @@
 -- The meaning of the texts that write.
-use Rattle.desk_types.proofs.Common.{[], ◌∷◌, ◌≡◌, Bool, codes, List, refl, Two, ℕ}
-use Rattle.line_tables.proofs.Common.{col, command_of, everything, Insert, IsPlain, Layout, lit, Null, schema_of}
-use Rattle.line_tables.proofs.Common.{Term, understood, Values}
+use Rattle.desk_types.proofs.Common.{[], ◌∷◌, ◌≡◌, Bool, codes, List, refl, ℕ}
+use Rattle.line_tables.proofs.Common.{col, command_of, everything, Insert, IsPlain, Layout, lit, Null}
+use Rattle.line_tables.proofs.Common.{schema_of, Term, Two, understood, Values}
 use Rattle.line_tables.specs.declared.writing.TheConstants.{INSERT_ACCEPTED}
 
 abbrev pub accepted_terms : List Term

@@ -1,12 +1,13 @@
 -- The effect of the writes on the tables.
-use Rattle.desk_types.proofs.Common.{[], ◌&&◌, ◌++◌, ◌==◌, ◌||◌, ◌∙◌, ◌∷◌, ◌≡◌, ap, arith, Bool, cond, drop, Equal}
-use Rattle.desk_types.proofs.Common.{false, flat_map, Greater, is_eq, IsPermutation, IsPermutation-cons}
-use Rattle.desk_types.proofs.Common.{IsPermutation-map, IsPermutation-refl, IsPermutation-trans, length, Less, List}
-use Rattle.desk_types.proofs.Common.{map, match_ordering, not, pos, refl, subst, sym, take, take-append-drop, true}
-use Rattle.desk_types.proofs.Common.{Two, ℕ, ℤ}
-use Rattle.line_tables.proofs.Common.{accepted, accepted_columns, after_edits, AreNew, cast_row, Chosen, Database}
-use Rattle.line_tables.proofs.Common.{Edit, Edits, Holds, Int, is_taken, Layout, Null, put_row, rowid, Runs}
-use Rattle.line_tables.proofs.Common.{schema_of, schema_tables, State, Value, value_cmp, with_rowid, Writes}
+use Rattle.desk_types.proofs.Common.{[], ◌&&◌, ◌++◌, ◌==◌, ◌||◌, ◌∙◌, ◌∷◌, ◌≡◌, ap, arith, Bool, cond, drop}
+use Rattle.desk_types.proofs.Common.{Equal, false, flat_map, Greater, is_eq, IsPermutation}
+use Rattle.desk_types.proofs.Common.{IsPermutation-cons, IsPermutation-map, IsPermutation-refl}
+use Rattle.desk_types.proofs.Common.{IsPermutation-trans, length, Less, List, map, match_ordering, not, pos}
+use Rattle.desk_types.proofs.Common.{refl, subst, sym, take, take-append-drop, true, ℕ, ℤ}
+use Rattle.line_tables.proofs.Common.{accepted, accepted_columns, after_edits, AreNew, cast_row, Chosen}
+use Rattle.line_tables.proofs.Common.{Database, Edit, Edits, Holds, Int, is_taken, Layout, Null, put_row}
+use Rattle.line_tables.proofs.Common.{rowid, Runs, schema_of, schema_tables, State, Two, Value, value_cmp}
+use Rattle.line_tables.proofs.Common.{with_rowid, Writes}
 use Rattle.line_tables.proofs.{Altering.list_grows, Beside.others_behind, Beside.quiet, Inserts.insert_does}
 use Rattle.line_tables.proofs.{Inserts.Inserted, PutTexts.accepted_terms, PutTexts.insert_accepted_is}
 use Rattle.line_tables.specs.{Edit.PutAccepted, Rows.columns_of, Rows.Tables, Rows.with_edit}

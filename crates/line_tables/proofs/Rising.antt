@@ -1,24 +1,26 @@
 -- Increasing rowids are distinct.
 use Rattle.desk_types.proofs.Common.{[], ⊤, ◌&&◌, ◌++◌, ◌+◌, ◌<◌, ◌∙◌, ◌∷◌, ◌≡◌, ◌≤◌, All-from_recursion}
-use Rattle.desk_types.proofs.Common.{All-permutation, AllByRecursion, and_parts, ap, arith, Bool, codes, cond, drop}
-use Rattle.desk_types.proofs.Common.{false, filter, get_or, if◌then◌else◌, inl, inr, int_cmp, IsPermutation}
-use Rattle.desk_types.proofs.Common.{IsPermutation-map, IsPermutation-sym, IsTrue, length, length_permutation, List}
-use Rattle.desk_types.proofs.Common.{map, None, One, Option, recursion_from_All, refl, Rules, Some, subst, suc, sym}
-use Rattle.desk_types.proofs.Common.{take, take_more, tied_itself, true, true≢false, Two, ℕ, ℤ}
-use Rattle.line_tables.proofs.Common.{all-append, all_weaker, AreApart, changed_tables, column, found, Ghosts, Has}
-use Rattle.line_tables.proofs.Common.{Held, Indexed, Int, is_int, IsAnswer, IsAscending, IsBefore, IsOurs, IsPast}
-use Rattle.line_tables.proofs.Common.{IsPermutation-filter, KeepsCommit, kept_in, Output, output, Reads, Row, rowid}
-use Rattle.line_tables.proofs.Common.{Schema, State, state, Table, tree_in, Trees, Value, value_cmp, value_cmp-Int}
-use Rattle.line_tables.proofs.Common.{value_cmp_total}
+use Rattle.desk_types.proofs.Common.{All-permutation, AllByRecursion, and_parts, ap, arith, Bool, codes, cond}
+use Rattle.desk_types.proofs.Common.{drop, false, filter, get_or, if◌then◌else◌, inl, inr, int_cmp}
+use Rattle.desk_types.proofs.Common.{IsPermutation, IsPermutation-map, IsPermutation-sym, IsTrue, length}
+use Rattle.desk_types.proofs.Common.{length_permutation, List, map, None, Option, recursion_from_All, refl}
+use Rattle.desk_types.proofs.Common.{Some, subst, suc, sym, take, take_more, tied_itself, true, true≢false, ℕ}
+use Rattle.desk_types.proofs.Common.{ℤ}
+use Rattle.line_tables.proofs.Common.{all-append, all_weaker, AreApart, changed_tables, column, found, Ghosts}
+use Rattle.line_tables.proofs.Common.{Has, Held, Indexed, Int, is_int, IsAnswer, IsAscending, IsBefore}
+use Rattle.line_tables.proofs.Common.{IsOurs, IsPast, IsPermutation-filter, KeepsCommit, kept_in, One, Output}
+use Rattle.line_tables.proofs.Common.{output, Reads, Row, rowid, Rules, Schema, State, state, Table, tree_in}
+use Rattle.line_tables.proofs.Common.{Trees, Two, Value, value_cmp, value_cmp-Int, value_cmp_total}
 use Rattle.line_tables.proofs.{FindTexts.IsSelectBy, Finds.answer_by, Finds.overlay_none, Finds.shown_of}
 use Rattle.line_tables.proofs.{Keeps.keeps_same, Keeps.keeps_then, Keeps.reads_before, RowidTexts.found_is}
 use Rattle.line_tables.proofs.{RowidTexts.IsRowids, RowidTexts.rowids_from}
-use Rattle.line_tables.specs.{Line.found_tables, Line.nothing as no_others, Rising.AreApartWhere, Rising.AreRising}
-use Rattle.line_tables.specs.{Rising.IsFoundApartWhere, Rising.Shows, Rowids.AreAllApartBy, Rowids.changed_of}
+use Rattle.line_tables.specs.{Line.found_tables, Line.nothing as no_others, Rising.AreApartWhere}
+use Rattle.line_tables.specs.{Rising.AreRising, Rising.IsFoundApartWhere, Rising.Shows, Rowids.AreAllApartBy}
+use Rattle.line_tables.specs.{Rowids.changed_of}
 use Rattle.sqlite_catalog.proofs.ListFacts.{ascending_push}
 use Rattle.sqlite_rules.proofs.ListLemmas.{all_has}
-use Rattle.std.proofs.{Common.drop-cons, Common.Equal, Common.Greater, Common.int_lt, Common.is_eq, Common.Less}
-use Rattle.std.proofs.{Common.Ordering, lemmas.Cmp.int_cmp_total, lemmas.Cmp.tied_back}
+use Rattle.std.proofs.{Common.drop-cons, Common.Equal, Common.Greater, Common.int_lt, Common.is_eq}
+use Rattle.std.proofs.{Common.Less, Common.Ordering, lemmas.Cmp.int_cmp_total, lemmas.Cmp.tied_back}
 
 -- ---- one more row
 

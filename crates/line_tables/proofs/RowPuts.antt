@@ -1,19 +1,25 @@
 -- The effect of the statements on the state tables.
-use Rattle.desk_types.proofs.Common.{[], ◌&&◌, ◌+◌, ◌==◌, ◌||◌, ◌∙◌, ◌∷◌, ◌≡◌, and_from, and_parts, ap, ap₂, BoardRow}
-use Rattle.desk_types.proofs.Common.{Bool, drop, false, if◌then◌else◌, inl, inr, IsTrue, length, List, map, MountRow}
-use Rattle.desk_types.proofs.Common.{Name, None, not, Option, pos, PutAlternate, PutBoard, PutFound, PutMount}
-use Rattle.desk_types.proofs.Common.{PutPart, PutReel, PutSelected, PutSheetRow, ReelRow, refl, same, SheetRow}
-use Rattle.desk_types.proofs.Common.{slice_get, Some, subst, sym, TakeMount, TakeSheetRow, true, Two, ℕ, ℤ}
-use Rattle.line_tables.proofs.Common.{alternate, AreApart, AreRows, Binary, board, bound, cast_row, Chosen, col}
-use Rattle.line_tables.proofs.Common.{column, columns, command_of, Database, Enforced, equal, flag, found, found_tree}
-use Rattle.line_tables.proofs.Common.{Ghosts, has_pair, has_sheet_place, has_text, Indexed, Int, is_int, IsPlain}
-use Rattle.line_tables.proofs.Common.{Layout, mount, Null, owned, part, Plain, reel, reel_columns, Row, rowid}
-use Rattle.line_tables.proofs.Common.{rows_in, Runs, schema_of, schema_tables, selected, sheet_row, State, state}
-use Rattle.line_tables.proofs.Common.{Table, Term, Text, understood, Update, Value, value_cmp, values_of, with_rowid}
-use Rattle.line_tables.proofs.Common.{works}
+use Rattle.desk_types.proofs.Common.{[], ◌&&◌, ◌+◌, ◌==◌, ◌||◌, ◌∙◌, ◌∷◌, ◌≡◌, and_from, and_parts, ap, ap₂}
+use Rattle.desk_types.proofs.Common.{Bool, drop, false, if◌then◌else◌, inl, inr, IsTrue, length, List, map}
+use Rattle.desk_types.proofs.Common.{Name, None, not, Option, pos, refl, same, slice_get, Some, subst, sym}
+use Rattle.desk_types.proofs.Common.{true, ℕ, ℤ}
+use Rattle.line_tables.proofs.Common.{alternate, AreApart, AreRows, Binary, board, bound, cast_row, Chosen}
+use Rattle.line_tables.proofs.Common.{col, column, columns, command_of, Database, Enforced, equal, flag}
+use Rattle.line_tables.proofs.Common.{found, found_tree, Ghosts, has_pair, has_sheet_place, has_text, Indexed}
+use Rattle.line_tables.proofs.Common.{Int, is_int, IsPlain, Layout, mount, Null, owned, part, Plain, reel}
+use Rattle.line_tables.proofs.Common.{reel_columns, Row, rowid, rows_in, Runs, schema_of, schema_tables}
+use Rattle.line_tables.proofs.Common.{selected, sheet_row, State, state, Table, Term, Text, Two, understood}
+use Rattle.line_tables.proofs.Common.{Update, Value, value_cmp, values_of, with_rowid, works}
+use Rattle.desk_types.specs.declared.edit.RowEdit.TheVariants.{PutAlternate, PutBoard, PutFound, PutMount}
+use Rattle.desk_types.specs.declared.edit.RowEdit.TheVariants.{PutPart, PutReel, PutSelected, PutSheetRow}
+use Rattle.desk_types.specs.declared.edit.RowEdit.TheVariants.{TakeMount, TakeSheetRow}
+use Rattle.desk_types.specs.declared.row.BoardRow.{BoardRow}
+use Rattle.desk_types.specs.declared.row.MountRow.{MountRow}
+use Rattle.desk_types.specs.declared.row.ReelRow.{ReelRow}
+use Rattle.desk_types.specs.declared.sheet.SheetRow.{SheetRow}
 use Rattle.line_tables.proofs.Alterations.{deletes, inserts, updates_none, updates_one}
-use Rattle.line_tables.proofs.Altering.{Alters, alters_then, alters_writes, far_from_found, found_kept, put_in}
-use Rattle.line_tables.proofs.Altering.{rows_at, without}
+use Rattle.line_tables.proofs.Altering.{Alters, alters_then, alters_writes, far_from_found, found_kept}
+use Rattle.line_tables.proofs.Altering.{put_in, rows_at, without}
 use Rattle.line_tables.proofs.Beside.{found_low, is_low, quiet}
 use Rattle.line_tables.proofs.Changes.{Changed, delete_does, passing, renewed, shows_of, update_does}
 use Rattle.line_tables.proofs.FindTexts.{rows_from}
@@ -23,17 +29,17 @@ use Rattle.line_tables.proofs.Keyed.{added, changed, one_pair, one_sheet_place, 
 use Rattle.line_tables.proofs.Keyed.{same_pair, same_sheet_place, tells_pair, tells_sheet_place, tells_text}
 use Rattle.line_tables.proofs.Puts.{cast_int, cast_null}
 use Rattle.line_tables.proofs.RowTexts.{alternate_tests, changed_terms, delete_alternate_is, delete_mount_is}
-use Rattle.line_tables.proofs.RowTexts.{delete_part_is, delete_sheet_row_is, insert_alternate_is, insert_board_is}
-use Rattle.line_tables.proofs.RowTexts.{insert_found_is, insert_mount_is, insert_part_is, insert_reel_is}
-use Rattle.line_tables.proofs.RowTexts.{insert_selected_is, insert_sheet_row_is, IsInsert, key_tests, mount_terms}
-use Rattle.line_tables.proofs.RowTexts.{mount_tests, row_terms, sheet_row_tests, update_board_is, update_found_is}
-use Rattle.line_tables.proofs.RowTexts.{update_reel_is, update_selected_is}
+use Rattle.line_tables.proofs.RowTexts.{delete_part_is, delete_sheet_row_is, insert_alternate_is}
+use Rattle.line_tables.proofs.RowTexts.{insert_board_is, insert_found_is, insert_mount_is, insert_part_is}
+use Rattle.line_tables.proofs.RowTexts.{insert_reel_is, insert_selected_is, insert_sheet_row_is, IsInsert}
+use Rattle.line_tables.proofs.RowTexts.{key_tests, mount_terms, mount_tests, row_terms, sheet_row_tests}
+use Rattle.line_tables.proofs.RowTexts.{update_board_is, update_found_is, update_reel_is, update_selected_is}
 use Rattle.line_tables.specs.Calls.{Changes, ChangesOrPuts, WritesRow}
 use Rattle.line_tables.specs.Line.{found_by}
-use Rattle.line_tables.specs.StateRows.{alternate_columns, board_columns, found_columns, mount_columns, part_columns}
-use Rattle.line_tables.specs.StateRows.{selected_columns, sheet_columns, since_or_none, unit_if}
-use Rattle.line_tables.specs.declared.floor.TheConstants.{DELETE_MOUNT, INSERT_BOARD, INSERT_MOUNT, INSERT_REEL}
-use Rattle.line_tables.specs.declared.floor.TheConstants.{UPDATE_BOARD, UPDATE_REEL}
+use Rattle.line_tables.specs.StateRows.{alternate_columns, board_columns, found_columns, mount_columns}
+use Rattle.line_tables.specs.StateRows.{part_columns, selected_columns, sheet_columns, since_or_none, unit_if}
+use Rattle.line_tables.specs.declared.floor.TheConstants.{DELETE_MOUNT, INSERT_BOARD, INSERT_MOUNT}
+use Rattle.line_tables.specs.declared.floor.TheConstants.{INSERT_REEL, UPDATE_BOARD, UPDATE_REEL}
 use Rattle.line_tables.specs.declared.pieces.TheConstants.{INSERT_FOUND, UPDATE_FOUND}
 use Rattle.line_tables.specs.declared.setup.TheConstants.{DELETE_ALTERNATE, DELETE_PART, DELETE_SHEET_ROW}
 use Rattle.line_tables.specs.declared.setup.TheConstants.{INSERT_ALTERNATE, INSERT_PART, INSERT_SELECTED}

@@ -1,12 +1,13 @@
 -- The meaning of the texts that write the state tables.
-use Rattle.desk_types.proofs.Common.{[], ◌∷◌, ◌≡◌, List, map, range_with_len, refl, Two, ℕ}
-use Rattle.line_tables.proofs.Common.{Binary, col, command_of, Compare, Eq, everything, found_tree, Indexed, Insert}
-use Rattle.line_tables.proofs.Common.{INSERT_PLACEMENTS, IsPlain, Layout, lit, Null, op2, Plain, schema_of, Term}
+use Rattle.desk_types.proofs.Common.{[], ◌∷◌, ◌≡◌, List, map, range_with_len, refl, ℕ}
+use Rattle.line_tables.proofs.Common.{Binary, col, command_of, Compare, Eq, everything, found_tree, Indexed}
+use Rattle.line_tables.proofs.Common.{Insert, IsPlain, Layout, lit, Null, op2, Plain, schema_of, Term, Two}
 use Rattle.line_tables.proofs.Common.{understood, Update, Values}
 use Rattle.line_tables.proofs.FindTexts.{rows_from}
-use Rattle.line_tables.specs.declared.floor.TheConstants.{DELETE_MOUNT, INSERT_BOARD, INSERT_MOUNT, INSERT_REEL}
-use Rattle.line_tables.specs.declared.floor.TheConstants.{UPDATE_BOARD, UPDATE_REEL}
-use Rattle.line_tables.specs.declared.pieces.TheConstants.{INSERT_FOUND, INSERT_PLACEMENT, UPDATE_FOUND}
+use Rattle.line_tables.specs.declared.floor.TheConstants.{DELETE_MOUNT, INSERT_BOARD, INSERT_MOUNT}
+use Rattle.line_tables.specs.declared.floor.TheConstants.{INSERT_REEL, UPDATE_BOARD, UPDATE_REEL}
+use Rattle.line_tables.specs.declared.pieces.TheConstants.{INSERT_FOUND, INSERT_PLACEMENT, INSERT_PLACEMENTS}
+use Rattle.line_tables.specs.declared.pieces.TheConstants.{UPDATE_FOUND}
 use Rattle.line_tables.specs.declared.setup.TheConstants.{DELETE_ALTERNATE, DELETE_PART, DELETE_SHEET_ROW}
 use Rattle.line_tables.specs.declared.setup.TheConstants.{INSERT_ALTERNATE, INSERT_PART, INSERT_SELECTED}
 use Rattle.line_tables.specs.declared.setup.TheConstants.{INSERT_SHEET_ROW, UPDATE_SELECTED}

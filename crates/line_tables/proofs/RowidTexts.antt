@@ -1,8 +1,7 @@
 -- The meaning of the texts that read rowids.
-use Rattle.desk_types.proofs.Common.{[], ◌∷◌, codes, false, inl, inr, List, negsuc, None, One, pos, refl, true, Two}
-use Rattle.desk_types.proofs.Common.{ℕ}
-use Rattle.line_tables.proofs.Common.{ascending, Binary, col, end, everything, found, Indexed, inner, Int, lit, Plain}
-use Rattle.line_tables.proofs.Common.{Query, tree_in, understood}
+use Rattle.desk_types.proofs.Common.{[], ◌∷◌, codes, false, inl, inr, List, negsuc, None, pos, refl, true, ℕ}
+use Rattle.line_tables.proofs.Common.{ascending, Binary, col, end, everything, found, Indexed, inner, Int}
+use Rattle.line_tables.proofs.Common.{lit, One, Plain, Query, tree_in, Two, understood}
 use Rattle.line_tables.proofs.FindTexts.{IsSelect, IsSelectBy}
 use Rattle.sqlite.specs.Listing.{listing_schema}
 

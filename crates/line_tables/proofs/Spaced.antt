@@ -1,6 +1,6 @@
 -- Texts with a byte between each two of them.
-use Rattle.desk_types.proofs.Common.{[], ◌++◌, ◌-◌, ◌<◌, ◌∙◌, ◌∷◌, ◌≡◌, ap, append-nil, arith, drop, flat_map, get_or}
-use Rattle.desk_types.proofs.Common.{join_with_byte, length, List, sym, take, take_all, ℕ}
+use Rattle.desk_types.proofs.Common.{[], ◌++◌, ◌-◌, ◌<◌, ◌∙◌, ◌∷◌, ◌≡◌, ap, append-nil, arith, drop, flat_map}
+use Rattle.desk_types.proofs.Common.{get_or, join_with_byte, length, List, sym, take, take_all, ℕ}
 
 join_flat : (c : ℕ) (x : List ℕ) (xs : List (List ℕ)) → join_with_byte c (x ∷ xs) ≡ x ++ flat_map (λ y. c ∷ y) xs
 join_flat c x [] = sym (append-nil x)

@@ -1,20 +1,24 @@
 -- The result of the query for the boards of a lot.
-use Rattle.desk_types.proofs.Common.{[], ◌&&◌, ◌∙◌, ◌∷◌, ◌≡◌, ap, boards_of, Bool, by_name, filter, flat_map, History}
-use Rattle.desk_types.proofs.Common.{if◌then◌else◌, IsPermutation, IsPermutation-sym, IsPermutation-trans}
-use Rattle.desk_types.proofs.Common.{IsStrictlySortedBy, List, list_all, map, Name, Placement, placements_of, refl}
-use Rattle.desk_types.proofs.Common.{same, subst, sym}
-use Rattle.line_tables.proofs.Common.{all_weaker, column, columns, Database, flat_map-map, Ghosts, has_text, Held}
-use Rattle.line_tables.proofs.Common.{holds, IsAnswer, IsAscending, map-map, Output, output, output_cmp}
-use Rattle.line_tables.proofs.Common.{output_cmp_total, overlay, reel_columns, Row, rows_in, Selects, state, Text}
+use Rattle.desk_types.proofs.Common.{[], ◌&&◌, ◌∙◌, ◌∷◌, ◌≡◌, ap, boards_of, Bool, by_name, filter, flat_map}
+use Rattle.desk_types.proofs.Common.{History, if◌then◌else◌, IsPermutation, IsPermutation-sym}
+use Rattle.desk_types.proofs.Common.{IsPermutation-trans, IsStrictlySortedBy, List, list_all, map, Name}
+use Rattle.desk_types.proofs.Common.{placements_of, refl, same, subst, sym}
+use Rattle.desk_laws.proofs.Common.{Placement}
+use Rattle.line_tables.proofs.Common.{all_weaker, column, columns, Database, flat_map-map, Ghosts, has_text}
+use Rattle.line_tables.proofs.Common.{Held, holds, IsAnswer, IsAscending, map-map, Output, output, output_cmp}
+use Rattle.line_tables.proofs.Common.{output_cmp_total, overlay, reel_columns, Row, rows_in, Selects, state}
+use Rattle.line_tables.proofs.Common.{Text}
 use Rattle.desk_laws.proofs.NameSets.{set-ordered}
 use Rattle.line_tables.proofs.Finds.{and_true, answer_of}
-use Rattle.line_traces.proofs.{Columns.equal-text, DistinctNames.by-shown, DistinctNames.kept-set}
-use Rattle.line_traces.proofs.{DistinctNames.shown_name, FoundPieces.is_reel, Joins.found-of, Joins.map-pair}
-use Rattle.line_traces.proofs.{Joins.pair-one, Joins.paired, Joins.pairing, Joins.swapped, PlacedColumns.IsKnown}
-use Rattle.line_traces.proofs.{PlacedColumns.piece_row, PlacedColumns.pieces-known, PlacedColumns.pieces-listed}
-use Rattle.line_traces.proofs.{Texts.names_query, Texts.select_names, Texts.select_names_is}
+use Rattle.line_traces.proofs.Columns.{equal-text}
+use Rattle.line_traces.proofs.DistinctNames.{by-shown, kept-set, shown_name}
+use Rattle.line_traces.proofs.FoundPieces.{is_reel}
+use Rattle.line_traces.proofs.Joins.{found-of, map-pair, pair-one, paired, pairing, swapped}
+use Rattle.line_traces.proofs.PlacedColumns.{IsKnown, piece_row, pieces-known, pieces-listed}
+use Rattle.line_traces.proofs.Texts.{names_query, select_names, select_names_is}
 use Rattle.line_traces.specs.Committed.{FindsOfList, HoldsList, name_row}
-use Rattle.sqlite_keyed.proofs.{ListLemmas.ascending-map, ListLemmas.ascending_weaker, SortLemmas.sorted_unique}
+use Rattle.sqlite_keyed.proofs.ListLemmas.{ascending-map, ascending_weaker}
+use Rattle.sqlite_keyed.proofs.SortLemmas.{sorted_unique}
 use Rattle.sqlite_trees.proofs.ListLemmas.{IsPermutation-flat_map}
 use Rattle.std.proofs.Common.{Less}
 use Rattle.line_tables.specs.Line as line

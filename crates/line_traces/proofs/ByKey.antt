@@ -1,12 +1,15 @@
 -- The pieces of a list by their keys.
-use Rattle.desk_types.proofs.Common.{[], ◌&&◌, ◌==◌, ◌∙◌, ◌∷◌, ◌≡◌, AllByRecursion, and_parts, ap, ap₂, Bool, eq-eqb}
-use Rattle.desk_types.proofs.Common.{eqb-true, false, filter, find, History, IsJudged, IsStrictlySortedBy, keys_of}
-use Rattle.desk_types.proofs.Common.{List, map, Placement, placements_of, refl, Some, sym, true, true≢false, Two}
-use Rattle.line_traces.{proofs.FoundPieces.before-all, proofs.FoundPieces.IsBefore, proofs.PlacedColumns.itself}
-use Rattle.line_traces.{proofs.TwoCalls.all-placed_columns, specs.Pieces.piece_at, specs.Pieces.pieces_where}
+use Rattle.desk_types.proofs.Common.{[], ◌&&◌, ◌==◌, ◌∙◌, ◌∷◌, ◌≡◌, AllByRecursion, and_parts, ap, ap₂, Bool}
+use Rattle.desk_types.proofs.Common.{eq-eqb, eqb-true, false, filter, find, History, IsJudged}
+use Rattle.desk_types.proofs.Common.{IsStrictlySortedBy, keys_of, List, map, placements_of, refl, Some, sym}
+use Rattle.desk_types.proofs.Common.{true, true≢false}
+use Rattle.desk_laws.proofs.Common.{Placement, Two}
+use Rattle.line_traces.proofs.{FoundPieces.before-all, FoundPieces.IsBefore, PlacedColumns.itself}
+use Rattle.line_traces.proofs.{TwoCalls.all-placed_columns}
+use Rattle.line_traces.specs.Pieces.{piece_at, pieces_where}
 use Rattle.sqlite_keyed.proofs.ListLemmas.{all-filter, all_both}
-use Rattle.state_rows.{proofs.PlacedRows.entry_of, proofs.PlacedRows.pieces-ascend, specs.Kept.by_piece}
-use Rattle.state_rows.{specs.Lists.Key, specs.Lists.keys_where}
+use Rattle.state_rows.proofs.PlacedRows.{entry_of, pieces-ascend}
+use Rattle.state_rows.specs.{Kept.by_piece, Lists.Key, Lists.keys_where}
 use Rattle.std.proofs.Common.{is_eq}
 
 -- ---- look-ups

@@ -1,13 +1,16 @@
 -- Values of rows, and their equality.
-use Rattle.desk_types.proofs.Common.{◌<◌, ◌∙◌, ◌≡◌, ◌≢◌, ap, arith, Bool, false, int_cmp, is_at-by_name, length, map}
-use Rattle.desk_types.proofs.Common.{Name, nat_tests, Placement, PlacementRow, pos, range_with_len, same, same-true}
+use Rattle.desk_types.proofs.Common.{◌<◌, ◌∙◌, ◌≡◌, ◌≢◌, ap, arith, Bool, false, int_cmp, is_at-by_name}
+use Rattle.desk_types.proofs.Common.{length, map, Name, nat_tests, pos, range_with_len, same, same-true}
 use Rattle.desk_types.proofs.Common.{subst, sym, true, ℕ}
-use Rattle.line_tables.proofs.Common.{Binary, binary, column, equal, flag, Int, Null, placement_columns, Row, Text}
-use Rattle.line_tables.proofs.Common.{Value, value_cmp-Int, value_cmp-Text}
+use Rattle.desk_laws.proofs.Common.{Placement}
+use Rattle.line_tables.proofs.Common.{Binary, binary, column, equal, flag, Int, Null, placement_columns, Row}
+use Rattle.line_tables.proofs.Common.{Text, Value, value_cmp-Int, value_cmp-Text}
+use Rattle.desk_types.specs.declared.row.PlacementRow.{PlacementRow}
 use Rattle.line_tables.proofs.Keyed.{tied_twice, truth_told}
 use Rattle.line_traces.specs.Committed.{placed_columns}
-use Rattle.std.proofs.{Common.Equal, Common.is_eq, lemmas.List.get_or_default, lemmas.List.same_lists}
-use Rattle.std.proofs.{lemmas.List.FromFn.get_or-map-range_with_len, lemmas.List.FromFn.length-map-range_with_len}
+use Rattle.std.proofs.Common.{Equal, is_eq}
+use Rattle.std.proofs.lemmas.List.{get_or_default, same_lists}
+use Rattle.std.proofs.lemmas.List.FromFn.{get_or-map-range_with_len, length-map-range_with_len}
 
 -- ---- rows
 

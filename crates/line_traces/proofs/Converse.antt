@@ -1,18 +1,19 @@
 -- The two traces agree.
-use Rattle.desk_types.proofs.Common.{[], ◌++◌, ◌↔◌, ◌∙◌, ◌∷◌, ◌≡◌, ap, append_assoc, boards_of, Bool, command_refusal}
-use Rattle.desk_types.proofs.Common.{Contains, Contains-from_any, Entry, false, filter, History, if◌then◌else◌}
-use Rattle.desk_types.proofs.Common.{in_work_on, install_refusal, is_in_work_on, IsJudged, IsPrefix, List, list_any}
-use Rattle.desk_types.proofs.Common.{list_any-append, list_any-from_Contains, map, MaterialsInstalled, Name}
-use Rattle.desk_types.proofs.Common.{nat_list_eq_equiv, None, Option, option_map_or, or_right, Placement}
-use Rattle.desk_types.proofs.Common.{placements_of, recursion_from_All, refl, same, same-refl, same-true, set_of}
-use Rattle.desk_types.proofs.Common.{Some, sym, true, Two, unwrap_or}
+use Rattle.desk_types.proofs.Common.{[], ◌++◌, ◌↔◌, ◌∙◌, ◌∷◌, ◌≡◌, ap, append_assoc, boards_of, Bool}
+use Rattle.desk_types.proofs.Common.{command_refusal, Contains, Contains-from_any, false, filter, History}
+use Rattle.desk_types.proofs.Common.{if◌then◌else◌, in_work_on, install_refusal, is_in_work_on, IsJudged}
+use Rattle.desk_types.proofs.Common.{IsPrefix, List, list_any, list_any-append, list_any-from_Contains, map}
+use Rattle.desk_types.proofs.Common.{Name, nat_list_eq_equiv, None, Option, option_map_or, or_right}
+use Rattle.desk_types.proofs.Common.{placements_of, recursion_from_All, refl, same, same-refl, same-true}
+use Rattle.desk_types.proofs.Common.{set_of, Some, sym, true, unwrap_or}
+use Rattle.desk_laws.proofs.Common.{Entry, IsRightlyPlaced, MaterialsInstalled, Placement, Two}
 use Rattle.line_tables.proofs.Common.{all_weaker, filter_none}
-use Rattle.desk_laws.proofs.{Accepted.next-accepted, BoardsInWork.work-product, InstalledPieces.rightly-placed}
-use Rattle.desk_laws.proofs.{Judgements.judged-prefix, Mounts.has, NameSets.has-set, NameSets.traces-agree}
-use Rattle.desk_laws.specs.Verified.{IsRightlyPlaced}
+use Rattle.desk_laws.proofs.{Accepted.next-accepted, BoardsInWork.work-product}
+use Rattle.desk_laws.proofs.{InstalledPieces.rightly-placed, Judgements.judged-prefix, Mounts.has}
+use Rattle.desk_laws.proofs.{NameSets.has-set, NameSets.traces-agree}
 use Rattle.line_traces.proofs.StartedAndReceived.{board-started, receipt-lot}
-use Rattle.line_traces.specs.Pieces.{AreConverse, board_trace, is_board, is_lot, lot_board_names, pieces_on, receives}
-use Rattle.line_traces.specs.Pieces.{starts}
+use Rattle.line_traces.specs.Pieces.{AreConverse, board_trace, is_board, is_lot, lot_board_names, pieces_on}
+use Rattle.line_traces.specs.Pieces.{receives, starts}
 
 -- ---- every history
 

@@ -4,10 +4,10 @@ use Rattle.desk_types.proofs.Common.{AllByRecursion, ap, ap₂, Bool, by_name, c
 use Rattle.desk_types.proofs.Common.{if◌then◌else◌, is_at-by_name, IsPermutation, IsPermutation-sym}
 use Rattle.desk_types.proofs.Common.{IsStrictlySortedBy, IsTrue, keys_of, List, list_any, list_any-append}
 use Rattle.desk_types.proofs.Common.{list_any-IsPermutation, map, Name, nat_list_cmp_total, option_map}
-use Rattle.desk_types.proofs.Common.{option_to_list, recursion_from_All, refl, same, same-refl, same-sym, same-true}
-use Rattle.desk_types.proofs.Common.{set_of, Some, subst, sym, tied_itself, true}
-use Rattle.line_tables.proofs.Common.{all_weaker, Binary, column, has_text, IsAscending, map-map, Output, Text}
-use Rattle.line_tables.proofs.Common.{value_cmp, value_cmp-Text}
+use Rattle.desk_types.proofs.Common.{option_to_list, recursion_from_All, refl, same, same-refl, same-sym}
+use Rattle.desk_types.proofs.Common.{same-true, set_of, Some, subst, sym, tied_itself, true}
+use Rattle.line_tables.proofs.Common.{all_weaker, Binary, column, has_text, IsAscending, map-map, Output}
+use Rattle.line_tables.proofs.Common.{Text, value_cmp, value_cmp-Text}
 use Rattle.desk_laws.{proofs.Mounts.has, proofs.NameSets.has-set, proofs.NameSets.set-ordered}
 use Rattle.line_traces.{proofs.Columns.equal-text, proofs.Columns.one-text, proofs.RowsByKey.rows-listed}
 use Rattle.sqlite_keyed.proofs.ListLemmas.{all-map}

@@ -1,19 +1,23 @@
 -- The results of the queries for pieces.
-use Rattle.desk_types.proofs.Common.{[], ◌&&◌, ◌∙◌, ◌∷◌, ◌≡◌, AllByRecursion, ap, arith, Bool, filter, flat_map}
-use Rattle.desk_types.proofs.Common.{History, if◌then◌else◌, IsPermutation, IsPermutation-sym, IsPermutation-trans}
-use Rattle.desk_types.proofs.Common.{IsStrictlySortedBy, keys_of, List, list_all, map, Name, nat_tests, ordering_then}
-use Rattle.desk_types.proofs.Common.{overdue_of, Placement, placements_of, pos, ReelRow, refl, same, subst₂, sym, ℕ}
-use Rattle.line_tables.proofs.Common.{accepted_columns, accepted_in, all_weaker, Binary, column, columns, Database}
-use Rattle.line_tables.proofs.Common.{equal, flat_map-map, Ghosts, has_text, Held, holds, Int, IsAnswer, IsAscending}
-use Rattle.line_tables.proofs.Common.{map-map, Output, output, output_cmp, output_cmp_total, overlay, reel_columns}
-use Rattle.line_tables.proofs.Common.{Row, rows_in, Selects, state, Term, Text, value_cmp, value_cmp-Int}
+use Rattle.desk_types.proofs.Common.{[], ◌&&◌, ◌∙◌, ◌∷◌, ◌≡◌, AllByRecursion, ap, arith, Bool, filter}
+use Rattle.desk_types.proofs.Common.{flat_map, History, if◌then◌else◌, IsPermutation, IsPermutation-sym}
+use Rattle.desk_types.proofs.Common.{IsPermutation-trans, IsStrictlySortedBy, keys_of, List, list_all, map}
+use Rattle.desk_types.proofs.Common.{Name, nat_tests, ordering_then, overdue_of, placements_of, pos, refl}
+use Rattle.desk_types.proofs.Common.{same, subst₂, sym, ℕ}
+use Rattle.desk_laws.proofs.Common.{Placement, ReelRow}
+use Rattle.line_tables.proofs.Common.{accepted_columns, accepted_in, all_weaker, Binary, column, columns}
+use Rattle.line_tables.proofs.Common.{Database, equal, flat_map-map, Ghosts, has_text, Held, holds, Int}
+use Rattle.line_tables.proofs.Common.{IsAnswer, IsAscending, map-map, Output, output, output_cmp}
+use Rattle.line_tables.proofs.Common.{output_cmp_total, overlay, reel_columns, Row, rows_in, Selects, state}
+use Rattle.line_tables.proofs.Common.{Term, Text, value_cmp, value_cmp-Int}
 use Rattle.line_tables.proofs.FindTexts.{IsSelect}
 use Rattle.line_tables.proofs.Finds.{and_true, answer_of}
 use Rattle.line_traces.proofs.Columns.{equal-flag, equal-text}
 use Rattle.line_traces.proofs.Joins.{found-of, join, join-by, join-one, joined, map-join}
 use Rattle.line_traces.proofs.PlacedColumns.{IsKnown, piece_row, pieces-known, pieces-listed}
-use Rattle.line_traces.proofs.Texts.{is_overdue, of_lot, on_board, pieces_query, select_of_lot, select_of_lot_is}
-use Rattle.line_traces.proofs.Texts.{select_on, select_on_is, select_overdue, select_overdue_is}
+use Rattle.line_traces.proofs.Texts.{is_overdue, of_lot, on_board, pieces_query, select_of_lot}
+use Rattle.line_traces.proofs.Texts.{select_of_lot_is, select_on, select_on_is, select_overdue}
+use Rattle.line_traces.proofs.Texts.{select_overdue_is}
 use Rattle.line_traces.specs.Committed.{FindsOfList, HoldsList, placed_columns}
 use Rattle.line_traces.specs.Pieces.{pieces_of_lot, pieces_on, pieces_where}
 use Rattle.sqlite_keyed.proofs.ListLemmas.{ascending-filter, ascending-map, ascending_weaker}

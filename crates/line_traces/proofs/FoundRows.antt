@@ -1,8 +1,9 @@
 -- Whether a query finds a row.
-use Rattle.desk_types.proofs.Common.{[], ◌==◌, ◌∙◌, ◌∷◌, ◌≡◌, ap, Bool, filter, History, IsPermutation, length}
-use Rattle.desk_types.proofs.Common.{length-map, length_permutation, List, list_all, map, Name, not, refl, subst, ℕ}
-use Rattle.line_tables.proofs.Common.{column, columns, Database, Ghosts, has_text, Held, holds, output, overlay, Row}
-use Rattle.line_tables.proofs.Common.{rows_in, Selects, state, Table, Term, Text, tree_in}
+use Rattle.desk_types.proofs.Common.{[], ◌==◌, ◌∙◌, ◌∷◌, ◌≡◌, ap, Bool, filter, History, IsPermutation}
+use Rattle.desk_types.proofs.Common.{length, length-map, length_permutation, List, list_all, map, Name, not}
+use Rattle.desk_types.proofs.Common.{refl, subst, ℕ}
+use Rattle.line_tables.proofs.Common.{column, columns, Database, Ghosts, has_text, Held, holds, output}
+use Rattle.line_tables.proofs.Common.{overlay, Row, rows_in, Selects, state, Table, Term, Text, tree_in}
 use Rattle.line_tables.proofs.FindTexts.{IsSelectBy, rows_from}
 use Rattle.line_tables.proofs.Finds.{and_true, answer_by, overlay_none, rows_answer, shown_is, shown_of}
 use Rattle.line_traces.proofs.StartedAndReceived.{board-named, is_any, lot-named}

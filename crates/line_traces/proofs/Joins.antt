@@ -1,10 +1,11 @@
 -- Joins of two and of three tables, when each row of one table matches one row of each other.
-use Rattle.desk_types.proofs.Common.{[], ◌&&◌, ◌++◌, ◌∙◌, ◌∷◌, ◌≡◌, AllByRecursion, ap, append-nil, append_assoc, ap₂}
-use Rattle.desk_types.proofs.Common.{Bool, false, filter, flat_map, if◌then◌else◌, IsPermutation, IsPermutation-refl}
-use Rattle.desk_types.proofs.Common.{IsPermutation-trans, List, map, refl, subst₂, sym, true}
+use Rattle.desk_types.proofs.Common.{[], ◌&&◌, ◌++◌, ◌∙◌, ◌∷◌, ◌≡◌, AllByRecursion, ap, append-nil}
+use Rattle.desk_types.proofs.Common.{append_assoc, ap₂, Bool, false, filter, flat_map, if◌then◌else◌}
+use Rattle.desk_types.proofs.Common.{IsPermutation, IsPermutation-refl, IsPermutation-trans, List, map, refl}
+use Rattle.desk_types.proofs.Common.{subst₂, sym, true}
 use Rattle.line_tables.proofs.Common.{flat_map-map}
-use Rattle.sqlite_trees.proofs.ListLemmas.{flat_map-filter, flat_map_none, flat_map_same_on, IsPermutation-same}
-use Rattle.sqlite_trees.proofs.ListLemmas.{map-flat_map}
+use Rattle.sqlite_trees.proofs.ListLemmas.{flat_map-filter, flat_map_none, flat_map_same_on}
+use Rattle.sqlite_trees.proofs.ListLemmas.{IsPermutation-same, map-flat_map}
 use Rattle.std.proofs.lemmas.List.Sorted.{IsPermutation-append_comm, IsPermutation-append_left}
 use Rattle.std.proofs.lemmas.List.Sorted.{IsPermutation-append_right}
 

@@ -1,12 +1,15 @@
 -- Pieces that the trace indexes locate.
-use Rattle.desk_types.proofs.Common.{[], ◌++◌, ◌+◌, ◌<◌, ◌∙◌, ◌∷◌, ◌≡◌, AllByRecursion, ap, append_assoc, ap₂, arith}
-use Rattle.desk_types.proofs.Common.{Basis, boards_of, Bool, get_or, History, length, List, map, map-append, Name}
-use Rattle.desk_types.proofs.Common.{Option, Placement, set_of, Some, suc, sym, take, take-next, zero, ℕ}
+use Rattle.desk_types.proofs.Common.{[], ◌++◌, ◌+◌, ◌<◌, ◌∙◌, ◌∷◌, ◌≡◌, AllByRecursion, ap, append_assoc, ap₂}
+use Rattle.desk_types.proofs.Common.{arith, Basis, boards_of, Bool, get_or, History, length, List, map}
+use Rattle.desk_types.proofs.Common.{map-append, Name, Option, set_of, Some, suc, sym, take, take-next, zero}
+use Rattle.desk_types.proofs.Common.{ℕ}
+use Rattle.desk_laws.proofs.Common.{Placement}
 use Rattle.line_tables.proofs.Common.{State}
-use Rattle.line_traces.{proofs.ByKey.listed-pieces, specs.Pieces.piece_at, specs.Pieces.pieces_of_lot}
-use Rattle.line_traces.{specs.Pieces.pieces_where, specs.Working.FindsOfBoth, specs.declared.working.Working.Working}
-use Rattle.state_rows.{specs.Lists.IsListed, specs.Lists.Key, specs.Lists.key_of, specs.Lists.keys_where}
-use Rattle.state_rows.{specs.declared.lists.PieceKey.PieceKey}
+use Rattle.line_traces.proofs.ByKey.{listed-pieces}
+use Rattle.line_traces.specs.{Pieces.piece_at, Pieces.pieces_of_lot, Pieces.pieces_where, Working.FindsOfBoth}
+use Rattle.line_traces.specs.{declared.working.Working.Working}
+use Rattle.state_rows.specs.{Lists.IsListed, Lists.Key, Lists.key_of, Lists.keys_where}
+use Rattle.state_rows.specs.{declared.lists.PieceKey.PieceKey}
 
 -- ---- one run after another
 

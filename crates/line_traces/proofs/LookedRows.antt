@@ -1,15 +1,17 @@
 -- The piece that a row of `placement` describes, with its reel's view and its entry's minute.
-use Rattle.desk_types.proofs.Common.{[], ◌++◌, ◌+◌, ◌==◌, ◌∙◌, ◌∷◌, ◌≡◌, AllByRecursion, ap, arith, Bool, Entry}
+use Rattle.desk_types.proofs.Common.{[], ◌++◌, ◌+◌, ◌==◌, ◌∙◌, ◌∷◌, ◌≡◌, AllByRecursion, ap, arith, Bool}
 use Rattle.desk_types.proofs.Common.{eq-eqb, false, find, History, if◌then◌else◌, inl, inr, IsJudged, length}
-use Rattle.desk_types.proofs.Common.{length-append, List, ne_eqb, None, Option, option_map, option_to_list, Placement}
-use Rattle.desk_types.proofs.Common.{placement_row, PlacementRow, placements_of, recursion_from_All, reel_view}
-use Rattle.desk_types.proofs.Common.{ReelView, refl, Some, subst, sym, true, Two, view_of, ℕ}
+use Rattle.desk_types.proofs.Common.{length-append, List, ne_eqb, None, Option, option_map, option_to_list}
+use Rattle.desk_types.proofs.Common.{placement_row, placements_of, recursion_from_All, reel_view, refl, Some}
+use Rattle.desk_types.proofs.Common.{subst, sym, true, view_of, ℕ}
+use Rattle.desk_laws.proofs.Common.{Entry, IsRightlyPlaced, Placement, ReelView, Two}
 use Rattle.line_tables.proofs.Common.{Database, flag, Has, has_piece, placement_columns, rows_in}
-use Rattle.desk_laws.{proofs.InstalledPieces.rightly-placed, specs.Verified.IsRightlyPlaced}
-use Rattle.desk_types.specs.Tables.{placement_columns as columns_of_piece}
+use Rattle.desk_laws.proofs.InstalledPieces.{rightly-placed}
+use Rattle.desk_types.specs.{Tables.placement_columns as columns_of_piece}
+use Rattle.desk_types.specs.{declared.row.PlacementRow.PlacementRow}
 use Rattle.line_tables.proofs.Keyed.{own_piece}
-use Rattle.line_traces.{proofs.ByKey.has_key, proofs.PlacedColumns.receipt-there, proofs.TwoCalls.one-flag}
-use Rattle.line_traces.{specs.Committed.HoldsList, specs.Pieces.piece_at}
+use Rattle.line_traces.proofs.{ByKey.has_key, PlacedColumns.receipt-there, TwoCalls.one-flag}
+use Rattle.line_traces.specs.{Committed.HoldsList, Pieces.piece_at}
 use Rattle.sqlite_rules.proofs.ListLemmas.{has_kept}
 use Rattle.state_rows.specs.Lists.{minute_of}
 use Rattle.line_tables.specs.Line as line

@@ -1,9 +1,10 @@
 -- The rows of `accepted` give the minutes of the entries. This meets the premise of the calls.
-use Rattle.desk_types.proofs.Common.{[], ◌<◌, ◌∙◌, ◌∷◌, ◌≡◌, ◌≤◌, All-from_recursion, AllByRecursion, AllZip, ap}
-use Rattle.desk_types.proofs.Common.{arith, Bool, Entry, false, filter, History, IsJudged, IsPermutation}
-use Rattle.desk_types.proofs.Common.{IsPermutation-sym, length, List, pos, refl, subst, tables_of, true, Two, ℕ}
-use Rattle.line_tables.proofs.Common.{accepted_in, all_weaker, Binary, column, Database, equal, has_number, Int}
-use Rattle.line_tables.proofs.Common.{IsPermutation-filter, one_permutation, Row}
+use Rattle.desk_types.proofs.Common.{[], ◌<◌, ◌∙◌, ◌∷◌, ◌≡◌, ◌≤◌, All-from_recursion, AllByRecursion, AllZip}
+use Rattle.desk_types.proofs.Common.{ap, arith, Bool, false, filter, History, IsJudged, IsPermutation}
+use Rattle.desk_types.proofs.Common.{IsPermutation-sym, length, List, pos, refl, subst, tables_of, true, ℕ}
+use Rattle.desk_laws.proofs.Common.{Entry, Two}
+use Rattle.line_tables.proofs.Common.{accepted_in, all_weaker, Binary, column, Database, equal, has_number}
+use Rattle.line_tables.proofs.Common.{Int, IsPermutation-filter, one_permutation, Row}
 use Rattle.line_tables.{proofs.Keyed.own_int, specs.StateRows.HoldsState}
 use Rattle.line_traces.{proofs.Columns.one-int, specs.Committed.HoldsList, specs.Committed.TellsMinute}
 use Rattle.sqlite_keyed.proofs.ListLemmas.{all_both}

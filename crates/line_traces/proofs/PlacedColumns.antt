@@ -1,18 +1,19 @@
 -- The database's rows for each placed piece: its reel's row, and its entry's minute.
 use Rattle.desk_types.proofs.Common.{[], ◌++◌, ◌∙◌, ◌∷◌, ◌≡◌, AllByRecursion, ap, append_assoc, ap₂, arith}
-use Rattle.desk_types.proofs.Common.{columns_of, Entry, filter, History, is_at, IsJudged, IsPermutation, IsPrefix}
-use Rattle.desk_types.proofs.Common.{List, map, nat_cmp_total, nat_tests, option_map, option_to_list, ordering_then}
-use Rattle.desk_types.proofs.Common.{Placement, PlacementRow, placements_of, pos, receipt_of, recursion_from_All}
-use Rattle.desk_types.proofs.Common.{ReelRow, refl, Some, subst, sym, tied_itself, true, Two, view_of, ℕ}
-use Rattle.line_tables.proofs.Common.{accepted_in, all_weaker, column, Database, has_number, has_piece, has_text, Int}
-use Rattle.line_tables.proofs.Common.{map-map, placement_columns, reel_columns, Row, rows_in}
+use Rattle.desk_types.proofs.Common.{columns_of, filter, History, is_at, IsJudged, IsPermutation, IsPrefix}
+use Rattle.desk_types.proofs.Common.{List, map, nat_cmp_total, nat_tests, option_map, option_to_list}
+use Rattle.desk_types.proofs.Common.{ordering_then, placements_of, pos, receipt_of, recursion_from_All, refl}
+use Rattle.desk_types.proofs.Common.{Some, subst, sym, tied_itself, true, view_of, ℕ}
+use Rattle.desk_laws.proofs.Common.{Entry, IsRightlyPlaced, Placement, ReelRow, Two}
+use Rattle.line_tables.proofs.Common.{accepted_in, all_weaker, column, Database, has_number, has_piece}
+use Rattle.line_tables.proofs.Common.{has_text, Int, map-map, placement_columns, reel_columns, Row, rows_in}
 use Rattle.desk_laws.{proofs.InstalledPieces.rightly-placed, proofs.ReelsLater.receipt-prefix}
-use Rattle.desk_laws.{specs.Verified.IsRightlyPlaced}
-use Rattle.desk_types.specs.Tables.{placement_columns as columns_of_piece}
+use Rattle.desk_types.{specs.Tables.placement_columns as columns_of_piece}
+use Rattle.desk_types.{specs.declared.row.PlacementRow.PlacementRow}
 use Rattle.line_tables.proofs.Keyed.{one_piece}
 use Rattle.line_traces.{proofs.RowsByKey.rows-listed, specs.Committed.HoldsList, specs.Committed.TellsMinute}
-use Rattle.state_rows.{proofs.PlacedRows.entry_of, proofs.PlacedRows.piece_entries, proofs.PlacedRows.pieces-ascend}
-use Rattle.state_rows.{proofs.PlacedRows.pieces-found, specs.Kept.by_piece}
+use Rattle.state_rows.{proofs.PlacedRows.entry_of, proofs.PlacedRows.piece_entries}
+use Rattle.state_rows.{proofs.PlacedRows.pieces-ascend, proofs.PlacedRows.pieces-found, specs.Kept.by_piece}
 use Rattle.std.proofs.Common.{Equal, Greater, is_eq, Less, nat_cmp, Ordering}
 use Rattle.line_tables.specs.Line as line
 

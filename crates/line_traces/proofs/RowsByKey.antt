@@ -1,9 +1,9 @@
 -- Rows found by their keys are those of a list of entries.
 use Rattle.desk_types.proofs.Common.{[], ◌++◌, ◌∙◌, ◌∷◌, ◌≡◌, AllByRecursion, ap, Bool, cond, false, filter}
-use Rattle.desk_types.proofs.Common.{if◌then◌else◌, is_at, IsPermutation, IsPermutation-cons, IsPermutation-refl}
-use Rattle.desk_types.proofs.Common.{IsPermutation-trans, IsStrictlySortedBy, IsTrue, keys_of, Less, List, map, None}
-use Rattle.desk_types.proofs.Common.{not, option_map, option_to_list, Ordering, refl, Some, subst, sym, true}
-use Rattle.desk_types.proofs.Common.{true≢false}
+use Rattle.desk_types.proofs.Common.{if◌then◌else◌, is_at, IsPermutation, IsPermutation-cons}
+use Rattle.desk_types.proofs.Common.{IsPermutation-refl, IsPermutation-trans, IsStrictlySortedBy, IsTrue}
+use Rattle.desk_types.proofs.Common.{keys_of, Less, List, map, None, not, option_map, option_to_list}
+use Rattle.desk_types.proofs.Common.{Ordering, refl, Some, subst, sym, true, true≢false}
 use Rattle.sqlite_trees.proofs.ListLemmas.{filter-filter}
 use Rattle.state_rows.specs.Kept.{row_at}
 use Rattle.std.proofs.lemmas.List.Sorted.{IsPermutation-filter_both}

@@ -1,16 +1,17 @@
 -- The started boards and the received lots, by the rows of their tables.
-use Rattle.desk_types.proofs.Common.{[], ◌==◌, ◌||◌, ◌∙◌, ◌∷◌, ◌≡◌, AllByRecursion, ap, Bool, both_ways, columns_of}
-use Rattle.desk_types.proofs.Common.{Command, command_refusal, false, filter, History, if◌then◌else◌, is_none}
-use Rattle.desk_types.proofs.Common.{is_some, IsJudged, IsTrue, length, List, Name, None, not, Option}
-use Rattle.desk_types.proofs.Common.{option_and_then, option_map, option_or, option_to_list, product_of, Receipt}
-use Rattle.desk_types.proofs.Common.{receipt_by, receipt_of, ReelReceived, ReelRow, refl, same, same-refl}
-use Rattle.desk_types.proofs.Common.{selected_on, Some, start_by, subst, sym, true, Two, view_of, work_machine}
-use Rattle.desk_types.proofs.Common.{WorkStarted, ℕ}
+use Rattle.desk_types.proofs.Common.{[], ◌==◌, ◌||◌, ◌∙◌, ◌∷◌, ◌≡◌, AllByRecursion, ap, Bool, both_ways}
+use Rattle.desk_types.proofs.Common.{columns_of, command_refusal, false, filter, History, if◌then◌else◌}
+use Rattle.desk_types.proofs.Common.{is_none, is_some, IsJudged, IsTrue, length, List, Name, None, not}
+use Rattle.desk_types.proofs.Common.{Option, option_and_then, option_map, option_or, option_to_list}
+use Rattle.desk_types.proofs.Common.{product_of, receipt_by, receipt_of, refl, same, same-refl, selected_on}
+use Rattle.desk_types.proofs.Common.{Some, start_by, subst, sym, true, view_of, work_machine, ℕ}
+use Rattle.desk_laws.proofs.Common.{Command, Receipt, ReelReceived, ReelRow, Two, WorkStarted}
 use Rattle.line_tables.proofs.Common.{Database, has_text, reel_columns, Row, rows_in}
 use Rattle.desk_laws.proofs.{Accepted.next-accepted, BoardsInWork.startable, ReelsLater.receipt-prefix}
 use Rattle.line_tables.specs.StateRows.{board_columns}
 use Rattle.line_traces.proofs.Columns.{equal-text}
-use Rattle.line_traces.specs.{Committed.HoldsList, Pieces.is_board, Pieces.is_lot, Pieces.receives, Pieces.starts}
+use Rattle.line_traces.specs.{Committed.HoldsList, Pieces.is_board, Pieces.is_lot, Pieces.receives}
+use Rattle.line_traces.specs.{Pieces.starts}
 use Rattle.std.proofs.Math.Dec.{eqb-suc-zero}
 use Rattle.line_tables.specs.Line as line
 

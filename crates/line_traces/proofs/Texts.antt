@@ -1,7 +1,7 @@
 -- The meaning of the texts.
 use Rattle.desk_types.proofs.Common.{[], ◌∷◌, codes, false, inl, List, negsuc, None, pos, refl, true, ℕ}
-use Rattle.line_tables.proofs.Common.{ascending, Binary, col, Compare, end, Eq, everything, inner, Int, lit, op2}
-use Rattle.line_tables.proofs.Common.{Query, Term, understood}
+use Rattle.line_tables.proofs.Common.{ascending, Binary, col, Compare, end, Eq, everything, inner, Int, lit}
+use Rattle.line_tables.proofs.Common.{op2, Query, Term, understood}
 use Rattle.line_tables.proofs.FindTexts.{IsSelect, rows_from}
 
 -- ---- the pieces that pass a test, with their reels and their entries

@@ -1,6 +1,7 @@
 -- The combined results of two calls.
-use Rattle.desk_types.proofs.Common.{[], ◌∙◌, ◌∷◌, ◌≡◌, ap, ap₂, Basis, Bool, false, History, if◌then◌else◌, List}
-use Rattle.desk_types.proofs.Common.{map, Name, None, Option, Placement, refl, Some, sym, true}
+use Rattle.desk_types.proofs.Common.{[], ◌∙◌, ◌∷◌, ◌≡◌, ap, ap₂, Basis, Bool, false, History, if◌then◌else◌}
+use Rattle.desk_types.proofs.Common.{List, map, Name, None, Option, refl, Some, sym, true}
+use Rattle.desk_laws.proofs.Common.{Placement}
 use Rattle.line_tables.proofs.Common.{flag, Row, State}
 use Rattle.line_traces.specs.{Committed.FindsOfList, Committed.name_row, Committed.placed_columns}
 use Rattle.line_traces.specs.{Working.FindsOfBoth, declared.working.Working.Working}

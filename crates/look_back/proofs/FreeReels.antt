@@ -1,9 +1,10 @@
 -- Free reels and their turns.
-use Rattle.desk_types.proofs.Common.{[], ◌++◌, ◌+◌, ◌<◌, ◌∙◌, ◌∷◌, ◌≡◌, ap, by_turn, Command, cons_option, Entry}
-use Rattle.desk_types.proofs.Common.{false, filter, filter_map, filter_map-append, get_or, History, if◌then◌else◌}
-use Rattle.desk_types.proofs.Common.{in_order, insert_key, is_free, Left, length, List, map, Name, None, Option}
+use Rattle.desk_types.proofs.Common.{[], ◌++◌, ◌+◌, ◌<◌, ◌∙◌, ◌∷◌, ◌≡◌, ap, by_turn, cons_option, false}
+use Rattle.desk_types.proofs.Common.{filter, filter_map, filter_map-append, get_or, History, if◌then◌else◌}
+use Rattle.desk_types.proofs.Common.{in_order, insert_key, is_free, length, List, map, Name, None, Option}
 use Rattle.desk_types.proofs.Common.{option_and_then, option_map, option_map_or, option_to_list, received_by}
 use Rattle.desk_types.proofs.Common.{reels_received, refl, Some, sym, take, take-next, ℕ}
+use Rattle.desk_laws.proofs.Common.{Command, Entry, Left}
 use Rattle.judging.proofs.FreeReels.{free_among, turn-put}
 use Rattle.judging.specs.Turns.{by_life, if_free, turn_by, turn_of}
 

@@ -1,15 +1,15 @@
 -- The effect of an entry on a reel.
-use Rattle.desk_types.proofs.Common.{[], ◌++◌, ◌+◌, ◌<◌, ◌∙◌, ◌∷◌, ◌≡◌, ◌≤◌, ap, append_assoc, arith, Bool, Command}
-use Rattle.desk_types.proofs.Common.{cond, drop, drop-next, Entry, false, get_or, History, IsJudged, IsNext, length}
-use Rattle.desk_types.proofs.Common.{List, MaterialsLoaded, MaterialsSpliced, Name, None, now_of, open_by, Option}
-use Rattle.desk_types.proofs.Common.{option_map_or, Receipt, receipt_by, receipt_of, ReelOpened, ReelReceived}
-use Rattle.desk_types.proofs.Common.{ReelSealed, refl, reverse, reverse-append, same, same-true, Some, sym, take}
-use Rattle.desk_types.proofs.Common.{take-append-drop, take-next, true, Two, ℕ}
+use Rattle.desk_types.proofs.Common.{[], ◌++◌, ◌+◌, ◌<◌, ◌∙◌, ◌∷◌, ◌≡◌, ◌≤◌, ap, append_assoc, arith, Bool}
+use Rattle.desk_types.proofs.Common.{cond, drop, drop-next, false, get_or, History, IsJudged, IsNext}
+use Rattle.desk_types.proofs.Common.{le-max_right, length, List, Name, None, now_of, open_by, Option}
+use Rattle.desk_types.proofs.Common.{option_map_or, receipt_by, receipt_of, refl, reverse, reverse-append}
+use Rattle.desk_types.proofs.Common.{same, same-true, Some, sym, take, take-append-drop, take-next, true, ℕ}
+use Rattle.desk_laws.proofs.Common.{Command, Entry, MaterialsLoaded, MaterialsSpliced, Receipt, ReelOpened}
+use Rattle.desk_laws.proofs.Common.{ReelReceived, ReelSealed, Two}
 use Rattle.desk_laws.{proofs.Accepted.received-once, proofs.Judgements.judged-prefix}
 use Rattle.judging.specs.Facts.{IsReelOf}
 use Rattle.look_back.{proofs.ReelsLater.reverse-last, specs.Life.is_bake}
 use Rattle.reels.specs.declared.reel.Reel.{Reel}
-use Rattle.std.proofs.Math.Nat.{le-max_right}
 
 is-true : {X : Type 0} (b : Bool) (x y : X) → cond b (Some x) None ≡ Some y → b ≡ true
 is-true true x y is = refl

@@ -1,7 +1,8 @@
 -- The live reels of slots, as mounts.
-use Rattle.desk_types.proofs.Common.{[], ◌∙◌, ◌≡◌, All, ap, History, IsJudged, left_of, life_left, live_on, mount_of}
-use Rattle.desk_types.proofs.Common.{Name, nat_list_eq_equiv, None, Option, option_map, option_map_or, Receipt}
-use Rattle.desk_types.proofs.Common.{receipt_of, reel_view, ReelView, refl, Some, sym, Two, view_of, ℕ}
+use Rattle.desk_types.proofs.Common.{[], ◌∙◌, ◌≡◌, All, ap, History, IsJudged, left_of, life_left, live_on}
+use Rattle.desk_types.proofs.Common.{mount_of, Name, nat_list_eq_equiv, None, Option, option_map}
+use Rattle.desk_types.proofs.Common.{option_map_or, receipt_of, reel_view, refl, Some, sym, view_of, ℕ}
+use Rattle.desk_laws.proofs.Common.{Receipt, ReelView, Two}
 use Rattle.desk_laws.proofs.Mounts.{live-received}
 use Rattle.judging.specs.Facts.{IsKnownReel}
 use Rattle.std.proofs.lemmas.Map.Views.{All-from_any}

@@ -1,6 +1,7 @@
 -- The greatest number of pieces in a history.
-use Rattle.desk_types.proofs.Common.{◌+◌, ◌-◌, ◌^◌, ◌≡◌, ◌≤◌, arith, Entry, History, IsJudged, left_of, length, List}
-use Rattle.desk_types.proofs.Common.{min, MOST_ENTRIES, Name, placed_of, received_of, reverse, scrapped_of, Two, ℕ}
+use Rattle.desk_types.proofs.Common.{◌+◌, ◌-◌, ◌^◌, ◌≡◌, ◌≤◌, arith, History, IsJudged, left_of, length, List}
+use Rattle.desk_types.proofs.Common.{min, Name, placed_of, received_of, reverse, scrapped_of, ℕ}
+use Rattle.desk_laws.proofs.Common.{Entry, MOST_ENTRIES, Two}
 use Rattle.desk_laws.proofs.{Balance.balance, Ranges.received-range}
 use Rattle.look_back.specs.Totals.{total_of}
 use Rattle.reels.specs.{declared.reel.Usage.Usage, declared.reel.Usage.TheVariants.Placed}

@@ -1,8 +1,9 @@
 -- The view of a reel.
-use Rattle.desk_types.proofs.Common.{◌-◌, ◌∙◌, ◌≡◌, ◌≤◌, ap, arith, Bool, exposure_of, found_of, History, is_mounted}
-use Rattle.desk_types.proofs.Common.{is_some, Left, left_of, life_left, Name, None, now_of, Option, option_map}
-use Rattle.desk_types.proofs.Common.{option_map_or, out_since, placed_of, Receipt, receipt_of, received_of, reel_view}
-use Rattle.desk_types.proofs.Common.{refl, scrapped_of, Some, unwrap_or, used_of, view_of, ℕ}
+use Rattle.desk_types.proofs.Common.{◌-◌, ◌∙◌, ◌≡◌, ◌≤◌, ap, arith, Bool, exposure_of, found_of, History}
+use Rattle.desk_types.proofs.Common.{is_mounted, is_some, left_of, life_left, Name, None, now_of, Option}
+use Rattle.desk_types.proofs.Common.{option_map, option_map_or, out_since, placed_of, receipt_of, received_of}
+use Rattle.desk_types.proofs.Common.{reel_view, refl, scrapped_of, Some, unwrap_or, used_of, view_of, ℕ}
+use Rattle.desk_laws.proofs.Common.{Left, Receipt}
 use Rattle.reels.specs.{Reel.StandsFor, declared.reel.Reel.Reel}
 
 used-is : (H : History) (name : Name) (found : Reel) → StandsFor H name found → found.last ≤ now_of H → found.row.used ≡ used_of H name

@@ -1,8 +1,9 @@
 -- A reel's pieces after one more entry.
-use Rattle.desk_types.proofs.Common.{[], ◌++◌, ◌+◌, ◌-◌, ◌∙◌, ◌∷◌, ◌≡◌, ◌≤◌, ap, arith, cond, Entry}
-use Rattle.desk_types.proofs.Common.{GREATEST_QUANTITY, History, left_of, length, List, map, min, Name, None, Pick}
-use Rattle.desk_types.proofs.Common.{picks_of, pieces_by, pieces_picked, refl, reverse, reverse-append, same, Some}
-use Rattle.desk_types.proofs.Common.{sum_by-cons, sym, Take, take_of, takes_by, unwrap_or, ℕ}
+use Rattle.desk_types.proofs.Common.{[], ◌++◌, ◌+◌, ◌-◌, ◌∙◌, ◌∷◌, ◌≡◌, ◌≤◌, ap, arith, cond, History}
+use Rattle.desk_types.proofs.Common.{left_of, length, List, map, min, Name, None, picks_of, pieces_by}
+use Rattle.desk_types.proofs.Common.{pieces_picked, refl, reverse, reverse-append, same, Some, sum_by-cons}
+use Rattle.desk_types.proofs.Common.{sym, take_of, takes_by, unwrap_or, ℕ}
+use Rattle.desk_laws.proofs.Common.{Entry, GREATEST_QUANTITY, Pick, Take}
 use Rattle.look_back.{proofs.Ranges.most, specs.Kept.AreTakes, specs.Kept.pieces_taken}
 
 pub pieces_taken-map : (H : History) (minute : ℕ) (picks : List Pick) (reel : Name) → pieces_taken (map (take_of H minute) picks) reel ≡ pieces_picked picks reel

@@ -1,12 +1,14 @@
 -- A reel's placed and scrapped pieces, from the stored takes.
-use Rattle.desk_types.proofs.Common.{[], ◌&&◌, ◌++◌, ◌+◌, ◌∙◌, ◌∷◌, ◌≡◌, all_picks, and-false, and-true, ap, arith}
-use Rattle.desk_types.proofs.Common.{Bool, cond, false, filter-append, History, List, map, Name, Pick, picks_of}
-use Rattle.desk_types.proofs.Common.{pieces_picked, refl, reverse, reverse-append, same, sum_by, sum_by-cons, sym}
-use Rattle.desk_types.proofs.Common.{Take, take_of, true, ℕ}
+use Rattle.desk_types.proofs.Common.{[], ◌&&◌, ◌++◌, ◌+◌, ◌∙◌, ◌∷◌, ◌≡◌, all_picks, and-false, and-true, ap}
+use Rattle.desk_types.proofs.Common.{arith, Bool, cond, false, filter-append, History, List, map, Name}
+use Rattle.desk_types.proofs.Common.{picks_of, pieces_picked, refl, reverse, reverse-append, same, sum_by}
+use Rattle.desk_types.proofs.Common.{sum_by-cons, sym, take_of, true, ℕ}
+use Rattle.desk_laws.proofs.Common.{Pick, Take}
 use Rattle.desk_laws.proofs.Picks.{pieces_picked-append}
-use Rattle.look_back.{specs.Kept.AreTakes, specs.Totals.is_usage_of, specs.Totals.taken_for, specs.Totals.total_of}
+use Rattle.look_back.specs.{Kept.AreTakes, Totals.is_usage_of, Totals.taken_for, Totals.total_of}
 use Rattle.reels.specs.declared.reel.Usage.{Usage}
-use Rattle.std.{proofs.lemmas.List.Sums.sum_by_push, specs.List.filter}
+use Rattle.std.proofs.lemmas.List.Sums.{sum_by_push}
+use Rattle.std.specs.List.{filter}
 
 pieces_picked-filter : (test : Pick → Bool) (p : Pick) (ps : List Pick) (reel : Name)
     → pieces_picked (filter test (p ∷ ps)) reel ≡ cond (same p.reel reel && test p) p.quantity 0 + pieces_picked (filter test ps) reel

@@ -1,7 +1,8 @@
 -- Searching a tape from one of its reels on.
-use Rattle.desk_types.proofs.Common.{[], ◌++◌, ◌+◌, ◌<◌, ◌||◌, ◌∙◌, ◌∷◌, ◌≡◌, ◌≤◌, ap, append-nil, append_assoc}
-use Rattle.desk_types.proofs.Common.{arith, Bool, drop, filter, History, left_of, length, List, list_any, live_on}
-use Rattle.desk_types.proofs.Common.{lt-ltb, Name, nat_lt, same, slice_get, Some, sym, tape_of, ℕ}
+use Rattle.desk_types.proofs.Common.{[], ◌++◌, ◌+◌, ◌<◌, ◌||◌, ◌∙◌, ◌∷◌, ◌≡◌, ◌≤◌, ap, append-nil}
+use Rattle.desk_types.proofs.Common.{append_assoc, arith, Bool, drop, filter, History, left_of, length, List}
+use Rattle.desk_types.proofs.Common.{list_any, live_on, lt-ltb, Name, nat_lt, same, slice_get, Some, sym}
+use Rattle.desk_types.proofs.Common.{tape_of, ℕ}
 use Rattle.judging.proofs.Reels.{drop-at, filter-end, filter-here, filter-past, spent}
 
 -- Whether the reel is on the tape from this index on.

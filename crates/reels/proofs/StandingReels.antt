@@ -1,18 +1,23 @@
 -- A reel keeps its ranges and keeps representing its history, command by command.
-use Rattle.desk_types.proofs.Common.{[], ◌+◌, ◌-◌, ◌∙◌, ◌∷◌, ◌≡◌, ◌≤◌, ap, arith, bake_by, baked_row, Bool, Entry}
-use Rattle.desk_types.proofs.Common.{exposure_of, exposure_starts, false, fresh_row, GREATEST_LABEL, History}
-use Rattle.desk_types.proofs.Common.{if◌then◌else◌, is_baked, IsLabel, IsUntouched, last_bake, Level, LevelWithLabel}
-use Rattle.desk_types.proofs.Common.{Name, None, open_by, opened_row, Option, option_map, option_map_or, option_or}
-use Rattle.desk_types.proofs.Common.{out_since, Receipt, receipt_by, receipt_of, ReelBaked, ReelReceived, ReelRow}
-use Rattle.desk_types.proofs.Common.{ReelSealed, refl, same-refl, sealed_row, since_after, Six, Some, subst, sym}
-use Rattle.desk_types.proofs.Common.{true, unwrap_or, ℕ}
-use Rattle.desk_types.proofs.Exposure.{exposure-after, exposure-anew, exposure-before, exposure-untouched}
-use Rattle.desk_types.proofs.ReelCommands.{exposure_starts-quiet, is_baked-quiet, IsQuiet, IsQuiet-open, IsQuiet-seal}
-use Rattle.desk_types.proofs.ReelCommands.{IsQuiet-untouched, last_bake-quiet, last_bake-untouched}
-use Rattle.desk_types.specs.Row.{exposure_at}
-use Rattle.reels.specs.Fitting.{IsFitting}
-use Rattle.reels.specs.Reel.{HasReceipt, RowStandsFor, StandsFor}
-use Rattle.reels.specs.declared.reel.Reel.{Reel}
+use Rattle.desk_types.proofs.Common.{[], ◌+◌, ◌-◌, ◌∙◌, ◌∷◌, ◌≡◌, ◌≤◌, ap, arith, bake_by, baked_row, Bool}
+use Rattle.desk_types.proofs.Common.{exposure_of, exposure_starts, false, fresh_row, History, if◌then◌else◌}
+use Rattle.desk_types.proofs.Common.{is_baked, IsLabel, IsUntouched, last_bake, LevelWithLabel, Name, None}
+use Rattle.desk_types.proofs.Common.{open_by, opened_row, Option, option_map, option_map_or, option_or}
+use Rattle.desk_types.proofs.Common.{out_since, receipt_by, receipt_of, refl, same-refl, sealed_row}
+use Rattle.desk_types.proofs.Common.{since_after, Some, subst, sym, true, unwrap_or, ℕ}
+use Rattle.desk_types.proofs.{Exposure.exposure-after, Exposure.exposure-anew, Exposure.exposure-before}
+use Rattle.desk_types.proofs.{Exposure.exposure-untouched, ReelCommands.exposure_starts-quiet}
+use Rattle.desk_types.proofs.{ReelCommands.is_baked-quiet, ReelCommands.IsQuiet, ReelCommands.IsQuiet-open}
+use Rattle.desk_types.proofs.{ReelCommands.IsQuiet-seal, ReelCommands.IsQuiet-untouched}
+use Rattle.desk_types.proofs.{ReelCommands.last_bake-quiet, ReelCommands.last_bake-untouched}
+use Rattle.desk_types.specs.{Row.exposure_at, declared.command.Command.TheVariants.ReelBaked}
+use Rattle.desk_types.specs.{declared.command.Command.TheVariants.ReelReceived}
+use Rattle.desk_types.specs.{declared.command.Command.TheVariants.ReelSealed, declared.command.Entry.Entry}
+use Rattle.desk_types.specs.{declared.command.Receipt.Receipt, declared.level.Level.Level}
+use Rattle.desk_types.specs.{declared.level.Level.TheVariants.Six}
+use Rattle.desk_types.specs.{declared.limits.TheConstants.GREATEST_LABEL, declared.row.ReelRow.ReelRow}
+use Rattle.reels.specs.{Fitting.IsFitting, Reel.HasReceipt, Reel.RowStandsFor, Reel.StandsFor}
+use Rattle.reels.specs.{declared.reel.Reel.Reel}
 use Rattle.std.specs.Option.{ForNone, ForSome}
 
 -- ---- ranges

@@ -1,7 +1,8 @@
 -- Collecting names in a set, one by one.
-use Rattle.desk_types.proofs.Common.{[], ◌++◌, ◌||◌, ◌∙◌, ◌∷◌, ◌≡◌, ap, append-nil, append_assoc, Bool, by_name, cond}
-use Rattle.desk_types.proofs.Common.{false, if◌then◌else◌, is_at, is_at-by_name, List, list_any, list_any-append}
-use Rattle.desk_types.proofs.Common.{Name, name_twice, None, not, refl, same, same-sym, Some, sym, true}
+use Rattle.desk_types.proofs.Common.{[], ◌++◌, ◌||◌, ◌∙◌, ◌∷◌, ◌≡◌, ap, append-nil, append_assoc, Bool}
+use Rattle.desk_types.proofs.Common.{by_name, cond, false, if◌then◌else◌, is_at, is_at-by_name, List}
+use Rattle.desk_types.proofs.Common.{list_any, list_any-append, Name, name_twice, None, not, refl, same}
+use Rattle.desk_types.proofs.Common.{same-sym, Some, sym, true}
 use Rattle.setup_sheets.specs.Names.{HasSeen, is_among}
 use Rattle.std.specs.BTreeSet.{BTreeSet, contains}
 

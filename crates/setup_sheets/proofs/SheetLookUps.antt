@@ -1,7 +1,9 @@
 -- The indexes of a sheet are built from its last row to its first.
-use Rattle.desk_types.proofs.Common.{[], ◌++◌, ◌+◌, ◌<◌, ◌||◌, ◌∙◌, ◌∷◌, ◌≡◌, ap, Bool, cond, false, get_or, length}
-use Rattle.desk_types.proofs.Common.{List, list_any, list_any-append, Name, None, Option, option_map, option_or, refl}
-use Rattle.desk_types.proofs.Common.{row_in, same, same-sym, SheetRow, slot_in, Some, sym, take, take-next, true, ℕ}
+use Rattle.desk_types.proofs.Common.{[], ◌++◌, ◌+◌, ◌<◌, ◌||◌, ◌∙◌, ◌∷◌, ◌≡◌, ap, Bool, cond, false, get_or}
+use Rattle.desk_types.proofs.Common.{length, List, list_any, list_any-append, Name, None, Option, option_map}
+use Rattle.desk_types.proofs.Common.{option_or, refl, row_in, same, same-sym, slot_in, Some, sym, take}
+use Rattle.desk_types.proofs.Common.{take-next, true, ℕ}
+use Rattle.desk_laws.proofs.Common.{SheetRow}
 use Rattle.std.{proofs.lemmas.Option.slice_get_read, specs.List.find, specs.List.slice_get}
 
 -- ---- rows by slot

@@ -1,10 +1,11 @@
 -- Verification of a history's front reels finds why a start of work is refused.
-use Rattle.desk_types.proofs.Common.{[], ◌+◌, ◌-◌, ◌||◌, ◌∙◌, ◌∷◌, ◌≡◌, ◌≤◌, ap, arith, Bool, exposure_of, false}
-use Rattle.desk_types.proofs.Common.{floor_life, front_at, front_of, History, if◌then◌else◌, is_allowed, is_expired}
-use Rattle.desk_types.proofs.Common.{is_some, is_unbaked, is_wrong_for, IsJudged, leb-false, leb-true, List, map}
-use Rattle.desk_types.proofs.Common.{Name, nat_le, None, not, now_of, Option, option_map, option_map_or, option_or}
-use Rattle.desk_types.proofs.Common.{Receipt, receipt_of, refl, Refusal, same, SheetRow, slots_of_rows, Some, true}
-use Rattle.desk_types.proofs.Common.{Two, ℕ}
+use Rattle.desk_types.proofs.Common.{[], ◌+◌, ◌-◌, ◌||◌, ◌∙◌, ◌∷◌, ◌≡◌, ◌≤◌, ap, arith, Bool, exposure_of}
+use Rattle.desk_types.proofs.Common.{false, floor_life, front_at, front_of, History, if◌then◌else◌}
+use Rattle.desk_types.proofs.Common.{is_allowed, is_expired, is_some, is_unbaked, is_wrong_for, IsJudged}
+use Rattle.desk_types.proofs.Common.{leb-false, leb-true, List, map, Name, nat_le, None, not, now_of, Option}
+use Rattle.desk_types.proofs.Common.{option_map, option_map_or, option_or, receipt_of, refl, same}
+use Rattle.desk_types.proofs.Common.{slots_of_rows, Some, true, ℕ}
+use Rattle.desk_laws.proofs.Common.{Receipt, Refusal, SheetRow, Two}
 use Rattle.desk_laws.proofs.Mounts.{front-mounted, front-received}
 use Rattle.desk_laws.proofs.Openings.{mounted-goes-on}
 use Rattle.desk_types.specs.Front.{front_reel, is_expired_life, is_unbaked_life, life_of}

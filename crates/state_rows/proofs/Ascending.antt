@@ -1,13 +1,14 @@
 -- The live reels of a slot are in the order of their numbers, so the front has the least number.
-use Rattle.desk_types.proofs.Common.{[], ⊤, ◌&&◌, ◌++◌, ◌<◌, ◌||◌, ◌∙◌, ◌∷◌, ◌≡◌, ◌≤◌, AllByRecursion, ap, arith}
-use Rattle.desk_types.proofs.Common.{Bool, Command, command_refusal, false, filter, History, if◌then◌else◌}
-use Rattle.desk_types.proofs.Common.{is_mounted, IsJudged, last_put, left_of, length, List, live_on, MaterialsLoaded}
-use Rattle.desk_types.proofs.Common.{MaterialsSpliced, MaterialsUnloaded, MountRow, Name, nat_lt, None, Option}
-use Rattle.desk_types.proofs.Common.{option_map_or, option_or, or_left, or_right, put_by, refl, same, same-refl}
-use Rattle.desk_types.proofs.Common.{same-sym, same-true, Some, subst, sym, tape_after, tape_of, tape_with, true, Two}
-use Rattle.desk_types.proofs.Common.{ℕ}
-use Rattle.desk_laws.proofs.{Accepted.mountable, Accepted.next-accepted, Lives.live-next, Mounts.all-at, Mounts.has}
-use Rattle.desk_laws.proofs.{Mounts.live-mounted}
+use Rattle.desk_types.proofs.Common.{[], ⊤, ◌&&◌, ◌++◌, ◌<◌, ◌||◌, ◌∙◌, ◌∷◌, ◌≡◌, ◌≤◌, AllByRecursion, ap}
+use Rattle.desk_types.proofs.Common.{arith, Bool, command_refusal, false, filter, History, if◌then◌else◌}
+use Rattle.desk_types.proofs.Common.{is_mounted, IsJudged, last_put, left_of, length, List, live_on, Name}
+use Rattle.desk_types.proofs.Common.{nat_lt, None, Option, option_map_or, option_or, or_left, or_right}
+use Rattle.desk_types.proofs.Common.{put_by, refl, same, same-refl, same-sym, same-true, Some, subst, sym}
+use Rattle.desk_types.proofs.Common.{tape_after, tape_of, tape_with, true, ℕ}
+use Rattle.desk_laws.proofs.Common.{Command, MaterialsLoaded, MaterialsSpliced, MaterialsUnloaded, Two}
+use Rattle.desk_laws.proofs.{Accepted.mountable, Accepted.next-accepted, Lives.live-next, Mounts.all-at}
+use Rattle.desk_laws.proofs.{Mounts.has, Mounts.live-mounted}
+use Rattle.desk_types.specs.declared.row.MountRow.{MountRow}
 
 -- The number of the reel's last load or splice.
 abbrev pub since_of : History → Name → ℕ

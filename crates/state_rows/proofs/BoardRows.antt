@@ -1,11 +1,12 @@
 -- Boards in work, and the row of a board after one entry more.
-use Rattle.desk_types.proofs.Common.{[], ◌∙◌, ◌∷◌, ◌≡◌, ap, board_row, BoardRow, Bool, Command, command_refusal}
-use Rattle.desk_types.proofs.Common.{differ, Entry, false, History, if◌then◌else◌, in_work_on, is_in_work}
-use Rattle.desk_types.proofs.Common.{is_in_work_on, is_none, is_some, IsJudged, latest, MachineBusy, Name, None, not}
-use Rattle.desk_types.proofs.Common.{Option, option_and_then, option_map, option_map_or, option_or, product_of}
-use Rattle.desk_types.proofs.Common.{ProductSelected, refl, same, same-refl, same-sym, same-true, selected_on}
-use Rattle.desk_types.proofs.Common.{selection_by, selection_refusal, sheet_of, Some, start_by, sym, true, Two}
-use Rattle.desk_types.proofs.Common.{unwrap_or, work_by, WorkCompleted, WorkStarted, ℕ}
+use Rattle.desk_types.proofs.Common.{[], ◌∙◌, ◌∷◌, ◌≡◌, ap, board_row, Bool, command_refusal, differ, false}
+use Rattle.desk_types.proofs.Common.{History, if◌then◌else◌, in_work_on, is_in_work, is_in_work_on, is_none}
+use Rattle.desk_types.proofs.Common.{is_some, IsJudged, latest, Name, None, not, Option, option_and_then}
+use Rattle.desk_types.proofs.Common.{option_map, option_map_or, option_or, product_of, refl, same, same-refl}
+use Rattle.desk_types.proofs.Common.{same-sym, same-true, selected_on, selection_by, selection_refusal}
+use Rattle.desk_types.proofs.Common.{sheet_of, Some, start_by, sym, true, unwrap_or, work_by, ℕ}
+use Rattle.desk_laws.proofs.Common.{BoardRow, Command, Entry, MachineBusy, ProductSelected, Two}
+use Rattle.desk_laws.proofs.Common.{WorkCompleted, WorkStarted}
 use Rattle.desk_laws.proofs.{Accepted.next-accepted, Accepted.none-holds, BoardsInWork.completable}
 use Rattle.desk_laws.proofs.{BoardsInWork.IsStartable, BoardsInWork.startable, Lookups.somewhere-in_work}
 use Rattle.desk_types.specs.declared.answer.Refusal.TheVariants.{UnknownSheet}

@@ -1,19 +1,22 @@
 -- The tables after a count.
-use Rattle.desk_types.proofs.Common.{[], ◌++◌, ◌+◌, ◌-◌, ◌==◌, ◌||◌, ◌∙◌, ◌∷◌, ◌≡◌, ap, arith, Bool, columns_of}
-use Rattle.desk_types.proofs.Common.{command_refusal, count_picks, Counted, CountRow, counts_refusal, CountsTaken}
-use Rattle.desk_types.proofs.Common.{false, filter, find, found_by, found_of, found_row, History, if◌then◌else◌}
-use Rattle.desk_types.proofs.Common.{is_placed, IsJudged, left_of, List, list_any, list_any-append, ltb-false}
-use Rattle.desk_types.proofs.Common.{ltb-true, Name, nat_lt, ne_eqb, None, Option, option_map, option_map_or, Pick}
-use Rattle.desk_types.proofs.Common.{picks_of, pieces_off, pieces_picked, PutFound, PutReel, Receipt, receipt_of}
-use Rattle.desk_types.proofs.Common.{reel_row, reel_view, ReelRow, ReelView, refl, same, same-refl, same-true, Some}
-use Rattle.desk_types.proofs.Common.{sym, Tables, tables_of, true, Two, unwrap_or, view_of, with_edits, ℕ}
-use Rattle.desk_laws.proofs.{Balance.unreceived-empty, InstalledPieces.AreUnplaced, InstalledPieces.unplaced-count}
-use Rattle.desk_laws.proofs.{Mounted.left_after, Picks.countable, Picks.counted, Picks.find-passes, Picks.IsCounted}
-use Rattle.desk_laws.proofs.{Totals.pieces_picked-split}
+use Rattle.desk_types.proofs.Common.{[], ◌++◌, ◌+◌, ◌-◌, ◌==◌, ◌||◌, ◌∙◌, ◌∷◌, ◌≡◌, ap, arith, Bool}
+use Rattle.desk_types.proofs.Common.{columns_of, command_refusal, count_picks, counts_refusal, false, filter}
+use Rattle.desk_types.proofs.Common.{find, found_by, found_of, found_row, History, if◌then◌else◌, is_placed}
+use Rattle.desk_types.proofs.Common.{IsJudged, left_of, List, list_any, list_any-append, ltb-false, ltb-true}
+use Rattle.desk_types.proofs.Common.{Name, nat_lt, ne_eqb, None, Option, option_map, option_map_or, picks_of}
+use Rattle.desk_types.proofs.Common.{pieces_off, pieces_picked, receipt_of, reel_row, reel_view, refl, same}
+use Rattle.desk_types.proofs.Common.{same-refl, same-true, Some, sym, Tables, tables_of, true, unwrap_or}
+use Rattle.desk_types.proofs.Common.{view_of, with_edits, ℕ}
+use Rattle.desk_laws.proofs.Common.{Counted, CountRow, CountsTaken, Pick, Receipt, ReelRow, ReelView, Two}
+use Rattle.desk_laws.proofs.{Balance.unreceived-empty, InstalledPieces.AreUnplaced}
+use Rattle.desk_laws.proofs.{InstalledPieces.unplaced-count, Mounted.left_after, Picks.countable}
+use Rattle.desk_laws.proofs.{Picks.counted, Picks.find-passes, Picks.IsCounted, Totals.pieces_picked-split}
+use Rattle.desk_types.specs.declared.edit.RowEdit.TheVariants.{PutFound, PutReel}
 use Rattle.state_rows.proofs.{EditLists.with_edits-append, ReelRows.found-kept, ReelRows.same-rows}
 use Rattle.state_rows.proofs.{TablesLess.none-step, TablesLess.OnlyTakes, TablesLess.unpicked}
-use Rattle.state_rows.specs.{After.found_after, After.placed_in, After.reel_after, After.scrapped_in, After.step_row}
-use Rattle.state_rows.specs.{EditsOf.count_edits, EditsOf.counted_edits, EditsOf.counted_row, EditsOf.is_picked}
+use Rattle.state_rows.specs.{After.found_after, After.placed_in, After.reel_after, After.scrapped_in}
+use Rattle.state_rows.specs.{After.step_row, EditsOf.count_edits, EditsOf.counted_edits, EditsOf.counted_row}
+use Rattle.state_rows.specs.{EditsOf.is_picked}
 use Rattle.std.proofs.Common.{flat_map}
 
 abbrev row_of : List CountRow → Name → Option CountRow

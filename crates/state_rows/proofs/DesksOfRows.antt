@@ -1,8 +1,10 @@
 -- The rows of boards, for the desk that has these rows.
-use Rattle.desk_types.proofs.Common.{[], ◌↔◌, ◌∙◌, ◌≡◌, ap, board_row, BoardRow, Bool, both_ways, false, History}
-use Rattle.desk_types.proofs.Common.{if◌then◌else◌, in_work_on, is_in_work, is_in_work_on, is_some, IsJudged, Name}
-use Rattle.desk_types.proofs.Common.{None, Option, option_and_then, option_map, option_map_or, product_of, refl, same}
-use Rattle.desk_types.proofs.Common.{same-refl, Some, sym, true, Two, unwrap_or, work_machine}
+use Rattle.desk_types.proofs.Common.{[], ◌↔◌, ◌∙◌, ◌≡◌, ap, board_row, Bool, both_ways, false, History}
+use Rattle.desk_types.proofs.Common.{if◌then◌else◌, in_work_on, is_in_work, is_in_work_on, is_some, IsJudged}
+use Rattle.desk_types.proofs.Common.{Name, None, Option, option_and_then, option_map, option_map_or}
+use Rattle.desk_types.proofs.Common.{product_of, refl, same, same-refl, Some, sym, true, unwrap_or}
+use Rattle.desk_types.proofs.Common.{work_machine}
+use Rattle.desk_laws.proofs.Common.{BoardRow, Two}
 use Rattle.desk_laws.proofs.Lookups.{in_work-somewhere, somewhere-in_work}
 use Rattle.state_rows.proofs.BoardRows.{IsWorking, last_start, on-is, working}
 

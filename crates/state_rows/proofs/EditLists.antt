@@ -1,10 +1,12 @@
 -- What lists of edits make of tables.
-use Rattle.desk_types.proofs.Common.{[], ◌&&◌, ◌++◌, ◌+◌, ◌<◌, ◌==◌, ◌||◌, ◌∙◌, ◌∷◌, ◌≡◌, ap, arith, at_place, Bool}
-use Rattle.desk_types.proofs.Common.{eqb-true, false, get_or, if◌then◌else◌, is_some, length, List, map, MountRow}
-use Rattle.desk_types.proofs.Common.{Name, None, Option, option_map, option_or, PutMount, refl, RowEdit, same}
-use Rattle.desk_types.proofs.Common.{SheetRow, Some, sym, Tables, take, take-next, TakeMount, true, with_edit}
-use Rattle.desk_types.proofs.Common.{with_edits, ℕ}
+use Rattle.desk_types.proofs.Common.{[], ◌&&◌, ◌++◌, ◌+◌, ◌<◌, ◌==◌, ◌||◌, ◌∙◌, ◌∷◌, ◌≡◌, ap, arith, at_place}
+use Rattle.desk_types.proofs.Common.{Bool, eqb-true, false, get_or, if◌then◌else◌, is_some, length, List, map}
+use Rattle.desk_types.proofs.Common.{Name, None, Option, option_map, option_or, refl, same, Some, sym, Tables}
+use Rattle.desk_types.proofs.Common.{take, take-next, true, with_edit, with_edits, ℕ}
+use Rattle.desk_laws.proofs.Common.{SheetRow}
 use Rattle.desk_laws.proofs.Mounts.{has}
+use Rattle.desk_types.specs.{declared.edit.RowEdit.RowEdit, declared.edit.RowEdit.TheVariants.PutMount}
+use Rattle.desk_types.specs.{declared.edit.RowEdit.TheVariants.TakeMount, declared.row.MountRow.MountRow}
 use Rattle.state_rows.proofs.PlacementRows.{at_place-before}
 use Rattle.state_rows.specs.{EditsOf.put_rows, EditsOf.taken_rows, Kept.unnumbered, Kept.without_number}
 

@@ -1,36 +1,42 @@
 -- The edits of an accepted command turn the tables of a history into those of the history with it.
-use Rattle.desk_types.proofs.Common.{[], ◌&&◌, ◌+◌, ◌-◌, ◌==◌, ◌||◌, ◌∙◌, ◌∷◌, ◌≡◌, AlternateAllowed, and_parts, ap}
-use Rattle.desk_types.proofs.Common.{arith, at_place, baked_by, baked_row, board_row, BoardRow, Bool, ClockSet}
-use Rattle.desk_types.proofs.Common.{columns_of, Command, command_refusal, Counted, CountRow, CountsTaken, Entry}
-use Rattle.desk_types.proofs.Common.{eqb-true, false, found_by, found_of, found_row, fresh_row, History}
-use Rattle.desk_types.proofs.Common.{if◌then◌else◌, is_alternate, is_mounted, is_part, is_placed, is_some, IsJudged}
-use Rattle.desk_types.proofs.Common.{last_put, left_of, LevelWithLabel, List, live_on, map, MaterialsInstalled}
-use Rattle.desk_types.proofs.Common.{MaterialsLoaded, MaterialsScrapped, MaterialsSpliced, MaterialsUnloaded}
-use Rattle.desk_types.proofs.Common.{mount_row, MountRow, Name, nat_lt, None, open_by, opened_row, Option}
-use Rattle.desk_types.proofs.Common.{option_and_then, option_map, option_map_or, option_or, PartDefined, Pick}
-use Rattle.desk_types.proofs.Common.{picks_of, pieces_by, pieces_picked, Placed, placement_row, PlacementRow}
-use Rattle.desk_types.proofs.Common.{ProductSelected, Purpose, Receipt, receipt_by, receipt_of, reel_row, ReelBaked}
-use Rattle.desk_types.proofs.Common.{ReelOpened, ReelReceived, ReelRow, ReelSealed, refl, Rejected, RowEdit, same}
-use Rattle.desk_types.proofs.Common.{same-refl, same-sym, same-true, sealed_row, selected_on, selection_by, sheet_by}
-use Rattle.desk_types.proofs.Common.{sheet_of, SheetDefined, SheetRow, since_after, Some, sym, Tables, tables_of}
-use Rattle.desk_types.proofs.Common.{Take, take_of, takes_by, true, Two, unwrap_or, view_of, with_edits}
-use Rattle.desk_types.proofs.Common.{WorkCompleted, WorkStarted, ℕ}
+use Rattle.desk_types.proofs.Common.{[], ◌&&◌, ◌+◌, ◌-◌, ◌==◌, ◌||◌, ◌∙◌, ◌∷◌, ◌≡◌, and_parts, ap, arith}
+use Rattle.desk_types.proofs.Common.{at_place, baked_by, baked_row, board_row, Bool, columns_of}
+use Rattle.desk_types.proofs.Common.{command_refusal, eqb-true, false, found_by, found_of, found_row}
+use Rattle.desk_types.proofs.Common.{fresh_row, History, if◌then◌else◌, is_alternate, is_mounted, is_part}
+use Rattle.desk_types.proofs.Common.{is_placed, is_some, IsJudged, last_put, left_of, LevelWithLabel, List}
+use Rattle.desk_types.proofs.Common.{live_on, map, mount_row, Name, nat_lt, None, open_by, opened_row, Option}
+use Rattle.desk_types.proofs.Common.{option_and_then, option_map, option_map_or, option_or, picks_of}
+use Rattle.desk_types.proofs.Common.{pieces_by, pieces_picked, placement_row, receipt_by, receipt_of}
+use Rattle.desk_types.proofs.Common.{reel_row, refl, same, same-refl, same-sym, same-true, sealed_row}
+use Rattle.desk_types.proofs.Common.{selected_on, selection_by, sheet_by, sheet_of, since_after, Some, sym}
+use Rattle.desk_types.proofs.Common.{Tables, tables_of, take_of, takes_by, true, unwrap_or, view_of}
+use Rattle.desk_types.proofs.Common.{with_edits, ℕ}
+use Rattle.desk_laws.proofs.Common.{AlternateAllowed, BoardRow, ClockSet, Command, Counted, CountRow}
+use Rattle.desk_laws.proofs.Common.{CountsTaken, Entry, MaterialsInstalled, MaterialsLoaded}
+use Rattle.desk_laws.proofs.Common.{MaterialsScrapped, MaterialsSpliced, MaterialsUnloaded, PartDefined, Pick}
+use Rattle.desk_laws.proofs.Common.{Placed, ProductSelected, Purpose, Receipt, ReelBaked, ReelOpened}
+use Rattle.desk_laws.proofs.Common.{ReelReceived, ReelRow, ReelSealed, Rejected, SheetDefined, SheetRow, Take}
+use Rattle.desk_laws.proofs.Common.{Two, WorkCompleted, WorkStarted}
 use Rattle.desk_laws.proofs.{Accepted.next-accepted, BoardsInWork.completable, BoardsInWork.startable}
-use Rattle.desk_laws.proofs.{CountedReels.unmounted-rows, InstalledPieces.AreUnplaced, InstalledPieces.unplaced-count}
-use Rattle.desk_laws.proofs.{Mounted.left_after, Mounted.mounted-is, Mounted.some_left, Mounts.has}
-use Rattle.desk_types.specs.{Setup.allows, Setup.defines, Tables.sheet_row}
-use Rattle.state_rows.proofs.{BoardRows.board_row-next, BoardRows.some-of, BoardRows.working, Counts.counts-lead}
-use Rattle.state_rows.proofs.{Counts.uncounted-left, EditLists.mounts-taken, EditLists.rows-put, EditLists.rows-taken}
-use Rattle.state_rows.proofs.{EditLists.same-tables, EditLists.with_edits-append, MountRows.mount_row-next}
-use Rattle.state_rows.proofs.{PlacementRows.placement_row-next, PlacementRows.unplaced-later, ReelRows.found_row-next}
-use Rattle.state_rows.proofs.{ReelRows.reel_row-next, ReelRows.same-rows, Slots.reels_on-live, TablesLess.mounts-took}
-use Rattle.state_rows.proofs.{TablesLess.OnlyTakes, TablesLess.picks-again, TablesLess.placements-took}
-use Rattle.state_rows.proofs.{TablesLess.reels-took}
-use Rattle.state_rows.specs.{After.bakes, After.board_after, After.found_after, After.mount_after, After.placed_row}
-use Rattle.state_rows.specs.{After.placement_after, After.reel_after, After.step_row, After.used_after}
-use Rattle.state_rows.specs.{EditsOf.after_placing, EditsOf.after_rows, EditsOf.AreEditsOf, EditsOf.board_edit}
-use Rattle.state_rows.specs.{EditsOf.pick_of, EditsOf.picked_rows, EditsOf.put_rows, EditsOf.reel_edit}
-use Rattle.state_rows.specs.{EditsOf.reels_on, EditsOf.taken_rows, Kept.unnumbered, Kept.without_number}
+use Rattle.desk_laws.proofs.{CountedReels.unmounted-rows, InstalledPieces.AreUnplaced}
+use Rattle.desk_laws.proofs.{InstalledPieces.unplaced-count, Mounted.left_after, Mounted.mounted-is}
+use Rattle.desk_laws.proofs.{Mounted.some_left, Mounts.has}
+use Rattle.desk_types.specs.{Setup.allows, Setup.defines, Tables.sheet_row, declared.edit.RowEdit.RowEdit}
+use Rattle.desk_types.specs.{declared.row.MountRow.MountRow, declared.row.PlacementRow.PlacementRow}
+use Rattle.state_rows.proofs.{BoardRows.board_row-next, BoardRows.some-of, BoardRows.working}
+use Rattle.state_rows.proofs.{Counts.counts-lead, Counts.uncounted-left, EditLists.mounts-taken}
+use Rattle.state_rows.proofs.{EditLists.rows-put, EditLists.rows-taken, EditLists.same-tables}
+use Rattle.state_rows.proofs.{EditLists.with_edits-append, MountRows.mount_row-next}
+use Rattle.state_rows.proofs.{PlacementRows.placement_row-next, PlacementRows.unplaced-later}
+use Rattle.state_rows.proofs.{ReelRows.found_row-next, ReelRows.reel_row-next, ReelRows.same-rows}
+use Rattle.state_rows.proofs.{Slots.reels_on-live, TablesLess.mounts-took, TablesLess.OnlyTakes}
+use Rattle.state_rows.proofs.{TablesLess.picks-again, TablesLess.placements-took, TablesLess.reels-took}
+use Rattle.state_rows.specs.{After.bakes, After.board_after, After.found_after, After.mount_after}
+use Rattle.state_rows.specs.{After.placed_row, After.placement_after, After.reel_after, After.step_row}
+use Rattle.state_rows.specs.{After.used_after, EditsOf.after_placing, EditsOf.after_rows, EditsOf.AreEditsOf}
+use Rattle.state_rows.specs.{EditsOf.board_edit, EditsOf.pick_of, EditsOf.picked_rows, EditsOf.put_rows}
+use Rattle.state_rows.specs.{EditsOf.reel_edit, EditsOf.reels_on, EditsOf.taken_rows, Kept.unnumbered}
+use Rattle.state_rows.specs.{Kept.without_number}
 use Rattle.std.proofs.Common.{add-zero}
 
 -- ---- one entry more

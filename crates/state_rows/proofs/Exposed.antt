@@ -1,12 +1,13 @@
 -- Exposure by the minute since which a reel is out.
-use Rattle.desk_types.proofs.Common.{[], ◌+◌, ◌-◌, ◌<◌, ◌∙◌, ◌∷◌, ◌≡◌, ◌≤◌, ap, arith, Bool, Entry, exposure_of}
+use Rattle.desk_types.proofs.Common.{[], ◌+◌, ◌-◌, ◌<◌, ◌∙◌, ◌∷◌, ◌≡◌, ◌≤◌, ap, arith, Bool, exposure_of}
 use Rattle.desk_types.proofs.Common.{exposure_starts, false, History, is_out_at, IsJudged, IsNext, leb-false}
-use Rattle.desk_types.proofs.Common.{leb-true, Name, nat_le, None, now_of, open_by, Option, option_or, out_since}
-use Rattle.desk_types.proofs.Common.{refl, since_after, Some, subst, sym, true, Two, unwrap_or, ℕ}
-use Rattle.desk_laws.proofs.{Judgements.AreBy, Judgements.by-desk_minute, Judgements.by-later, Openings.starts-by}
-use Rattle.desk_types.proofs.{Exposure.is_out-after, Exposure.is_out-before, Exposure.is_out-untouched}
-use Rattle.desk_types.proofs.{Minutes.count-one, Minutes.count-split, ReelCommands.exposure_starts-quiet}
-use Rattle.desk_types.proofs.{ReelCommands.IsQuiet-open, ReelCommands.IsQuiet-untouched}
+use Rattle.desk_types.proofs.Common.{leb-true, Name, nat_le, None, now_of, open_by, Option, option_or}
+use Rattle.desk_types.proofs.Common.{out_since, refl, since_after, Some, subst, sym, true, unwrap_or, ℕ}
+use Rattle.desk_laws.proofs.Common.{count-one, count-split, Entry, exposure_starts-quiet, is_out-untouched}
+use Rattle.desk_laws.proofs.Common.{IsQuiet-untouched, Two}
+use Rattle.desk_laws.proofs.{Judgements.AreBy, Judgements.by-desk_minute, Judgements.by-later}
+use Rattle.desk_laws.proofs.{Openings.starts-by}
+use Rattle.desk_types.proofs.{Exposure.is_out-after, Exposure.is_out-before, ReelCommands.IsQuiet-open}
 
 -- ---- the desk minute
 

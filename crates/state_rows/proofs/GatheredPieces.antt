@@ -1,12 +1,15 @@
 -- Pieces gathered reel by reel, and the edits that they come to.
 use Rattle.desk_types.proofs.Common.{[], ◌&&◌, ◌++◌, ◌+◌, ◌<◌, ◌==◌, ◌^◌, ◌||◌, ◌∙◌, ◌∷◌, ◌≡◌, ◌≤◌, ap, arith}
-use Rattle.desk_types.proofs.Common.{at_place, Bool, columns_of, Counted, eqb-true, false, filter, History}
+use Rattle.desk_types.proofs.Common.{at_place, Bool, columns_of, eqb-true, false, filter, History}
 use Rattle.desk_types.proofs.Common.{if◌then◌else◌, is_placed, List, list_any-append, Name, None, not, Option}
-use Rattle.desk_types.proofs.Common.{option_and_then, option_map, option_map_or, option_or, option_to_list, or-false}
-use Rattle.desk_types.proofs.Common.{Pick, pieces_picked, Placed, placed_of, PlacementRow, Purpose, PutPlacement}
-use Rattle.desk_types.proofs.Common.{Receipt, receipt_of, reel_row, ReelRow, refl, Rejected, same, same-refl}
-use Rattle.desk_types.proofs.Common.{scrapped_of, Some, sym, Tables, Take, true, view_of, with_edits, zero-add, ℕ}
+use Rattle.desk_types.proofs.Common.{option_and_then, option_map, option_map_or, option_or, option_to_list}
+use Rattle.desk_types.proofs.Common.{or-false, pieces_picked, placed_of, receipt_of, reel_row, refl, same}
+use Rattle.desk_types.proofs.Common.{same-refl, scrapped_of, Some, sym, Tables, true, view_of, with_edits}
+use Rattle.desk_types.proofs.Common.{zero-add, ℕ}
+use Rattle.desk_laws.proofs.Common.{Counted, Pick, Placed, Purpose, Receipt, ReelRow, Rejected, Take}
 use Rattle.desk_laws.proofs.{Picks.pieces_picked-append, Totals.pieces_picked-filter}
+use Rattle.desk_types.specs.{declared.edit.RowEdit.TheVariants.PutPlacement}
+use Rattle.desk_types.specs.{declared.row.PlacementRow.PlacementRow}
 use Rattle.state_rows.proofs.{EditLists.with_edits-append, PlacementRows.at_place-before, ReelRows.same-rows}
 use Rattle.state_rows.proofs.{TablesLess.unpicked, TablesLess.unpicked-some}
 use Rattle.state_rows.specs.{After.placed_in, After.placed_row, After.scrapped_in, EditsOf.AreNamed}

@@ -1,12 +1,14 @@
 -- An install places its pieces on its own board; no other command places any.
-use Rattle.desk_types.proofs.Common.{[], ⊤, ◌++◌, ◌+◌, ◌-◌, ◌∙◌, ◌∷◌, ◌≡◌, ap, Bench, bench_of, Bool, Command}
-use Rattle.desk_types.proofs.Common.{cons_option, count_picks, Counted, CountRow, CountsTaken, enumerate_from, false}
-use Rattle.desk_types.proofs.Common.{filter, filter_map, find, History, if◌then◌else◌, install_picks, left_of, length}
-use Rattle.desk_types.proofs.Common.{length-map, List, map, MaterialsInstalled, MaterialsScrapped, min, Name, nat_lt}
-use Rattle.desk_types.proofs.Common.{None, Option, Pick, pick_for, picks_of, pieces_picked, Placed, Placement}
-use Rattle.desk_types.proofs.Common.{placement_of, range_with_len, refl, Rejected, same, scrap_picks, Some, sym}
-use Rattle.desk_types.proofs.Common.{take_of, takes_by, tape_of, true, ℕ}
-use Rattle.state_rows.{proofs.Keys.placed_key, specs.Lists.Key, specs.Noting.install_keys, specs.Noting.keys_in}
+use Rattle.desk_types.proofs.Common.{[], ⊤, ◌++◌, ◌+◌, ◌-◌, ◌∙◌, ◌∷◌, ◌≡◌, ap, Bench, bench_of, Bool}
+use Rattle.desk_types.proofs.Common.{cons_option, count_picks, enumerate_from, false, filter, filter_map}
+use Rattle.desk_types.proofs.Common.{find, History, if◌then◌else◌, install_picks, left_of, length, length-map}
+use Rattle.desk_types.proofs.Common.{List, map, min, Name, nat_lt, None, Option, pick_for, picks_of}
+use Rattle.desk_types.proofs.Common.{pieces_picked, placement_of, range_with_len, refl, same, scrap_picks}
+use Rattle.desk_types.proofs.Common.{Some, sym, take_of, takes_by, tape_of, true, ℕ}
+use Rattle.desk_laws.proofs.Common.{Command, Counted, CountRow, CountsTaken, MaterialsInstalled}
+use Rattle.desk_laws.proofs.Common.{MaterialsScrapped, Pick, Placed, Placement, Rejected}
+use Rattle.state_rows.proofs.Keys.{placed_key}
+use Rattle.state_rows.specs.{Lists.Key, Noting.install_keys, Noting.keys_in}
 use Rattle.std.proofs.Common.{option_and_then, option_map, option_to_list}
 
 -- ---- installs

@@ -1,7 +1,7 @@
 -- The index after adding an element or reserving memory.
-use Rattle.desk_types.proofs.Common.{[], ◌++◌, ◌∙◌, ◌∷◌, ◌≡◌, All, All-same, ap, append-nil, Bool, cond, false}
-use Rattle.desk_types.proofs.Common.{History, if◌then◌else◌, IsMinute, length, List, map, Name, refl, same, same-true}
-use Rattle.desk_types.proofs.Common.{sym, true}
+use Rattle.desk_types.proofs.Common.{[], ◌++◌, ◌∙◌, ◌∷◌, ◌≡◌, All, All-same, ap, append-nil, Bool, cond}
+use Rattle.desk_types.proofs.Common.{false, History, if◌then◌else◌, IsMinute, length, List, map, Name, refl}
+use Rattle.desk_types.proofs.Common.{same, same-true, sym, true}
 use Rattle.state_rows.specs.Lists.{HasPieces, IsListed, kept_at, key_of, keys_of_installs, minute_in}
 use Rattle.state_rows.specs.declared.lists.TraceLists.{TraceLists}
 use Rattle.std.proofs.lemmas.List.Elements.{All-push}

@@ -1,8 +1,8 @@
 -- The keys that an entry adds.
 use Rattle.desk_types.proofs.Common.{◌++◌, ◌+◌, ◌∙◌, ◌≡◌, accept, ap, Bool, entry_of, entry_takes, filter}
 use Rattle.desk_types.proofs.Common.{filter-append, filter_map, filter_map-append, History, length, List, map}
-use Rattle.desk_types.proofs.Common.{map-append, Placement, placement_of, placements_of, Stamped, sym, Take, takes_by}
-use Rattle.desk_types.proofs.Common.{takes_of, ℕ}
+use Rattle.desk_types.proofs.Common.{map-append, placement_of, placements_of, sym, takes_by, takes_of, ℕ}
+use Rattle.desk_laws.proofs.Common.{Placement, Stamped, Take}
 use Rattle.state_rows.specs.{Lists.Key, Lists.keys_where, Noting.keys_in}
 
 abbrev pub placed_key : Placement → Key

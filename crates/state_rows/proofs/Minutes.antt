@@ -1,7 +1,8 @@
 -- The minutes of entries by their numbers.
-use Rattle.desk_types.proofs.Common.{[], ◌++◌, ◌+◌, ◌==◌, ◌∙◌, ◌∷◌, ◌≡◌, ◌≢◌, accept, ap, arith, Bool, cond, Entry}
-use Rattle.desk_types.proofs.Common.{entry_of, eqb-true, false, find, History, length, length-append, List, refl}
-use Rattle.desk_types.proofs.Common.{slice_get, Some, Stamped, suc, true, zero, ℕ}
+use Rattle.desk_types.proofs.Common.{[], ◌++◌, ◌+◌, ◌==◌, ◌∙◌, ◌∷◌, ◌≡◌, ◌≢◌, accept, ap, arith, Bool, cond}
+use Rattle.desk_types.proofs.Common.{entry_of, eqb-true, false, find, History, length, length-append, List}
+use Rattle.desk_types.proofs.Common.{refl, slice_get, Some, suc, true, zero, ℕ}
+use Rattle.desk_laws.proofs.Common.{Entry, Stamped}
 use Rattle.state_rows.specs.Lists.{minute_in, minute_of}
 use Rattle.std.proofs.{Common.option_map, lemmas.Bool.eqb-false}
 

@@ -1,8 +1,9 @@
 -- Mount rows by number and by reel.
-use Rattle.desk_types.proofs.Common.{[], ◌&&◌, ◌==◌, ◌∙◌, ◌∷◌, ◌≡◌, All-tail, and-false, and-true, ap, arith, Bool}
-use Rattle.desk_types.proofs.Common.{by_name, cond, false, if◌then◌else◌, is_at, IsStrictlySortedBy, keys_of, List}
-use Rattle.desk_types.proofs.Common.{lookup, MountRow, Name, None, Option, refl, same, same-true, Some, subst, sym}
-use Rattle.desk_types.proofs.Common.{true, ℕ}
+use Rattle.desk_types.proofs.Common.{[], ◌&&◌, ◌==◌, ◌∙◌, ◌∷◌, ◌≡◌, All-tail, and-false, and-true, ap, arith}
+use Rattle.desk_types.proofs.Common.{Bool, by_name, cond, false, if◌then◌else◌, is_at, IsStrictlySortedBy}
+use Rattle.desk_types.proofs.Common.{keys_of, List, lookup, Name, None, Option, refl, same, same-true, Some}
+use Rattle.desk_types.proofs.Common.{subst, sym, true, ℕ}
+use Rattle.desk_types.specs.declared.row.MountRow.{MountRow}
 use Rattle.state_rows.proofs.RowLists.{is_at-by_since}
 use Rattle.state_rows.specs.Kept.{AreTheSame, by_since, ListsMounts, row_at, since_is}
 use Rattle.std.specs.List.{All}

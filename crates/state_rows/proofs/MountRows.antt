@@ -1,14 +1,16 @@
 -- The row of a mounted reel after one entry more.
-use Rattle.desk_types.proofs.Common.{◌&&◌, ◌-◌, ◌==◌, ◌∙◌, ◌∷◌, ◌≡◌, ap, Bool, Command, command_refusal, CountsTaken}
-use Rattle.desk_types.proofs.Common.{Entry, false, History, if◌then◌else◌, is_mounted, is_some, IsJudged, last_put}
-use Rattle.desk_types.proofs.Common.{left_of, live_on, MaterialsInstalled, MaterialsLoaded, MaterialsScrapped}
-use Rattle.desk_types.proofs.Common.{MaterialsSpliced, MaterialsUnloaded, mount_row, MountRow, Name, nat_lt, None}
-use Rattle.desk_types.proofs.Common.{not, Option, option_or, put_by, Receipt, receipt_of, ReelReceived, refl, same}
-use Rattle.desk_types.proofs.Common.{same-true, Some, sym, true, Two, ℕ}
-use Rattle.desk_laws.proofs.{Accepted.mountable, Accepted.next-accepted, Accepted.received-by, Judgements.untouched}
-use Rattle.desk_laws.proofs.{Mounted.left_after, Mounted.less-none, Mounted.mounted-is, Mounted.mounted-next}
-use Rattle.desk_laws.proofs.{Mounted.some_left, Mounts.has, Places.untouched-unplaced, Tapes.not-zero}
-use Rattle.desk_laws.specs.Place.{mounted_after}
+use Rattle.desk_types.proofs.Common.{◌&&◌, ◌-◌, ◌==◌, ◌∙◌, ◌∷◌, ◌≡◌, ap, Bool, command_refusal, false}
+use Rattle.desk_types.proofs.Common.{History, if◌then◌else◌, is_mounted, is_some, IsJudged, last_put, left_of}
+use Rattle.desk_types.proofs.Common.{live_on, mount_row, Name, nat_lt, None, not, Option, option_or, put_by}
+use Rattle.desk_types.proofs.Common.{receipt_of, refl, same, same-true, Some, sym, true, ℕ}
+use Rattle.desk_laws.proofs.Common.{Command, CountsTaken, Entry, MaterialsInstalled, MaterialsLoaded}
+use Rattle.desk_laws.proofs.Common.{MaterialsScrapped, MaterialsSpliced, MaterialsUnloaded, mounted_after}
+use Rattle.desk_laws.proofs.Common.{Receipt, ReelReceived, Two}
+use Rattle.desk_laws.proofs.{Accepted.mountable, Accepted.next-accepted, Accepted.received-by}
+use Rattle.desk_laws.proofs.{Judgements.untouched, Mounted.left_after, Mounted.less-none, Mounted.mounted-is}
+use Rattle.desk_laws.proofs.{Mounted.mounted-next, Mounted.some_left, Mounts.has, Places.untouched-unplaced}
+use Rattle.desk_laws.proofs.{Tapes.not-zero}
+use Rattle.desk_types.specs.declared.row.MountRow.{MountRow}
 use Rattle.state_rows.specs.After.{mount_after}
 
 pub unreceived-unmounted : (H : History) (reel : Name) → IsJudged Two H → receipt_of H reel ≡ None → is_mounted H reel ≡ false

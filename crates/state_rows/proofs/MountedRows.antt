@@ -1,12 +1,14 @@
 -- The meaning of the rows of mounted reels: a reel has a row exactly if it is live on the row's slot.
-use Rattle.desk_types.proofs.Common.{[], ◌&&◌, ◌∙◌, ◌∷◌, ◌≡◌, and_from, and_parts, ap, Bool, Command, false, History}
-use Rattle.desk_types.proofs.Common.{if◌then◌else◌, is_mounted, is_some, IsJudged, last_put, live_on, MaterialsLoaded}
-use Rattle.desk_types.proofs.Common.{MaterialsSpliced, MaterialsUnloaded, mount_row, MountRow, Name, None, Option}
-use Rattle.desk_types.proofs.Common.{option_map_or, option_or, put_by, refl, same, same-refl, same-true, Some, sym}
-use Rattle.desk_types.proofs.Common.{true, Two, ℕ}
+use Rattle.desk_types.proofs.Common.{[], ◌&&◌, ◌∙◌, ◌∷◌, ◌≡◌, and_from, and_parts, ap, Bool, false, History}
+use Rattle.desk_types.proofs.Common.{if◌then◌else◌, is_mounted, is_some, IsJudged, last_put, live_on}
+use Rattle.desk_types.proofs.Common.{mount_row, Name, None, Option, option_map_or, option_or, put_by, refl}
+use Rattle.desk_types.proofs.Common.{same, same-refl, same-true, Some, sym, true, ℕ}
+use Rattle.desk_laws.proofs.Common.{Command, MaterialsLoaded, MaterialsSpliced, MaterialsUnloaded}
+use Rattle.desk_laws.proofs.Common.{place_after, place_of, Two}
 use Rattle.desk_laws.proofs.{Mounted.mounted-is, Mounted.some_left, Mounts.has, Mounts.has-live_on}
 use Rattle.desk_laws.proofs.{Mounts.live-mounted, Places.live-placed, Places.placed}
-use Rattle.desk_laws.specs.Place.{is_at, place_after, place_of}
+use Rattle.desk_laws.specs.Place.{is_at}
+use Rattle.desk_types.specs.declared.row.MountRow.{MountRow}
 
 -- ---- mounts
 

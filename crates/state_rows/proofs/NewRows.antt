@@ -1,27 +1,34 @@
 -- The tables take the edits of an accepted command one after the other, with their keys and their checks.
-use Rattle.desk_types.proofs.Common.{[], ⊤, ◌&&◌, ◌++◌, ◌+◌, ◌-◌, ◌<◌, ◌==◌, ◌||◌, ◌∙◌, ◌∷◌, ◌≡◌, ◌≤◌, AllByRecursion}
-use Rattle.desk_types.proofs.Common.{AlternateAllowed, ap, append-nil, append_assoc, AreBalanced, AreTakesFirst}
-use Rattle.desk_types.proofs.Common.{arith, at_place, baked_row, Bool, ClockSet, columns_of, Command, command_refusal}
-use Rattle.desk_types.proofs.Common.{Counted, CountRow, CountsTaken, Entry, false, flat_map, fresh_row, History}
-use Rattle.desk_types.proofs.Common.{if◌then◌else◌, is_mounted, is_some, IsJudged, last_put, List, list_any, ltb-true}
-use Rattle.desk_types.proofs.Common.{map, MaterialsInstalled, MaterialsLoaded, MaterialsScrapped, MaterialsSpliced}
-use Rattle.desk_types.proofs.Common.{MaterialsUnloaded, Name, nat_lt, ne_eqb, None, opened_row, Option}
-use Rattle.desk_types.proofs.Common.{option_and_then, option_map, option_map_or, option_or, option_to_list}
-use Rattle.desk_types.proofs.Common.{PartDefined, picks_of, Placed, PlacementRow, ProductSelected, Purpose, PutFound}
-use Rattle.desk_types.proofs.Common.{PutMount, PutPlacement, PutReel, PutSheetRow, Receipt, receipt_by, receipt_of}
-use Rattle.desk_types.proofs.Common.{reel_row, reel_view, ReelBaked, ReelOpened, ReelReceived, ReelRow, ReelSealed}
-use Rattle.desk_types.proofs.Common.{ReelView, refl, Rejected, RowEdit, same, same-refl, sealed_row, selected_on}
-use Rattle.desk_types.proofs.Common.{sheet_of, SheetDefined, SheetRow, Some, subst, sym, Tables, tables_of, Take}
-use Rattle.desk_types.proofs.Common.{TakeMount, takes_by, TakeSheetRow, true, Two, unwrap_or, view_of, with_edit}
-use Rattle.desk_types.proofs.Common.{with_edits, WorkCompleted, WorkStarted, ℕ}
-use Rattle.desk_laws.proofs.{Accepted.mountable, Accepted.next-accepted, Balance.balance}
+use Rattle.desk_types.proofs.Common.{[], ⊤, ◌&&◌, ◌++◌, ◌+◌, ◌-◌, ◌<◌, ◌==◌, ◌||◌, ◌∙◌, ◌∷◌, ◌≡◌, ◌≤◌}
+use Rattle.desk_types.proofs.Common.{AllByRecursion, ap, append-nil, append_assoc, AreBalanced, AreTakesFirst}
+use Rattle.desk_types.proofs.Common.{arith, at_place, baked_row, Bool, columns_of, command_refusal, false}
+use Rattle.desk_types.proofs.Common.{flat_map, fresh_row, History, if◌then◌else◌, is_mounted, is_some}
+use Rattle.desk_types.proofs.Common.{IsJudged, last_put, List, list_any, ltb-true, map, Name, nat_lt, ne_eqb}
+use Rattle.desk_types.proofs.Common.{None, opened_row, Option, option_and_then, option_map, option_map_or}
+use Rattle.desk_types.proofs.Common.{option_or, option_to_list, picks_of, receipt_by, receipt_of, reel_row}
+use Rattle.desk_types.proofs.Common.{reel_view, refl, same, same-refl, sealed_row, selected_on, sheet_of}
+use Rattle.desk_types.proofs.Common.{Some, subst, sym, Tables, tables_of, takes_by, true, unwrap_or, view_of}
+use Rattle.desk_types.proofs.Common.{with_edit, with_edits, ℕ}
+use Rattle.desk_laws.proofs.Common.{AlternateAllowed, ClockSet, Command, Counted, CountRow, CountsTaken}
+use Rattle.desk_laws.proofs.Common.{Entry, MaterialsInstalled, MaterialsLoaded, MaterialsScrapped}
+use Rattle.desk_laws.proofs.Common.{MaterialsSpliced, MaterialsUnloaded, PartDefined, Placed, ProductSelected}
+use Rattle.desk_laws.proofs.Common.{Purpose, Receipt, ReelBaked, ReelOpened, ReelReceived, ReelRow}
+use Rattle.desk_laws.proofs.Common.{ReelSealed, ReelView, Rejected, SheetDefined, SheetRow, Take, Two}
+use Rattle.desk_laws.proofs.Common.{WorkCompleted, WorkStarted}
+use Rattle.desk_laws.proofs.Accepted.{mountable, next-accepted}
+use Rattle.desk_laws.proofs.Balance.{balance}
 use Rattle.desk_types.specs.Edits.{AreNew, IsBalanced, IsNew, takes_out}
-use Rattle.state_rows.proofs.{EditLists.rows-taken, ReelRows.reel_row-next, TablesLess.OnlyTakes}
-use Rattle.state_rows.proofs.{TablesLess.picks-again, TablesLess.reels-took}
-use Rattle.state_rows.specs.{After.placed_row, After.step_row, EditsOf.AreEditsOf, EditsOf.AreTakeEdits}
-use Rattle.state_rows.specs.{EditsOf.board_edit, EditsOf.count_edits, EditsOf.counted_edits, EditsOf.counted_row}
-use Rattle.state_rows.specs.{EditsOf.pick_of, EditsOf.picked_rows, EditsOf.place_rows, EditsOf.put_rows}
-use Rattle.state_rows.specs.{EditsOf.reel_edit, EditsOf.reels_on, EditsOf.take_spent, EditsOf.taken_rows}
+use Rattle.desk_types.specs.declared.edit.RowEdit.{RowEdit}
+use Rattle.desk_types.specs.declared.edit.RowEdit.TheVariants.{PutFound, PutMount, PutPlacement, PutReel}
+use Rattle.desk_types.specs.declared.edit.RowEdit.TheVariants.{PutSheetRow, TakeMount, TakeSheetRow}
+use Rattle.desk_types.specs.declared.row.PlacementRow.{PlacementRow}
+use Rattle.state_rows.proofs.EditLists.{rows-taken}
+use Rattle.state_rows.proofs.ReelRows.{reel_row-next}
+use Rattle.state_rows.proofs.TablesLess.{OnlyTakes, picks-again, reels-took}
+use Rattle.state_rows.specs.After.{placed_row, step_row}
+use Rattle.state_rows.specs.EditsOf.{AreEditsOf, AreTakeEdits, board_edit, count_edits, counted_edits}
+use Rattle.state_rows.specs.EditsOf.{counted_row, pick_of, picked_rows, place_rows, put_rows, reel_edit}
+use Rattle.state_rows.specs.EditsOf.{reels_on, take_spent, taken_rows}
 
 -- ---- lists of edits
 

@@ -1,14 +1,15 @@
 -- The rows of `placement` are the placements, in the order of their numbers and places.
-use Rattle.desk_types.proofs.Common.{[], ◌&&◌, ◌++◌, ◌+◌, ◌<◌, ◌==◌, ◌∙◌, ◌∷◌, ◌≡◌, ◌≤◌, AllByRecursion, ap, arith}
-use Rattle.desk_types.proofs.Common.{Bool, cond, Counted, Entry, entry_takes, EntryTake, enumerate_from, eq-eqb}
-use Rattle.desk_types.proofs.Common.{eqb-true, Equal, false, filter_map, filter_map-append, find, Greater, History}
-use Rattle.desk_types.proofs.Common.{is_at, is_eq, IsJudged, IsStrictlySortedBy, keys_of, length, Less, List, lookup}
-use Rattle.desk_types.proofs.Common.{lt-ltb, ltb-true, map, nat_cmp, nat_lt, ne_eqb, option_map, ordering_then}
-use Rattle.desk_types.proofs.Common.{Placed, Placement, placement_of, placement_row, PlacementRow, placements_of}
-use Rattle.desk_types.proofs.Common.{Purpose, refl, Rejected, Some, subst, sym, Take, takes_by, takes_of, true, Two}
-use Rattle.desk_types.proofs.Common.{ℕ}
-use Rattle.desk_laws.{proofs.Distinct.all-append, proofs.NameSets.all-weaker}
-use Rattle.desk_types.{proofs.Keys.is_eq-ordering_then, specs.Tables.placement_columns}
+use Rattle.desk_types.proofs.Common.{[], ◌&&◌, ◌++◌, ◌+◌, ◌<◌, ◌==◌, ◌∙◌, ◌∷◌, ◌≡◌, ◌≤◌, AllByRecursion, ap}
+use Rattle.desk_types.proofs.Common.{arith, Bool, cond, entry_takes, EntryTake, enumerate_from, eq-eqb}
+use Rattle.desk_types.proofs.Common.{eqb-true, Equal, false, filter_map, filter_map-append, find, Greater}
+use Rattle.desk_types.proofs.Common.{History, is_at, is_eq, IsJudged, IsStrictlySortedBy, keys_of, length}
+use Rattle.desk_types.proofs.Common.{Less, List, lookup, lt-ltb, ltb-true, map, nat_cmp, nat_lt, ne_eqb}
+use Rattle.desk_types.proofs.Common.{option_map, ordering_then, placement_of, placement_row, placements_of}
+use Rattle.desk_types.proofs.Common.{refl, Some, subst, sym, takes_by, takes_of, true, ℕ}
+use Rattle.desk_laws.proofs.Common.{Counted, Entry, Placed, Placement, Purpose, Rejected, Take, Two}
+use Rattle.desk_laws.proofs.{Distinct.all-append, NameSets.all-weaker}
+use Rattle.desk_types.proofs.Keys.{is_eq-ordering_then}
+use Rattle.desk_types.specs.{Tables.placement_columns, declared.row.PlacementRow.PlacementRow}
 use Rattle.state_rows.specs.Kept.{by_piece, Lists, row_at}
 
 abbrev pub entry_of : Placement → (ℕ × ℕ) × PlacementRow

@@ -1,11 +1,12 @@
 -- The rows of placed pieces after one entry more.
 use Rattle.desk_types.proofs.Common.{[], ◌&&◌, ◌+◌, ◌<◌, ◌==◌, ◌∙◌, ◌∷◌, ◌≡◌, ap, arith, at_place, Bool, cond}
-use Rattle.desk_types.proofs.Common.{Counted, Entry, entry_takes, EntryTake, enumerate_from, eqb-true, false}
-use Rattle.desk_types.proofs.Common.{filter_map, filter_map-append, find, History, if◌then◌else◌, IsJudged, length}
-use Rattle.desk_types.proofs.Common.{List, map, ne_eqb, None, Option, option_and_then, option_map, option_or, Placed}
-use Rattle.desk_types.proofs.Common.{Placement, placement_of, placement_row, PlacementRow, placements_of, Purpose}
-use Rattle.desk_types.proofs.Common.{refl, Rejected, Some, Take, takes_by, takes_of, true, Two, ℕ}
-use Rattle.desk_types.specs.Tables.{placement_columns}
+use Rattle.desk_types.proofs.Common.{entry_takes, EntryTake, enumerate_from, eqb-true, false, filter_map}
+use Rattle.desk_types.proofs.Common.{filter_map-append, find, History, if◌then◌else◌, IsJudged, length, List}
+use Rattle.desk_types.proofs.Common.{map, ne_eqb, None, Option, option_and_then, option_map, option_or}
+use Rattle.desk_types.proofs.Common.{placement_of, placement_row, placements_of, refl, Some, takes_by}
+use Rattle.desk_types.proofs.Common.{takes_of, true, ℕ}
+use Rattle.desk_laws.proofs.Common.{Counted, Entry, Placed, Placement, Purpose, Rejected, Take, Two}
+use Rattle.desk_types.specs.{Tables.placement_columns, declared.row.PlacementRow.PlacementRow}
 use Rattle.state_rows.specs.After.{placed_row, placement_after}
 use Rattle.std.proofs.lemmas.List.Folds.{find-append}
 

@@ -1,9 +1,11 @@
 -- Edits that are pushed one after the other.
 use Rattle.desk_types.proofs.Common.{[], ◌++◌, ◌+◌, ◌<◌, ◌∙◌, ◌∷◌, ◌≡◌, ap, append-nil, append_assoc, arith}
-use Rattle.desk_types.proofs.Common.{cons_option, CountRow, filter_map, filter_map-append, flat_map, flat_map-append}
-use Rattle.desk_types.proofs.Common.{get_or, History, length, length-take-le, List, map, map-append, Name, None}
-use Rattle.desk_types.proofs.Common.{Option, option_to_list, PutSheetRow, refl, RowEdit, SheetRow, Some, sym, take}
-use Rattle.desk_types.proofs.Common.{take-next, TakeMount, TakeSheetRow, ℕ}
+use Rattle.desk_types.proofs.Common.{cons_option, filter_map, filter_map-append, flat_map, flat_map-append}
+use Rattle.desk_types.proofs.Common.{get_or, History, length, length-take-le, List, map, map-append, Name}
+use Rattle.desk_types.proofs.Common.{None, Option, option_to_list, refl, Some, sym, take, take-next, ℕ}
+use Rattle.desk_laws.proofs.Common.{CountRow, SheetRow}
+use Rattle.desk_types.specs.declared.edit.RowEdit.{RowEdit}
+use Rattle.desk_types.specs.declared.edit.RowEdit.TheVariants.{PutSheetRow, TakeMount, TakeSheetRow}
 use Rattle.desk_types.specs.declared.view.Mount.{Mount}
 use Rattle.state_rows.specs.EditsOf.{count_edits, put_rows, reel_on_slot, taken_rows}
 

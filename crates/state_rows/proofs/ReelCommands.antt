@@ -1,9 +1,10 @@
 -- Commands that receive, bake or only handle a reel.
-use Rattle.desk_types.proofs.Common.{[], ◌∙◌, ◌∷◌, ◌≡◌, ap, bake_by, baked_by, Bool, Command, false, found_by}
-use Rattle.desk_types.proofs.Common.{History, if◌then◌else◌, IsUntouched, last_bake, Name, None, open_by, Option}
-use Rattle.desk_types.proofs.Common.{option_map_or, option_or, Receipt, receipt_by, ReelBaked, ReelReceived, refl}
-use Rattle.desk_types.proofs.Common.{same, Some, sym, true, unwrap_or, ℕ}
-use Rattle.desk_types.proofs.ReelCommands.{IsQuiet, IsQuiet-untouched}
+use Rattle.desk_types.proofs.Common.{[], ◌∙◌, ◌∷◌, ◌≡◌, ap, bake_by, baked_by, Bool, false, found_by, History}
+use Rattle.desk_types.proofs.Common.{if◌then◌else◌, IsUntouched, last_bake, Name, None, open_by, Option}
+use Rattle.desk_types.proofs.Common.{option_map_or, option_or, receipt_by, refl, same, Some, sym, true}
+use Rattle.desk_types.proofs.Common.{unwrap_or, ℕ}
+use Rattle.desk_laws.proofs.Common.{Command, IsQuiet-untouched, Receipt, ReelBaked, ReelReceived}
+use Rattle.desk_types.proofs.ReelCommands.{IsQuiet}
 use Rattle.state_rows.specs.After.{bakes}
 
 pub record IsReceipt (reel : Name) (minute : ℕ) (command : Command) (receipt : Receipt) : Type 0 where

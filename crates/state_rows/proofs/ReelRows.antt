@@ -1,17 +1,19 @@
 -- The row of a reel after one entry more.
-use Rattle.desk_types.proofs.Common.{[], ◌+◌, ◌-◌, ◌==◌, ◌∙◌, ◌∷◌, ◌≡◌, ◌≤◌, ap, arith, baked_by, Bool, columns_of}
-use Rattle.desk_types.proofs.Common.{Entry, eqb-true, exposure_of, exposure_starts, false, found_by, found_of}
-use Rattle.desk_types.proofs.Common.{found_row, fresh_row, History, if◌then◌else◌, is_baked, IsJudged, last_bake}
-use Rattle.desk_types.proofs.Common.{latest, left_of, Name, None, now_of, open_by, Option, option_map, option_map_or}
-use Rattle.desk_types.proofs.Common.{option_or, out_since, picks_of, pieces_by, pieces_picked, placed_of, Receipt}
-use Rattle.desk_types.proofs.Common.{receipt_by, receipt_of, received_of, reel_row, ReelRow, refl, scrapped_of}
-use Rattle.desk_types.proofs.Common.{since_after, Some, sym, true, Two, unwrap_or, used_of, view_of, ℕ}
+use Rattle.desk_types.proofs.Common.{[], ◌+◌, ◌-◌, ◌==◌, ◌∙◌, ◌∷◌, ◌≡◌, ◌≤◌, ap, arith, baked_by, Bool}
+use Rattle.desk_types.proofs.Common.{columns_of, eqb-true, exposure_of, exposure_starts, false, found_by}
+use Rattle.desk_types.proofs.Common.{found_of, found_row, fresh_row, History, if◌then◌else◌, is_baked}
+use Rattle.desk_types.proofs.Common.{IsJudged, last_bake, latest, left_of, Name, None, now_of, open_by}
+use Rattle.desk_types.proofs.Common.{Option, option_map, option_map_or, option_or, out_since, picks_of}
+use Rattle.desk_types.proofs.Common.{pieces_by, pieces_picked, placed_of, receipt_by, receipt_of, received_of}
+use Rattle.desk_types.proofs.Common.{reel_row, refl, scrapped_of, since_after, Some, sym, true, unwrap_or}
+use Rattle.desk_types.proofs.Common.{used_of, view_of, ℕ}
+use Rattle.desk_laws.proofs.Common.{Entry, exposure-untouched, exposure_starts-quiet, Receipt, ReelRow, Two}
 use Rattle.desk_laws.proofs.Accepted.{received-once}
 use Rattle.desk_laws.proofs.Balance.{balance, left-next, left-received, unreceived-empty}
 use Rattle.desk_laws.proofs.Judgements.{by-desk_minute, or-none, untouched}
 use Rattle.desk_laws.proofs.Totals.{placed-next, scrapped-next}
-use Rattle.desk_types.proofs.Exposure.{exposure-anew, exposure-before, exposure-untouched}
-use Rattle.desk_types.proofs.ReelCommands.{exposure_starts-quiet, IsQuiet, last_bake-untouched}
+use Rattle.desk_types.proofs.Exposure.{exposure-anew, exposure-before}
+use Rattle.desk_types.proofs.ReelCommands.{IsQuiet, last_bake-untouched}
 use Rattle.state_rows.proofs.Exposed.{exposure-in_bag, exposure-out, now-before, now-next, since-by}
 use Rattle.state_rows.proofs.ReelCommands.{IsBake-said, IsQuiet-said, IsReceipt, IsReceipt-said}
 use Rattle.state_rows.specs.After.{bakes, found_after, reel_after, step_row, used_after}

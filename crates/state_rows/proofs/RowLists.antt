@@ -1,17 +1,23 @@
 -- Rows that are written into lists by keys, and the tables that the lists are.
-use Rattle.desk_types.proofs.Common.{[], ◌&&◌, ◌+◌, ◌<◌, ◌==◌, ◌||◌, ◌∙◌, ◌≡◌, ap, arith, BoardRow, Bool, by_name}
-use Rattle.desk_types.proofs.Common.{by_pair, cond, eqb-true, Equal, false, found_of, found_row, get_or, Greater}
-use Rattle.desk_types.proofs.Common.{is_at, is_at-by_name, is_at-by_pair, is_eq, IsStrictlySortedBy, keys_of, length}
-use Rattle.desk_types.proofs.Common.{Less, List, list_any-same, ltb-true, MountRow, Name, nat_cmp, nat_lt, None}
-use Rattle.desk_types.proofs.Common.{Option, Ordering, placement_row, PlacementRow, PutAlternate, PutBoard, PutFound}
-use Rattle.desk_types.proofs.Common.{PutMount, PutPart, PutPlacement, PutReel, PutSelected, PutSheetRow, ReelRow}
-use Rattle.desk_types.proofs.Common.{refl, RowEdit, same, same_pair, SheetRow, Some, subst, sym, Tables, take}
-use Rattle.desk_types.proofs.Common.{TakeMount, takes_of, TakeSheetRow, true, with_edit, with_edits, ℕ}
+use Rattle.desk_types.proofs.Common.{[], ◌&&◌, ◌+◌, ◌<◌, ◌==◌, ◌||◌, ◌∙◌, ◌≡◌, ap, arith, Bool, by_name}
+use Rattle.desk_types.proofs.Common.{by_pair, cond, eqb-true, Equal, false, found_of, found_row, get_or}
+use Rattle.desk_types.proofs.Common.{Greater, is_at, is_at-by_name, is_at-by_pair, is_eq, IsStrictlySortedBy}
+use Rattle.desk_types.proofs.Common.{keys_of, length, Less, List, list_any-same, ltb-true, Name, nat_cmp}
+use Rattle.desk_types.proofs.Common.{nat_lt, None, Option, Ordering, placement_row, refl, same, same_pair}
+use Rattle.desk_types.proofs.Common.{Some, subst, sym, Tables, take, takes_of, true, with_edit, with_edits, ℕ}
+use Rattle.desk_laws.proofs.Common.{BoardRow, ReelRow, SheetRow}
 use Rattle.desk_types.proofs.Keys.{is_eq-ordering_then}
-use Rattle.setup_sheets.specs.{Alternates.is_pair_among, Names.is_among}
+use Rattle.desk_types.specs.declared.edit.RowEdit.{RowEdit}
+use Rattle.desk_types.specs.declared.edit.RowEdit.TheVariants.{PutAlternate, PutBoard, PutFound, PutMount}
+use Rattle.desk_types.specs.declared.edit.RowEdit.TheVariants.{PutPart, PutPlacement, PutReel, PutSelected}
+use Rattle.desk_types.specs.declared.edit.RowEdit.TheVariants.{PutSheetRow, TakeMount, TakeSheetRow}
+use Rattle.desk_types.specs.declared.row.MountRow.{MountRow}
+use Rattle.desk_types.specs.declared.row.PlacementRow.{PlacementRow}
+use Rattle.setup_sheets.specs.Alternates.{is_pair_among}
+use Rattle.setup_sheets.specs.Names.{is_among}
 use Rattle.state_rows.proofs.EditLists.{edits-next}
-use Rattle.state_rows.specs.Kept.{but_placements, by_piece, by_sheet_place, by_since, has_key, KeptRows, Lists}
-use Rattle.state_rows.specs.Kept.{ListsKeys, row_at, tables_in}
+use Rattle.state_rows.specs.Kept.{but_placements, by_piece, by_sheet_place, by_since, has_key, KeptRows}
+use Rattle.state_rows.specs.Kept.{Lists, ListsKeys, row_at, tables_in}
 
 -- ---- keys
 

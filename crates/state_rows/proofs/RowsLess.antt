@@ -1,27 +1,30 @@
 -- Rows of reels off which pieces come, take by take.
-use Rattle.desk_types.proofs.Common.{[], ◌&&◌, ◌++◌, ◌+◌, ◌<◌, ◌==◌, ◌∙◌, ◌∷◌, ◌≡◌, ◌≤◌, accept, AllByRecursion, ap}
-use Rattle.desk_types.proofs.Common.{append-nil, append_assoc, AreBalanced, AreTakesFirst, arith, Bool, by_name}
-use Rattle.desk_types.proofs.Common.{Change, cond, drop, drop-next, effective_minute, entry_of, false, flat_map}
-use Rattle.desk_types.proofs.Common.{get_or, History, if◌then◌else◌, is_at-by_name, is_eq, IsChange, IsJudged}
-use Rattle.desk_types.proofs.Common.{IsMinute, IsStamped, IsStrictlySortedBy, keys_of, length, length-take-le, Less}
-use Rattle.desk_types.proofs.Common.{List, map, map-append, MOST_ENTRIES, MountRow, Name, None, Option, option_map}
-use Rattle.desk_types.proofs.Common.{option_map_or, option_or, option_to_list, Pick, picks_of, placement_row}
-use Rattle.desk_types.proofs.Common.{PlacementRow, PutPlacement, PutReel, reel_row, ReelRow, refl, RowEdit, Rules}
-use Rattle.desk_types.proofs.Common.{same, same-refl, same-sym, same-true, Some, Stamped, subst, sym, Tables}
-use Rattle.desk_types.proofs.Common.{tables_of, Take, take, take-append-drop, take-next, TakeMount, takes_by, true}
-use Rattle.desk_types.proofs.Common.{Two, with_edits, ℕ}
-use Rattle.desk_types.proofs.BothRules.{judged-by-two}
-use Rattle.desk_types.specs.Edits.{AreNew}
+use Rattle.desk_types.proofs.Common.{[], ◌&&◌, ◌++◌, ◌+◌, ◌<◌, ◌==◌, ◌∙◌, ◌∷◌, ◌≡◌, ◌≤◌, accept}
+use Rattle.desk_types.proofs.Common.{AllByRecursion, ap, append-nil, append_assoc, AreBalanced, AreTakesFirst}
+use Rattle.desk_types.proofs.Common.{arith, Bool, by_name, cond, drop, drop-next, effective_minute, entry_of}
+use Rattle.desk_types.proofs.Common.{false, flat_map, get_or, History, if◌then◌else◌, is_at-by_name, is_eq}
+use Rattle.desk_types.proofs.Common.{IsChange, IsJudged, IsMinute, IsStamped, IsStrictlySortedBy, keys_of}
+use Rattle.desk_types.proofs.Common.{length, length-take-le, Less, List, map, map-append, Name, None, Option}
+use Rattle.desk_types.proofs.Common.{option_map, option_map_or, option_or, option_to_list, picks_of}
+use Rattle.desk_types.proofs.Common.{placement_row, reel_row, refl, same, same-refl, same-sym, same-true}
+use Rattle.desk_types.proofs.Common.{Some, subst, sym, Tables, tables_of, take, take-append-drop, take-next}
+use Rattle.desk_types.proofs.Common.{takes_by, true, with_edits, ℕ}
+use Rattle.desk_laws.proofs.Common.{judged-by-two, MOST_ENTRIES, Pick, ReelRow, Rules, Stamped, Take, Two}
+use Rattle.desk_types.specs.{Edits.AreNew, declared.change.Change.Change, declared.edit.RowEdit.RowEdit}
+use Rattle.desk_types.specs.{declared.edit.RowEdit.TheVariants.PutPlacement}
+use Rattle.desk_types.specs.{declared.edit.RowEdit.TheVariants.PutReel}
+use Rattle.desk_types.specs.{declared.edit.RowEdit.TheVariants.TakeMount, declared.row.MountRow.MountRow}
+use Rattle.desk_types.specs.{declared.row.PlacementRow.PlacementRow}
 use Rattle.state_rows.proofs.{EditLists.with_edits-append, EditsLead.edits-lead, EditsLead.edits-lead-same}
 use Rattle.state_rows.proofs.{GatheredPieces.picked_rows-fits, GatheredPieces.picked_rows-next}
 use Rattle.state_rows.proofs.{GatheredPieces.places-put, GatheredPieces.rows-named, NewRows.edits-fit}
 use Rattle.state_rows.proofs.{PlacementRows.unplaced-later, SumsInRange.entry-next, SumsInRange.pieces-fit}
 use Rattle.state_rows.proofs.{TablesLess.picks-again}
 use Rattle.state_rows.specs.{After.placed_row, EditsOf.after_rows, EditsOf.AreEditsOf, EditsOf.AreNamed}
-use Rattle.state_rows.specs.{EditsOf.ArePiecesFitting, EditsOf.AreTakeEdits, EditsOf.is_picked, EditsOf.is_spent}
-use Rattle.state_rows.specs.{EditsOf.less_by, EditsOf.less_row, EditsOf.LessFits, EditsOf.pick_of}
-use Rattle.state_rows.specs.{EditsOf.picked_rows, EditsOf.place_rows, EditsOf.take_spent, EditsOf.with_reels}
-use Rattle.state_rows.specs.{EditsOf.without_spent, Kept.row_at, Kept.unnumbered}
+use Rattle.state_rows.specs.{EditsOf.ArePiecesFitting, EditsOf.AreTakeEdits, EditsOf.is_picked}
+use Rattle.state_rows.specs.{EditsOf.is_spent, EditsOf.less_by, EditsOf.less_row, EditsOf.LessFits}
+use Rattle.state_rows.specs.{EditsOf.pick_of, EditsOf.picked_rows, EditsOf.place_rows, EditsOf.take_spent}
+use Rattle.state_rows.specs.{EditsOf.with_reels, EditsOf.without_spent, Kept.row_at, Kept.unnumbered}
 use Rattle.std.specs.Map.{values_of}
 
 pub noted : (old rows : Name → Option ReelRow) (k : Name) (p : Pick) (row less : ReelRow) → option_or (old k) (rows k) ≡ Some row → less ≡ less_by p row → (r : Name)

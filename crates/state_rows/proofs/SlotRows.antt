@@ -1,14 +1,17 @@
 -- The rows of `mount`, in the order of their numbers, give the live reels of each slot.
-use Rattle.desk_types.proofs.Common.{[], ◌&&◌, ◌+◌, ◌<◌, ◌==◌, ◌||◌, ◌∙◌, ◌∷◌, ◌≡◌, ◌≤◌, All, All-head, All-tail}
-use Rattle.desk_types.proofs.Common.{AllByRecursion, and_from, and_parts, ap, arith, Bool, both_ways, by_name}
-use Rattle.desk_types.proofs.Common.{Command, cond, cons_option, eqb-true, Equal, false, Greater, History}
-use Rattle.desk_types.proofs.Common.{if◌then◌else◌, is_at-by_name, is_eq, is_mounted, IsJudged, IsStrictlySortedBy}
-use Rattle.desk_types.proofs.Common.{keys_of, last_put, length, Less, List, live_on, lookup, ltb-true}
-use Rattle.desk_types.proofs.Common.{MaterialsLoaded, MaterialsSpliced, mount_row, MountRow, Name, nat_lt, None}
-use Rattle.desk_types.proofs.Common.{Option, option_map_or, option_or, or_left, or_right, ordering_then, put_by, refl}
-use Rattle.desk_types.proofs.Common.{same, same-refl, same-true, Some, sym, true, Two, unwrap_or, ℕ}
+use Rattle.desk_types.proofs.Common.{[], ◌&&◌, ◌+◌, ◌<◌, ◌==◌, ◌||◌, ◌∙◌, ◌∷◌, ◌≡◌, ◌≤◌, All, All-head}
+use Rattle.desk_types.proofs.Common.{All-tail, AllByRecursion, and_from, and_parts, ap, arith, Bool}
+use Rattle.desk_types.proofs.Common.{both_ways, by_name, cond, cons_option, eqb-true, Equal, false, Greater}
+use Rattle.desk_types.proofs.Common.{History, if◌then◌else◌, is_at-by_name, is_eq, is_mounted, IsJudged}
+use Rattle.desk_types.proofs.Common.{IsStrictlySortedBy, keys_of, last_put, length, Less, List, live_on}
+use Rattle.desk_types.proofs.Common.{lookup, ltb-true, mount_row, Name, nat_lt, None, Option, option_map_or}
+use Rattle.desk_types.proofs.Common.{option_or, or_left, or_right, ordering_then, put_by, refl, same}
+use Rattle.desk_types.proofs.Common.{same-refl, same-true, Some, sym, true, unwrap_or, ℕ}
+use Rattle.desk_laws.proofs.Common.{Command, MaterialsLoaded, MaterialsSpliced, Two}
 use Rattle.desk_laws.proofs.Mounts.{has}
-use Rattle.state_rows.proofs.Ascending.{ascending-same, Ascends, since-ascends, since-put, since-within, since_of}
+use Rattle.desk_types.specs.declared.row.MountRow.{MountRow}
+use Rattle.state_rows.proofs.Ascending.{ascending-same, Ascends, since-ascends, since-put, since-within}
+use Rattle.state_rows.proofs.Ascending.{since_of}
 use Rattle.state_rows.proofs.MountedRows.{live-mount, mount-live}
 use Rattle.state_rows.specs.Kept.{by_since, ListsMounts, since_is}
 use Rattle.std.specs.List.{filter_map}

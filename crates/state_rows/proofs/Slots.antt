@@ -1,13 +1,14 @@
 -- The live reels of a slot, from a machine's live reels.
-use Rattle.desk_types.proofs.Common.{[], ◌&&◌, ◌+◌, ◌||◌, ◌∙◌, ◌∷◌, ◌≡◌, and_parts, ap, Bool, Command}
-use Rattle.desk_types.proofs.Common.{command_refusal, cons_option, defines_on, enumerate_from, false, filter_map}
+use Rattle.desk_types.proofs.Common.{[], ◌&&◌, ◌+◌, ◌||◌, ◌∙◌, ◌∷◌, ◌≡◌, and_parts, ap, Bool, command_refusal}
+use Rattle.desk_types.proofs.Common.{cons_option, defines_on, enumerate_from, false, filter_map}
 use Rattle.desk_types.proofs.Common.{filter_map-append, flat_map, has_sheet, History, if◌then◌else◌, is_none}
-use Rattle.desk_types.proofs.Common.{IsJudged, left_of, List, list_any-append, list_any-from_Contains, live_on}
-use Rattle.desk_types.proofs.Common.{loaded_slots, map, MaterialsLoaded, MaterialsSpliced, MaterialsUnloaded}
-use Rattle.desk_types.proofs.Common.{mount_of, Name, nat_list_eq_equiv, nat_lt, None, Option, option_and_then}
-use Rattle.desk_types.proofs.Common.{option_or, or_parts, refl, row_in, row_on, same, same-sym, same-true}
-use Rattle.desk_types.proofs.Common.{selected_on, sheet_by, sheet_of, SheetDefined, SheetRow, slot_mounts, Some, sym}
-use Rattle.desk_types.proofs.Common.{tape_after, tape_of, tape_with, true, Two, unwrap_or, ℕ}
+use Rattle.desk_types.proofs.Common.{IsJudged, left_of, List, list_any-append, list_any-from_Contains}
+use Rattle.desk_types.proofs.Common.{live_on, loaded_slots, map, mount_of, Name, nat_list_eq_equiv, nat_lt}
+use Rattle.desk_types.proofs.Common.{None, Option, option_and_then, option_or, or_parts, refl, row_in, row_on}
+use Rattle.desk_types.proofs.Common.{same, same-sym, same-true, selected_on, sheet_by, sheet_of, slot_mounts}
+use Rattle.desk_types.proofs.Common.{Some, sym, tape_after, tape_of, tape_with, true, unwrap_or, ℕ}
+use Rattle.desk_laws.proofs.Common.{Command, MaterialsLoaded, MaterialsSpliced, MaterialsUnloaded}
+use Rattle.desk_laws.proofs.Common.{SheetDefined, SheetRow, Two}
 use Rattle.desk_laws.proofs.{Accepted.mountable, Accepted.next-accepted, Lookups.tape-loaded, Mounts.has}
 use Rattle.desk_laws.proofs.{Mounts.has-live_on}
 use Rattle.state_rows.specs.EditsOf.{reel_on_slot, reels_on}

@@ -1,13 +1,13 @@
 -- Sums of rows stay in their ranges.
-use Rattle.desk_types.proofs.Common.{◌+◌, ◌-◌, ◌<◌, ◌^◌, ◌∷◌, ◌≡◌, ◌≤◌, arith, columns_of, effective_minute, Entry}
-use Rattle.desk_types.proofs.Common.{entry_of, GREATEST_QUANTITY, History, IsCountedQuantity, IsJudged, IsMinute}
-use Rattle.desk_types.proofs.Common.{IsNext, IsStamped, length, MOST_ENTRIES, Name, None, now_of, Option, option_map}
-use Rattle.desk_types.proofs.Common.{option_map_or, out_since, picks_of, Receipt, receipt_of, received_of, reel_row}
-use Rattle.desk_types.proofs.Common.{reel_view, ReelRow, ReelView, refl, refusal_of, Rules, Some, Stamped, subst, sym}
-use Rattle.desk_types.proofs.Common.{Two, used_of, view_of, ℕ}
+use Rattle.desk_types.proofs.Common.{◌+◌, ◌-◌, ◌<◌, ◌^◌, ◌∷◌, ◌≡◌, ◌≤◌, arith, columns_of, effective_minute}
+use Rattle.desk_types.proofs.Common.{entry_of, History, IsCountedQuantity, IsJudged, IsMinute, IsNext}
+use Rattle.desk_types.proofs.Common.{IsStamped, length, Name, None, now_of, Option, option_map, option_map_or}
+use Rattle.desk_types.proofs.Common.{out_since, picks_of, receipt_of, received_of, reel_row, reel_view, refl}
+use Rattle.desk_types.proofs.Common.{refusal_of, Some, subst, sym, used_of, view_of, ℕ}
+use Rattle.desk_laws.proofs.Common.{accepted-by-two, Entry, GREATEST_QUANTITY, MOST_ENTRIES, Receipt, ReelRow}
+use Rattle.desk_laws.proofs.Common.{ReelView, Rules, Stamped, Two}
 use Rattle.desk_laws.{proofs.Balance.balance, proofs.Exposures.exposure-within, proofs.Ranges.received-range}
 use Rattle.desk_laws.{proofs.Totals.placed-next, proofs.Totals.scrapped-next}
-use Rattle.desk_types.proofs.BothRules.{accepted-by-two}
 use Rattle.state_rows.{proofs.ReelRows.used-then, specs.EditsOf.ArePiecesFitting, specs.EditsOf.CountFits}
 
 -- ---- exposure

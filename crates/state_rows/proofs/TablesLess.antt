@@ -1,15 +1,18 @@
 -- The tables after a command that takes pieces.
-use Rattle.desk_types.proofs.Common.{[], ◌+◌, ◌-◌, ◌==◌, ◌||◌, ◌∙◌, ◌∷◌, ◌≡◌, and_parts, ap, arith, baked_by, Bool}
-use Rattle.desk_types.proofs.Common.{columns_of, Command, false, filter, found_by, History, if◌then◌else◌, is_mounted}
-use Rattle.desk_types.proofs.Common.{is_placed, IsJudged, last_put, left_of, List, ltb-false, ltb-true, map}
-use Rattle.desk_types.proofs.Common.{mount_row, MountRow, Name, nat_lt, ne_eqb, None, not, open_by, Option}
-use Rattle.desk_types.proofs.Common.{option_map, option_or, or_parts, Pick, picks_of, pieces_by, pieces_picked}
-use Rattle.desk_types.proofs.Common.{PlacementRow, Receipt, receipt_of, reel_row, ReelRow, refl, same, since_after}
-use Rattle.desk_types.proofs.Common.{Some, sum_by-cons, sym, take_of, true, Two, unwrap_or, view_of, zero-add, ℕ}
+use Rattle.desk_types.proofs.Common.{[], ◌+◌, ◌-◌, ◌==◌, ◌||◌, ◌∙◌, ◌∷◌, ◌≡◌, and_parts, ap, arith, baked_by}
+use Rattle.desk_types.proofs.Common.{Bool, columns_of, false, filter, found_by, History, if◌then◌else◌}
+use Rattle.desk_types.proofs.Common.{is_mounted, is_placed, IsJudged, last_put, left_of, List, ltb-false}
+use Rattle.desk_types.proofs.Common.{ltb-true, map, mount_row, Name, nat_lt, ne_eqb, None, not, open_by}
+use Rattle.desk_types.proofs.Common.{Option, option_map, option_or, or_parts, picks_of, pieces_by}
+use Rattle.desk_types.proofs.Common.{pieces_picked, receipt_of, reel_row, refl, same, since_after, Some}
+use Rattle.desk_types.proofs.Common.{sum_by-cons, sym, take_of, true, unwrap_or, view_of, zero-add, ℕ}
+use Rattle.desk_laws.proofs.Common.{Command, Pick, Receipt, ReelRow, Two}
 use Rattle.desk_laws.proofs.Mounted.{left_after, mounted-is}
+use Rattle.desk_types.specs.{declared.row.MountRow.MountRow, declared.row.PlacementRow.PlacementRow}
 use Rattle.state_rows.proofs.{MountRows.unreceived-unmounted, ReelRows.same-rows}
-use Rattle.state_rows.specs.{After.placed_in, After.scrapped_in, After.step_row, After.used_after, EditsOf.is_picked}
-use Rattle.state_rows.specs.{EditsOf.is_spent, EditsOf.less_row, EditsOf.pick_of, EditsOf.picked_rows}
+use Rattle.state_rows.specs.{After.placed_in, After.scrapped_in, After.step_row, After.used_after}
+use Rattle.state_rows.specs.{EditsOf.is_picked, EditsOf.is_spent, EditsOf.less_row, EditsOf.pick_of}
+use Rattle.state_rows.specs.{EditsOf.picked_rows}
 
 pub picks-again : (H : History) (minute : ℕ) (picks : List Pick) → map pick_of (map (take_of H minute) picks) ≡ picks
 picks-again H minute [] = refl

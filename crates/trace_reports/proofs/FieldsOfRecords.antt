@@ -1,11 +1,12 @@
 -- Each record of a report has at least one field.
-use Rattle.desk_types.proofs.Common.{[], ◌∷◌, ◌≢◌, All, All-cons, All-nil, List, map, Placement}
+use Rattle.desk_types.proofs.Common.{[], ◌∷◌, ◌≢◌, All, All-cons, All-nil, List, map}
+use Rattle.desk_laws.proofs.Common.{Placement, Three}
 use Rattle.desk_types.specs.declared.trace_detail.TraceDetail.{TraceDetail}
-use Rattle.desk_types.specs.declared.trace_detail.TraceDetail.TheVariants.{Four, One, Three, Two}
+use Rattle.desk_types.specs.declared.trace_detail.TraceDetail.TheVariants.{Four, One, Two}
 use Rattle.std.proofs.lemmas.Map.Views.{All-insert_key}
 use Rattle.trace_reports.specs.Sets.{by_fields, Fields, set_of}
-use Rattle.trace_reports.specs.Traces.{board_columns, board_header, board_rows, lot_columns, lot_header, lot_rows}
-use Rattle.trace_reports.specs.Traces.{overdue_header, overdue_row, project}
+use Rattle.trace_reports.specs.Traces.{board_columns, board_header, board_rows, lot_columns, lot_header}
+use Rattle.trace_reports.specs.Traces.{lot_rows, overdue_header, overdue_row, project}
 
 abbrev pub HasField : Fields → Type 0
 HasField row = row ≢ []

@@ -1,7 +1,8 @@
 -- The rows of a kit, sheet row by sheet row and reel by reel.
-use Rattle.desk_types.proofs.Common.{[], ◌++◌, ◌+◌, ◌<◌, ◌∙◌, ◌∷◌, ◌≡◌, ap, append-nil, append_assoc, drop, drop-next}
-use Rattle.desk_types.proofs.Common.{get_or, History, length, List, map, map-append, Name, ReelView, SheetRow, sym}
+use Rattle.desk_types.proofs.Common.{[], ◌++◌, ◌+◌, ◌<◌, ◌∙◌, ◌∷◌, ◌≡◌, ap, append-nil, append_assoc, drop}
+use Rattle.desk_types.proofs.Common.{drop-next, get_or, History, length, List, map, map-append, Name, sym}
 use Rattle.desk_types.proofs.Common.{take, take-next, ℕ}
+use Rattle.desk_laws.proofs.Common.{ReelView, SheetRow}
 use Rattle.std.proofs.lemmas.List.Sums.{sum_by_push}
 use Rattle.trace_reports.specs.Kit.{kit_rows, needed_by, pieces_of_reels, reels_for, rows_for}
 use Rattle.trace_reports.specs.declared.kit.KitRow.{KitRow}

@@ -1,6 +1,7 @@
 -- A report with one more row.
-use Rattle.desk_types.proofs.Common.{[], ◌++◌, ◌+◌, ◌<◌, ◌∙◌, ◌∷◌, ◌≡◌, ap, append-nil, append_assoc, flat_map}
-use Rattle.desk_types.proofs.Common.{flat_map-append, get_or, length, List, map, map-append, sym, take, take-next, ℕ}
+use Rattle.desk_types.proofs.Common.{[], ◌++◌, ◌+◌, ◌<◌, ◌∙◌, ◌∷◌, ◌≡◌, ap, append-nil, append_assoc}
+use Rattle.desk_types.proofs.Common.{flat_map, flat_map-append, get_or, length, List, map, map-append, sym}
+use Rattle.desk_types.proofs.Common.{take, take-next, ℕ}
 use Rattle.trace_reports.specs.Csv.{csv_text, record_text}
 
 pub text-next : {X : Type 0} (header : List (List ℕ)) (fields : X → List (List ℕ)) (rows : List X) (i : ℕ) (row : X) → i < length rows → row ≡ get_or rows i row

@@ -1,12 +1,13 @@
 -- A kit names no reel twice.
-use Rattle.desk_types.proofs.Common.{[], ◌++◌, ◌-◌, ◌∙◌, ◌∷◌, ◌≡◌, AllByRecursion, ap, append-nil, arith, Bool}
-use Rattle.desk_types.proofs.Common.{by_turn, Command, cond, cons_option, Equal, false, filter, filter_map}
+use Rattle.desk_types.proofs.Common.{[], ◌++◌, ◌-◌, ◌∙◌, ◌∷◌, ◌≡◌, AllByRecursion, ap, append-nil, arith}
+use Rattle.desk_types.proofs.Common.{Bool, by_turn, cond, cons_option, Equal, false, filter, filter_map}
 use Rattle.desk_types.proofs.Common.{filter_map-append, free_reels, Greater, History, if◌then◌else◌, in_order}
-use Rattle.desk_types.proofs.Common.{insert_key, is_free, is_some, IsDistinct, IsJudged, Less, List, list_any-append}
-use Rattle.desk_types.proofs.Common.{map, map-append, match_ordering, Name, nat_lt, None, not, Option, option_map}
-use Rattle.desk_types.proofs.Common.{or_parts, Ordering, Receipt, receipt_by, receipt_of, received_by, reel_view}
-use Rattle.desk_types.proofs.Common.{ReelReceived, reels_received, ReelView, refl, same, same-refl, same-sym}
-use Rattle.desk_types.proofs.Common.{SheetRow, Some, subst, suc, sym, true, Two, view_of, zero, ℕ}
+use Rattle.desk_types.proofs.Common.{insert_key, is_free, is_some, IsDistinct, IsJudged, Less, List}
+use Rattle.desk_types.proofs.Common.{list_any-append, map, map-append, match_ordering, Name, nat_lt, None}
+use Rattle.desk_types.proofs.Common.{not, Option, option_map, or_parts, Ordering, receipt_by, receipt_of}
+use Rattle.desk_types.proofs.Common.{received_by, reel_view, reels_received, refl, same, same-refl, same-sym}
+use Rattle.desk_types.proofs.Common.{Some, subst, suc, sym, true, view_of, zero, ℕ}
+use Rattle.desk_laws.proofs.Common.{Command, Receipt, ReelReceived, ReelView, SheetRow, Two}
 use Rattle.desk_laws.proofs.{Accepted.received-once, Distinct.all-append, Distinct.distinct-filter}
 use Rattle.desk_laws.proofs.{Distinct.distinct-join, Judgements.or-none}
 use Rattle.setup_sheets.specs.Names.{is_among}

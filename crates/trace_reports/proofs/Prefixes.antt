@@ -1,8 +1,9 @@
 -- The shortest sufficient prefix of some reels, reel by reel.
-use Rattle.desk_types.proofs.Common.{[], ◌++◌, ◌+◌, ◌-◌, ◌<◌, ◌∙◌, ◌∷◌, ◌≡◌, ap, append-nil, append_assoc, arith}
-use Rattle.desk_types.proofs.Common.{Bool, cond, drop, drop-next, false, get_or, leb-false, leb-true, length, List}
-use Rattle.desk_types.proofs.Common.{map, nat_le, None, Option, option_map, ReelView, refl, Some, sum_by-cons, sym}
-use Rattle.desk_types.proofs.Common.{true, unwrap_or, ℕ}
+use Rattle.desk_types.proofs.Common.{[], ◌++◌, ◌+◌, ◌-◌, ◌<◌, ◌∙◌, ◌∷◌, ◌≡◌, ap, append-nil, append_assoc}
+use Rattle.desk_types.proofs.Common.{arith, Bool, cond, drop, drop-next, false, get_or, leb-false, leb-true}
+use Rattle.desk_types.proofs.Common.{length, List, map, nat_le, None, Option, option_map, refl, Some}
+use Rattle.desk_types.proofs.Common.{sum_by-cons, sym, true, unwrap_or, ℕ}
+use Rattle.desk_laws.proofs.Common.{ReelView}
 use Rattle.std.specs.List.{filter, find}
 use Rattle.trace_reports.specs.Kit.{enough, pieces_of_reels, prefixes}
 

@@ -1,6 +1,7 @@
 -- Reading a report back with `csv`.
-use Rattle.desk_types.proofs.Common.{[], ◌++◌, ◌+◌, ◌∙◌, ◌∷◌, ◌≡◌, ◌≢◌, ◌≤◌, All, All-head, All-tail, ap, arith}
-use Rattle.desk_types.proofs.Common.{flat_map, if◌then◌else◌, length, length-append, List, refl, suc, zero, ℕ}
+use Rattle.desk_types.proofs.Common.{[], ◌++◌, ◌+◌, ◌∙◌, ◌∷◌, ◌≡◌, ◌≢◌, ◌≤◌, All, All-head, All-tail, ap}
+use Rattle.desk_types.proofs.Common.{arith, flat_map, if◌then◌else◌, length, length-append, List, refl, suc}
+use Rattle.desk_types.proofs.Common.{zero, ℕ}
 use Rattle.csv.proofs.RoundTrip.{read-write}
 use Rattle.csv.specs.{Machine.next_record, Reading.default_config, Reading.records, Reading.records_from}
 use Rattle.csv.specs.{Writing.default_writer, Writing.is_blank, Writing.read_back, Writing.row_body}

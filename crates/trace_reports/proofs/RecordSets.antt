@@ -1,11 +1,13 @@
 -- Sets of records, and the records of pieces.
 use Rattle.desk_types.proofs.Common.{[], ◌&&◌, ◌||◌, ◌↔◌, ◌∙◌, ◌∷◌, ◌≡◌, ap, ap₂, Bool, by_name, Contains}
-use Rattle.desk_types.proofs.Common.{Contains-from_any, Equal, false, filter, Greater, if◌then◌else◌, insert_key}
-use Rattle.desk_types.proofs.Common.{is_at-by_name, is_eq, Less, List, list_any, list_any-from_Contains}
-use Rattle.desk_types.proofs.Common.{list_any-same, map, match_ordering, Name, nat_list_eq_equiv, Ordering, Placement}
-use Rattle.desk_types.proofs.Common.{pointwise, refl, same, same-refl, same-sym, sym, true}
+use Rattle.desk_types.proofs.Common.{Contains-from_any, Equal, false, filter, Greater, if◌then◌else◌}
+use Rattle.desk_types.proofs.Common.{insert_key, is_at-by_name, is_eq, Less, List, list_any}
+use Rattle.desk_types.proofs.Common.{list_any-from_Contains, list_any-same, map, match_ordering, Name}
+use Rattle.desk_types.proofs.Common.{nat_list_eq_equiv, Ordering, pointwise, refl, same, same-refl, same-sym}
+use Rattle.desk_types.proofs.Common.{sym, true}
+use Rattle.desk_laws.proofs.Common.{Placement, Three}
 use Rattle.desk_types.proofs.Tests.{swap-or}
-use Rattle.desk_types.specs.declared.trace_detail.TraceDetail.TheVariants.{One, Three, Two}
+use Rattle.desk_types.specs.declared.trace_detail.TraceDetail.TheVariants.{One, Two}
 use Rattle.std.proofs.{Math.Bool.or_self_left, lemmas.Bool.or_right as or-later}
 use Rattle.std.specs.Cmp.Lexicographic.{bytes_decides, lists_equiv, lists_ties, pointwise_decides}
 use Rattle.trace_reports.specs.{Sets.by_fields, Sets.Fields, Sets.set_of, Traces.board_rows, Traces.lot_rows}

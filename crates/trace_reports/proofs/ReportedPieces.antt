@@ -1,6 +1,7 @@
 -- The records of a report that is found.
-use Rattle.desk_types.proofs.Common.{◌∙◌, ◌∷◌, ◌≡◌, ap, Bool, drop, false, if◌then◌else◌, List, None, option_map}
-use Rattle.desk_types.proofs.Common.{Placement, Some, sym, true, ℕ}
+use Rattle.desk_types.proofs.Common.{◌∙◌, ◌∷◌, ◌≡◌, ap, Bool, drop, false, if◌then◌else◌, List, None}
+use Rattle.desk_types.proofs.Common.{option_map, Some, sym, true, ℕ}
+use Rattle.desk_laws.proofs.Common.{Placement}
 use Rattle.csv.specs.Reading.{default_config, records}
 use Rattle.trace_reports.specs.{Reports.rows_below, Sets.Fields}
 

@@ -166,7 +166,8 @@ class Carrier:
         self.mounted = {reel.reel: before for before, _, _, reel, _ in self.mounts}
 
     def mounts_in_turn(self):
-        """Each load and splice: how many minutes before the end, machine, slot, reel, and whether it is a splice."""
+        """Each load and splice: how many minutes before the end, machine, slot, reel, and whether it is a splice. It is at the latest opening
+        of the reels up to it on the tape: the reel before it is on the tape by then, and it had not expired, since it was put there in truth."""
         mounts = []
         for (machine, slot), tape in self.archive.tapes.items():
             before = GREATEST_FLOOR_LIFE

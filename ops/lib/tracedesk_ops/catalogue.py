@@ -330,19 +330,25 @@ def take_out(path, archive):
 
 
 @contextlib.contextmanager
-def changed(path):
-    """The archives of a catalogue, which is written anew where they were changed; for one change at a time."""
-    path = pathlib.Path(path)
-    folder = os.open(path.parent, os.O_RDONLY | os.O_DIRECTORY)
+def held(folder):
+    """Holds a folder, for one change in it at a time."""
+    it = os.open(folder, os.O_RDONLY | os.O_DIRECTORY)
     try:
-        fcntl.flock(folder, fcntl.LOCK_EX)
+        fcntl.flock(it, fcntl.LOCK_EX)
+        yield
+    finally:
+        os.close(it)
+
+
+@contextlib.contextmanager
+def changed(path):
+    """The archives of a catalogue, which is written anew where they were changed."""
+    with held(pathlib.Path(path).parent):
         before = read(path)
         archives = list(before)
         yield archives
         if archives != before:
             write(path, archives)
-    finally:
-        os.close(folder)
 
 
 def write(path, archives):

@@ -108,8 +108,8 @@ def said_of(run, words, files, about):
     """The answer, with the files' own names in its texts."""
     folders = re.compile("|".join(sorted({f"{re.escape(str(it.parent))}/" for it in files})))
     ends, errors, due = [], [], time.monotonic() + SECONDS_BETWEEN_NOTES
-    with tempfile.TemporaryFile("w+", encoding="utf-8", newline="") as out:
-        with subprocess.Popen([run.program, *words, *files], stdin=subprocess.DEVNULL, stdout=out, stderr=subprocess.PIPE, text=True, **run.how) as running:
+    with tempfile.TemporaryFile("w+", newline="", **plant.TEXT) as out:
+        with subprocess.Popen([run.program, *words, *files], stdin=subprocess.DEVNULL, stdout=out, stderr=subprocess.PIPE, **plant.TEXT, **run.how) as running:
             for line in running.stderr or ():
                 found = FILE.fullmatch(line.strip())
                 if not found:

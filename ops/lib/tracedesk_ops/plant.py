@@ -34,6 +34,7 @@ LONGEST_OTHER = 3600  # seconds that another roll-over or backup may take
 PLAN = "plan.json"  # of a roll-over
 PATIENCE = 120  # seconds that a start may take beside what the pieces ask for
 LIBC, PR_SET_PDEATHSIG = ctypes.CDLL(None), 1
+TEXT: dict = {"encoding": sys.getfilesystemencoding(), "errors": "surrogateescape"}  # of what a program prints: it may name files
 KILL_AFTER = "TRACEDESK_KILL_AFTER"  # a step of a tool, for its test
 keep = catalogue.keep
 
@@ -119,6 +120,8 @@ def set_ups():
 
 def set_up(reader, **names):
     """Takes the words of a tool from the line's set-up file, as far as the command line doesn't say them. `names` are those of words that the tool calls otherwise."""
+    if not any(action.dest == "line" for action in reader._actions):
+        reader.add_argument("--line", type=line_name, metavar="NAME", help="which line's, where several are set up")
     given = argparse.ArgumentParser(add_help=False, allow_abbrev=False)
     given.add_argument("--line")
     given.add_argument("--db")
@@ -349,27 +352,23 @@ class Program:
         if os.getppid() != self.parent:
             os._exit(1)
 
-    def begun(self, *words, **how):
-        return subprocess.Popen([self.program, *map(str, words)], preexec_fn=self.end_with_the_tool, **self.how, **how)
-
     def run(self, *words, **how):
         return subprocess.run([self.program, *map(str, words)], preexec_fn=self.end_with_the_tool, **self.how, **how)
 
     def audit(self, file):
         """How many commands a lawful desk has; a Fault says what else the audit found."""
-        done = self.run("audit", "--db", file, stdin=subprocess.DEVNULL, capture_output=True, text=True)
+        done = self.run("audit", "--db", file, stdin=subprocess.DEVNULL, capture_output=True, **TEXT)
         lawful = re.fullmatch(r"lawful (\d+)\n", done.stdout)
         if done.returncode or not lawful:
             said = " ".join((done.stdout + done.stderr).split())
             raise Fault(f"the audit of {file} ended with status {done.returncode}: {said}; docs/operations.md, 'What is said, and what to do'")
         return int(lawful[1])
 
-
     def named(self, db, desk, name=""):
         """Gives a desk that no run has open a name, where it has none; whether it got one."""
         if not desk.commands or not (lines := identity.naming(desk, name)):  # without a command it has no minute, and nothing that could be lost
             return False
-        done = self.run("feed", "--db", db, input="".join(f"{it}\n" for it in lines), capture_output=True, text=True)
+        done = self.run("feed", "--db", db, input="".join(f"{it}\n" for it in lines), capture_output=True, **TEXT)
         if done.stdout.count('"Answer":"Accepted"') != len(lines):
             raise Fault(f"{db} gets no name: {' '.join((done.stdout + done.stderr).split())}")
         return True

@@ -41,7 +41,11 @@ class Rolling:
         if not self.plan.exists():
             self.clear()
             return False
-        archive = self.read_plan()
+        if not (archive := self.read_plan()) and not self.db.exists():
+            raise plant.Fault(f"{self.db} is gone, and {self.plan} is damaged: restore a copy, after you have moved {self.room} elsewhere")
+        if not archive:  # at most the file was filed before the catalogue had its line
+            self.put_back()
+            return False
         try:
             if not self.db.exists():
                 raise plant.Fault(f"{self.db} is gone")
@@ -73,18 +77,24 @@ class Rolling:
         self.held = None
 
     def read_plan(self):
-        return catalogue.Archive(**json.loads(self.plan.read_text(encoding="utf-8")))
+        """The archive that is to be; if the plan is damaged, by the catalogue's line of the copy, and none if it has no line yet."""
+        with contextlib.suppress(ValueError, TypeError):
+            return catalogue.Archive(**json.loads(self.plan.read_text(encoding="utf-8")))
+        return next((it for it in catalogue.read(self.catalogue) if self.is_filed(self.archives / it.file)), None)
+
+    def is_filed(self, file):
+        """Whether a file of the archive's folder is the copy."""
+        return file.exists() and file.samefile(self.copy)
 
     def put_back(self):
         """Leaves the old desk, the archive and the catalogue as they were before."""
         if self.plan.exists():
             archive = self.read_plan()
-            filed = self.archives / archive.file
             for it in catalogue.read(self.catalogue):
-                if (it.file, it.sha256) == (archive.file, archive.sha256):
+                if archive and (it.file, it.sha256) == (archive.file, archive.sha256):
                     catalogue.take_out(self.catalogue, it)
-            if filed.exists() and filed.samefile(self.copy):
-                filed.unlink()
+            for it in filter(self.is_filed, list(self.archives.iterdir()) if self.archives.exists() else []):
+                it.unlink()
         self.clear()
 
     def clear(self):
@@ -120,7 +130,7 @@ class Rolling:
         archive, filed = self.read_plan(), self.archives / self.read_plan().file
         if not self.archives.exists():
             self.archives.mkdir(mode=0o700)
-        if not (filed.exists() and filed.samefile(self.copy)):
+        if not self.is_filed(filed):
             os.link(self.copy, filed)  # never over another file
         plant.keep(self.archives)
         catalogue.add(self.catalogue, archive)

@@ -14,7 +14,6 @@ are, and the last chain, are also in the inbox (`collected.json`): so a file tha
 import contextlib
 import csv
 import datetime
-import fcntl
 import hashlib
 import io
 import json
@@ -198,21 +197,10 @@ def undecided(records):
 # --- Writing
 
 
-@contextlib.contextmanager
-def held(archive):
-    """For one change at a time."""
-    folder = os.open(archive, os.O_RDONLY | os.O_DIRECTORY)
-    try:
-        fcntl.flock(folder, fcntl.LOCK_EX)
-        yield
-    finally:
-        os.close(folder)
-
-
 def collect(archive):
     """Appends what is in the inbox to the line's file. Returns its records, how many are new, and what is wrong in the inbox; a Fault where the file is damaged."""
     archive = pathlib.Path(archive)
-    with held(archive):
+    with catalogue.held(archive):
         records, faults = rows_of(archive)
         inbox, path = inbox_of(archive), archive / FILE_NAME
         if faults and not (records and not collected_in(inbox)[0] and inbox.is_dir()):

@@ -1,5 +1,5 @@
-use Rattle.desk_types.proofs.Common.{[], ◌++◌, ◌+◌, ◌∙◌, ◌∷◌, ◌≡◌, ◌≢◌, ap, append_assoc, drop, Err, map, map-append}
-use Rattle.desk_types.proofs.Common.{Ok, rules, sym, take, take-append-drop, take_more}
+use Rattle.desk_types.proofs.Common.{[], ◌++◌, ◌+◌, ◌∙◌, ◌∷◌, ◌≡◌, ◌≢◌, ap, append_assoc, drop, Err, map}
+use Rattle.desk_types.proofs.Common.{map-append, Ok, rules, sym, take, take-append-drop, take_more}
 use Rattle.cfx_profile.proofs.{Faults.IsSaid-fault, Items.each-fault, Items.each-more}
 use Rattle.cfx_profile.specs.{Lists.each, declared.fault.MessageFault.TheVariants.NoMemory}
 use Rattle.serde_json.specs.View.{view}

@@ -1,7 +1,8 @@
-use Rattle.desk_types.proofs.Common.{◌++◌, ◌∙◌, ◌≡◌, ◌≢◌, ap, codes, find, IfSome, List, None, Option, refl, same}
-use Rattle.desk_types.proofs.Common.{same-true, Some, subst, sym, true, Word, word_text, words, ℕ}
+use Rattle.desk_types.proofs.Common.{◌++◌, ◌∙◌, ◌≡◌, ◌≢◌, ap, codes, find, IfSome, List, None, Option, refl}
+use Rattle.desk_types.proofs.Common.{same, same-true, Some, subst, sym, true, word_text, words, ℕ}
 use Rattle.cfx_profile.specs.Word.{message_name, word_of}
 use Rattle.desk_types.proofs.Words.{found_passes, word_in, word_in-is}
+use Rattle.desk_types.specs.declared.stored_word.Word.{Word}
 use Rattle.std.proofs.{lemmas.Bool.Decides.Decides-eqb, lemmas.Slice.Eq.strip_prefix_is}
 use Rattle.cfx_profile.proofs.word.word_of.Goals as goal
 

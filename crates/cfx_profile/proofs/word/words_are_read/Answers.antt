@@ -1,6 +1,6 @@
-use Rattle.desk_types.proofs.Common.{◌≡◌, Some, Word}
+use Rattle.desk_types.proofs.Common.{◌≡◌, Some}
 use Rattle.cfx_profile.specs.Word.{message_name, word_of}
-use Rattle.desk_types.proofs.Words.{word_in-word_text}
+use Rattle.desk_types.{proofs.Words.word_in-word_text, specs.declared.stored_word.Word.Word}
 use Rattle.cfx_profile.proofs.word.words_are_read.Goals as goal
 
 read_back : (word : Word) → word_of (message_name word) ≡ Some word

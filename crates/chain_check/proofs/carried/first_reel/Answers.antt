@@ -1,14 +1,8 @@
-use Rattle.std.proofs.Common.{◌≡◌, true, is_some, Option, Some, None, refl, ap, ◌∙◌}
-use Rattle.std.specs.Option.{option_map}
-use Rattle.desk_types.specs.declared.view.ReelView.{ReelView}
-use Rattle.desk_types.specs.declared.row.ReelRow.{ReelRow}
-use Rattle.desk_types.specs.Id.{Name}
-use Rattle.desk_types.specs.History.{History}
-use Rattle.desk_types.specs.Tables.{Tables, columns_of, tables_of}
-use Rattle.desk_types.specs.View.{reel_view}
+use Rattle.desk_types.proofs.Common.{◌∙◌, ◌≡◌, ap, columns_of, History, is_some, Name, None, Option}
+use Rattle.desk_types.proofs.Common.{option_map, reel_view, refl, Some, Tables, tables_of, true}
+use Rattle.desk_laws.proofs.Common.{ReelRow, ReelView}
+use Rattle.chain_check.{proofs.SameRows.none-then, specs.Views.IsCarried}
 use Rattle.state_rows.specs.Kept.{KeptRows, tables_in, unnumbered}
-use Rattle.chain_check.specs.Views.{IsCarried}
-use Rattle.chain_check.proofs.SameRows.{none-then}
 use Rattle.chain_check.proofs.carried.first_reel.Goals as goal
 
 either-carried : (v w : Option ReelView) → (is_some v ≡ true → IsCarried v w) → (is_some w ≡ true → IsCarried v w) → IsCarried v w

@@ -1,12 +1,8 @@
-use Rattle.std.proofs.Common.{rules, sym, ap, subst, is_some, ◌∙◌}
-use Rattle.std.specs.List.{AllByRecursion}
-use Rattle.std.proofs.lemmas.Map.Lookups.{exact_bytes}
-use Rattle.desk_types.specs.declared.row.ReelRow.{ReelRow}
-use Rattle.desk_types.specs.Id.{Name, by_name}
-use Rattle.desk_types.specs.View.{reel_view}
-use Rattle.state_rows.specs.Kept.{tables_in, Lists}
-use Rattle.chain_check.specs.Views.{IsCarried}
-use Rattle.chain_check.proofs.Covered.{covered-rows}
+use Rattle.desk_types.proofs.Common.{◌∙◌, AllByRecursion, ap, by_name, exact_bytes, is_some, Name, reel_view}
+use Rattle.desk_types.proofs.Common.{rules, subst, sym}
+use Rattle.desk_laws.proofs.Common.{ReelRow}
+use Rattle.chain_check.{proofs.Covered.covered-rows, specs.Views.IsCarried}
+use Rattle.state_rows.specs.Kept.{Lists, tables_in}
 use Rattle.chain_check.proofs.carried.reel_in.Goals as goal
 
 pub loop-reel-preserved : goal.loop-reel-preserved

@@ -1,5 +1,5 @@
-use Rattle.std.proofs.lemmas.Option.{IfSome_then}
 use Rattle.chain_check.proofs.Refuted.{refuted}
+use Rattle.std.proofs.lemmas.Option.{IfSome_then}
 use Rattle.chain_check.proofs.check.first_difference.Goals as goal
 
 pub returns-clause-refutes : goal.returns-clause-refutes

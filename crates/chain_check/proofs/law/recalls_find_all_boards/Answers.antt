@@ -1,4 +1,4 @@
-use Rattle.chain_check.proofs.FoundBoards.{found-boards, found-lots, any-begin}
+use Rattle.chain_check.proofs.FoundBoards.{any-begin, found-boards, found-lots}
 use Rattle.chain_check.proofs.law.recalls_find_all_boards.Goals as goal
 
 pub returns : goal.returns

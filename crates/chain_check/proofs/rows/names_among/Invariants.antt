@@ -1,4 +1,4 @@
-use Rattle.std.proofs.Common.{◌≡◌, map, reverse}
+use Rattle.desk_types.proofs.Common.{◌≡◌, map, reverse}
 use Rattle.chain_check.specs.Rows.{names_of}
 use Rattle.chain_check.proofs.rows.names_among.Given as goal
 

@@ -1,7 +1,6 @@
-use Rattle.std.proofs.Common.{◌++◌, OnOk, sym, subst}
-use Rattle.trace_reports.specs.Csv.{record_text, HasWritten}
-use Rattle.chain_check.specs.declared.question.Question.{Question}
-use Rattle.chain_check.specs.Rows.{header_of}
+use Rattle.desk_types.proofs.Common.{◌++◌, OnOk, subst, sym}
+use Rattle.chain_check.specs.{Rows.header_of, declared.question.Question.Question}
+use Rattle.trace_reports.specs.Csv.{HasWritten, record_text}
 use Rattle.chain_check.proofs.rows.write_header.Goals as goal
 
 pub returns-in-Chain : goal.returns-in-Chain

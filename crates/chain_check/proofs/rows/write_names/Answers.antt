@@ -1,10 +1,6 @@
-use Rattle.std.proofs.Common.{◌≡◌, ◌∙◌, ◌++◌, ◌∷◌, [], List, map, take, ap, subst}
-use Rattle.std.proofs.lemmas.List.{take_all}
-use Rattle.desk_types.specs.Id.{Name}
-use Rattle.trace_reports.specs.Csv.{record_text, HasWritten}
-use Rattle.trace_reports.specs.Sets.{Fields}
-use Rattle.chain_check.specs.Rows.{name_row, rows_text}
-use Rattle.chain_check.proofs.WrittenRows.{row-next}
+use Rattle.desk_types.proofs.Common.{[], ◌++◌, ◌∙◌, ◌∷◌, ◌≡◌, ap, List, map, Name, subst, take, take_all}
+use Rattle.chain_check.{proofs.WrittenRows.row-next, specs.Rows.name_row, specs.Rows.rows_text}
+use Rattle.trace_reports.{specs.Csv.HasWritten, specs.Csv.record_text, specs.Sets.Fields}
 use Rattle.chain_check.proofs.rows.write_names.Goals as goal
 
 pub loop-name-preserved : goal.loop-name-preserved

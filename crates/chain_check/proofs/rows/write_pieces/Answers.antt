@@ -1,9 +1,7 @@
-use Rattle.std.proofs.Common.{◌++◌, List, map, take, subst}
-use Rattle.std.proofs.lemmas.List.{take_all}
-use Rattle.desk_types.specs.declared.placement.Placement.{Placement}
+use Rattle.desk_types.proofs.Common.{◌++◌, List, map, subst, take, take_all}
+use Rattle.desk_laws.proofs.Common.{Placement}
+use Rattle.chain_check.{proofs.WrittenRows.row-next, specs.Rows.piece_row, specs.Rows.rows_text}
 use Rattle.trace_reports.specs.Csv.{HasWritten}
-use Rattle.chain_check.specs.Rows.{piece_row, rows_text}
-use Rattle.chain_check.proofs.WrittenRows.{row-next}
 use Rattle.chain_check.proofs.rows.write_pieces.Goals as goal
 
 pub loop-piece-preserved : goal.loop-piece-preserved

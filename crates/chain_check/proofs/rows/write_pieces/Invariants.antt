@@ -1,6 +1,6 @@
-use Rattle.std.proofs.Common.{◌++◌, List, ℕ, map, take}
-use Rattle.trace_reports.specs.Csv.{HasWritten}
+use Rattle.desk_types.proofs.Common.{◌++◌, List, map, take, ℕ}
 use Rattle.chain_check.specs.Rows.{piece_row, rows_text}
+use Rattle.trace_reports.specs.Csv.{HasWritten}
 use Rattle.chain_check.proofs.rows.write_pieces.Given as goal
 
 -- The rows so far were written behind any earlier text.

@@ -1,4 +1,4 @@
-use Rattle.desk_types.specs.Setup.{sheet_of}
+use Rattle.desk_types.proofs.Common.{sheet_of}
 use Rattle.chain_check.proofs.SameRows.{either-some, none-then}
 use Rattle.chain_check.proofs.sheets.first_sheet.Goals as goal
 

@@ -1,13 +1,9 @@
-use Rattle.std.proofs.Common.{◌≡◌, true, sym, ap, ◌∙◌}
-use Rattle.std.proofs.lemmas.Bool.{and_from as either-way}
-use Rattle.std.specs.Prelude.{◌&&◌}
-use Rattle.std.specs.Cmp.Lexicographic.{pointwise}
-use Rattle.desk_types.specs.declared.sheet.SheetRow.{SheetRow}
-use Rattle.desk_types.specs.Id.{same}
-use Rattle.desk_types.specs.contracts.sheet.SheetRowPartialEq.TheImpl.{ghosts as sheet_row}
-use Rattle.desk_types.proofs.Keys.{same-refl}
-use Rattle.desk_types.proofs.Sameness.{lists-same, sheet_rows-same as row-same}
+use Rattle.desk_types.proofs.Common.{◌&&◌, ◌∙◌, ◌≡◌, ap, pointwise, same, same-refl, sym, true}
+use Rattle.desk_laws.proofs.Common.{SheetRow}
 use Rattle.chain_check.proofs.EqualLists.{lists-refl}
+use Rattle.desk_types.proofs.Sameness.{lists-same, sheet_rows-same as row-same}
+use Rattle.desk_types.specs.contracts.sheet.SheetRowPartialEq.TheImpl.{ghosts as sheet_row}
+use Rattle.std.proofs.lemmas.Bool.{and_from as either-way}
 use Rattle.chain_check.proofs.sheets.same_rows.Goals as goal
 
 row-refl : (a : SheetRow) → sheet_row.eq a a ≡ true

@@ -1,9 +1,7 @@
-use Rattle.std.proofs.Common.{rules, ℕ, sym, subst}
-use Rattle.std.specs.List.{AllByRecursion}
-use Rattle.desk_types.specs.declared.sheet.SheetRow.{SheetRow}
-use Rattle.desk_types.specs.Id.{Name}
-use Rattle.state_rows.specs.Kept.{tables_in, by_sheet_place, Lists}
-use Rattle.chain_check.proofs.SameSheets.{SameSheet, covered-sheets}
+use Rattle.desk_types.proofs.Common.{AllByRecursion, Name, rules, subst, sym, ℕ}
+use Rattle.desk_laws.proofs.Common.{SheetRow}
+use Rattle.chain_check.proofs.SameSheets.{covered-sheets, SameSheet}
+use Rattle.state_rows.specs.Kept.{by_sheet_place, Lists, tables_in}
 use Rattle.chain_check.proofs.sheets.sheet_in.Goals as goal
 
 pub loop-key-preserved : goal.loop-key-preserved

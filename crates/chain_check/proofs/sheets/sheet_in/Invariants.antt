@@ -1,8 +1,5 @@
-use Rattle.std.proofs.Common.{ℕ}
-use Rattle.std.specs.List.{AllByRecursion}
-use Rattle.desk_types.specs.declared.sheet.SheetRow.{SheetRow}
-use Rattle.desk_types.specs.Id.{Name}
-use Rattle.desk_types.specs.History.{History}
+use Rattle.desk_types.proofs.Common.{AllByRecursion, History, Name, ℕ}
+use Rattle.desk_laws.proofs.Common.{SheetRow}
 use Rattle.chain_check.proofs.SameSheets.{SameSheet}
 use Rattle.chain_check.proofs.sheets.sheet_in.Given as goal
 

@@ -1,11 +1,8 @@
-use Rattle.std.proofs.Common.{rules, sym, subst, ◌∙◌}
-use Rattle.std.specs.List.{AllByRecursion}
-use Rattle.std.proofs.lemmas.Map.Lookups.{exact_bytes, exact_pairs, CmpEqualImpliesEq}
-use Rattle.desk_types.specs.Id.{Name, by_name}
-use Rattle.desk_types.specs.Pair.{by_pair}
-use Rattle.state_rows.specs.Kept.{tables_in, ListsKeys}
-use Rattle.chain_check.proofs.Covered.{covered-keys}
-use Rattle.chain_check.proofs.SameRows.{SameAlternate, beq-same}
+use Rattle.desk_types.proofs.Common.{◌∙◌, AllByRecursion, by_name, by_pair, CmpEqualImpliesEq, exact_bytes}
+use Rattle.desk_types.proofs.Common.{Name, rules, subst, sym}
+use Rattle.chain_check.proofs.{Covered.covered-keys, SameRows.beq-same, SameRows.SameAlternate}
+use Rattle.state_rows.specs.Kept.{ListsKeys, tables_in}
+use Rattle.std.proofs.lemmas.Map.Lookups.{exact_pairs}
 use Rattle.chain_check.proofs.tables.alternate_in.Goals as goal
 
 exact : CmpEqualImpliesEq by_pair

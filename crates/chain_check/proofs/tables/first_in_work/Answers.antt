@@ -1,12 +1,8 @@
-use Rattle.std.proofs.Common.{rules, sym, ap, subst, ◌≡◌, ◌∙◌, is_some, true, false, Option, Some, None, refl}
-use Rattle.std.specs.List.{AllByRecursion}
-use Rattle.std.specs.Option.{option_and_then}
-use Rattle.std.proofs.lemmas.Map.Lookups.{exact_bytes}
-use Rattle.desk_types.specs.declared.row.BoardRow.{BoardRow}
-use Rattle.desk_types.specs.Id.{Name, by_name}
-use Rattle.state_rows.specs.Kept.{tables_in, Lists}
-use Rattle.chain_check.proofs.Covered.{covered-rows}
-use Rattle.chain_check.proofs.SameRows.{IsOffWork}
+use Rattle.desk_types.proofs.Common.{◌∙◌, ◌≡◌, AllByRecursion, ap, by_name, exact_bytes, false, is_some, Name}
+use Rattle.desk_types.proofs.Common.{None, Option, option_and_then, refl, rules, Some, subst, sym, true}
+use Rattle.desk_laws.proofs.Common.{BoardRow}
+use Rattle.chain_check.proofs.{Covered.covered-rows, SameRows.IsOffWork}
+use Rattle.state_rows.specs.Kept.{Lists, tables_in}
 use Rattle.chain_check.proofs.tables.first_in_work.Goals as goal
 
 pub loop-board-preserved : goal.loop-board-preserved

@@ -1,6 +1,5 @@
-use Rattle.std.specs.List.{AllByRecursion}
-use Rattle.desk_types.specs.Id.{Name}
-use Rattle.desk_types.specs.declared.row.BoardRow.{BoardRow}
+use Rattle.desk_types.proofs.Common.{AllByRecursion, Name}
+use Rattle.desk_laws.proofs.Common.{BoardRow}
 use Rattle.chain_check.proofs.SameRows.{IsOffWork}
 use Rattle.chain_check.proofs.tables.first_in_work.Given as goal
 

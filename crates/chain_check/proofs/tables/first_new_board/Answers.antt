@@ -1,11 +1,8 @@
-use Rattle.std.proofs.Common.{rules, sym, ap, subst, ◌∙◌, is_some}
-use Rattle.std.specs.List.{AllByRecursion}
-use Rattle.std.proofs.lemmas.Map.Lookups.{exact_bytes}
-use Rattle.desk_types.specs.declared.row.BoardRow.{BoardRow}
-use Rattle.desk_types.specs.Id.{Name, by_name}
-use Rattle.state_rows.specs.Kept.{tables_in, Lists}
-use Rattle.chain_check.proofs.Covered.{covered-rows}
-use Rattle.chain_check.proofs.SameRows.{IsKnown, known}
+use Rattle.desk_types.proofs.Common.{◌∙◌, AllByRecursion, ap, by_name, exact_bytes, is_some, Name, rules}
+use Rattle.desk_types.proofs.Common.{subst, sym}
+use Rattle.desk_laws.proofs.Common.{BoardRow}
+use Rattle.chain_check.proofs.{Covered.covered-rows, SameRows.IsKnown, SameRows.known}
+use Rattle.state_rows.specs.Kept.{Lists, tables_in}
 use Rattle.chain_check.proofs.tables.first_new_board.Goals as goal
 
 pub loop-board-preserved : goal.loop-board-preserved

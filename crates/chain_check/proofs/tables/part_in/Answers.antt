@@ -1,10 +1,6 @@
-use Rattle.std.proofs.Common.{rules, sym, subst, ◌∙◌}
-use Rattle.std.specs.List.{AllByRecursion}
-use Rattle.std.proofs.lemmas.Map.Lookups.{exact_bytes}
-use Rattle.desk_types.specs.Id.{Name, by_name}
-use Rattle.state_rows.specs.Kept.{tables_in, ListsKeys}
-use Rattle.chain_check.proofs.Covered.{covered-keys}
-use Rattle.chain_check.proofs.SameRows.{SamePart, beq-same}
+use Rattle.desk_types.proofs.Common.{◌∙◌, AllByRecursion, by_name, exact_bytes, Name, rules, subst, sym}
+use Rattle.chain_check.proofs.{Covered.covered-keys, SameRows.beq-same, SameRows.SamePart}
+use Rattle.state_rows.specs.Kept.{ListsKeys, tables_in}
 use Rattle.chain_check.proofs.tables.part_in.Goals as goal
 
 pub loop-part-preserved : goal.loop-part-preserved

@@ -1,10 +1,7 @@
-use Rattle.std.proofs.Common.{rules, sym, ap, subst, ◌≡◌, ◌∙◌, is_some}
-use Rattle.std.specs.List.{AllByRecursion}
-use Rattle.std.proofs.lemmas.Map.Lookups.{exact_bytes}
-use Rattle.desk_types.specs.Id.{Name, by_name}
-use Rattle.state_rows.specs.Kept.{tables_in, Lists}
-use Rattle.chain_check.proofs.Covered.{covered-rows}
-use Rattle.chain_check.proofs.SameRows.{SameSelection}
+use Rattle.desk_types.proofs.Common.{◌∙◌, ◌≡◌, AllByRecursion, ap, by_name, exact_bytes, is_some, Name, rules}
+use Rattle.desk_types.proofs.Common.{subst, sym}
+use Rattle.chain_check.proofs.{Covered.covered-rows, SameRows.SameSelection}
+use Rattle.state_rows.specs.Kept.{Lists, tables_in}
 use Rattle.chain_check.proofs.tables.selection_in.Goals as goal
 
 pub loop-machine-preserved : goal.loop-machine-preserved

@@ -1,5 +1,4 @@
-use Rattle.std.specs.List.{AllByRecursion}
-use Rattle.desk_types.specs.Id.{Name}
+use Rattle.desk_types.proofs.Common.{AllByRecursion, Name}
 use Rattle.chain_check.proofs.SameRows.{SameSelection}
 use Rattle.chain_check.proofs.tables.selection_in.Given as goal
 

@@ -1,5 +1,5 @@
-use Rattle.desk_types.specs.Tables.{Tables}
-use Rattle.chain_check.proofs.SameTables.{over, back}
+use Rattle.desk_types.proofs.Common.{Tables}
+use Rattle.chain_check.proofs.SameTables.{back, over}
 use Rattle.chain_check.proofs.tables.setup_difference.Goals as goal
 
 pub returns-in-Some-clause-differs : goal.returns-in-Some-clause-differs

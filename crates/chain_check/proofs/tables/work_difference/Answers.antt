@@ -1,4 +1,4 @@
-use Rattle.std.proofs.Common.{sym, ◌∙◌}
+use Rattle.desk_types.proofs.Common.{◌∙◌, sym}
 use Rattle.chain_check.proofs.SameTables.{rows-idle, rows-working, started-is}
 use Rattle.chain_check.proofs.tables.work_difference.Goals as goal
 

@@ -1,7 +1,7 @@
-use Rattle.std.proofs.Common.{◌≡◌, rules, sym, ◌∙◌, arith, refl, length}
+use Rattle.desk_types.proofs.Common.{◌∙◌, ◌≡◌, arith, length, refl, rules, sym}
+use Rattle.chain_check.proofs.EqualLists.{gets-same}
 use Rattle.std.specs.List.{slice_get}
 use borrow.Author.Count.{below_more}
-use Rattle.chain_check.proofs.EqualLists.{gets-same}
 use Rattle.chain_check.proofs.tapes.same_tape.Goals as goal
 
 pub loop-i-preserved : goal.loop-i-preserved

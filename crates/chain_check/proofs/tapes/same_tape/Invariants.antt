@@ -1,4 +1,4 @@
-use Rattle.std.proofs.Common.{◌≡◌, ℕ, ◌<◌}
+use Rattle.desk_types.proofs.Common.{◌<◌, ◌≡◌, ℕ}
 use Rattle.std.specs.List.{slice_get}
 use Rattle.chain_check.proofs.tapes.same_tape.Given as goal
 

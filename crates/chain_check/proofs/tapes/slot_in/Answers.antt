@@ -1,8 +1,6 @@
-use Rattle.std.proofs.Common.{rules, ◌≡◌, false, sym, subst}
-use Rattle.std.specs.List.{AllByRecursion}
-use Rattle.desk_types.specs.Id.{Name}
-use Rattle.state_rows.specs.Kept.{tables_in, ListsMounts}
-use Rattle.chain_check.proofs.SameSlots.{HoldsAtFront, covered-slots}
+use Rattle.desk_types.proofs.Common.{◌≡◌, AllByRecursion, false, Name, rules, subst, sym}
+use Rattle.chain_check.proofs.SameSlots.{covered-slots, HoldsAtFront}
+use Rattle.state_rows.specs.Kept.{ListsMounts, tables_in}
 use Rattle.chain_check.proofs.tapes.slot_in.Goals as goal
 
 pub loop-key-preserved : goal.loop-key-preserved

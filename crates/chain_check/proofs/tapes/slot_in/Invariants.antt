@@ -1,6 +1,4 @@
-use Rattle.std.proofs.Common.{◌≡◌}
-use Rattle.std.specs.List.{AllByRecursion}
-use Rattle.desk_types.specs.Id.{Name}
+use Rattle.desk_types.proofs.Common.{◌≡◌, AllByRecursion, Name}
 use Rattle.chain_check.proofs.SameSlots.{HoldsAtFront}
 use Rattle.chain_check.proofs.tapes.slot_in.Given as goal
 

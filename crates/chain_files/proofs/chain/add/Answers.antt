@@ -1,6 +1,5 @@
-use Rattle.std.proofs.Common.{◌≡◌, Option, [], List, sym, subst}
-use Rattle.std.specs.Prelude.{IfOk, IfErr}
-use Rattle.desk_laws.specs.Chain.{DeskFile}
+use Rattle.desk_types.proofs.Common.{[], ◌≡◌, IfErr, IfOk, List, Option, subst, sym}
+use Rattle.desk_laws.proofs.Common.{DeskFile}
 use Rattle.chain_check.specs.declared.chain.Chain.{Chain}
 use Rattle.chain_files.specs.Files.{Adds, Continues, Stops}
 use Rattle.chain_files.proofs.chain.add.Goals as goal

@@ -1,6 +1,7 @@
 use Rattle.std.proofs.Common.{◌≡◌, ◌∙◌, ◌++◌, [], List, ℕ, Option, string_bytes, refl, ap, subst}
 use Rattle.std.specs.Option.{option_map}
 use Rattle.desk_types.specs.declared.rules.Rules.TheVariants.{Two}
+use Rattle.desk_types.specs.History.{basis}
 use Rattle.trace_reports.specs.Csv.{HasWritten}
 use Rattle.chain_files.specs.Begin.{IsMarkOf}
 use Rattle.chain_check.specs.Rows.{asked_of, facts_of, rows_in, rows_text}

@@ -1,15 +1,10 @@
-use Rattle.std.proofs.Common.{ℕ, None, IsTrue, inl, inr, refl, sym, subst, arith}
-use Rattle.std.specs.Prelude.{IfOk}
-use Rattle.sqlite_wal.specs.Recovery.{Image}
-use Rattle.sqlite.specs.Effect.{Database}
-use Rattle.sqlite.specs.State.{HasCleanDisk}
-use Rattle.sqlite.specs.Files.{file_state}
-use Rattle.desk_types.specs.History.{History}
-use Rattle.feeder_state.specs.contracts.desk.StateDeskDesk.TheImpl.{ghosts as state}
-use Rattle.line_tables.specs.Rows.{Holds}
-use Rattle.line_replay.specs.Rows.{ledger_tables}
+use Rattle.desk_types.proofs.Common.{arith, History, IfOk, inl, inr, IsTrue, None, refl, subst, sym, ℕ}
+use Rattle.line_tables.proofs.Common.{Database, file_state, HasCleanDisk, Holds}
 use Rattle.chain_files.specs.Look.{Says}
 use Rattle.desk_file.specs.Files.{Begins, HasTables}
+use Rattle.feeder_state.specs.contracts.desk.StateDeskDesk.TheImpl.{ghosts as state}
+use Rattle.line_replay.specs.Rows.{ledger_tables}
+use Rattle.sqlite_wal.specs.Recovery.{Image}
 use Rattle.chain_files.proofs.chain.look_at.Goals as goal
 
 begins-tables : (image : Image) (greatest : ℕ) (H : History) → Begins image None greatest H → HasTables image (ledger_tables greatest H)

@@ -1,11 +1,8 @@
-use Rattle.std.proofs.Common.{◌∙◌, [], ◌∷◌, refl, sym, subst, append-nil, arith}
-use Rattle.sqlite.specs.State.{HasCleanDisk}
-use Rattle.sqlite.specs.Held.{state}
-use Rattle.desk_types.specs.History.{basis}
-use Rattle.line_tables.proofs.Frames.{reads_same, reads_then}
+use Rattle.desk_types.proofs.Common.{[], ◌∙◌, ◌∷◌, append-nil, arith, basis, refl, subst, sym}
+use Rattle.line_tables.proofs.Common.{HasCleanDisk, state}
+use Rattle.chain_files.{proofs.NextOfFirst.next-prefix, specs.First.TakesNext}
 use Rattle.line_replay.proofs.ReadOfCommitted.{reads_back}
-use Rattle.chain_files.specs.First.{TakesNext}
-use Rattle.chain_files.proofs.NextOfFirst.{next-prefix}
+use Rattle.line_tables.proofs.Frames.{reads_same, reads_then}
 use Rattle.chain_files.proofs.first.first_desk.Goals as goal
 
 pub loop-number-init : goal.loop-number-init

@@ -1,6 +1,4 @@
-use Rattle.sqlite.specs.State.{HasCleanDisk}
-use Rattle.sqlite.specs.Held.{state}
-use Rattle.line_tables.specs.Frames.{ReadsOnly}
+use Rattle.line_tables.proofs.Common.{HasCleanDisk, ReadsOnly, state}
 use Rattle.chain_files.specs.First.{IsFirst}
 use Rattle.chain_files.proofs.first.first_desk.Given as goal
 

@@ -1,8 +1,5 @@
-use Rattle.std.proofs.Common.{◌∙◌, ◌∷◌, [], filter, ap}
-use Rattle.sqlite.specs.Held.{state}
-use Rattle.sqlite_value.specs.Order.{Row}
-use Rattle.line_tables.specs.Calls.{has_number, only}
-use Rattle.line_tables.specs.Rows.{accepted_in}
+use Rattle.desk_types.proofs.Common.{[], ◌∙◌, ◌∷◌, ap, filter}
+use Rattle.line_tables.proofs.Common.{accepted_in, has_number, only, Row, state}
 use Rattle.chain_files.proofs.first.take_row.Goals as goal
 
 pub returns-in-Ok-clause-takes : goal.returns-in-Ok-clause-takes

@@ -1,9 +1,7 @@
-use Rattle.std.proofs.Common.{◌∙◌, filter, sym, ap}
-use Rattle.desk_types.specs.declared.command.Receipt.{Receipt}
-use Rattle.desk_types.specs.Id.{Name}
-use Rattle.desk_types.specs.Setup.{receipt_of}
-use Rattle.chain_check.specs.declared.question.Subject.TheVariants.{Lot, Reel}
+use Rattle.desk_types.proofs.Common.{◌∙◌, ap, filter, Name, receipt_of, sym}
+use Rattle.desk_laws.proofs.Common.{Receipt}
 use Rattle.chain_check.specs.Rows.{is_of, pieces_of}
+use Rattle.chain_check.specs.declared.question.Subject.TheVariants.{Lot, Reel}
 use Rattle.chain_files.proofs.AskedPieces.{lot-pieces, none-mapped, reel-none, reel-some, some-mapped}
 use Rattle.chain_files.proofs.looking.of_reel.Goals as goal
 

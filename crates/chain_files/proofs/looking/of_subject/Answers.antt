@@ -1,7 +1,5 @@
-use Rattle.std.proofs.Common.{◌∙◌, sym, ap}
-use Rattle.std.proofs.lemmas.Result.{IfOk-weaker}
-use Rattle.chain_check.specs.declared.question.Subject.{Subject}
-use Rattle.chain_check.specs.Rows.{pieces_of}
+use Rattle.desk_types.proofs.Common.{◌∙◌, ap, IfOk-weaker, sym}
+use Rattle.chain_check.specs.{Rows.pieces_of, declared.question.Subject.Subject}
 use Rattle.chain_files.proofs.AskedPieces.{board-pieces, lot-pieces}
 use Rattle.chain_files.proofs.looking.of_subject.Goals as goal
 

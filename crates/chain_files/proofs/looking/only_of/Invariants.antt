@@ -1,6 +1,5 @@
-use Rattle.std.proofs.Common.{◌≡◌, ◌++◌, drop, filter}
-use Rattle.chain_check.specs.declared.question.Subject.TheVariants.{Reel}
-use Rattle.chain_check.specs.Rows.{is_of}
+use Rattle.desk_types.proofs.Common.{◌++◌, ◌≡◌, drop, filter}
+use Rattle.chain_check.specs.{Rows.is_of, declared.question.Subject.TheVariants.Reel}
 use Rattle.chain_files.proofs.looking.only_of.Given as goal
 
 -- The kept pieces, then those that are left.

@@ -1,6 +1,6 @@
-use Rattle.std.proofs.Common.{◌≡◌, ◌∙◌, List, ℕ, subst, inl}
-use Rattle.desk_commands.specs.Told.{TellsLine}
+use Rattle.desk_types.proofs.Common.{◌∙◌, ◌≡◌, inl, List, subst, ℕ}
 use Rattle.chain_files.specs.Compared.{refused_line}
+use Rattle.desk_commands.specs.Told.{TellsLine}
 use Rattle.chain_files.proofs.telling.tell_refused.Goals as goal
 
 pub returns-in-Ok-clause-told : goal.returns-in-Ok-clause-told

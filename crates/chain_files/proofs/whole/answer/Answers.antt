@@ -1,5 +1,4 @@
-use Rattle.std.proofs.Common.{◌∙◌, map, string_bytes, refl, sym, inl, inr}
-use Rattle.std.proofs.lemmas.List.{length-map}
+use Rattle.desk_types.proofs.Common.{◌∙◌, inl, inr, length-map, map, refl, string_bytes, sym}
 use Rattle.chain_check.specs.Rows.{answer_over}
 use Rattle.chain_files.proofs.Answered.{are-chain, only-three}
 use Rattle.chain_files.proofs.whole.answer.Goals as goal

@@ -1,4 +1,4 @@
-use Rattle.std.proofs.Common.{◌∙◌, map, string_bytes, inl, inr, arith}
+use Rattle.desk_types.proofs.Common.{◌∙◌, arith, inl, inr, map, string_bytes}
 use Rattle.chain_files.proofs.whole.program.Goals as goal
 
 pub returns-in-Recall-clause-stopped : goal.returns-in-Recall-clause-stopped

@@ -1,4 +1,4 @@
-use Rattle.std.proofs.Common.{◌∙◌}
+use Rattle.desk_types.proofs.Common.{◌∙◌}
 use Rattle.chain_files.proofs.whole.send_answer.Goals as goal
 
 pub returns-in-Ok-send-clause-done : goal.returns-in-Ok-send-clause-done

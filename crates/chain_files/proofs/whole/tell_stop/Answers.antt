@@ -1,6 +1,6 @@
-use Rattle.std.proofs.Common.{◌≡◌, ◌∙◌, ◌++◌, List, ℕ, codes, map, string_bytes, ap, subst, inl}
-use Rattle.desk_commands.specs.Told.{TellsLine}
+use Rattle.desk_types.proofs.Common.{◌++◌, ◌∙◌, ◌≡◌, ap, codes, inl, List, map, string_bytes, subst, ℕ}
 use Rattle.chain_files.specs.Stops.{stop_line, stop_text}
+use Rattle.desk_commands.specs.Told.{TellsLine}
 use Rattle.chain_files.proofs.whole.tell_stop.Goals as goal
 
 pub returns-in-Ok : goal.returns-in-Ok

@@ -1,4 +1,4 @@
-use Rattle.std.proofs.Common.{◌∙◌, ◌∷◌, ℕ, List, map, string_bytes, sym, ap}
+use Rattle.desk_types.proofs.Common.{◌∙◌, ◌∷◌, ap, List, map, string_bytes, sym, ℕ}
 use Rattle.chain_files.proofs.words.read_words.Goals as goal
 
 pub returns-in-text : goal.returns-in-text

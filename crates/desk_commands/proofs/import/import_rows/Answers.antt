@@ -1,4 +1,5 @@
-use Rattle.desk_types.proofs.Common.{◌≡◌, Bool, false, inl, inner_of, inr, List, refl, rules, subst, sym, true, ℕ}
+use Rattle.desk_types.proofs.Common.{◌≡◌, Bool, false, inl, inner_of, inr, List, refl, rules, subst, sym}
+use Rattle.desk_types.proofs.Common.{true, ℕ}
 use Rattle.desk_answers.specs.Ledger.{ForLists}
 use Rattle.desk_commands.proofs.ImportsOfFiles.{says_all}
 use Rattle.desk_feed.specs.{Folder.IsRead, Import.IsAnswered, Import.IsCutOff}

@@ -1,5 +1,6 @@
-use Rattle.desk_types.proofs.Common.{[], ◌++◌, ◌+◌, ◌∙◌, ◌∷◌, ◌≡◌, ap, Appends, Appends-trans, arith, inner_of}
-use Rattle.desk_types.proofs.Common.{length, length-append, List, list_any, None, refl, rules, subst, sym}
+use Rattle.desk_types.proofs.Common.{[], ◌++◌, ◌+◌, ◌∙◌, ◌∷◌, ◌≡◌, ap, Appends, Appends-trans, arith}
+use Rattle.desk_types.proofs.Common.{inner_of, length, length-append, List, list_any, None, refl, rules}
+use Rattle.desk_types.proofs.Common.{subst, sym}
 use Rattle.desk_answers.specs.Sent.{SendsFront}
 use Rattle.desk_commands.proofs.ClientsSeen.{all_no_port, client_no_port, line_no_port, sees_all, sees_more}
 use Rattle.desk_commands.proofs.ClientsSeen.{sees_one_more}

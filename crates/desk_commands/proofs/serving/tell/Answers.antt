@@ -1,4 +1,5 @@
-use Rattle.desk_types.proofs.Common.{◌∙◌, ap, Appends, codes, decimal, inner_of, None, on_err_weaker, rules, subst}
+use Rattle.desk_types.proofs.Common.{◌∙◌, ap, Appends, codes, decimal, inner_of, None, on_err_weaker, rules}
+use Rattle.desk_types.proofs.Common.{subst}
 use Rattle.desk_answers.specs.{Sent.SendsFront, declared.serving.Served.Served}
 use Rattle.desk_commands.proofs.ConnectionLines.{fourth, second, third}
 use Rattle.desk_commands.specs.Connections.{connection_line, fault_word, served_of}

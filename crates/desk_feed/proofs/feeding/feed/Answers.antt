@@ -1,5 +1,5 @@
-use Rattle.desk_types.proofs.Common.{[], ◌++◌, ◌∙◌, ◌≡◌, ap, arith, Bool, false, inner_of, length, refl, rules, subst}
-use Rattle.desk_types.proofs.Common.{sym, true}
+use Rattle.desk_types.proofs.Common.{[], ◌++◌, ◌∙◌, ◌≡◌, ap, arith, Bool, false, inner_of, length, refl}
+use Rattle.desk_types.proofs.Common.{rules, subst, sym, true}
 use Rattle.desk_answers.proofs.Blocks.{none_pending}
 use Rattle.desk_answers.specs.{Block.pending_bytes, Block.source, Counts.none_served}
 use Rattle.desk_feed.proofs.{LinesOfInputs.all_ended, LinesOfInputs.end_behind, LinesOfInputs.EndsGone}

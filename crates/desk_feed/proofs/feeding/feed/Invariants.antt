@@ -1,7 +1,7 @@
-use Rattle.desk_types.proofs.Common.{◌*◌, ◌+◌, ◌≡◌, ◌≤◌, failures_of, inner_of, List, MOST_READS, reads_of, ℕ}
+use Rattle.desk_types.proofs.Common.{◌*◌, ◌+◌, ◌≡◌, ◌≤◌, failures_of, inner_of, List, reads_of, ℕ}
 use Rattle.desk_answers.{specs.Block.fuel, specs.Block.IsBlock, specs.Block.source, specs.Counts.none_served}
 use Rattle.desk_feed.{proofs.LinesOfInputs.EndsGone, proofs.OwnersOfLines.Goes, specs.Taking.LinesGone}
-use Rattle.desk_types.specs.declared.limits.TheConstants.{BLOCK}
+use Rattle.desk_types.specs.declared.limits.TheConstants.{BLOCK, MOST_READS}
 use Rattle.desk_feed.proofs.feeding.feed.Given as goal
 
 abbrev pub invariant-lines : goal.invariant-lines

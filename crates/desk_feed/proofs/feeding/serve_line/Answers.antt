@@ -1,4 +1,5 @@
-use Rattle.desk_types.proofs.Common.{[], ◌++◌, ◌+◌, ◌∷◌, ◌≡◌, Appends, Bool, cond, inner_of, List, subst, sym, ℕ}
+use Rattle.desk_types.proofs.Common.{[], ◌++◌, ◌+◌, ◌∷◌, ◌≡◌, Appends, Bool, cond, inner_of, List, subst, sym}
+use Rattle.desk_types.proofs.Common.{ℕ}
 use Rattle.desk_feed.proofs.AnsweredLines.{one_answered}
 use Rattle.desk_feed.specs.{LineAnswers.line_told, Lines.without_return, Stream.Answered, Verdicts.is_refused}
 use Rattle.desk_feed.proofs.feeding.serve_line.Goals as goal

@@ -1,5 +1,6 @@
 use Rattle.desk_types.proofs.Common.{[], ◌++◌, ◌∙◌, ◌∷◌, ◌≡◌, All-append, ap, append_assoc, arith, Consumes}
-use Rattle.desk_types.proofs.Common.{Consumes-trans, false, inner_of, length, length-drop, rules, subst, sym, take}
+use Rattle.desk_types.proofs.Common.{Consumes-trans, false, inner_of, length, length-drop, rules, subst, sym}
+use Rattle.desk_types.proofs.Common.{take}
 use Rattle.desk_answers.specs.Block.{pending_bytes, source}
 use Rattle.desk_feed.proofs.TakenLines.{all_goes, line_goes}
 use Rattle.desk_feed.specs.{Lines.is_feed, Taking.ReadsInside}

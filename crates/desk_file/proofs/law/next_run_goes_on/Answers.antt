@@ -1,4 +1,4 @@
-use Rattle.desk_types.proofs.Common.{Two}
+use Rattle.line_tables.proofs.Common.{Two}
 use Rattle.desk_file.proofs.FirstLists.{held, ours_first, same_list}
 use Rattle.desk_file.proofs.law.next_run_goes_on.Goals as goal
 

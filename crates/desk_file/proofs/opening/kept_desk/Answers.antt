@@ -1,5 +1,5 @@
-use Rattle.desk_types.proofs.Common.{◌∙◌, arith, Bool, None, subst, Two}
-use Rattle.line_tables.proofs.Common.{file_state, HasCleanDisk, over_files}
+use Rattle.desk_types.proofs.Common.{◌∙◌, arith, Bool, None, subst}
+use Rattle.line_tables.proofs.Common.{file_state, HasCleanDisk, over_files, Two}
 use Rattle.desk_file.proofs.{FirstLists.opened_begins, RefusedFiles.fault_in, RefusedFiles.refused}
 use Rattle.desk_file.specs.Refused.{IsFaultIn}
 use Rattle.line_schema.specs.Stands.{Stands}

@@ -1,5 +1,5 @@
-use Rattle.desk_types.proofs.Common.{⊤, arith, One}
-use Rattle.line_tables.proofs.Common.{file_state, HasCleanDisk, LeavesMigrated}
+use Rattle.desk_types.proofs.Common.{⊤, arith}
+use Rattle.line_tables.proofs.Common.{file_state, HasCleanDisk, LeavesMigrated, One}
 use Rattle.desk_file.proofs.{FirstLists.migrates, RefusedFiles.fault_in, RefusedFiles.refused}
 use Rattle.desk_file.specs.Refused.{IsFaultIn}
 use Rattle.sqlite_wal.specs.Files.{image_at}

@@ -1,7 +1,7 @@
 use Rattle.desk_types.proofs.Common.{[], ◌≡◌, arith, Bool, None, Some, subst}
 use Rattle.line_tables.proofs.Common.{file_state, HasCleanDisk, over_files}
-use Rattle.desk_file.proofs.{FirstLists.made_begins, FirstLists.no_table, RefusedFiles.refused, RefusedFiles.unmade}
-use Rattle.desk_file.specs.Refused.{IsFaultFor, LeavesMade}
+use Rattle.desk_file.{proofs.FirstLists.made_begins, proofs.FirstLists.no_table, proofs.RefusedFiles.refused}
+use Rattle.desk_file.{proofs.RefusedFiles.unmade, specs.Refused.IsFaultFor, specs.Refused.LeavesMade}
 use Rattle.line_schema.specs.Stands.{Stands}
 use Rattle.sqlite_wal.specs.Files.{image_at}
 use Rattle.desk_file.proofs.opening.new_desk.Goals as goal

@@ -1,7 +1,8 @@
 use Rattle.desk_types.proofs.Common.{◌∙◌, ◌≡◌, ap, arith, false, inl, inr, rules, subst, sym}
 use Rattle.line_tables.proofs.Common.{file_state, HasCleanDisk, HoldsDatabase}
 use Rattle.desk_file.{proofs.Making.new_holds_none, specs.Found.IsNew}
-use Rattle.sqlite.{proofs.FileLemmas.same_image, specs.Files.AreFoundIn, specs.Files.image_of, specs.Files.IsEmpty}
+use Rattle.sqlite.{proofs.FileLemmas.same_image, specs.Files.AreFoundIn, specs.Files.image_of}
+use Rattle.sqlite.{specs.Files.IsEmpty}
 use Rattle.sqlite_pool.{specs.Opening.IsBlankFile, specs.Stored.used_size}
 use Rattle.sqlite_store.specs.FileStore.{view as shown}
 use Rattle.sqlite_trees.proofs.Doubt.{clean_of as sure}

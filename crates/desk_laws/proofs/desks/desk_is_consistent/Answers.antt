@@ -1,6 +1,6 @@
+use Rattle.desk_laws.proofs.Common.{judged-by-two}
 use Rattle.desk_laws.proofs.{Balance.balance, InstalledPieces.rightly-placed, NameSets.traces-converse}
 use Rattle.desk_laws.proofs.{Places.one-slot, Tapes.live-distinct}
-use Rattle.desk_types.proofs.BothRules.{judged-by-two}
 use Rattle.desk_laws.proofs.desks.desk_is_consistent.Goals as goal
 
 pub returns-clause-balance : goal.returns-clause-balance

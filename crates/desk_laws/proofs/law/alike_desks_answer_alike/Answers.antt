@@ -1,7 +1,6 @@
-use Rattle.desk_laws.proofs.AfterCommands.{judged-run, many-commands}
-use Rattle.desk_laws.proofs.FromAlike.{agree-from, alike-from}
-use Rattle.desk_laws.specs.Past.{is_spent, is_started}
-use Rattle.desk_types.proofs.BothRules.{judged-by-two}
+use Rattle.desk_laws.proofs.Common.{is_started, judged-by-two}
+use Rattle.desk_laws.{proofs.AfterCommands.judged-run, proofs.AfterCommands.many-commands}
+use Rattle.desk_laws.{proofs.FromAlike.agree-from, proofs.FromAlike.alike-from, specs.Past.is_spent}
 use Rattle.desk_laws.proofs.law.alike_desks_answer_alike.Goals as goal
 
 pub returns-clause-replies : goal.returns-clause-replies

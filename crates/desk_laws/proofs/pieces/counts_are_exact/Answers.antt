@@ -1,5 +1,5 @@
+use Rattle.desk_laws.proofs.Common.{accepted-by-two}
 use Rattle.desk_laws.proofs.CountedReels.{counts-exact}
-use Rattle.desk_types.proofs.BothRules.{accepted-by-two}
 use Rattle.desk_laws.proofs.pieces.counts_are_exact.Goals as goal
 
 pub returns : goal.returns

@@ -1,5 +1,5 @@
+use Rattle.desk_laws.proofs.Common.{accepted-by-two}
 use Rattle.desk_laws.proofs.CountedReels.{mounted-finds-none}
-use Rattle.desk_types.proofs.BothRules.{accepted-by-two}
 use Rattle.desk_laws.proofs.pieces.mounted_reels_gain_nothing.Goals as goal
 
 pub returns : goal.returns

@@ -1,5 +1,5 @@
+use Rattle.desk_laws.proofs.Common.{judged-by-two}
 use Rattle.desk_laws.proofs.Balance.{balance}
-use Rattle.desk_types.proofs.BothRules.{judged-by-two}
 use Rattle.desk_laws.proofs.pieces.pieces_balance.Goals as goal
 
 pub returns : goal.returns

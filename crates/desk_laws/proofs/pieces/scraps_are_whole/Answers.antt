@@ -1,5 +1,5 @@
+use Rattle.desk_laws.proofs.Common.{accepted-by-two}
 use Rattle.desk_laws.proofs.WholeInstalls.{scrap-whole}
-use Rattle.desk_types.proofs.BothRules.{accepted-by-two}
 use Rattle.desk_laws.proofs.pieces.scraps_are_whole.Goals as goal
 
 pub returns : goal.returns

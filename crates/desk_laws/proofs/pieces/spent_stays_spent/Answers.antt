@@ -1,5 +1,5 @@
+use Rattle.desk_laws.proofs.Common.{judged-by-two}
 use Rattle.desk_laws.proofs.ReelsLater.{spent-stays}
-use Rattle.desk_types.proofs.BothRules.{judged-by-two}
 use Rattle.desk_laws.proofs.pieces.spent_stays_spent.Goals as goal
 
 pub returns : goal.returns

@@ -1,7 +1,7 @@
-use Rattle.desk_types.proofs.Common.{◌∙◌, Accepted, ap, change_of, effective_minute, option_map_or, Refused}
+use Rattle.desk_types.proofs.Common.{◌∙◌, ap, change_of, effective_minute, option_map_or}
+use Rattle.desk_laws.proofs.Common.{Accepted, accepted-by-two, Refused}
 use Rattle.desk_laws.proofs.{Accepted.command-accepted, Installs.named-once, WholeInstalls.install-told}
 use Rattle.desk_laws.proofs.{WholeInstalls.install-whole}
-use Rattle.desk_types.proofs.BothRules.{accepted-by-two}
 use Rattle.desk_laws.proofs.placements.installs_are_whole.Goals as goal
 
 pub returns-clause-spots : goal.returns-clause-spots

@@ -1,5 +1,5 @@
+use Rattle.desk_laws.proofs.Common.{judged-by-two}
 use Rattle.desk_laws.proofs.Designators.{designators-once}
-use Rattle.desk_types.proofs.BothRules.{judged-by-two}
 use Rattle.desk_laws.proofs.placements.no_designator_twice.Goals as goal
 
 pub returns : goal.returns

@@ -1,5 +1,5 @@
+use Rattle.desk_laws.proofs.Common.{judged-by-two}
 use Rattle.desk_laws.proofs.InstalledPieces.{rightly-placed}
-use Rattle.desk_types.proofs.BothRules.{judged-by-two}
 use Rattle.desk_laws.proofs.placements.only_verified_reels_are_placed.Goals as goal
 
 pub returns : goal.returns

@@ -1,5 +1,6 @@
-use Rattle.desk_types.proofs.Common.{◌∙◌, Accepted, ap, change_of, One, option_map_or, Refused, sym}
-use Rattle.desk_types.proofs.BothRules.{accepted-by-two, judged-by-two}
+use Rattle.desk_types.proofs.Common.{◌∙◌, ap, change_of, option_map_or, sym}
+use Rattle.desk_laws.proofs.Common.{Accepted, accepted-by-two, judged-by-two, Refused}
+use Rattle.desk_types.specs.declared.rules.Rules.TheVariants.{One}
 use Rattle.desk_laws.proofs.runs.accepted_under_both.Goals as goal
 
 pub returns-clause-answers : goal.returns-clause-answers

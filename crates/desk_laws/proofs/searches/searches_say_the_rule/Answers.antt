@@ -1,6 +1,6 @@
-use Rattle.desk_laws.proofs.Lookups.{among-placed, in_work-somewhere, mounted-live, mounted-there, placed-among}
-use Rattle.desk_laws.proofs.Lookups.{somewhere-in_work, tape-loaded}
-use Rattle.desk_types.proofs.BothRules.{judged-by-two}
+use Rattle.desk_laws.proofs.Common.{judged-by-two}
+use Rattle.desk_laws.proofs.Lookups.{among-placed, in_work-somewhere, mounted-live, mounted-there}
+use Rattle.desk_laws.proofs.Lookups.{placed-among, somewhere-in_work, tape-loaded}
 use Rattle.desk_laws.proofs.searches.searches_say_the_rule.Goals as goal
 
 pub returns-clause-mounted : goal.returns-clause-mounted

@@ -1,5 +1,5 @@
+use Rattle.desk_laws.proofs.Common.{judged-by-two}
 use Rattle.desk_laws.proofs.{Places.one-slot, Tapes.live-distinct}
-use Rattle.desk_types.proofs.BothRules.{judged-by-two}
 use Rattle.desk_laws.proofs.slots.one_place.Goals as goal
 
 pub returns-clause-one_slot : goal.returns-clause-one_slot

@@ -1,5 +1,5 @@
+use Rattle.desk_laws.proofs.Common.{judged-by-two}
 use Rattle.desk_laws.proofs.VerifiedReels.{mounted-not_expired}
-use Rattle.desk_types.proofs.BothRules.{judged-by-two}
 use Rattle.desk_laws.proofs.time.expired_reels_are_not_mounted.Goals as goal
 
 pub returns : goal.returns

@@ -1,5 +1,5 @@
+use Rattle.desk_laws.proofs.Common.{judged-by-two}
 use Rattle.desk_laws.proofs.Exposures.{exposure-later, exposure-rises}
-use Rattle.desk_types.proofs.BothRules.{judged-by-two}
 use Rattle.desk_laws.proofs.time.exposure_never_falls.Goals as goal
 
 pub returns-clause-minutes : goal.returns-clause-minutes

@@ -1,5 +1,5 @@
+use Rattle.desk_laws.proofs.Common.{judged-by-two}
 use Rattle.desk_laws.proofs.Openings.{mounted-goes-on, mounted-out}
-use Rattle.desk_types.proofs.BothRules.{judged-by-two}
 use Rattle.desk_laws.proofs.time.mounted_reels_are_out.Goals as goal
 
 pub returns-clause-out : goal.returns-clause-out

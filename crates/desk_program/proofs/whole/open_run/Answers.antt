@@ -1,11 +1,12 @@
 use Rattle.desk_types.proofs.Common.{arith, inl, inr, map, None, refl, rules, Some, string_bytes}
 use Rattle.desk_answers.specs.{Counts.none_served, declared.serving.ServeFault.TheVariants.Write}
 use Rattle.desk_program.proofs.AskedRuns.{audits_asked, ends_bad, ends_none, feeds_asked, feeds_in_memory}
-use Rattle.desk_program.proofs.AskedRuns.{imports_asked, migrates_asked, names_desk, names_migrated, reports_asked}
-use Rattle.desk_program.proofs.AskedRuns.{serves_asked}
+use Rattle.desk_program.proofs.AskedRuns.{imports_asked, migrates_asked, names_desk, names_migrated}
+use Rattle.desk_program.proofs.AskedRuns.{reports_asked, serves_asked}
 use Rattle.desk_program.specs.Ways.{ways_when_open}
-use Rattle.desk_words.specs.CommandLine.{AsksForAudit, AsksForFeed, AsksForImport, AsksForMigration, AsksForNothing}
-use Rattle.desk_words.specs.CommandLine.{AsksForReport, AsksForServing, AsksForText, HasBadOption}
+use Rattle.desk_words.specs.CommandLine.{AsksForAudit, AsksForFeed, AsksForImport, AsksForMigration}
+use Rattle.desk_words.specs.CommandLine.{AsksForNothing, AsksForReport, AsksForServing, AsksForText}
+use Rattle.desk_words.specs.CommandLine.{HasBadOption}
 use Rattle.desk_program.proofs.whole.open_run.Goals as goal
 
 pub returns-in-Some-clause-runs : goal.returns-in-Some-clause-runs

@@ -1,7 +1,8 @@
-use Rattle.desk_types.proofs.Common.{[], ◌++◌, ◌+◌, ◌∙◌, ◌∷◌, ◌≡◌, ◌≤◌, accept, after_command, after_commands, ap}
-use Rattle.desk_types.proofs.Common.{append_assoc, arith, drop, drop-next, History, length, List, None, Option}
-use Rattle.desk_types.proofs.Common.{option_map_or, Refusal, refusal_of, replies_to, Reply, reply_to, Rules, Some}
-use Rattle.desk_types.proofs.Common.{Stamped, sym, ℕ}
+use Rattle.desk_types.proofs.Common.{[], ◌++◌, ◌+◌, ◌∙◌, ◌∷◌, ◌≡◌, ◌≤◌, accept, after_command, after_commands}
+use Rattle.desk_types.proofs.Common.{ap, append_assoc, arith, drop, drop-next, History, length, List, None}
+use Rattle.desk_types.proofs.Common.{Option, option_map_or, refusal_of, replies_to, reply_to, Some, sym, ℕ}
+use Rattle.desk_types.specs.{declared.answer.Refusal.Refusal, declared.answer.Reply.Reply}
+use Rattle.desk_types.specs.{declared.command.Stamped.Stamped, declared.rules.Rules.Rules}
 use Rattle.desk_types.proofs.desk.run.Goals as goal
 
 told_more : (rules : Rules) (H first : History) (ms : List Stamped) (i : ℕ) (s : Stamped) (rs : List Reply) (r : Reply)

@@ -1,5 +1,5 @@
-use Rattle.desk_types.proofs.Common.{◌==◌, ◌∙◌, ◌≡◌, ap, decimal, IsUtf8, IsUtf8-from_ascii, nat_list_eq_equiv, not}
-use Rattle.desk_types.proofs.Common.{pointwise, subst, sym}
+use Rattle.desk_types.proofs.Common.{◌==◌, ◌∙◌, ◌≡◌, ap, decimal, IsUtf8, IsUtf8-from_ascii}
+use Rattle.desk_types.proofs.Common.{nat_list_eq_equiv, not, pointwise, subst, sym}
 use Rattle.std.proofs.lemmas.Fmt.{IsAscii-decimal, parse-decimal}
 use Rattle.desk_types.proofs.stored_number.number.Goals as goal
 

@@ -1,13 +1,15 @@
-use Rattle.desk_types.proofs.Common.{count_fields, IsCountRow, IsDesignator, IsId, IsListOf, IsQuantity, IsSheetRow}
-use Rattle.desk_types.proofs.Common.{list_fields, name_fields, number_fields, refl, row_fields, triple_fields}
-use Rattle.desk_types.proofs.Common.{TripleInRange}
+use Rattle.desk_types.proofs.Common.{count_fields, IsCountRow, IsDesignator, IsId, IsListOf, IsQuantity}
+use Rattle.desk_types.proofs.Common.{IsSheetRow, list_fields, name_fields, number_fields, refl, row_fields}
+use Rattle.desk_types.proofs.Common.{triple_fields, TripleInRange}
 use Rattle.desk_types.proofs.Members.{word_unread}
 use Rattle.desk_types.specs.Fields.{pair_fields, PairInRange}
-use Rattle.desk_types.specs.declared.stored_word.Word.TheVariants.{AlternateAllowed, CountsTaken, MaterialsInstalled}
-use Rattle.desk_types.specs.declared.stored_word.Word.TheVariants.{MaterialsLoaded, MaterialsScrapped}
-use Rattle.desk_types.specs.declared.stored_word.Word.TheVariants.{MaterialsSpliced, MaterialsUnloaded, PartDefined}
-use Rattle.desk_types.specs.declared.stored_word.Word.TheVariants.{ProductSelected, ReelBaked, ReelOpened, ReelSealed}
-use Rattle.desk_types.specs.declared.stored_word.Word.TheVariants.{SheetDefined, WorkCompleted, WorkStarted}
+use Rattle.desk_types.specs.declared.stored_word.Word.TheVariants.{AlternateAllowed, CountsTaken}
+use Rattle.desk_types.specs.declared.stored_word.Word.TheVariants.{MaterialsInstalled, MaterialsLoaded}
+use Rattle.desk_types.specs.declared.stored_word.Word.TheVariants.{MaterialsScrapped, MaterialsSpliced}
+use Rattle.desk_types.specs.declared.stored_word.Word.TheVariants.{MaterialsUnloaded, PartDefined}
+use Rattle.desk_types.specs.declared.stored_word.Word.TheVariants.{ProductSelected, ReelBaked, ReelOpened}
+use Rattle.desk_types.specs.declared.stored_word.Word.TheVariants.{ReelSealed, SheetDefined, WorkCompleted}
+use Rattle.desk_types.specs.declared.stored_word.Word.TheVariants.{WorkStarted}
 use Rattle.desk_types.proofs.stored_reading.members.Goals as goal
 
 pub returns-in_err-read-in-PartDefined : goal.returns-in_err-read-in-PartDefined

@@ -1,6 +1,6 @@
 use Rattle.desk_types.proofs.Common.{◌++◌, ◌∙◌, ap, IsCommand, IsLabel, members_of, refl, subst, sym}
-use Rattle.desk_types.proofs.Members.{AreOfReceipt, MembersOf, receipt_fields, receipt_in_range, receipts_apart, said}
-use Rattle.desk_types.proofs.Members.{word_unread}
+use Rattle.desk_types.proofs.Members.{AreOfReceipt, MembersOf, receipt_fields, receipt_in_range}
+use Rattle.desk_types.proofs.Members.{receipts_apart, said, word_unread}
 use Rattle.desk_types.specs.declared.stored_word.Word.TheVariants.{ReelReceived}
 use Rattle.desk_types.proofs.stored_reading.receipt.Goals as goal
 

@@ -1,4 +1,5 @@
-use Rattle.desk_types.proofs.Common.{[], ◌++◌, ◌∙◌, ◌≡◌, ap, append-nil, fields_in, fields_of, members_of, refl, sym}
+use Rattle.desk_types.proofs.Common.{[], ◌++◌, ◌∙◌, ◌≡◌, ap, append-nil, fields_in, fields_of, members_of}
+use Rattle.desk_types.proofs.Common.{refl, sym}
 use Rattle.desk_types.proofs.{Members.commands_apart, Members.word_of, Splitting.some_field}
 use Rattle.desk_types.proofs.{Tabs.stored_text-fields_in, Whole.begins, Whole.said_in, Whole.unread}
 use Rattle.desk_types.proofs.stored_reading.whole.Goals as goal

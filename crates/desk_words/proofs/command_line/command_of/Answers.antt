@@ -1,6 +1,6 @@
-use Rattle.desk_types.proofs.Common.{[], ◌∙◌, ◌∷◌, ◌≡◌, ◌⊎◌, ap, Bool, bytes_eq-Decides, codes, cond, false, inl, inr}
-use Rattle.desk_types.proofs.Common.{is_some, List, None, Option, refl, rules, Some, sym, true, true≢false, unwrap_or}
-use Rattle.desk_types.proofs.Common.{ℕ}
+use Rattle.desk_types.proofs.Common.{[], ◌∙◌, ◌∷◌, ◌≡◌, ◌⊎◌, ap, Bool, bytes_eq-Decides, codes, cond, false}
+use Rattle.desk_types.proofs.Common.{inl, inr, is_some, List, None, Option, refl, rules, Some, sym, true}
+use Rattle.desk_types.proofs.Common.{true≢false, unwrap_or, ℕ}
 use Rattle.clap.specs.Faults.{check_fault, defaults_fault, level_fault, settle_fault, walk_fault}
 use Rattle.clap.specs.Kinds.{Kinds, or_else}
 use Rattle.clap.specs.Matches.{found_of, subcommand_name_of}

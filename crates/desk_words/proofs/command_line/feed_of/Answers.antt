@@ -1,7 +1,8 @@
 use Rattle.desk_types.proofs.Common.{◌∙◌, ◌≡◌, codes, inl, inr, rules, string_bytes, sym}
 use Rattle.clap.proofs.WalkLemmas.{first_value-rows}
 use Rattle.clap.specs.{Matches.first_value, Matches.found_of, Walk.first_of, Walk.rows_of}
-use Rattle.desk_words.proofs.command_line.feed_of.Goals.{in-None, in-Some-get_str+in_ok-from_str-in-Some-get_str}
+use Rattle.desk_words.proofs.command_line.feed_of.Goals.{in-None}
+use Rattle.desk_words.proofs.command_line.feed_of.Goals.{in-Some-get_str+in_ok-from_str-in-Some-get_str}
 use Rattle.desk_words.specs.CommandLine.{GoesUpTo, HasNoGreatest}
 use Rattle.std.proofs.Common.{option_map}
 use Rattle.desk_words.proofs.command_line.feed_of.Goals as goal

@@ -1,4 +1,5 @@
-use Rattle.desk_types.proofs.Common.{◌∙◌, ◌≡◌, codes, IfSome, IsSomeAnd, List, None, Option, rules, Some, subst, ℕ}
+use Rattle.desk_types.proofs.Common.{◌∙◌, ◌≡◌, codes, IfSome, IsSomeAnd, List, None, Option, rules, Some}
+use Rattle.desk_types.proofs.Common.{subst, ℕ}
 use Rattle.clap.{proofs.WalkLemmas.first_value-rows, specs.Matches.first_value, specs.Matches.found_of}
 use Rattle.desk_words.specs.CommandLine.{GoesUpTo, IsGreatest}
 use Rattle.std.proofs.Common.{IsNone}

@@ -1,10 +1,11 @@
-use Rattle.desk_types.proofs.Common.{◌∙◌, ◌≡◌, ◌⊎◌, codes, inl, inr, None, Ok, Result, rules, Some, string_bytes}
-use Rattle.desk_types.proofs.Common.{subst, sym}
-use Rattle.clap.{proofs.WalkLemmas.first_value-rows, specs.Matches.first_value, specs.Matches.found_of}
-use Rattle.clap.{specs.Walk.first_of, specs.Walk.rows_of}
+use Rattle.desk_types.proofs.Common.{◌∙◌, ◌≡◌, ◌⊎◌, codes, inl, inr, None, Ok, Result, rules, Some}
+use Rattle.desk_types.proofs.Common.{string_bytes, subst, sym}
+use Rattle.clap.proofs.WalkLemmas.{first_value-rows}
+use Rattle.clap.specs.{Matches.first_value, Matches.found_of, Walk.first_of, Walk.rows_of}
 use Rattle.desk_feed.specs.declared.options.BadOption.{BadOption}
-use Rattle.desk_words.{proofs.command_line.import_of.Goals.in_default-via-in-Some+in_default}
-use Rattle.desk_words.{proofs.command_line.import_of.Goals.in_default-via-in_default, specs.CommandLine.NamesImport}
+use Rattle.desk_words.proofs.command_line.import_of.Goals.{in_default-via-in-Some+in_default}
+use Rattle.desk_words.proofs.command_line.import_of.Goals.{in_default-via-in_default}
+use Rattle.desk_words.specs.CommandLine.{NamesImport}
 use Rattle.imports.specs.declared.import.Import.{Import}
 use Rattle.desk_words.proofs.command_line.import_of.Goals as goal
 

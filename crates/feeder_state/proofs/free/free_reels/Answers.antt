@@ -1,4 +1,5 @@
-use Rattle.desk_types.proofs.Common.{◌∙◌, ap, filter_map, Left, Name, reel_view, subst, sym}
+use Rattle.desk_types.proofs.Common.{◌∙◌, ap, filter_map, Name, reel_view, subst, sym}
+use Rattle.desk_laws.proofs.Common.{Left}
 use Rattle.feeder_state.{proofs.FloorTells.none-free, specs.Rows.AreRowsAt}
 use Rattle.judging.proofs.FreeReels.{free_among, views-of_turns}
 use Rattle.feeder_state.proofs.free.free_reels.Goals as goal

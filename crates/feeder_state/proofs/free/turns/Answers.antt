@@ -1,5 +1,6 @@
-use Rattle.desk_types.proofs.Common.{[], ◌++◌, ◌∙◌, ◌∷◌, ap, append-nil, append_assoc, by_name, insert_key, Left, map}
-use Rattle.desk_types.proofs.Common.{option_map_or, Ordering, ordering_then, rules, sym}
+use Rattle.desk_types.proofs.Common.{[], ◌++◌, ◌∙◌, ◌∷◌, ap, append-nil, append_assoc, by_name, insert_key}
+use Rattle.desk_types.proofs.Common.{map, option_map_or, Ordering, ordering_then, rules, sym}
+use Rattle.desk_laws.proofs.Common.{Left}
 use Rattle.desk_types.proofs.Lives.{left-order}
 use Rattle.feeder_state.proofs.FreeReels.{free-resting, free_in, turn-next}
 use Rattle.judging.specs.Turns.{by_life, turn_of}

@@ -1,5 +1,6 @@
 use Rattle.desk_types.proofs.Common.{◌∙◌, subst, sym}
-use Rattle.feeder_state.{proofs.RowReels.mounts-row, specs.Held.IsHeld, specs.Held.IsHeldOf, specs.Held.with_mount}
+use Rattle.feeder_state.proofs.RowReels.{mounts-row}
+use Rattle.feeder_state.specs.Held.{IsHeld, IsHeldOf, with_mount}
 use Rattle.feeder_state.proofs.held.find.Goals as goal
 
 pub returns-in_err-reel : goal.returns-in_err-reel

@@ -1,6 +1,6 @@
 use Rattle.desk_types.proofs.Common.{◌∙◌, subst, sym}
-use Rattle.feeder_state.proofs.{FloorTells.told-now, RowReels.found-row, RowReels.reels-row, RowReels.row-none}
-use Rattle.feeder_state.specs.Held.{IsHeldOf, with_mount}
+use Rattle.feeder_state.{proofs.FloorTells.told-now, proofs.RowReels.found-row, proofs.RowReels.reels-row}
+use Rattle.feeder_state.{proofs.RowReels.row-none, specs.Held.IsHeldOf, specs.Held.with_mount}
 use Rattle.feeder_state.proofs.held.reel_now.Goals as goal
 
 pub returns-in_err-row : goal.returns-in_err-row

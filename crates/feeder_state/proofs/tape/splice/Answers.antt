@@ -1,4 +1,5 @@
-use Rattle.desk_types.proofs.Common.{[], ◌∙◌, ap, pair-changed, pair-written, rules, sym, tape_with, unwrap_or}
+use Rattle.desk_types.proofs.Common.{[], ◌∙◌, ap, pair-changed, pair-written, rules, sym, tape_with}
+use Rattle.desk_types.proofs.Common.{unwrap_or}
 use Rattle.feeder_state.specs.Tape.{tape_at}
 use Rattle.feeder_state.proofs.tape.splice.Goals as goal
 

@@ -1,6 +1,7 @@
-use Rattle.desk_types.proofs.Common.{[], ◌&&◌, ◌∙◌, ◌≡◌, ap, not, pair-changed, pair-written, rules, same, sym}
-use Rattle.desk_types.proofs.Common.{unwrap_or}
-use Rattle.feeder_state.{proofs.ReelsOffTapes.drop-absent, proofs.ReelsOffTapes.drop-there, specs.Tape.tape_at}
+use Rattle.desk_types.proofs.Common.{[], ◌&&◌, ◌∙◌, ◌≡◌, ap, not, pair-changed, pair-written, rules, same}
+use Rattle.desk_types.proofs.Common.{sym, unwrap_or}
+use Rattle.feeder_state.proofs.ReelsOffTapes.{drop-absent, drop-there}
+use Rattle.feeder_state.specs.Tape.{tape_at}
 use Rattle.std.specs.List.{filter}
 use Rattle.feeder_state.proofs.tapes.drop_reel.Goals as goal
 

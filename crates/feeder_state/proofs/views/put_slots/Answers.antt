@@ -1,8 +1,9 @@
-use Rattle.desk_types.proofs.Common.{[], ◌++◌, ◌∙◌, ◌≡◌, ap, append-nil, append_assoc, cons_option, enumerate_from}
-use Rattle.desk_types.proofs.Common.{flat_map, if◌then◌else◌, keys_of, live_on, map, mount_of, None, rules, same-true}
-use Rattle.desk_types.proofs.Common.{slot_mounts, Some, sym, unwrap_or}
+use Rattle.desk_types.proofs.Common.{[], ◌++◌, ◌∙◌, ◌≡◌, ap, append-nil, append_assoc, cons_option}
+use Rattle.desk_types.proofs.Common.{enumerate_from, flat_map, if◌then◌else◌, keys_of, live_on, map, mount_of}
+use Rattle.desk_types.proofs.Common.{None, rules, same-true, slot_mounts, Some, sym, unwrap_or}
 use Rattle.feeder_state.{proofs.FloorTells.all-received, proofs.SlotsOfMachines.by_pair-total}
-use Rattle.feeder_state.{proofs.SlotsOfMachines.slots_among, proofs.SlotsOfMachines.told-loaded, specs.Tape.tape_at}
+use Rattle.feeder_state.{proofs.SlotsOfMachines.slots_among, proofs.SlotsOfMachines.told-loaded}
+use Rattle.feeder_state.{specs.Tape.tape_at}
 use Rattle.std.{proofs.lemmas.Map.Iter.btree_map_turn, specs.Map.Iter.deref_pair}
 use Rattle.feeder_state.proofs.views.put_slots.Goals as goal
 

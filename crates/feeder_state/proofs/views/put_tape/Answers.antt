@@ -1,5 +1,6 @@
-use Rattle.desk_types.proofs.Common.{[], ◌++◌, ◌<◌, ◌∙◌, ◌∷◌, ◌≡◌, All, All-get_or, ap, false, get_or, History}
-use Rattle.desk_types.proofs.Common.{is_some, length, List, mount_of, Name, receipt_of, rules, subst, sym, true, ℕ}
+use Rattle.desk_types.proofs.Common.{[], ◌++◌, ◌<◌, ◌∙◌, ◌∷◌, ◌≡◌, All, All-get_or, ap, false, get_or}
+use Rattle.desk_types.proofs.Common.{History, is_some, length, List, mount_of, Name, receipt_of, rules, subst}
+use Rattle.desk_types.proofs.Common.{sym, true, ℕ}
 use Rattle.feeder_state.{proofs.FloorTells.told-now, proofs.views.put_tape.Goals.in-Some+in_ok-push}
 use Rattle.feeder_state.{proofs.views.put_tape.Goals.in_default, specs.Held.IsHeldOf}
 use Rattle.judging.proofs.MountLists.{place-next}

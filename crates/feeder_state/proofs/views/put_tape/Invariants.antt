@@ -1,5 +1,5 @@
-use Rattle.desk_types.proofs.Common.{◌++◌, ◌≡◌, All, enumerate_from, History, is_some, map, mount_of, receipt_of}
-use Rattle.desk_types.proofs.Common.{Some, take, true}
+use Rattle.desk_types.proofs.Common.{◌++◌, ◌≡◌, All, enumerate_from, History, is_some, map, mount_of}
+use Rattle.desk_types.proofs.Common.{receipt_of, Some, take, true}
 use Rattle.feeder_state.specs.Rows.{AreRowsAt}
 use Rattle.feeder_state.proofs.views.put_tape.Given as goal
 

@@ -1,5 +1,5 @@
-use Rattle.desk_types.proofs.Common.{[], ◌||◌, ◌∙◌, ap, BTreeMap, cond, List, list_any, Name, name-written, Option}
-use Rattle.desk_types.proofs.Common.{rules, same, unwrap_or}
+use Rattle.desk_types.proofs.Common.{[], ◌||◌, ◌∙◌, ap, BTreeMap, cond, List, list_any, Name, name-written}
+use Rattle.desk_types.proofs.Common.{Option, rules, same, unwrap_or}
 use Rattle.feeder_state.{proofs.NameSets.placed-put, specs.Work.is_placed_at}
 use Rattle.feeder_state.proofs.work.place.Goals as goal
 

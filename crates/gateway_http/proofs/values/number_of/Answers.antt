@@ -1,5 +1,5 @@
-use Rattle.desk_types.proofs.Common.{◌<◌, ◌∙◌, ◌≡◌, ◌≤◌, ap, arith, digits_value, is_ascii_digit, length, List}
-use Rattle.desk_types.proofs.Common.{list_all, nat_tests, Ok, Result, result_ok, rules, true, ℕ}
+use Rattle.desk_types.proofs.Common.{◌<◌, ◌∙◌, ◌≡◌, ◌≤◌, ap, arith, digits_value, is_ascii_digit, length}
+use Rattle.desk_types.proofs.Common.{List, list_all, nat_tests, Ok, Result, result_ok, rules, true, ℕ}
 use Rattle.desk_types.proofs.Numerals.{own}
 use Rattle.gateway_http.specs.Values.{is_numeral, number_of}
 use Rattle.std.proofs.lemmas.Str.Parse.{digits_value_short, parse_gives}

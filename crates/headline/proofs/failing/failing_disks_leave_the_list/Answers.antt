@@ -1,4 +1,5 @@
-use Rattle.desk_types.proofs.Common.{◌≡◌, inl, refl, Two}
+use Rattle.desk_types.proofs.Common.{◌≡◌, inl, refl}
+use Rattle.desk_laws.proofs.Common.{Two}
 use Rattle.line_tables.proofs.Common.{HasCleanDisk}
 use Rattle.headline.proofs.CallsInTurn.{goes_on}
 use Rattle.headline.specs.{Failing.IsWatched, Failing.no_reports, Failing.own_kept, Runs.by_two}

@@ -1,5 +1,6 @@
 use Rattle.gateway_http.specs.Reports.{report_of}
-use Rattle.headline.{proofs.ProgramRuns.called, proofs.ProgramRuns.is_crashed_run, specs.Calls.AnswersByTheList}
+use Rattle.headline.proofs.ProgramRuns.{called, is_crashed_run}
+use Rattle.headline.specs.Calls.{AnswersByTheList}
 use Rattle.headline.proofs.runs.killed_runs_are_runs.Goals as goal
 
 pub returns : goal.returns

@@ -1,5 +1,4 @@
-use Rattle.desk_types.proofs.Common.{One}
-use Rattle.line_tables.proofs.Common.{LeavesMigrated}
+use Rattle.line_tables.proofs.Common.{LeavesMigrated, One}
 use Rattle.desk_file.specs.Refused.{IsFaultFor, IsFaultIn, LeavesMade}
 use Rattle.headline.proofs.ProgramRuns.{keeps}
 use Rattle.sqlite_wal.specs.Files.{image_at}

@@ -1,4 +1,5 @@
-use Rattle.headline.{proofs.ProgramRuns.gives_calls, proofs.ProgramRuns.is_whole_run, specs.Closed.GivesWholeRun}
+use Rattle.headline.proofs.ProgramRuns.{gives_calls, is_whole_run}
+use Rattle.headline.specs.Closed.{GivesWholeRun}
 use Rattle.headline.proofs.runs.whole_runs_are_runs.Goals as goal
 
 pub returns : goal.returns

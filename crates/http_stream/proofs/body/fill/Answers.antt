@@ -1,5 +1,5 @@
-use Rattle.desk_types.proofs.Common.{[], ◌++◌, ◌<◌, ◌∙◌, ◌≡◌, ap, append-nil, arith, drop, drop_all, inner_of, length}
-use Rattle.desk_types.proofs.Common.{length-append, on_err_weaker, sym}
+use Rattle.desk_types.proofs.Common.{[], ◌++◌, ◌<◌, ◌∙◌, ◌≡◌, ap, append-nil, arith, drop, drop_all, inner_of}
+use Rattle.desk_types.proofs.Common.{length, length-append, on_err_weaker, sym}
 use Rattle.desk_answers.{proofs.Blocks.at_end, specs.Block.pending_bytes}
 use Rattle.http_stream.proofs.Bodies.{all_goes, body_goes, split_front}
 use Rattle.http_stream.proofs.body.fill.Goals as goal

@@ -1,5 +1,5 @@
-use Rattle.desk_types.proofs.Common.{◌-◌, ◌∙◌, ◌≡◌, ◌≤◌, append-nil, arith, Consumes, Consumes-trans, inner_of}
-use Rattle.desk_types.proofs.Common.{length, length-take, rules, subst, sym, take, ℕ}
+use Rattle.desk_types.proofs.Common.{◌-◌, ◌∙◌, ◌≡◌, ◌≤◌, append-nil, arith, Consumes, Consumes-trans}
+use Rattle.desk_types.proofs.Common.{inner_of, length, length-take, rules, subst, sym, take, ℕ}
 use Rattle.http_stream.proofs.Bodies.{put_mid_room, take-put_mid_some}
 use Rattle.std.proofs.KnownBytes.{Consumes-kept}
 use Rattle.http_stream.proofs.body.read_whole.Goals as goal

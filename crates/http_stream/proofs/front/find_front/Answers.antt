@@ -1,6 +1,7 @@
-use Rattle.desk_types.proofs.Common.{◌+◌, ◌<◌, ◌∙◌, ◌≡◌, ◌≤◌, ap, arith, false, HEAD_LIMIT, inner_of, length, Ok}
-use Rattle.desk_types.proofs.Common.{refl, rules, subst, sym, take, take_all}
+use Rattle.desk_types.proofs.Common.{◌+◌, ◌<◌, ◌∙◌, ◌≡◌, ◌≤◌, ap, arith, false, inner_of, length, Ok, refl}
+use Rattle.desk_types.proofs.Common.{rules, subst, sym, take, take_all}
 use Rattle.desk_answers.{proofs.Blocks.first_pending, specs.Block.pending_bytes, specs.Block.source}
+use Rattle.desk_types.specs.declared.limits.TheConstants.{HEAD_LIMIT}
 use Rattle.http_stream.{proofs.Portions.stops_in_head, proofs.Portions.window_is, specs.Cut.ReadsInside}
 use Rattle.http_stream.{specs.Heads.IsBadHead, specs.Heads.IsUnfinished, specs.Looks.IsHeadOf}
 use Rattle.std.specs.List.{slice_range}

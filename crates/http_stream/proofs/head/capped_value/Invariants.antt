@@ -1,4 +1,5 @@
-use Rattle.desk_types.proofs.Common.{◌+◌, ◌≡◌, digits_value, LONGEST_INPUT, min, take}
+use Rattle.desk_types.proofs.Common.{◌+◌, ◌≡◌, digits_value, min, take}
+use Rattle.desk_types.specs.declared.limits.TheConstants.{LONGEST_INPUT}
 use Rattle.http_stream.proofs.head.capped_value.Given as goal
 
 abbrev pub invariant-loop-digit : goal.invariant-loop-digit

@@ -1,9 +1,11 @@
-use Rattle.desk_types.proofs.Common.{◌∙◌, ◌≡◌, ap, arith, drop, HEAD_LIMIT, inner_of, length, length-drop}
-use Rattle.desk_types.proofs.Common.{length-take, List, Ok, refl, rules, subst, sym, ℕ}
+use Rattle.desk_types.proofs.Common.{◌∙◌, ◌≡◌, ap, arith, drop, inner_of, length, length-drop, length-take}
+use Rattle.desk_types.proofs.Common.{List, Ok, refl, rules, subst, sym, ℕ}
 use Rattle.desk_answers.specs.Block.{pending_bytes, source}
+use Rattle.desk_types.specs.declared.limits.TheConstants.{HEAD_LIMIT}
 use Rattle.http_stream.proofs.Portions.{ends_in_body, stops_in_body, takes_starved, takes_unread, takes_whole}
-use Rattle.http_stream.specs.{Bodies.TakesBody, Cut.ReadsInside, Cut.TakesPortion, Cut.whole, Fronts.seen_bytes}
-use Rattle.http_stream.specs.{Portions.method_of, Portions.target_of, declared.body.BodyTaken.BodyTaken}
+use Rattle.http_stream.specs.{Bodies.TakesBody, Cut.ReadsInside, Cut.TakesPortion, Cut.whole}
+use Rattle.http_stream.specs.{Fronts.seen_bytes, Portions.method_of, Portions.target_of}
+use Rattle.http_stream.specs.{declared.body.BodyTaken.BodyTaken}
 use Rattle.http_stream.proofs.portion.take_request.Goals as goal
 
 pub returns-in-Err-clause-next : goal.returns-in-Err-clause-next

@@ -1,7 +1,8 @@
-use Rattle.desk_types.proofs.Common.{[], ◌++◌, ◌+◌, ◌<◌, ◌∙◌, ◌∷◌, ◌≡◌, ap, arith, false, IfSome, inner_of, length}
-use Rattle.desk_types.proofs.Common.{MOST_READS, Option, refl, rules, Some, subst, sym, true}
+use Rattle.desk_types.proofs.Common.{[], ◌++◌, ◌+◌, ◌<◌, ◌∙◌, ◌∷◌, ◌≡◌, ap, arith, false, IfSome, inner_of}
+use Rattle.desk_types.proofs.Common.{length, Option, refl, rules, Some, subst, sym, true}
 use Rattle.desk_answers.proofs.Blocks.{none_pending}
 use Rattle.desk_answers.specs.{Block.fuel, Block.pending_bytes, Block.source, Counts.none_served}
+use Rattle.desk_types.specs.declared.limits.TheConstants.{MOST_READS}
 use Rattle.http_stream.proofs.{HandlersOfPortions.goes_none, HandlersOfPortions.goes_on}
 use Rattle.http_stream.proofs.{HandlersOfPortions.stops_into, Portions.end_comes, Portions.last_goes}
 use Rattle.http_stream.proofs.{Portions.next_first, Portions.portions_go, Portions.start_gone}

@@ -1,6 +1,6 @@
-use Rattle.desk_types.proofs.Common.{◌*◌, ◌+◌, ◌≡◌, ◌≤◌, failures_of, inner_of, List, MOST_READS, reads_of}
+use Rattle.desk_types.proofs.Common.{◌*◌, ◌+◌, ◌≡◌, ◌≤◌, failures_of, inner_of, List, reads_of}
 use Rattle.desk_answers.{specs.Block.fuel, specs.Block.IsBlock, specs.Block.source, specs.Counts.none_served}
-use Rattle.desk_types.specs.declared.limits.TheConstants.{BLOCK}
+use Rattle.desk_types.specs.declared.limits.TheConstants.{BLOCK, MOST_READS}
 use Rattle.http_stream.{proofs.HandlersOfPortions.Goes, specs.Cut.Portion, specs.Cut.PortionsGone}
 use Rattle.http_stream.proofs.serving.serve.Given as goal
 

@@ -1,7 +1,7 @@
 use Rattle.desk_types.proofs.Common.{[], ◌+◌, ◌∙◌, ◌∷◌, ◌≡◌, ap, Appends, Bool, cond, inner_of, subst}
 use Rattle.http_stream.proofs.AnsweredPortions.{one_answered}
-use Rattle.http_stream.specs.{Answers.answer_bytes, Answers.is_refused, Answers.reply_told, Answers.Told, Cut.is_last}
-use Rattle.http_stream.specs.{Portions.portion_of, Stream.has_body, Stream.outcome}
+use Rattle.http_stream.specs.{Answers.answer_bytes, Answers.is_refused, Answers.reply_told, Answers.Told}
+use Rattle.http_stream.specs.{Cut.is_last, Portions.portion_of, Stream.has_body, Stream.outcome}
 use Rattle.http_stream.proofs.serving.serve_portion.Goals as goal
 
 pub returns-clause-answers : goal.returns-clause-answers

@@ -1,8 +1,9 @@
 use Rattle.desk_types.proofs.Common.{[], ◌++◌, ◌==◌, ◌∙◌, ◌∷◌, ◌≡◌, ◌≤◌, ap, arith, false, if◌then◌else◌}
-use Rattle.desk_types.proofs.Common.{IsListLength, length, length-slice_split, List, list_all, LONGEST_LIST}
-use Rattle.desk_types.proofs.Common.{map-append, Name, nat_le, nat_tests, None, Option, refl, rules, Some, SomeIff}
-use Rattle.desk_types.proofs.Common.{sym, true, ℕ}
+use Rattle.desk_types.proofs.Common.{IsListLength, length, length-slice_split, List, list_all, map-append}
+use Rattle.desk_types.proofs.Common.{Name, nat_le, nat_tests, None, Option, refl, rules, Some, SomeIff, sym}
+use Rattle.desk_types.proofs.Common.{true, ℕ}
 use Rattle.cfx_profile.specs.Forms.{designator_of, is_designator}
+use Rattle.desk_types.specs.declared.limits.TheConstants.{LONGEST_LIST}
 use Rattle.imports.specs.File.{designators_of, words_of}
 use Rattle.std.proofs.lemmas.Iterator.Consumers.{YieldsList-end, YieldsList-turn}
 use Rattle.std.proofs.lemmas.Iterator.Splits.{YieldsList-from_str_split}

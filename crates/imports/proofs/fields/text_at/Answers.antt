@@ -1,6 +1,6 @@
-use Rattle.desk_types.proofs.Common.{◌∙◌, ◌≡◌, ap, Bor, Err, false, if◌then◌else◌, is_utf8, is_utf8-from_IsUtf8}
-use Rattle.desk_types.proofs.Common.{IsUtf8, IsUtf8-from_is_utf8, List, None, Ok, refl, Result, result_ok, Some, true}
-use Rattle.desk_types.proofs.Common.{ℕ}
+use Rattle.desk_types.proofs.Common.{◌∙◌, ◌≡◌, ap, Bor, Err, false, if◌then◌else◌, is_utf8}
+use Rattle.desk_types.proofs.Common.{is_utf8-from_IsUtf8, IsUtf8, IsUtf8-from_is_utf8, List, None, Ok, refl}
+use Rattle.desk_types.proofs.Common.{Result, result_ok, Some, true, ℕ}
 use Rattle.imports.specs.File.{text_of}
 use Rattle.std.{proofs.Common.option_map, specs.Prelude.MatchResult}
 use Rattle.imports.proofs.fields.text_at.Goals as goal

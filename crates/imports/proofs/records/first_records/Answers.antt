@@ -1,5 +1,5 @@
-use Rattle.desk_types.proofs.Common.{[], ◌++◌, ◌∙◌, ◌∷◌, ◌≡◌, ◌≤◌, arith, Bor, inl, inr, length, length-map, List}
-use Rattle.desk_types.proofs.Common.{map, map-append, refl, rules, Some, sym, ℕ}
+use Rattle.desk_types.proofs.Common.{[], ◌++◌, ◌∙◌, ◌∷◌, ◌≡◌, ◌≤◌, arith, Bor, inl, inr, length, length-map}
+use Rattle.desk_types.proofs.Common.{List, map, map-append, refl, rules, Some, sym, ℕ}
 use Rattle.csv.{proofs.ReadFacts.rows-end, proofs.ReadFacts.rows-more, specs.Reading.default_config}
 use Rattle.csv.{specs.Reading.Reached, specs.Reading.strip_bom, specs.Records.fields_of}
 use Rattle.imports.{proofs.FirstRecords.first-of_reached, specs.declared.records.TheConstants.MOST_RECORDS}

@@ -1,5 +1,6 @@
-use Rattle.desk_types.proofs.Common.{◌+◌, ◌≡◌, ◌≤◌, length, LONGEST_LIST, map, Ok, take}
+use Rattle.desk_types.proofs.Common.{◌+◌, ◌≡◌, ◌≤◌, length, map, Ok, take}
 use Rattle.csv.specs.Records.{fields_of}
+use Rattle.desk_types.specs.declared.limits.TheConstants.{LONGEST_LIST}
 use Rattle.imports.specs.{File.each, declared.rows.TheConstants.FIRST_ROW}
 use Rattle.imports.proofs.rows.each.Given as goal
 

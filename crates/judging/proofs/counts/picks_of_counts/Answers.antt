@@ -1,6 +1,7 @@
-use Rattle.desk_types.proofs.Common.{[], ◌++◌, ◌+◌, ◌-◌, ◌∙◌, ◌∷◌, ◌≡◌, ap, append_assoc, count_picks, Counted}
-use Rattle.desk_types.proofs.Common.{CountRow, counts_refusal, drop, drop-next, left_of, List, map, map-append, Name}
+use Rattle.desk_types.proofs.Common.{[], ◌++◌, ◌+◌, ◌-◌, ◌∙◌, ◌∷◌, ◌≡◌, ap, append_assoc, count_picks}
+use Rattle.desk_types.proofs.Common.{counts_refusal, drop, drop-next, left_of, List, map, map-append, Name}
 use Rattle.desk_types.proofs.Common.{option_or, pieces_off, subst, sym, take, take-next}
+use Rattle.desk_laws.proofs.Common.{Counted, CountRow}
 use Rattle.setup_sheets.specs.Names.{HasSeen}
 use Rattle.judging.proofs.counts.picks_of_counts.Goals as goal
 

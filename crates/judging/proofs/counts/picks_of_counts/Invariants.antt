@@ -1,5 +1,6 @@
-use Rattle.desk_types.proofs.Common.{[], ◌++◌, ◌≡◌, count_picks, CountRow, counts_refusal, drop, History, left_of}
-use Rattle.desk_types.proofs.Common.{map, take}
+use Rattle.desk_types.proofs.Common.{[], ◌++◌, ◌≡◌, count_picks, counts_refusal, drop, History, left_of, map}
+use Rattle.desk_types.proofs.Common.{take}
+use Rattle.desk_laws.proofs.Common.{CountRow}
 use Rattle.setup_sheets.specs.Names.{HasSeen}
 use Rattle.judging.proofs.counts.picks_of_counts.Given as goal
 

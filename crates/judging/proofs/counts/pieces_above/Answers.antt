@@ -1,5 +1,5 @@
-use Rattle.desk_types.proofs.Common.{◌∙◌, ◌≡◌, ap, arith, false, is_above, is_mounted, is_none, left_of, receipt_of}
-use Rattle.desk_types.proofs.Common.{subst, sym}
+use Rattle.desk_types.proofs.Common.{◌∙◌, ◌≡◌, ap, arith, false, is_above, is_mounted, is_none, left_of}
+use Rattle.desk_types.proofs.Common.{receipt_of, subst, sym}
 use Rattle.judging.specs.Facts.{IsReelOf}
 use Rattle.setup_sheets.proofs.SeenNames.{HasSeen-push, was-new}
 use Rattle.judging.proofs.counts.pieces_above.Goals as goal

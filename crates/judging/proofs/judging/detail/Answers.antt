@@ -1,5 +1,6 @@
-use Rattle.desk_types.proofs.Common.{◌-◌, ◌^◌, ◌∙◌, ap, detail_of, IsCommand, IsCountRow, IsListOf, min, picks_of}
-use Rattle.desk_types.proofs.Common.{pieces_of, subst, sym, Taken}
+use Rattle.desk_types.proofs.Common.{◌-◌, ◌^◌, ◌∙◌, ap, detail_of, IsCommand, IsCountRow, IsListOf, min}
+use Rattle.desk_types.proofs.Common.{picks_of, pieces_of, subst, sym}
+use Rattle.desk_laws.proofs.Common.{Taken}
 use Rattle.judging.proofs.PicksOfCommands.{count-fits, scrap-fits}
 use Rattle.judging.proofs.judging.detail.Goals as goal
 

@@ -1,4 +1,5 @@
-use Rattle.desk_types.proofs.Common.{◌∙◌, AllByRecursion, ap, map, Pick, subst, sym, take_of}
+use Rattle.desk_types.proofs.Common.{◌∙◌, AllByRecursion, ap, map, subst, sym, take_of}
+use Rattle.desk_laws.proofs.Common.{Pick}
 use Rattle.judging.{proofs.PicksOfCommands.picks-known, specs.Facts.IsKnownReel}
 use Rattle.judging.proofs.judging.takes_by.Goals as goal
 

@@ -1,4 +1,5 @@
-use Rattle.desk_types.proofs.Common.{[], ◌∙◌, ◌∷◌, ◌≡◌, ap, arith, left_of, lt-ltb, nat_lt, option_map_or, sym, true}
+use Rattle.desk_types.proofs.Common.{[], ◌∙◌, ◌∷◌, ◌≡◌, ap, arith, left_of, lt-ltb, nat_lt, option_map_or}
+use Rattle.desk_types.proofs.Common.{sym, true}
 use Rattle.judging.proofs.Reels.{filter-gap, filter-here}
 use Rattle.judging.specs.{Placing.live_past, declared.placing.Feed.Feed}
 use Rattle.judging.proofs.placing.next_reel.Goals as goal

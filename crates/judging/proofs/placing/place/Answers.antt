@@ -1,4 +1,5 @@
-use Rattle.desk_types.proofs.Common.{◌∙◌, ◌≡◌, ap, bench_of, ReelShort, refl, slot_on, Some, sym}
+use Rattle.desk_types.proofs.Common.{◌∙◌, ◌≡◌, ap, bench_of, refl, slot_on, Some, sym}
+use Rattle.desk_laws.proofs.Common.{ReelShort}
 use Rattle.judging.proofs.PlacedInTurn.{not-refused, pick-found, pick-none, refused-short}
 use Rattle.judging.specs.{Placing.pick_of, declared.placing.Feeder.Feeder}
 use Rattle.setup_sheets.proofs.SeenNames.{HasSeen-push, was-new}

@@ -1,6 +1,7 @@
-use Rattle.desk_types.proofs.Common.{[], ◌++◌, ◌+◌, ◌∙◌, ◌∷◌, ◌≡◌, ap, arith, bench_of, by_name, designators_refusal}
-use Rattle.desk_types.proofs.Common.{drop, drop_all, install_picks, is_at, is_placed_on, left_of, list_any, live_on}
-use Rattle.desk_types.proofs.Common.{lookup, Pick, subst, sym, take, take-next}
+use Rattle.desk_types.proofs.Common.{[], ◌++◌, ◌+◌, ◌∙◌, ◌∷◌, ◌≡◌, ap, arith, bench_of, by_name}
+use Rattle.desk_types.proofs.Common.{designators_refusal, drop, drop_all, install_picks, is_at, is_placed_on}
+use Rattle.desk_types.proofs.Common.{left_of, list_any, live_on, lookup, subst, sym, take, take-next}
+use Rattle.desk_laws.proofs.Common.{Pick}
 use Rattle.judging.proofs.Feeds.{feeds-first}
 use Rattle.judging.proofs.PlacedInTurn.{before_at, picks-end, picks-next, refusal-here, refusal-next}
 use Rattle.judging.specs.Placing.{IsFeeding, pick_of}

@@ -1,8 +1,9 @@
-use Rattle.desk_types.proofs.Common.{[], ◌∙◌, ◌∷◌, ◌≡◌, ap, left_of, live_on, name-written, refl, Some, subst, sym}
-use Rattle.desk_types.proofs.Common.{unwrap_or}
+use Rattle.desk_types.proofs.Common.{[], ◌∙◌, ◌∷◌, ◌≡◌, ap, left_of, live_on, name-written, refl, Some, subst}
+use Rattle.desk_types.proofs.Common.{sym, unwrap_or}
 use Rattle.desk_laws.proofs.Tapes.{live-distinct}
-use Rattle.judging.proofs.{Feeds.fed-front, Feeds.fed-next, Feeds.fed-none, Feeds.feeds-next, Feeds.given_by-nothing}
-use Rattle.judging.proofs.{Feeds.given_by-reel, Feeds.less-written, Feeds.other-written, Reels.find-tape}
+use Rattle.judging.proofs.Feeds.{fed-front, fed-next, fed-none, feeds-next, given_by-nothing, given_by-reel}
+use Rattle.judging.proofs.Feeds.{less-written, other-written}
+use Rattle.judging.proofs.Reels.{find-tape}
 use Rattle.judging.specs.Placing.{feed_at, IsFed, live_next, live_past, one_less}
 use Rattle.judging.proofs.placing.take_piece.Goals as goal
 

@@ -1,5 +1,7 @@
-use Rattle.desk_types.proofs.Common.{◌∙◌, ◌≡◌, ap, arith, false, is_vacant, left_of, Rejected, scrap_picks, sym}
-use Rattle.judging.proofs.{Reels.scrap-live, ScrapPicks.scrap-empty, ScrapPicks.scrap-enough, ScrapPicks.scrap-short}
+use Rattle.desk_types.proofs.Common.{◌∙◌, ◌≡◌, ap, arith, false, is_vacant, left_of, scrap_picks, sym}
+use Rattle.desk_laws.proofs.Common.{Rejected}
+use Rattle.judging.proofs.Reels.{scrap-live}
+use Rattle.judging.proofs.ScrapPicks.{scrap-empty, scrap-enough, scrap-short}
 use Rattle.judging.proofs.scraps.picks_of_scrap.Goals as goal
 
 pub returns-then-is_vacant : goal.returns-then-is_vacant

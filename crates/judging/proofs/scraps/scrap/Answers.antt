@@ -1,5 +1,6 @@
-use Rattle.desk_types.proofs.Common.{◌++◌, ◌+◌, ◌-◌, ◌∙◌, ◌≡◌, ap, arith, drop, left_of, min, pieces_off, Rejected}
+use Rattle.desk_types.proofs.Common.{◌++◌, ◌+◌, ◌-◌, ◌∙◌, ◌≡◌, ap, arith, drop, left_of, min, pieces_off}
 use Rattle.desk_types.proofs.Common.{scrap_picks, sum_by, sym}
+use Rattle.desk_laws.proofs.Common.{Rejected}
 use Rattle.judging.proofs.{Reels.no-gap, ScrapPicks.scrap-done, ScrapPicks.scrap-step, ScrapPicks.sum-step}
 use Rattle.judging.proofs.{scraps.scrap.Goals.in-Some+in_ok-put_off, scraps.scrap.Goals.in_default}
 use Rattle.judging.proofs.scraps.scrap.Goals as goal

@@ -1,4 +1,5 @@
-use Rattle.desk_types.proofs.Common.{◌++◌, ◌-◌, ◌≡◌, drop, History, left_of, Rejected, scrap_picks, sum_by}
+use Rattle.desk_types.proofs.Common.{◌++◌, ◌-◌, ◌≡◌, drop, History, left_of, scrap_picks, sum_by}
+use Rattle.desk_laws.proofs.Common.{Rejected}
 use Rattle.judging.proofs.scraps.scrap.Given as goal
 
 -- The picks so far with those of the remaining reels are all, with the same pieces missing at the

@@ -1,4 +1,5 @@
-use Rattle.desk_types.proofs.Common.{[], ◌++◌, ◌∙◌, ◌∷◌, ap, map, map-append, subst, sym, take, take-next, take_of}
+use Rattle.desk_types.proofs.Common.{[], ◌++◌, ◌∙◌, ◌∷◌, ap, map, map-append, subst, sym, take, take-next}
+use Rattle.desk_types.proofs.Common.{take_of}
 use Rattle.judging.specs.Facts.{IsReelOf}
 use Rattle.judging.proofs.takes.takes_for.Goals as goal
 

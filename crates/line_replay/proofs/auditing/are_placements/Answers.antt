@@ -1,6 +1,7 @@
 use Rattle.desk_types.proofs.Common.{◌&&◌, ◌==◌, Bool, subst, sym}
 use Rattle.line_tables.proofs.Common.{state}
-use Rattle.line_replay.{proofs.PlacementsAsExpected.same_placements, specs.Alone.Decides, specs.Audit.HasPlacements}
+use Rattle.line_replay.proofs.PlacementsAsExpected.{same_placements}
+use Rattle.line_replay.specs.{Alone.Decides, Audit.HasPlacements}
 use Rattle.line_replay.proofs.auditing.are_placements.Goals as goal
 
 pub returns-then-placed-clause-same : goal.returns-then-placed-clause-same

@@ -1,6 +1,7 @@
-use Rattle.desk_types.proofs.Common.{◌+◌, ◌<◌, ◌∙◌, ◌≤◌, AllByRecursion, arith, drop, length, Option, PlacementRow}
-use Rattle.desk_types.proofs.Common.{subst, sym, take, take_all, true≢false, ℕ}
+use Rattle.desk_types.proofs.Common.{◌+◌, ◌<◌, ◌∙◌, ◌≤◌, AllByRecursion, arith, drop, length, Option, subst}
+use Rattle.desk_types.proofs.Common.{sym, take, take_all, true≢false, ℕ}
 use Rattle.line_tables.proofs.Common.{HasCleanDisk, state}
+use Rattle.desk_types.specs.declared.row.PlacementRow.{PlacementRow}
 use Rattle.line_replay.proofs.{PlacementsAsExpected.expected_after, Verdicts.right_more, Verdicts.split_at}
 use Rattle.line_replay.specs.Audit.{HoldsTable, IsExpected, Pieces, with_placements}
 use Rattle.line_tables.proofs.{Frames.reads_then, Keeps.reads_before}

@@ -1,5 +1,6 @@
-use Rattle.desk_types.proofs.Common.{◌<◌, AllByRecursion, IsTrue, Option, PlacementRow, take, ℕ}
+use Rattle.desk_types.proofs.Common.{◌<◌, AllByRecursion, IsTrue, Option, take, ℕ}
 use Rattle.line_tables.proofs.Common.{HasCleanDisk, IsOurs, ReadsOnly, state}
+use Rattle.desk_types.specs.declared.row.PlacementRow.{PlacementRow}
 use Rattle.line_replay.specs.Audit.{HoldsTable, IsExpected, Pieces, with_placements}
 use Rattle.state_rows.specs.Kept.{tables_in}
 use Rattle.line_replay.proofs.auditing.audit_tables.Given as goal

@@ -1,5 +1,6 @@
-use Rattle.desk_types.proofs.Common.{◌+◌, ◌∙◌, ap, length, List, PlacementRow, subst}
+use Rattle.desk_types.proofs.Common.{◌+◌, ◌∙◌, ap, length, List, subst}
 use Rattle.line_tables.proofs.Common.{Database, state}
+use Rattle.desk_types.specs.declared.row.PlacementRow.{PlacementRow}
 use Rattle.line_replay.specs.Expected.{ArePlacedToo, HoldsAsRead}
 use Rattle.line_replay.proofs.placed.look_up.Goals as goal
 

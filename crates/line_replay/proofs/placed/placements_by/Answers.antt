@@ -1,4 +1,5 @@
-use Rattle.desk_types.proofs.Common.{◌∙◌, ap, append-nil, Global, None, PlacementRow, Some, sym, Vec}
+use Rattle.desk_types.proofs.Common.{◌∙◌, ap, append-nil, Global, None, Some, sym, Vec}
+use Rattle.desk_types.specs.declared.row.PlacementRow.{PlacementRow}
 use Rattle.line_replay.proofs.ExpectedRows.{placements-next}
 use Rattle.line_replay.proofs.placed.placements_by.Goals.{in-None, in-Some+in_ok-push-in-Some}
 use Rattle.line_replay.proofs.placed.placements_by.Goals as goal

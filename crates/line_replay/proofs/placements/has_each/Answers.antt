@@ -1,8 +1,9 @@
-use Rattle.desk_types.proofs.Common.{[], ◌∙◌, ◌∷◌, ◌≡◌, ◌≤◌, arith, filter, length, PlacementRow, subst, sym}
-use Rattle.desk_types.proofs.Common.{take_all, true≢false}
+use Rattle.desk_types.proofs.Common.{[], ◌∙◌, ◌∷◌, ◌≡◌, ◌≤◌, arith, filter, length, subst, sym, take_all}
+use Rattle.desk_types.proofs.Common.{true≢false}
 use Rattle.line_tables.proofs.Common.{Has, HasCleanDisk, placement_columns, rows_in, state}
-use Rattle.line_replay.proofs.{PlacementsFound.all_here, PlacementsFound.looked_here, PlacementsFound.one_missing}
-use Rattle.line_replay.proofs.{Verdicts.right_more}
+use Rattle.desk_types.specs.declared.row.PlacementRow.{PlacementRow}
+use Rattle.line_replay.proofs.{PlacementsFound.all_here, PlacementsFound.looked_here}
+use Rattle.line_replay.proofs.{PlacementsFound.one_missing, Verdicts.right_more}
 use Rattle.line_replay.specs.Placed.{AreHere, has_placement}
 use Rattle.line_tables.proofs.{Frames.reads_then, Keeps.reads_before}
 use Rattle.line_tables.specs.Line as line

@@ -1,7 +1,6 @@
-use Rattle.desk_types.proofs.Common.{◌≡◌, arith, pos, rules, subst}
+use Rattle.desk_types.proofs.Common.{◌≡◌, arith, ints, pos, rules, subst}
 use Rattle.line_tables.proofs.Common.{accepted_in, IsLeast, state}
 use Rattle.line_replay.{proofs.ReadOfCommitted.reads_as, proofs.StopsOfRows.stops_first, specs.Listed.StopsAt}
-use Rattle.std.proofs.lemmas.Int.{ints}
 use Rattle.line_replay.proofs.taking.least_is_one.Goals as goal
 
 pub returns-in-Some-clause-err : goal.returns-in-Some-clause-err

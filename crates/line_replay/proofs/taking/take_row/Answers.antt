@@ -1,5 +1,5 @@
-use Rattle.desk_types.proofs.Common.{arith, err_from_is_err_and, List, RowEdit, subst}
-use Rattle.line_tables.proofs.Common.{HasCleanDisk, KeepsCommit, state}
+use Rattle.desk_types.proofs.Common.{arith, err_from_is_err_and, List, subst}
+use Rattle.line_tables.proofs.Common.{HasCleanDisk, KeepsCommit, RowEdit, state}
 use Rattle.line_replay.proofs.{ExpectedRows.looks_back, OneRowMore.fault_stuck, OneRowMore.row_taken}
 use Rattle.line_replay.specs.Expected.{LooksUp}
 use Rattle.line_tables.proofs.Keeps.{keeps_then}

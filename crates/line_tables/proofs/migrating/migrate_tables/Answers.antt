@@ -1,7 +1,8 @@
 use Rattle.desk_types.proofs.Common.{IsTrue, rules}
 use Rattle.line_tables.proofs.Common.{LeavesMigrated, Migrated, state}
-use Rattle.line_tables.proofs.{Leaves.Ends, Leaves.ends, Leaves.migration_made, migrating.migrate_tables.Given.Over}
-use Rattle.line_tables.proofs.{migrating.migrate_tables.Goals.After-conn-2-1}
+use Rattle.line_tables.proofs.Leaves.{Ends, ends, migration_made}
+use Rattle.line_tables.proofs.migrating.migrate_tables.Given.{Over}
+use Rattle.line_tables.proofs.migrating.migrate_tables.Goals.{After-conn-2-1}
 use Rattle.line_tables.proofs.migrating.migrate_tables.Goals as goal
 
 ends_of : (g : Over) (c : After-conn-2-1 g) → let old = state g.S.Store c.args.conn.now in Ends g.S.Store c.args.conn.now c.conn-2-1.given.0 c.commit.result (Migrated old.committed) (LeavesMigrated old)

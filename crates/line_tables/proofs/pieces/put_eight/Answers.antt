@@ -1,6 +1,6 @@
 use Rattle.desk_types.proofs.Common.{on_ok_weaker, subst}
-use Rattle.line_tables.proofs.Common.{INSERT_PLACEMENTS, Runs, state}
-use Rattle.line_tables.proofs.Placing.{eight_put}
+use Rattle.line_tables.proofs.Common.{Runs, state}
+use Rattle.line_tables.{proofs.Placing.eight_put, specs.declared.pieces.TheConstants.INSERT_PLACEMENTS}
 use Rattle.line_tables.proofs.pieces.put_eight.Goals as goal
 
 pub returns-clause-done : goal.returns-clause-done

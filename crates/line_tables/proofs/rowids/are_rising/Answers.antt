@@ -1,5 +1,5 @@
-use Rattle.desk_types.proofs.Common.{◌+◌, ◌∙◌, ◌≡◌, AllByRecursion, arith, drop, false, rules, Some, subst, sym, take}
-use Rattle.desk_types.proofs.Common.{true≢false, ℤ}
+use Rattle.desk_types.proofs.Common.{◌+◌, ◌∙◌, ◌≡◌, AllByRecursion, arith, drop, false, rules, Some, subst}
+use Rattle.desk_types.proofs.Common.{sym, take, true≢false, ℤ}
 use Rattle.line_tables.proofs.Common.{Int, IsBefore, IsPast}
 use Rattle.line_tables.proofs.Rising.{above_more, AreAbove, below_more, DoRise, past_here, rising_more}
 use Rattle.std.proofs.{Common.of_z, Common.SFits, Common.to_z, Common.w64, lemmas.Int.to_z-of_z}

@@ -1,5 +1,5 @@
-use Rattle.desk_types.proofs.Common.{[], ◌++◌, ◌-◌, ◌∙◌, ◌∷◌, ◌≡◌, ap, arith, drop, flat_map, get_or, length, List}
-use Rattle.desk_types.proofs.Common.{rules, take, ℕ}
+use Rattle.desk_types.proofs.Common.{[], ◌++◌, ◌-◌, ◌∙◌, ◌∷◌, ◌≡◌, ap, arith, drop, flat_map, get_or, length}
+use Rattle.desk_types.proofs.Common.{List, rules, take, ℕ}
 use Rattle.line_tables.proofs.Spaced.{join_parts}
 use Rattle.line_tables.proofs.values.designators_text.Goals as goal
 

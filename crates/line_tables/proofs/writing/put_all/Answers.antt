@@ -1,7 +1,8 @@
-use Rattle.desk_types.proofs.Common.{[], ◌≡◌, arith, drop, List, refl, RowEdit, rules, subst, sym, take}
-use Rattle.line_tables.proofs.Common.{AreNew, command_edits, Edit, Edits, HasCleanDisk, IsDatabase, row_edits, state}
-use Rattle.line_tables.proofs.{Alterations.no_length, Beside.others_stay_then, Frames.within_then, Puts.Remain}
-use Rattle.line_tables.proofs.{Puts.remain_less, Puts.remain_none, Puts.sound_less}
+use Rattle.desk_types.proofs.Common.{[], ◌≡◌, arith, drop, List, refl, rules, subst, sym, take}
+use Rattle.line_tables.proofs.Common.{AreNew, command_edits, Edit, Edits, HasCleanDisk, IsDatabase, row_edits}
+use Rattle.line_tables.proofs.Common.{RowEdit, state}
+use Rattle.line_tables.proofs.{Alterations.no_length, Beside.others_stay_then, Frames.within_then}
+use Rattle.line_tables.proofs.{Puts.Remain, Puts.remain_less, Puts.remain_none, Puts.sound_less}
 use Rattle.line_tables.specs.Edit.{EditRow}
 use Rattle.std.proofs.lemmas.List.{drop-map, take-map}
 use Rattle.line_tables.proofs.writing.put_all.Goals as goal

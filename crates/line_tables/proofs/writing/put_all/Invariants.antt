@@ -1,6 +1,6 @@
 use Rattle.desk_types.proofs.Common.{IsTrue, length}
-use Rattle.line_tables.proofs.Common.{AreNew, command_edits, HasCleanDisk, Holds, IsDatabase, KeepsOthers, row_edits}
-use Rattle.line_tables.proofs.Common.{state}
+use Rattle.line_tables.proofs.Common.{AreNew, command_edits, HasCleanDisk, Holds, IsDatabase, KeepsOthers}
+use Rattle.line_tables.proofs.Common.{row_edits, state}
 use Rattle.line_tables.{proofs.Puts.Remain, specs.Frames.InTransaction, specs.Rows.Tables}
 use Rattle.line_tables.proofs.writing.put_all.Given as goal
 

@@ -1,4 +1,5 @@
-use Rattle.desk_types.proofs.Common.{◌≡◌, map, Placement, reverse, set_of}
+use Rattle.desk_types.proofs.Common.{◌≡◌, map, reverse, set_of}
+use Rattle.desk_laws.proofs.Common.{Placement}
 use Rattle.line_traces.proofs.by_lists.boards_among.Given as goal
 
 abbrev pub invariant-loop-piece : goal.invariant-loop-piece

@@ -1,6 +1,8 @@
-use Rattle.desk_types.proofs.Common.{◌∙◌, ap, boards_of, map, option_copied, Placement, same, set_of, subst, sym}
+use Rattle.desk_types.proofs.Common.{◌∙◌, ap, boards_of, map, option_copied, same, set_of, subst, sym}
+use Rattle.desk_laws.proofs.Common.{Placement}
 use Rattle.line_tables.proofs.Common.{state}
-use Rattle.line_traces.{proofs.LookedPieces.boards-told, proofs.LookedPieces.listed-told, specs.Working.FindsOfBoth}
+use Rattle.line_traces.proofs.LookedPieces.{boards-told, listed-told}
+use Rattle.line_traces.specs.Working.{FindsOfBoth}
 use Rattle.state_rows.specs.Lists.{key_of}
 use Rattle.line_traces.proofs.by_lists.boards_of_lot.Goals as goal
 

@@ -1,6 +1,7 @@
 use Rattle.desk_types.proofs.Common.{ap, map, option_copied, same, subst, sym}
 use Rattle.line_tables.proofs.Common.{state}
-use Rattle.line_traces.{proofs.LookedPieces.listed-told, specs.Pieces.pieces_of_lot, specs.Working.FindsOfBoth}
+use Rattle.line_traces.proofs.LookedPieces.{listed-told}
+use Rattle.line_traces.specs.{Pieces.pieces_of_lot, Working.FindsOfBoth}
 use Rattle.state_rows.specs.Lists.{key_of}
 use Rattle.line_traces.proofs.by_lists.pieces_of_lot.Goals as goal
 

@@ -1,4 +1,5 @@
-use Rattle.desk_types.proofs.Common.{◌∙◌, ◌≡◌, ◌≢◌, length, Placement, refl, rules}
+use Rattle.desk_types.proofs.Common.{◌∙◌, ◌≡◌, ◌≢◌, length, refl, rules}
+use Rattle.desk_laws.proofs.Common.{Placement}
 use Rattle.line_tables.specs.Faults.{OnlyWhere}
 use Rattle.line_traces.proofs.Columns.{all-columns, no_flag}
 use Rattle.line_traces.specs.Committed.{IsPiece, placed_columns}

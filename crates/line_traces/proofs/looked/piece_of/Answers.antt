@@ -1,4 +1,5 @@
-use Rattle.desk_types.proofs.Common.{◌∙◌, ◌≡◌, ap, ap₂, basis, rules, Some, subst, sym, Two}
+use Rattle.desk_types.proofs.Common.{◌∙◌, ◌≡◌, ap, ap₂, basis, rules, Some, subst, sym}
+use Rattle.desk_laws.proofs.Common.{Two}
 use Rattle.line_tables.proofs.Common.{Has, rows_in}
 use Rattle.line_traces.{proofs.LookedRows.piece_with, proofs.LookedRows.row-tells, specs.Pieces.piece_at}
 use Rattle.state_rows.specs.Lists.{Key, key_of, minute_of}

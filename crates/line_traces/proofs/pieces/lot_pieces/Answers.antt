@@ -1,6 +1,7 @@
 use Rattle.desk_types.proofs.Common.{IfOk-weaker}
 use Rattle.line_tables.proofs.Common.{state}
-use Rattle.line_traces.{proofs.FoundPieces.finds-of_lot, proofs.TwoCalls.pieces-told, specs.Pieces.pieces_of_lot}
+use Rattle.line_traces.proofs.{FoundPieces.finds-of_lot, TwoCalls.pieces-told}
+use Rattle.line_traces.specs.Pieces.{pieces_of_lot}
 use Rattle.line_traces.proofs.pieces.lot_pieces.Goals as goal
 
 pub returns-clause-pieces : goal.returns-clause-pieces

@@ -1,4 +1,5 @@
-use Rattle.desk_types.proofs.Common.{◌∙◌, ap, filter_map, Left, Name, reel_view, reverse, take_all}
+use Rattle.desk_types.proofs.Common.{◌∙◌, ap, filter_map, Name, reel_view, reverse, take_all}
+use Rattle.desk_laws.proofs.Common.{Left}
 use Rattle.judging.proofs.FreeReels.{free_among, views-of_turns}
 use Rattle.look_back.proofs.FreeReels.{told-next}
 use Rattle.look_back.proofs.free.free_reels.Goals as goal

@@ -1,5 +1,6 @@
-use Rattle.desk_types.proofs.Common.{◌∙◌, ap, by_name, insert_key, Left, map, option_map_or, Ordering, ordering_then}
-use Rattle.desk_types.proofs.Common.{reverse, sym, take, take-next}
+use Rattle.desk_types.proofs.Common.{◌∙◌, ap, by_name, insert_key, map, option_map_or, Ordering}
+use Rattle.desk_types.proofs.Common.{ordering_then, reverse, sym, take, take-next}
+use Rattle.desk_laws.proofs.Common.{Left}
 use Rattle.desk_types.proofs.Lives.{left-order}
 use Rattle.judging.{proofs.FreeReels.free_among, specs.Turns.by_life, specs.Turns.turn_of}
 use Rattle.look_back.{proofs.FreeReels.turns-next, proofs.ReelsLater.reverse-last}

@@ -1,4 +1,5 @@
-use Rattle.desk_types.proofs.Common.{◌≡◌, by_turn, filter, in_order, is_free, map, reels_received, reverse, take}
+use Rattle.desk_types.proofs.Common.{◌≡◌, by_turn, filter, in_order, is_free, map, reels_received, reverse}
+use Rattle.desk_types.proofs.Common.{take}
 use Rattle.judging.specs.Turns.{turn_of}
 use Rattle.look_back.proofs.free.turns.Given as goal
 

@@ -1,5 +1,5 @@
-use Rattle.desk_types.proofs.Common.{◌&&◌, ◌∙◌, ◌≡◌, ap, arith, false, left_of, list_any, lt-ltb, nat_lt, reverse}
-use Rattle.desk_types.proofs.Common.{same, sym, tape_of, true}
+use Rattle.desk_types.proofs.Common.{◌&&◌, ◌∙◌, ◌≡◌, ap, arith, false, left_of, list_any, lt-ltb, nat_lt}
+use Rattle.desk_types.proofs.Common.{reverse, same, sym, tape_of, true}
 use Rattle.desk_laws.proofs.Mounts.{has-live_on}
 use Rattle.judging.proofs.Reels.{spent}
 use Rattle.look_back.proofs.mounts.is_live_on.Goals as goal

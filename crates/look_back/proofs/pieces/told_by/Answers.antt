@@ -1,4 +1,5 @@
-use Rattle.desk_types.proofs.Common.{◌∙◌, ap, CountRow, option_map, pieces_by, same, sym}
+use Rattle.desk_types.proofs.Common.{◌∙◌, ap, option_map, pieces_by, same, sym}
+use Rattle.desk_laws.proofs.Common.{CountRow}
 use Rattle.std.specs.List.{find}
 use Rattle.look_back.proofs.pieces.told_by.Goals as goal
 

@@ -1,8 +1,8 @@
 use Rattle.desk_types.proofs.Common.{◌++◌, ◌+◌, ◌∙◌, ap, drop, filter, reverse, sym, tape_of}
 use Rattle.judging.proofs.Reels.{no-gap}
 use Rattle.look_back.proofs.TapeLists.{has_pieces, live-all, live-passed, live-put}
-use Rattle.look_back.proofs.tapes.live_on.Goals.{in-Some+else-left_of-gt0, in-Some+then-left_of-gt0+in_ok-push}
-use Rattle.look_back.proofs.tapes.live_on.Goals.{in_default}
+use Rattle.look_back.proofs.tapes.live_on.Goals.{in-Some+else-left_of-gt0}
+use Rattle.look_back.proofs.tapes.live_on.Goals.{in-Some+then-left_of-gt0+in_ok-push, in_default}
 use Rattle.look_back.proofs.tapes.live_on.Goals as goal
 
 pub loop-index-preserved : goal.loop-index-preserved

@@ -1,5 +1,6 @@
-use Rattle.desk_types.proofs.Common.{◌+◌, ◌-◌, ◌∙◌, ◌≡◌, ap, arith, cond, get_or, name-written, option_and_then}
-use Rattle.desk_types.proofs.Common.{option_or, row_in, same, SheetRow, sym, take}
+use Rattle.desk_types.proofs.Common.{◌+◌, ◌-◌, ◌∙◌, ◌≡◌, ap, arith, cond, get_or, name-written}
+use Rattle.desk_types.proofs.Common.{option_and_then, option_or, row_in, same, sym, take}
+use Rattle.desk_laws.proofs.Common.{SheetRow}
 use Rattle.setup_sheets.{proofs.SheetLookUps.row-placed, specs.LookUps.row_at}
 use Rattle.std.specs.List.{slice_get}
 use Rattle.setup_sheets.proofs.look_ups.places_in.Goals as goal

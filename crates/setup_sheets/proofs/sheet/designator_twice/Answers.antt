@@ -1,5 +1,6 @@
 use Rattle.desk_types.proofs.Common.{[], ◌++◌, ◌+◌, ◌∙◌, ◌∷◌, ◌≡◌, ap, append-nil, arith, drop, drop-next}
-use Rattle.desk_types.proofs.Common.{flat_map-append, name_twice, None, Ok, SheetRow, Some, sym, take, take-next}
+use Rattle.desk_types.proofs.Common.{flat_map-append, name_twice, None, Ok, Some, sym, take, take-next}
+use Rattle.desk_laws.proofs.Common.{SheetRow}
 use Rattle.desk_types.specs.Refusals.{designators_of_rows}
 use Rattle.setup_sheets.proofs.SeenNames.{name_twice-append_none, name_twice-append_some}
 use Rattle.setup_sheets.proofs.sheet.designator_twice.Goals as goal

@@ -1,5 +1,6 @@
-use Rattle.desk_types.proofs.Common.{[], ◌++◌, ◌+◌, ◌∙◌, ◌∷◌, ◌≡◌, ap, arith, drop, drop-next, map-append, name_twice}
-use Rattle.desk_types.proofs.Common.{SheetRow, slots_of_rows, sym, take, take-next}
+use Rattle.desk_types.proofs.Common.{[], ◌++◌, ◌+◌, ◌∙◌, ◌∷◌, ◌≡◌, ap, arith, drop, drop-next, map-append}
+use Rattle.desk_types.proofs.Common.{name_twice, slots_of_rows, sym, take, take-next}
+use Rattle.desk_laws.proofs.Common.{SheetRow}
 use Rattle.setup_sheets.proofs.SeenNames.{HasSeen-push, name_twice-new, was-new}
 use Rattle.setup_sheets.proofs.sheet.slot_twice.Goals as goal
 

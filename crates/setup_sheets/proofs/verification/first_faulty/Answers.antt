@@ -1,5 +1,6 @@
-use Rattle.desk_types.proofs.Common.{◌+◌, ◌∙◌, ◌∷◌, ◌≡◌, ap, arith, drop, drop-next, length, length-map, List, Name}
-use Rattle.desk_types.proofs.Common.{Refusal, SheetRow, Some, sym, ℕ}
+use Rattle.desk_types.proofs.Common.{◌+◌, ◌∙◌, ◌∷◌, ◌≡◌, ap, arith, drop, drop-next, length, length-map, List}
+use Rattle.desk_types.proofs.Common.{Name, Some, sym, ℕ}
+use Rattle.desk_laws.proofs.Common.{Refusal, SheetRow}
 use Rattle.desk_types.specs.declared.front.Front.{Front}
 use Rattle.setup_sheets.specs.Verification.{first_fault, front_fault}
 use Rattle.setup_sheets.proofs.verification.first_faulty.Goals as goal

@@ -1,5 +1,5 @@
 use Rattle.desk_types.proofs.Common.{◌∙◌, ◌≡◌, ap, None, Some, sym}
-use Rattle.desk_types.proofs.BothRules.{judged-by-two}
+use Rattle.desk_laws.proofs.Common.{judged-by-two}
 use Rattle.setup_sheets.proofs.VerifiedStarts.{first-told, refusal_in}
 use Rattle.setup_sheets.specs.Verification.{first_fault}
 use Rattle.setup_sheets.proofs.verification.verify.Goals as goal

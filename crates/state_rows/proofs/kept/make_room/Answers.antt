@@ -1,5 +1,5 @@
-use Rattle.desk_types.proofs.Common.{[], ◌∙◌, ◌≡◌, ap, BTreeMap, cond, List, Name, name-written, Option, rules, same}
-use Rattle.desk_types.proofs.Common.{unwrap_or}
+use Rattle.desk_types.proofs.Common.{[], ◌∙◌, ◌≡◌, ap, BTreeMap, cond, List, Name, name-written, Option}
+use Rattle.desk_types.proofs.Common.{rules, same, unwrap_or}
 use Rattle.state_rows.{proofs.KeptUnderNames.no-more, specs.Lists.kept_at}
 use Rattle.state_rows.proofs.kept.make_room.Goals as goal
 

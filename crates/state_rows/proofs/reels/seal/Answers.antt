@@ -1,4 +1,5 @@
-use Rattle.desk_types.proofs.Common.{[], ◌++◌, ◌∙◌, ◌∷◌, ◌≡◌, ap, arith, PutReel, reel_row, sealed_row, Some, sym}
+use Rattle.desk_types.proofs.Common.{[], ◌++◌, ◌∙◌, ◌∷◌, ◌≡◌, ap, arith, reel_row, sealed_row, Some, sym}
+use Rattle.desk_types.specs.declared.edit.RowEdit.TheVariants.{PutReel}
 use Rattle.state_rows.{proofs.SumsInRange.kept-fits, specs.EditsOf.reel_edit}
 use Rattle.state_rows.proofs.reels.seal.Goals as goal
 

@@ -1,6 +1,6 @@
-use Rattle.desk_types.proofs.Common.{◌∙◌, ap, AreBalanced, AreTakesFirst, Basis, IsMinute, map, subst, sym, tables_of}
-use Rattle.desk_types.proofs.Common.{with_edits}
-use Rattle.desk_types.proofs.BothRules.{judged-by-two}
+use Rattle.desk_types.proofs.Common.{◌∙◌, ap, AreBalanced, AreTakesFirst, Basis, IsMinute, map, subst, sym}
+use Rattle.desk_types.proofs.Common.{tables_of, with_edits}
+use Rattle.desk_laws.proofs.Common.{judged-by-two}
 use Rattle.desk_types.specs.Edits.{AreNew}
 use Rattle.state_rows.proofs.RowsLess.{change-fits, rows-fit, rows-lead, rows-new, rows-same}
 use Rattle.state_rows.specs.{EditsOf.AreEditsOf, EditsOf.ArePiecesFitting, EditsOf.pick_of, Kept.unnumbered}

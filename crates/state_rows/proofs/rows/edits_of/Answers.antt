@@ -1,4 +1,5 @@
-use Rattle.desk_types.proofs.Common.{[], ◌∷◌, ◌≡◌, IfOk, PutReel, subst, sym}
+use Rattle.desk_types.proofs.Common.{[], ◌∷◌, ◌≡◌, IfOk, subst, sym}
+use Rattle.desk_types.specs.declared.edit.RowEdit.TheVariants.{PutReel}
 use Rattle.state_rows.specs.EditsOf.{AreEditsOf}
 use Rattle.state_rows.proofs.rows.edits_of.Goals as goal
 

@@ -1,4 +1,6 @@
-use Rattle.desk_types.proofs.Common.{[], ◌++◌, ◌+◌, ◌∙◌, ◌∷◌, ◌≡◌, ap, PutSheetRow, rules, SheetRow}
+use Rattle.desk_types.proofs.Common.{[], ◌++◌, ◌+◌, ◌∙◌, ◌∷◌, ◌≡◌, ap, rules}
+use Rattle.desk_laws.proofs.Common.{SheetRow}
+use Rattle.desk_types.specs.declared.edit.RowEdit.TheVariants.{PutSheetRow}
 use Rattle.state_rows.proofs.PushedEdits.{put-next}
 use Rattle.state_rows.proofs.sheets.put_new.Goals as goal
 

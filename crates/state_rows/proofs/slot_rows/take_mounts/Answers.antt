@@ -1,4 +1,5 @@
-use Rattle.desk_types.proofs.Common.{◌++◌, ◌∙◌, ap, map, option_to_list, TakeMount}
+use Rattle.desk_types.proofs.Common.{◌++◌, ◌∙◌, ap, map, option_to_list}
+use Rattle.desk_types.specs.declared.edit.RowEdit.TheVariants.{TakeMount}
 use Rattle.state_rows.proofs.PushedEdits.{mount-next}
 use Rattle.state_rows.proofs.slot_rows.take_mounts.Goals as goal
 

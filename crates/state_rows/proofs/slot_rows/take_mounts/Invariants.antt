@@ -1,4 +1,5 @@
-use Rattle.desk_types.proofs.Common.{◌++◌, ◌≡◌, map, take, TakeMount}
+use Rattle.desk_types.proofs.Common.{◌++◌, ◌≡◌, map, take}
+use Rattle.desk_types.specs.declared.edit.RowEdit.TheVariants.{TakeMount}
 use Rattle.state_rows.specs.EditsOf.{reel_on_slot}
 use Rattle.std.specs.List.{filter_map}
 use Rattle.state_rows.proofs.slot_rows.take_mounts.Given as goal

@@ -1,5 +1,5 @@
-use Rattle.desk_types.proofs.Common.{◌∙◌, ◌≡◌, ap, by_name, cond, get, name-written, None, option_or, reel_row, rules}
-use Rattle.desk_types.proofs.Common.{same, Some, sym}
+use Rattle.desk_types.proofs.Common.{◌∙◌, ◌≡◌, ap, by_name, cond, get, name-written, None, option_or}
+use Rattle.desk_types.proofs.Common.{reel_row, rules, same, Some, sym}
 use Rattle.state_rows.{proofs.RowsLess.noted, specs.EditsOf.pick_of}
 use Rattle.state_rows.proofs.takes.note.Goals as goal
 

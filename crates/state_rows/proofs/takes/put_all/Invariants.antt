@@ -1,4 +1,5 @@
-use Rattle.desk_types.proofs.Common.{◌++◌, ◌≡◌, map, PutReel, values}
+use Rattle.desk_types.proofs.Common.{◌++◌, ◌≡◌, map, values}
+use Rattle.desk_types.specs.declared.edit.RowEdit.TheVariants.{PutReel}
 use Rattle.state_rows.proofs.takes.put_all.Given as goal
 
 abbrev pub invariant-loop-row : goal.invariant-loop-row

@@ -1,4 +1,5 @@
-use Rattle.desk_types.proofs.Common.{◌++◌, ◌∙◌, ap, flat_map, map, PutReel, values}
+use Rattle.desk_types.proofs.Common.{◌++◌, ◌∙◌, ap, flat_map, map, values}
+use Rattle.desk_types.specs.declared.edit.RowEdit.TheVariants.{PutReel}
 use Rattle.state_rows.{proofs.RowsLess.taken-all, specs.EditsOf.place_rows, specs.EditsOf.take_spent}
 use Rattle.state_rows.proofs.takes.take.Goals as goal
 

@@ -1,5 +1,6 @@
-use Rattle.desk_types.proofs.Common.{◌++◌, ◌+◌, ◌∙◌, ◌≡◌, ap, arith, Bool, drop, drop_all, false, not, ReelView, sym}
+use Rattle.desk_types.proofs.Common.{◌++◌, ◌+◌, ◌∙◌, ◌≡◌, ap, arith, Bool, drop, drop_all, false, not, sym}
 use Rattle.desk_types.proofs.Common.{true}
+use Rattle.desk_laws.proofs.Common.{ReelView}
 use Rattle.setup_sheets.specs.Names.{is_among}
 use Rattle.std.specs.List.{filter}
 use Rattle.trace_reports.proofs.Prefixes.{end-of_reels, end-reached, step-chosen, step-past}

@@ -1,4 +1,5 @@
-use Rattle.desk_types.proofs.Common.{◌++◌, ◌≡◌, drop, List, Name, not, ReelView}
+use Rattle.desk_types.proofs.Common.{◌++◌, ◌≡◌, drop, List, Name, not}
+use Rattle.desk_laws.proofs.Common.{ReelView}
 use Rattle.setup_sheets.specs.Names.{HasSeen, is_among}
 use Rattle.std.specs.List.{filter}
 use Rattle.trace_reports.specs.Kit.{enough}

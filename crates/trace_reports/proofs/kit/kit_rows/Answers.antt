@@ -1,4 +1,5 @@
-use Rattle.desk_types.proofs.Common.{◌++◌, ◌∙◌, ◌≡◌, ap, arith, drop_all, free_reels, List, map, Name, not, ReelView}
+use Rattle.desk_types.proofs.Common.{◌++◌, ◌∙◌, ◌≡◌, ap, arith, drop_all, free_reels, List, map, Name, not}
+use Rattle.desk_laws.proofs.Common.{ReelView}
 use Rattle.setup_sheets.specs.Names.{is_among}
 use Rattle.std.specs.List.{filter}
 use Rattle.trace_reports.proofs.KitRows.{kit-end, kit-next}

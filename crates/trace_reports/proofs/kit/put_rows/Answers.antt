@@ -1,4 +1,5 @@
-use Rattle.desk_types.proofs.Common.{[], ◌++◌, ◌∙◌, ◌∷◌, ap, append_assoc, arith, map, ReelView, subst, sym, take}
+use Rattle.desk_types.proofs.Common.{[], ◌++◌, ◌∙◌, ◌∷◌, ap, append_assoc, arith, map, subst, sym, take}
+use Rattle.desk_laws.proofs.Common.{ReelView}
 use Rattle.setup_sheets.{proofs.SeenNames.HasSeen-push, specs.Names.HasSeen}
 use Rattle.trace_reports.{proofs.KitRows.pieces-next, proofs.KitRows.read-next, specs.Kit.reel_row}
 use Rattle.trace_reports.proofs.kit.put_rows.Goals as goal

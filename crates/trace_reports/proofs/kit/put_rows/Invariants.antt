@@ -1,4 +1,5 @@
-use Rattle.desk_types.proofs.Common.{◌++◌, ◌-◌, ◌≡◌, List, map, Name, ReelView, take}
+use Rattle.desk_types.proofs.Common.{◌++◌, ◌-◌, ◌≡◌, List, map, Name, take}
+use Rattle.desk_laws.proofs.Common.{ReelView}
 use Rattle.setup_sheets.specs.Names.{HasSeen}
 use Rattle.trace_reports.specs.Kit.{pieces_of_reels, reel_row}
 use Rattle.trace_reports.proofs.kit.put_rows.Given as goal

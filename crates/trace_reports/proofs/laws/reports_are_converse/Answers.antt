@@ -1,12 +1,13 @@
-use Rattle.desk_types.proofs.Common.{[], ◌↔◌, ◌∷◌, ◌≡◌, Contains, History, List, Name, Placement, placements_of, Some}
+use Rattle.desk_types.proofs.Common.{[], ◌↔◌, ◌∷◌, ◌≡◌, Contains, History, List, Name, placements_of, Some}
 use Rattle.desk_types.proofs.Common.{subst₂, sym, ℕ}
+use Rattle.desk_laws.proofs.Common.{Placement, Three}
 use Rattle.csv.specs.Reading.{default_config, records}
 use Rattle.desk_types.specs.declared.trace_detail.TraceDetail.{TraceDetail}
-use Rattle.desk_types.specs.declared.trace_detail.TraceDetail.TheVariants.{One, Three, Two}
+use Rattle.desk_types.specs.declared.trace_detail.TraceDetail.TheVariants.{One, Two}
 use Rattle.trace_reports.proofs.ReportedPieces.{found-rows}
 use Rattle.trace_reports.specs.Reports.{board_trace, lot_trace, rows_below}
-use Rattle.trace_reports.specs.Traces.{board_columns, board_header, board_rows, board_text, lot_columns, lot_header}
-use Rattle.trace_reports.specs.Traces.{lot_rows, lot_text, pieces_of_lot, pieces_on, project}
+use Rattle.trace_reports.specs.Traces.{board_columns, board_header, board_rows, board_text, lot_columns}
+use Rattle.trace_reports.specs.Traces.{lot_header, lot_rows, lot_text, pieces_of_lot, pieces_on, project}
 use Rattle.line_traces.specs.Pieces as traced
 use Rattle.trace_reports.proofs.laws.reports_are_converse.Goals as goal
 

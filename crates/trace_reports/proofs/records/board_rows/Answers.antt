@@ -1,7 +1,9 @@
-use Rattle.desk_types.proofs.Common.{◌+◌, ◌-◌, ◌∙◌, ◌∷◌, ◌≡◌, ap, ap₂, arith, drop, drop-next, insert_key, List, map}
-use Rattle.desk_types.proofs.Common.{Placement, sym}
-use Rattle.trace_reports.{proofs.BorrowedSets.put-same, specs.Sets.by_fields, specs.Sets.bytes_of, specs.Sets.set_of}
-use Rattle.trace_reports.{specs.Traces.board_columns, specs.Traces.on_board, specs.Traces.project}
+use Rattle.desk_types.proofs.Common.{◌+◌, ◌-◌, ◌∙◌, ◌∷◌, ◌≡◌, ap, ap₂, arith, drop, drop-next, insert_key}
+use Rattle.desk_types.proofs.Common.{List, map, sym}
+use Rattle.desk_laws.proofs.Common.{Placement}
+use Rattle.trace_reports.proofs.BorrowedSets.{put-same}
+use Rattle.trace_reports.specs.Sets.{by_fields, bytes_of, set_of}
+use Rattle.trace_reports.specs.Traces.{board_columns, on_board, project}
 use Rattle.trace_reports.proofs.records.board_rows.Goals as goal
 
 pub loop-i-preserved : goal.loop-i-preserved

@@ -1,5 +1,6 @@
 use Rattle.desk_types.proofs.Common.{◌≡◌, drop, map}
-use Rattle.trace_reports.specs.{Sets.bytes_of, Sets.set_of, Traces.board_columns, Traces.on_board, Traces.project}
+use Rattle.trace_reports.specs.Sets.{bytes_of, set_of}
+use Rattle.trace_reports.specs.Traces.{board_columns, on_board, project}
 use Rattle.trace_reports.proofs.records.board_rows.Given as goal
 
 -- The set has the rows of the pieces from here on.

@@ -1,4 +1,4 @@
-use Rattle.desk_types.proofs.BothRules.{judged-by-two}
+use Rattle.desk_laws.proofs.Common.{judged-by-two}
 use Rattle.trace_reports.proofs.NoReelTwice.{kit-once}
 use Rattle.trace_reports.proofs.text_laws.no_reel_is_given_twice.Goals as goal
 

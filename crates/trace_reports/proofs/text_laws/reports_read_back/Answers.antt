@@ -1,7 +1,7 @@
 use Rattle.desk_types.proofs.Common.{map}
 use Rattle.trace_reports.proofs.FieldsOfRecords.{board-whole, lot-whole, overdue-whole}
-use Rattle.trace_reports.specs.Traces.{board_columns, board_header, board_rows, lot_columns, lot_header, lot_rows}
-use Rattle.trace_reports.specs.Traces.{overdue_header, overdue_row, project}
+use Rattle.trace_reports.specs.Traces.{board_columns, board_header, board_rows, lot_columns, lot_header}
+use Rattle.trace_reports.specs.Traces.{lot_rows, overdue_header, overdue_row, project}
 use Rattle.trace_reports.proofs.text_laws.reports_read_back.Goals as goal
 
 pub returns-clause-board : goal.returns-clause-board

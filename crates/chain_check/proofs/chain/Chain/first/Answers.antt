@@ -1,6 +1,5 @@
-use Rattle.std.proofs.Common.{refl, sym, subst, append-nil}
-use Rattle.desk_types.specs.declared.rules.Rules.{Rules}
-use Rattle.desk_types.specs.Judged.{IsJudged}
+use Rattle.desk_types.proofs.Common.{append-nil, IsJudged, refl, subst, sym}
+use Rattle.desk_laws.proofs.Common.{Rules}
 use Rattle.chain_check.proofs.chain.Chain.first.Goals as goal
 
 pub returns : goal.returns

@@ -1,4 +1,5 @@
-use Rattle.desk_types.proofs.Common.{arith, basis, Two}
+use Rattle.desk_types.proofs.Common.{arith, basis}
+use Rattle.desk_laws.proofs.Common.{Two}
 use Rattle.desk_tests.proofs.tests.desks.made_again.Goals as goal
 
 pub restore-requires : goal.restore-requires

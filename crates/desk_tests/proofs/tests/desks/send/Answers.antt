@@ -1,4 +1,5 @@
-use Rattle.desk_types.proofs.Common.{◌∙◌, accept, ap, arith, basis, Two, with_edits}
+use Rattle.desk_types.proofs.Common.{◌∙◌, accept, ap, arith, basis, with_edits}
+use Rattle.desk_laws.proofs.Common.{Two}
 use Rattle.desk_tests.proofs.tests.desks.send.Goals as goal
 
 pub returns-in_ok-settle-in-Ok : goal.returns-in_ok-settle-in-Ok

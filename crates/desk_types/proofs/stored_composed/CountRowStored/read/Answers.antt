@@ -1,5 +1,5 @@
-use Rattle.desk_types.proofs.Common.{count_fields, IsCountedQuantity, IsCountRow, IsId, name_fields, number_fields}
-use Rattle.desk_types.proofs.Common.{refl}
+use Rattle.desk_types.proofs.Common.{count_fields, IsCountedQuantity, IsCountRow, IsId, name_fields}
+use Rattle.desk_types.proofs.Common.{number_fields, refl}
 use Rattle.desk_types.{proofs.Readers.unread_as, specs.Fields.pair_fields, specs.Fields.PairInRange}
 use Rattle.desk_types.proofs.stored_composed.CountRowStored.read.Goals as goal
 

@@ -1,5 +1,5 @@
-use Rattle.desk_types.proofs.Common.{[], ◌∙◌, ◌≡◌, Bool, Bor, false, IsTrue, List, None, not, Option, refl, Some, sym}
-use Rattle.desk_types.proofs.Common.{true, ℕ}
+use Rattle.desk_types.proofs.Common.{[], ◌∙◌, ◌≡◌, Bool, Bor, false, IsTrue, List, None, not, Option, refl}
+use Rattle.desk_types.proofs.Common.{Some, sym, true, ℕ}
 use Rattle.desk_types.{proofs.Splitting.some_field, specs.Fields.fields_left}
 use Rattle.std.specs.Option.{is_some, option_copied}
 use Rattle.desk_types.proofs.stored_fields.Fields.is_empty.Goals as goal

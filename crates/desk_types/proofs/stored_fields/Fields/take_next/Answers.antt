@@ -1,4 +1,5 @@
-use Rattle.desk_types.proofs.Common.{◌+◌, ◌∙◌, ◌∷◌, ap, arith, drop, fields_in, length-drop, sym, take, take_all, ℕ}
+use Rattle.desk_types.proofs.Common.{◌+◌, ◌∙◌, ◌∷◌, ap, arith, drop, fields_in, length-drop, sym, take}
+use Rattle.desk_types.proofs.Common.{take_all, ℕ}
 use Rattle.desk_types.{proofs.Splitting.cut_at, proofs.Splitting.cut_nowhere, specs.Fields.fields_left}
 use Rattle.std.specs.Option.{option_copied}
 use Rattle.desk_types.proofs.stored_fields.Fields.take_next.Goals as goal

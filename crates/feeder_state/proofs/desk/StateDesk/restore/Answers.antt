@@ -1,4 +1,5 @@
-use Rattle.desk_types.proofs.Common.{◌∙◌, ap, basis, refl, subst, sym, Two}
+use Rattle.desk_types.proofs.Common.{◌∙◌, ap, basis, refl, subst, sym}
+use Rattle.desk_laws.proofs.Common.{Two}
 use Rattle.feeder_state.{proofs.AcceptedChanges.none-accepted, specs.State.Represents}
 use Rattle.state_rows.specs.Kept.{tables_in, unnumbered}
 use Rattle.feeder_state.proofs.desk.StateDesk.restore.Goals as goal

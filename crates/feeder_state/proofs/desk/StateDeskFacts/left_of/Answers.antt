@@ -1,4 +1,5 @@
-use Rattle.desk_types.proofs.Common.{◌∙◌, ap, option_map_or, ReelRow, sym}
+use Rattle.desk_types.proofs.Common.{◌∙◌, ap, option_map_or, sym}
+use Rattle.desk_laws.proofs.Common.{ReelRow}
 use Rattle.feeder_state.proofs.AcceptedChanges.{state-left}
 use Rattle.std.specs.Option.{option_copied}
 use Rattle.feeder_state.proofs.desk.StateDeskFacts.left_of.Goals as goal

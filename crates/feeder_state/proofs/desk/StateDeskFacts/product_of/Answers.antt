@@ -1,4 +1,5 @@
-use Rattle.desk_types.proofs.Common.{◌∙◌, ap, BoardRow, option_and_then, Some, sym}
+use Rattle.desk_types.proofs.Common.{◌∙◌, ap, option_and_then, Some, sym}
+use Rattle.desk_laws.proofs.Common.{BoardRow}
 use Rattle.feeder_state.proofs.{AcceptedChanges.state-board, RestoredWork.product-row}
 use Rattle.std.specs.Option.{option_copied}
 use Rattle.feeder_state.proofs.desk.StateDeskFacts.product_of.Goals as goal

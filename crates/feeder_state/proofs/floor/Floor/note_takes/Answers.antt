@@ -1,7 +1,7 @@
 use Rattle.desk_types.proofs.Common.{◌∙◌, ◌∷◌, ap, IsDistinct, list_any, not, rules, same, subst, sym}
 use Rattle.desk_laws.proofs.Tapes.{live-distinct}
-use Rattle.feeder_state.proofs.{AtRest.rests-left, AtRest.rests-taken, RowReels.row-left, TapeSteps.lives-stay}
-use Rattle.feeder_state.proofs.{TapeSteps.lives-taken}
+use Rattle.feeder_state.proofs.{AtRest.rests-left, AtRest.rests-taken, RowReels.row-left}
+use Rattle.feeder_state.proofs.{TapeSteps.lives-stay, TapeSteps.lives-taken}
 use Rattle.feeder_state.specs.{Noted.may_take, Rows.left_at, Spending.is_spent_by}
 use Rattle.std.specs.List.{filter}
 use Rattle.feeder_state.proofs.floor.Floor.note_takes.Goals as goal

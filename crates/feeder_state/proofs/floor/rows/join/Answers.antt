@@ -1,5 +1,5 @@
-use Rattle.desk_types.proofs.Common.{[], ◌&&◌, ◌++◌, ◌∙◌, ◌∷◌, ◌≡◌, ap, BTreeMap, cond, List, Name, pair-changed}
-use Rattle.desk_types.proofs.Common.{pair-written, rules, same, sym, unwrap_or}
+use Rattle.desk_types.proofs.Common.{[], ◌&&◌, ◌++◌, ◌∙◌, ◌∷◌, ◌≡◌, ap, BTreeMap, cond, List, Name}
+use Rattle.desk_types.proofs.Common.{pair-changed, pair-written, rules, same, sym, unwrap_or}
 use Rattle.feeder_state.specs.Tape.{tape_at}
 use Rattle.feeder_state.proofs.floor.rows.join.Goals as goal
 

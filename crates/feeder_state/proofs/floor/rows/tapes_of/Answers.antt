@@ -1,4 +1,5 @@
-use Rattle.desk_types.proofs.Common.{[], ◌++◌, ◌∙◌, ap, by_pair, is_at, lookup, rules, subst, Tables, unwrap_or}
+use Rattle.desk_types.proofs.Common.{[], ◌++◌, ◌∙◌, ap, by_pair, is_at, lookup, rules, subst, Tables}
+use Rattle.desk_types.proofs.Common.{unwrap_or}
 use Rattle.state_rows.proofs.SlotRows.{slot-reels, slot_reels}
 use Rattle.state_rows.specs.Kept.{ListsMounts, tables_in}
 use Rattle.feeder_state.proofs.floor.rows.tapes_of.Goals as goal

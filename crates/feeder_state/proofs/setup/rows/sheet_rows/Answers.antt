@@ -1,6 +1,6 @@
-use Rattle.desk_types.proofs.Common.{[], ◌++◌, ◌+◌, ◌∙◌, ◌∷◌, ◌≡◌, ap, LONGEST_LIST, None, rules, sheet_of, Some, sym}
+use Rattle.desk_types.proofs.Common.{[], ◌++◌, ◌+◌, ◌∙◌, ◌∷◌, ◌≡◌, ap, None, rules, sheet_of, Some, sym}
 use Rattle.desk_types.proofs.Common.{Tables, take, unwrap_or}
-use Rattle.desk_types.specs.Tables.{sheet_row}
+use Rattle.desk_types.specs.{Tables.sheet_row, declared.limits.TheConstants.LONGEST_LIST}
 use Rattle.feeder_state.proofs.RestoredSheets.{row-more, rows-all, rows-end, sheet-made}
 use Rattle.std.specs.Option.{option_copied}
 use Rattle.feeder_state.proofs.setup.rows.sheet_rows.Goals as goal

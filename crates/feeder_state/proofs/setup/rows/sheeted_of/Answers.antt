@@ -1,6 +1,6 @@
 use Rattle.desk_types.proofs.Common.{◌||◌, ◌∙◌, ap, by_name, is_at, list_any, rules, same, subst, sym, Tables}
-use Rattle.feeder_state.proofs.{FilledMaps.set-next, NameSets.put, RestoredSheets.is_for, RestoredSheets.rows-for}
-use Rattle.feeder_state.specs.Setup.{is_sheeted}
+use Rattle.feeder_state.{proofs.FilledMaps.set-next, proofs.NameSets.put, proofs.RestoredSheets.is_for}
+use Rattle.feeder_state.{proofs.RestoredSheets.rows-for, specs.Setup.is_sheeted}
 use Rattle.state_rows.specs.Kept.{by_sheet_place, Lists, tables_in}
 use Rattle.feeder_state.proofs.setup.rows.sheeted_of.Goals as goal
 

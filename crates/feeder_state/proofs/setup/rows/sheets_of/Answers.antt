@@ -1,8 +1,10 @@
-use Rattle.desk_types.proofs.Common.{◌&&◌, ◌==◌, ◌∙◌, ap, by_pair, cond, is_at, lookup, option_and_then, option_or}
-use Rattle.desk_types.proofs.Common.{rules, same, sheet_of, SheetRow, Some, subst, sym, Tables}
-use Rattle.feeder_state.{proofs.RestoredSheets.first-row, proofs.RestoredSheets.sheet-next, specs.Setup.sheet_at}
-use Rattle.state_rows.{proofs.RowLists.is_at-by_sheet_place, specs.Kept.by_sheet_place, specs.Kept.Lists}
-use Rattle.state_rows.{specs.Kept.row_at, specs.Kept.tables_in}
+use Rattle.desk_types.proofs.Common.{◌&&◌, ◌==◌, ◌∙◌, ap, by_pair, cond, is_at, lookup, option_and_then}
+use Rattle.desk_types.proofs.Common.{option_or, rules, same, sheet_of, Some, subst, sym, Tables}
+use Rattle.desk_laws.proofs.Common.{SheetRow}
+use Rattle.feeder_state.proofs.RestoredSheets.{first-row, sheet-next}
+use Rattle.feeder_state.specs.Setup.{sheet_at}
+use Rattle.state_rows.proofs.RowLists.{is_at-by_sheet_place}
+use Rattle.state_rows.specs.Kept.{by_sheet_place, Lists, row_at, tables_in}
 use Rattle.feeder_state.proofs.setup.rows.sheets_of.Goals as goal
 
 pub loop-key-init : goal.loop-key-init

@@ -1,4 +1,5 @@
-use Rattle.desk_types.proofs.Common.{◌≡◌, History, Name, option_and_then, option_or, sheet_of, SheetRow}
+use Rattle.desk_types.proofs.Common.{◌≡◌, History, Name, option_and_then, option_or, sheet_of}
+use Rattle.desk_laws.proofs.Common.{SheetRow}
 use Rattle.feeder_state.specs.{Restored.AreRowsOf, Setup.sheet_at}
 use Rattle.state_rows.specs.Kept.{by_sheet_place, row_at}
 use Rattle.feeder_state.proofs.setup.rows.sheets_of.Given as goal

@@ -1,8 +1,8 @@
 use Rattle.desk_types.proofs.Common.{[], ◌&&◌, ◌++◌, ◌||◌, ◌∙◌, ◌∷◌, ap, by_name, cond, is_at, is_at-by_name}
 use Rattle.desk_types.proofs.Common.{list_any, lookup, rules, same, same-sym, same-true, subst, sym, Tables}
 use Rattle.desk_types.proofs.Common.{unwrap_or}
-use Rattle.feeder_state.proofs.{GroupedThings.grouped-name, PlacedDesignators.is_spot, PlacedDesignators.rows-placed}
-use Rattle.feeder_state.specs.Restored.{group_at}
+use Rattle.feeder_state.{proofs.GroupedThings.grouped-name, proofs.PlacedDesignators.is_spot}
+use Rattle.feeder_state.{proofs.PlacedDesignators.rows-placed, specs.Restored.group_at}
 use Rattle.state_rows.specs.Kept.{by_piece, Lists, tables_in}
 use Rattle.feeder_state.proofs.work.rows.designators_of.Goals as goal
 

@@ -1,7 +1,9 @@
-use Rattle.desk_types.proofs.Common.{[], ◌&&◌, ◌||◌, ◌∙◌, ◌≡◌, and_comm, ap, Bool, by_name, false, is_at, list_any}
-use Rattle.desk_types.proofs.Common.{lookup, nat_list_cmp_total, refl, rules, same, sym, true, unwrap_or}
-use Rattle.feeder_state.{proofs.FilledMaps.each-of, proofs.FilledMaps.set-next, proofs.RestoredWork.among-group}
-use Rattle.feeder_state.{proofs.RestoredWork.has_such, proofs.RestoredWork.such-all, specs.Work.is_placed_at}
+use Rattle.desk_types.proofs.Common.{[], ◌&&◌, ◌||◌, ◌∙◌, ◌≡◌, and_comm, ap, Bool, by_name, false, is_at}
+use Rattle.desk_types.proofs.Common.{list_any, lookup, nat_list_cmp_total, refl, rules, same, sym, true}
+use Rattle.desk_types.proofs.Common.{unwrap_or}
+use Rattle.feeder_state.proofs.FilledMaps.{each-of, set-next}
+use Rattle.feeder_state.proofs.RestoredWork.{among-group, has_such, such-all}
+use Rattle.feeder_state.specs.Work.{is_placed_at}
 use Rattle.state_rows.specs.Kept.{row_at}
 use Rattle.feeder_state.proofs.work.rows.placed_of.Goals as goal
 

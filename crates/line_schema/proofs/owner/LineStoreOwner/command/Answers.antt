@@ -1,7 +1,9 @@
-use Rattle.desk_types.proofs.Common.{◌≡◌, ap, refl, Rules, Stamped, subst, sym, true, Two}
+use Rattle.desk_types.proofs.Common.{◌≡◌, ap, refl, subst, sym, true}
+use Rattle.desk_laws.proofs.Common.{Rules, Stamped, Two}
 use Rattle.desk_answers.specs.Ledger.{IsAnswer, Ledger, ledger_after}
 use Rattle.desk_answers.specs.declared.answer.Answer.{Answer}
-use Rattle.desk_answers.specs.declared.answer.Answer.TheVariants.{Accepted, DeskFull, IdReused, Refused, Unavailable}
+use Rattle.desk_answers.specs.declared.answer.Answer.TheVariants.{Accepted, DeskFull, IdReused, Refused}
+use Rattle.desk_answers.specs.declared.answer.Answer.TheVariants.{Unavailable}
 use Rattle.line_schema.specs.Stands.{Kept, kept_after, ledger, Stands as StandsFor}
 use Rattle.line_schema.proofs.owner.LineStoreOwner.command.Goals as goal
 

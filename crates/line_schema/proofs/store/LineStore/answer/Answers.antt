@@ -1,5 +1,5 @@
-use Rattle.desk_types.proofs.Common.{◌||◌, ◌≡◌, ◌≤◌, ap, arith, inl, inr, is_some, length, nat_tests, None, or_right}
-use Rattle.desk_types.proofs.Common.{rules, Some, true}
+use Rattle.desk_types.proofs.Common.{◌||◌, ◌≡◌, ◌≤◌, ap, arith, inl, inr, is_some, length, nat_tests, None}
+use Rattle.desk_types.proofs.Common.{or_right, rules, Some, true}
 use Rattle.desk_answers.specs.Commands.{earlier_answer, is_full}
 use Rattle.line_schema.proofs.{ListsAfter.leaves_newly, Others.file_then, StandsAfter.stands_still}
 use Rattle.line_schema.proofs.store.LineStore.answer.Goals as goal

@@ -1,6 +1,8 @@
-use Rattle.desk_types.proofs.Common.{◌<◌, arith, IsChange, rules, sym, true≢false, Two}
+use Rattle.desk_types.proofs.Common.{◌<◌, arith, IsChange, rules, sym, true≢false}
+use Rattle.desk_laws.proofs.Common.{Two}
 use Rattle.line_schema.proofs.ListsAfter.{accepted_leaves}
-use Rattle.line_schema.proofs.StandsAfter.{accepted_as, accepted_to, answered_as, disowned, first_as, stands_either}
+use Rattle.line_schema.proofs.StandsAfter.{accepted_as, accepted_to, answered_as, disowned, first_as}
+use Rattle.line_schema.proofs.StandsAfter.{stands_either}
 use Rattle.line_schema.specs.Stands.{HasRows}
 use Rattle.line_schema.proofs.store.LineStore.answer_at_hand.Goals as goal
 

@@ -1,8 +1,10 @@
-use Rattle.desk_types.proofs.Common.{◌≡◌, Stamped, subst, sym, Two}
+use Rattle.desk_types.proofs.Common.{◌≡◌, subst, sym}
+use Rattle.desk_laws.proofs.Common.{Stamped, Two}
 use Rattle.desk_answers.specs.Commands.{command_answer}
 use Rattle.desk_answers.specs.Ledger.{IsAnswer}
 use Rattle.desk_answers.specs.declared.answer.Answer.{Answer}
-use Rattle.desk_answers.specs.declared.answer.Answer.TheVariants.{Accepted, DeskFull, IdReused, Refused, Unavailable}
+use Rattle.desk_answers.specs.declared.answer.Answer.TheVariants.{Accepted, DeskFull, IdReused, Refused}
+use Rattle.desk_answers.specs.declared.answer.Answer.TheVariants.{Unavailable}
 use Rattle.line_schema.proofs.ListsAfter.{kept_so}
 use Rattle.line_schema.proofs.StandsAfter.{tables_there}
 use Rattle.line_schema.specs.Stands.{HasRows, Kept, kept_after, ledger, Stands}

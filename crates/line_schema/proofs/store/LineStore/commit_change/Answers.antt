@@ -1,11 +1,13 @@
-use Rattle.desk_types.proofs.Common.{⊤, ◌+◌, ◌∙◌, ◌≡◌, accept, ap, arith, basis, err_from_is_err_and, IsMinute, refl}
-use Rattle.desk_types.proofs.Common.{rules, sym, Two}
+use Rattle.desk_types.proofs.Common.{⊤, ◌+◌, ◌∙◌, ◌≡◌, accept, ap, arith, basis, err_from_is_err_and}
+use Rattle.desk_types.proofs.Common.{IsMinute, refl, rules, sym}
+use Rattle.desk_laws.proofs.Common.{Two}
 use Rattle.line_tables.proofs.Common.{command_edits, HasCleanDisk, state}
-use Rattle.line_schema.{proofs.DeskRows.lead_of, proofs.DeskRows.rows_settled, proofs.Others.file_edited}
-use Rattle.line_schema.{proofs.Others.survives_still, proofs.StandsAfter.fails, proofs.StandsAfter.judged_for}
-use Rattle.line_schema.{proofs.StandsAfter.left_on, proofs.StandsAfter.not_committed, proofs.StandsAfter.stands_on}
-use Rattle.line_schema.{proofs.StandsAfter.survives_on, proofs.StandsAfter.works_for, specs.Stands.WorksFor}
-use Rattle.line_tables.{proofs.Keeps.keeps_same, proofs.Leaves.others_kept}
+use Rattle.line_schema.proofs.{DeskRows.lead_of, DeskRows.rows_settled, Others.file_edited}
+use Rattle.line_schema.proofs.{Others.survives_still, StandsAfter.fails, StandsAfter.judged_for}
+use Rattle.line_schema.proofs.{StandsAfter.left_on, StandsAfter.not_committed, StandsAfter.stands_on}
+use Rattle.line_schema.proofs.{StandsAfter.survives_on, StandsAfter.works_for}
+use Rattle.line_schema.specs.Stands.{WorksFor}
+use Rattle.line_tables.proofs.{Keeps.keeps_same, Leaves.others_kept}
 use Rattle.std.proofs.lemmas.Option.{same_Some}
 use Rattle.line_schema.proofs.store.LineStore.commit_change.Goals as goal
 

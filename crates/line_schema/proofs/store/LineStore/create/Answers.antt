@@ -1,4 +1,5 @@
-use Rattle.desk_types.proofs.Common.{[], arith, basis, inl, refl, rules, subst, Two}
+use Rattle.desk_types.proofs.Common.{[], arith, basis, inl, refl, rules, subst}
+use Rattle.desk_laws.proofs.Common.{Two}
 use Rattle.desk_laws.proofs.JudgedLists.{consistent}
 use Rattle.line_replay.{proofs.ExpectedRows.no_rows, proofs.RowsOfLists.none_yet, specs.Expected.AreKept}
 use Rattle.line_tables.proofs.Ours.{blank_is}

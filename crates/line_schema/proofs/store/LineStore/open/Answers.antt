@@ -1,9 +1,10 @@
-use Rattle.desk_types.proofs.Common.{inl, IsTrue, refl, rules, subst, sym, Two}
+use Rattle.desk_types.proofs.Common.{inl, IsTrue, refl, rules, subst, sym}
+use Rattle.desk_laws.proofs.Common.{Two}
 use Rattle.line_tables.proofs.Common.{Database, Holds, is_ours, state}
 use Rattle.desk_laws.proofs.JudgedLists.{consistent}
 use Rattle.line_replay.specs.Rows.{ledger_tables}
-use Rattle.line_schema.proofs.{ReadOfCommitted.opened_holds, ReadOfCommitted.opened_lawful, StandsAfter.still_open}
-use Rattle.line_schema.specs.Stands.{Kept}
+use Rattle.line_schema.{proofs.ReadOfCommitted.opened_holds, proofs.ReadOfCommitted.opened_lawful}
+use Rattle.line_schema.{proofs.StandsAfter.still_open, specs.Stands.Kept}
 use Rattle.line_tables.proofs.Ours.{ours_is}
 use Rattle.line_schema.proofs.store.LineStore.open.Goals as goal
 

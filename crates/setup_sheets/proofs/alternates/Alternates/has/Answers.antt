@@ -1,4 +1,5 @@
-use Rattle.desk_types.proofs.Common.{◌∙◌, ap, by_pair, is_at, is_at-by_pair, list_any, list_any-same, Name, same_pair}
+use Rattle.desk_types.proofs.Common.{◌∙◌, ap, by_pair, is_at, is_at-by_pair, list_any, list_any-same, Name}
+use Rattle.desk_types.proofs.Common.{same_pair}
 use Rattle.setup_sheets.proofs.alternates.Alternates.has.Goals as goal
 
 pub returns : goal.returns

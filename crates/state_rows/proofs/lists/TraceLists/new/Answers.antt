@@ -1,5 +1,5 @@
-use Rattle.desk_types.proofs.Common.{[], ◌∙◌, ◌≡◌, All-same, ap, arith, by_name, is_at, IsMinute, length, lookup, map}
-use Rattle.desk_types.proofs.Common.{None, refl, suc, takes_of, unwrap_or, zero, ℕ}
+use Rattle.desk_types.proofs.Common.{[], ◌∙◌, ◌≡◌, All-same, ap, arith, by_name, is_at, IsMinute, length}
+use Rattle.desk_types.proofs.Common.{lookup, map, None, refl, suc, takes_of, unwrap_or, zero, ℕ}
 use Rattle.state_rows.specs.Lists.{HasPieces, key_of, keys_of_installs, minute_in}
 use Rattle.state_rows.proofs.lists.TraceLists.new.Goals as goal
 

@@ -1,5 +1,6 @@
-use Rattle.desk_types.proofs.Common.{◌++◌, ◌∙◌, ◌≡◌, All-same, ap, Change, entry_of, IsMinute, length, rules, same}
+use Rattle.desk_types.proofs.Common.{◌++◌, ◌∙◌, ◌≡◌, All-same, ap, entry_of, IsMinute, length, rules, same}
 use Rattle.desk_types.proofs.Common.{sym, takes_by}
+use Rattle.desk_types.specs.declared.change.Change.{Change}
 use Rattle.state_rows.proofs.{Installs.keys-installed, Keys.keys-noted, Minutes.count-accepted}
 use Rattle.state_rows.proofs.{Minutes.minutes-accepted}
 use Rattle.state_rows.specs.{Lists.kept_at, Lists.keys_of_installs, Lists.minute_in, Noting.keys_in}

@@ -1,5 +1,8 @@
-use Rattle.desk_types.proofs.Common.{◌∙◌, ◌≡◌, ap, PutSheetRow, rules, SheetRow, with_edit}
-use Rattle.state_rows.{proofs.RowLists.sheet_row-put, specs.Kept.tables_in, specs.contracts.set.RowSet.the_view}
+use Rattle.desk_types.proofs.Common.{◌∙◌, ◌≡◌, ap, rules, with_edit}
+use Rattle.desk_laws.proofs.Common.{SheetRow}
+use Rattle.desk_types.specs.declared.edit.RowEdit.TheVariants.{PutSheetRow}
+use Rattle.state_rows.proofs.RowLists.{sheet_row-put}
+use Rattle.state_rows.specs.{Kept.tables_in, contracts.set.RowSet.the_view}
 use Rattle.state_rows.proofs.set.RowSet.put_sheet_row.Goals as goal
 
 pub returns : goal.returns
