@@ -1,3 +1,4 @@
+use Rattle.std.specs.Prelude.{⊤}
 use Rattle.std.proofs.Common.{Bool, Err, None, Some, arith, ◌∙◌, subst}
 use Rattle.sqlite.specs.Files.{file_state, image_of, over_files}
 use Rattle.sqlite.specs.State.{HasCleanDisk}
@@ -9,8 +10,8 @@ use Rattle.desk_file.specs.Refused.{IsFaultIn}
 use Rattle.desk_file.proofs.RefusedFiles.{fault_in, refused, refuses}
 use Rattle.chain_files.proofs.kept.desk_in.Goals as goal
 
-pub returns-in-Ok-clause-opens : goal.returns-in-Ok-clause-opens
-returns-in-Ok-clause-opens g c = λ clean alone.
+pub returns-in-Ok-open-clause-opens : goal.returns-in-Ok-open-clause-opens
+returns-in-Ok-open-clause-opens g c = λ clean alone.
     let image = image_of g.D.Disk c.args.files in
     let conn = c.in-Ok.conn in
     let L = c.in-Ok-open.ensures.opened.0 in
@@ -40,6 +41,6 @@ returns-in-Err-clause-refused g c =
     let survives = told.refused.survives in
     let stands = fault_in image first.conn last (λ _ _. ⊥) opened found kept survives Two fault
     told.fault.holds told.fault.told in
-    refuses image None (Err (record { fault = fault; file = Some last })) told.fault.never
+    refuses {X = ⊤} image None (Err (record { fault = fault; file = Some last })) told.fault.never
     (refused image first.conn last (λ _ _. ⊥) opened found kept survives (IsFaultIn image Two) ⊥ fault stands
     (λ none. absurd none))
