@@ -2,7 +2,7 @@
 
 ghost use Rattle.std.specs.Prelude.{◌≡◌, true, is_some, IfNone, IfSome};
 ghost use Rattle.desk_types.specs.Id.{Name};
-ghost use Rattle.desk_types.specs.History.{History};
+ghost use Rattle.desk_types.specs.History.{Basis};
 ghost use Rattle.desk_types.specs.Tables.{tables_of};
 ghost use Rattle.desk_types.specs.View.{reel_view};
 ghost use Rattle.state_rows.specs.Kept.{tables_in, unnumbered};
@@ -16,11 +16,11 @@ use state_rows::RowSet;
 
 /// Returns the first difference between the desks in one of these reels.
 fn reel_in<D: Desk>(reels: &RowSet, old: &D, new: &D) -> Option<Difference>
-    ensures same { (H H' : History) → D.Stands old.now H → D.Stands new.now H' → (reel : Name)
+    ensures same { (B B' : Basis) → D.Stands old.now B → D.Stands new.now B' → (reel : Name)
         → IfNone result (is_some ((tables_in reels.now).reels reel) ≡ true
-        → IsCarried (reel_view H reel) (reel_view H' reel)) }
-    ensures differs { (H H' : History) → D.Stands old.now H → D.Stands new.now H'
-        → IfSome result (IsReelDifference H H') }
+        → IsCarried (reel_view B.history reel) (reel_view B'.history reel)) }
+    ensures differs { (B B' : Basis) → D.Stands old.now B → D.Stands new.now B'
+        → IfSome result (IsReelDifference B.history B'.history) }
 {
     for (reel, _) in reels.reels() {
         let of_old = old.reel(reel);
@@ -39,12 +39,14 @@ pub fn first_reel<D: Desk>(
     old: &D,
     new: &D,
 ) -> Option<Difference>
-    ensures same { (H H' : History) → unnumbered (tables_in old_rows.now) ≡ unnumbered (tables_of H)
-        → unnumbered (tables_in new_rows.now) ≡ unnumbered (tables_of H')
-        → D.Stands old.now H → D.Stands new.now H'
-        → (reel : Name) → IfNone result (IsCarried (reel_view H reel) (reel_view H' reel)) }
-    ensures differs { (H H' : History) → D.Stands old.now H → D.Stands new.now H'
-        → IfSome result (IsReelDifference H H') }
+    ensures same { (B B' : Basis)
+        → unnumbered (tables_in old_rows.now) ≡ unnumbered (tables_of B.history)
+        → unnumbered (tables_in new_rows.now) ≡ unnumbered (tables_of B'.history)
+        → D.Stands old.now B → D.Stands new.now B'
+        → (reel : Name)
+        → IfNone result (IsCarried (reel_view B.history reel) (reel_view B'.history reel)) }
+    ensures differs { (B B' : Basis) → D.Stands old.now B → D.Stands new.now B'
+        → IfSome result (IsReelDifference B.history B'.history) }
 {
     if let Some(found) = reel_in(old_rows, old, new) {
         return Some(found);

@@ -20,11 +20,11 @@ listed H rows reel is some = ap (λ (t : Tables). is_some (t.reels reel)) is ∙
 
 pub returns : goal.returns
 returns g c = record {
-  same = λ H H' is is' of_old of_new reel.
+  same = λ B B' is is' of_old of_new reel.
       none-then c.reel_in-2.result
-      (λ new. either-carried (reel_view H reel) (reel_view H' reel)
-      (λ some. c.in_default.ensures.same H H' of_old of_new reel (listed H c.args.old_rows.now reel is some))
-      (λ some. new (listed H' c.args.new_rows.now reel is' some)))
-      (c.reel_in-2.ensures.same H H' of_old of_new reel);
+      (λ new. either-carried (reel_view B.history reel) (reel_view B'.history reel)
+      (λ some. c.in_default.ensures.same B B' of_old of_new reel (listed B.history c.args.old_rows.now reel is some))
+      (λ some. new (listed B'.history c.args.new_rows.now reel is' some)))
+      (c.reel_in-2.ensures.same B B' of_old of_new reel);
   differs = c.reel_in-2.ensures.differs;
 }

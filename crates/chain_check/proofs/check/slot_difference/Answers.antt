@@ -1,6 +1,8 @@
-use Rattle.desk_types.proofs.Common.{◌∙◌, live_on, sym}
-use Rattle.chain_check.proofs.SameSlots.{either-list}
+use Rattle.std.proofs.Common.{refl, sym, ◌∙◌}
+use Rattle.desk_types.specs.History.{basis}
+use Rattle.desk_types.specs.Pieces.{live_on}
 use Rattle.feeder_state.proofs.AcceptedChanges.{state-two}
+use Rattle.chain_check.proofs.SameSlots.{either-list}
 use Rattle.chain_check.proofs.check.slot_difference.Goals as goal
 
 pub returns-in-Some-clause-differs : goal.returns-in-Some-clause-differs
@@ -17,6 +19,11 @@ returns-in-Some-slot_in-clause-differs c = λ H H' of_old of_new same.
 
 pub returns-clause-same : goal.returns-clause-same
 returns-clause-same c = λ H H' of_old of_new m s.
+    let judged = state-two H c.args.old.now of_old in
+    let judged' = state-two H' c.args.new.now of_new in
+    let rows = c.rows.ensures.same (basis c.args.old.now.rules H) (record { rules = refl; state = of_old }) in
+    let rows' = c.rows-2.ensures.same (basis c.args.new.now.rules H') (record { rules = refl; state = of_new }) in
+    let was = sym (of_old.floor.tapes m s) in
     either-list (live_on H m s) (live_on H' m s)
-    (λ some. sym (of_old.floor.tapes m s) ∙ c.in_default.ensures.same H (state-two H c.args.old.now of_old) (c.rows.ensures.same H of_old) of_old.floor.tapes m s some ∙ of_new.floor.tapes m s)
-    (λ some. sym (of_old.floor.tapes m s) ∙ c.in_default-slot_in.ensures.same H' (state-two H' c.args.new.now of_new) (c.rows-2.ensures.same H' of_new) of_new.floor.tapes m s some ∙ of_new.floor.tapes m s)
+    (λ some. was ∙ c.in_default.ensures.same H judged rows of_old.floor.tapes m s some ∙ of_new.floor.tapes m s)
+    (λ some. was ∙ c.in_default-slot_in.ensures.same H' judged' rows' of_new.floor.tapes m s some ∙ of_new.floor.tapes m s)
