@@ -1,5 +1,6 @@
 pub mod Answered
 mod AskedPieces
+pub mod FirstMessage
 pub mod NextOfFirst
 pub mod OneFileMore
 mod RefusedFiles

@@ -35,7 +35,7 @@ module _ (rules : Rules) (P : History) (row : Row) where
   n : ℕ
   n = length P + 1
 
-  next-in : (later : List Entry) → IsJudged rules (later ++ P) → filter (has_number (length P + 1)) (rows_of (later ++ P)) ≡ row ∷ [] → NextIn rules P (later ++ P) row
+  pub next-in : (later : List Entry) → IsJudged rules (later ++ P) → filter (has_number (length P + 1)) (rows_of (later ++ P)) ≡ row ∷ [] → NextIn rules P (later ++ P) row
   next-in [] judged found = absurd (let both = sym (none_left rules P judged) ∙ found in cc)
   next-in (e ∷ []) judged found = by (has_number (length P + 1) (entry_row P e)) found
     where

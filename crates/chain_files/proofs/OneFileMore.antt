@@ -1,25 +1,32 @@
 -- One more file of a chain, or one that ends it.
-use Rattle.desk_types.proofs.Common.{[], ◌++◌, ◌+◌, ◌∙◌, ◌∷◌, ◌≡◌, All, All-from_recursion, AllByRecursion}
-use Rattle.desk_types.proofs.Common.{ap, arith, get_or, History, inl, IsPrefix, length, length-append, List}
-use Rattle.desk_types.proofs.Common.{Option, recursion_from_All, Some, subst, sym, ℕ}
-use Rattle.desk_laws.proofs.Common.{DeskFile, Two}
-use Rattle.chain_check.proofs.WrittenRows.{answer-next}
-use Rattle.chain_check.specs.{Chained.IsReason, Chained.IsSoFar, Rows.answer_over, declared.chain.Chain.Chain}
-use Rattle.chain_check.specs.{declared.difference.Difference.Difference, declared.question.Question.Question}
-use Rattle.chain_files.proofs.Answered.{are-chain}
-use Rattle.chain_files.specs.{Files.Adds, Files.Answer, Files.AreHonest, Files.BreaksChain, Files.Continues}
-use Rattle.chain_files.specs.{Files.HoldHistory, Files.HoldsSaid, Files.IsStop, Files.Reaches, Files.SoFar}
-use Rattle.chain_files.specs.{Files.Stops, Look.Says, declared.chain.Fault.Fault}
-use Rattle.chain_files.specs.{declared.chain.Fault.TheVariants.BegunFrom}
-use Rattle.chain_files.specs.{declared.chain.Fault.TheVariants.Differs}
-use Rattle.chain_files.specs.{declared.chain.Fault.TheVariants.Refused, declared.looking.Looked.Looked}
-use Rattle.desk_file.specs.Files.{HasOursFirst}
-use Rattle.feeder_state.specs.{State.IsState, contracts.desk.StateDeskDesk.TheImpl.ghosts as state}
-use Rattle.feeder_state.specs.{declared.desk.StateDesk.StateDesk}
-use Rattle.sqlite_disk.specs.declared.Files.{Files}
-use Rattle.sqlite_wal.specs.{Reads.AreClean, Recovery.Image}
-use Rattle.trace_reports.specs.Csv.{HasWritten}
+use Rattle.std.proofs.Common.{◌≡◌, ◌∙◌, ◌+◌, ℕ, Bool, false, None, All, Option, Some, List, [], ◌∷◌, ◌++◌, get_or, length, length-append, sym, ap, subst, refl, inl, arith}
+use Rattle.std.specs.List.{AllByRecursion}
+use Rattle.std.proofs.lemmas.List.Elements.{All-from_recursion, recursion_from_All}
 use Rattle.sqlite_disk.specs.declared.Disk as disk
+use Rattle.sqlite_disk.specs.declared.Files.{Files}
+use Rattle.sqlite_wal.specs.Reads.{AreClean}
+use Rattle.sqlite_wal.specs.Recovery.{Image}
+use Rattle.desk_types.specs.declared.rules.Rules.TheVariants.{Two}
+use Rattle.desk_types.specs.History.{History, IsPrefix}
+use Rattle.feeder_state.specs.declared.desk.StateDesk.{StateDesk}
+use Rattle.feeder_state.specs.State.{IsState}
+use Rattle.feeder_state.specs.contracts.desk.StateDeskDesk.TheImpl.{ghosts as state}
+use Rattle.chain_files.specs.declared.looking.Looked.{Looked}
+use Rattle.chain_files.specs.Begin.{IsMarkOf}
+use Rattle.chain_files.specs.Look.{Says}
+use Rattle.desk_file.specs.Files.{HasOursFirst}
+use Rattle.desk_laws.specs.Chain.{DeskFile}
+use Rattle.chain_check.specs.declared.difference.Difference.{Difference}
+use Rattle.trace_reports.specs.Csv.{HasWritten}
+use Rattle.chain_check.specs.declared.chain.Chain.{Chain}
+use Rattle.chain_check.specs.declared.question.Question.{Question}
+use Rattle.chain_check.specs.Chained.{IsReason, IsSoFar}
+use Rattle.chain_check.specs.Rows.{answer_over}
+use Rattle.chain_check.proofs.WrittenRows.{answer-next}
+use Rattle.chain_files.specs.declared.chain.Fault.{Fault}
+use Rattle.chain_files.specs.declared.chain.Fault.TheVariants.{Refused, BegunFrom, Differs}
+use Rattle.chain_files.specs.Files.{Adds, Answer, AreHonest, BeginsAt, BreaksChain, Continues, HoldHistory, HoldsSaid, IsStop, Reaches, SoFar, Stops}
+use Rattle.chain_files.proofs.Answered.{are-chain}
 
 front : {X : Type 0} (P : X → Type 0) (xs : List X) (x : X) → AllByRecursion P (xs ++ x ∷ []) → AllByRecursion P xs × P x
 front P [] x all = (tt, all.0)
@@ -36,12 +43,16 @@ pub stops-next : (chain : Chain) (files : List DeskFile) (H B : History) (differ
 stops-next chain [] H B difference is prefix why = absurd is.newest
 stops-next chain (before ∷ older) H B difference is prefix why = (B, prefix, why before.whole is.newest)
 
-module _ {D : Type 0} (g : disk.Ghosts D) (image : ℕ → Image) (question : Question) (paths : List (List ℕ)) (chain : Option Chain) (answer : Answer) (n : ℕ) (closed : List (Files D)) (f : Files D) (looked : Looked StateDesk) where
+begins-next : (from_middle : Bool) (files : List DeskFile) (file : DeskFile) → BeginsAt from_middle files → (files ≡ [] → from_middle ≡ false → IsMarkOf file.whole None) → BeginsAt from_middle (file ∷ files)
+begins-next from_middle [] file begins first = first refl
+begins-next from_middle (before ∷ older) file begins first = begins
+
+module _ {D : Type 0} (g : disk.Ghosts D) (image : ℕ → Image) (question : Question) (from_middle : Bool) (paths : List (List ℕ)) (chain : Option Chain) (answer : Answer) (n : ℕ) (closed : List (Files D)) (f : Files D) (looked : Looked StateDesk) where
   record Both : Type 0 where
-    pub before : SoFar g image question paths closed n chain answer
+    pub before : SoFar g image question from_middle paths closed n chain answer
     pub said : HoldsSaid g (image n) question f looked
 
-  both-in : length closed ≡ n → Reaches g image question paths closed n chain answer → (AreClean g f.log f.db → HasOursFirst (image n) → HoldsSaid g (image n) question f looked)
+  both-in : length closed ≡ n → Reaches g image question from_middle paths closed n chain answer → (AreClean g f.log f.db → HasOursFirst (image n) → HoldsSaid g (image n) question f looked)
       → AreHonest g image (closed ++ f ∷ []) → Both
   both-in long was said honest =
       let P : Files D → Type 0 = λ f. AreClean g f.log f.db in
@@ -52,11 +63,11 @@ module _ {D : Type 0} (g : disk.Ghosts D) (image : ℕ → Image) (question : Qu
         said = said both.1 (honest.ours n (omega (arith, sum, long)));
       }
 
-  pub added : (after : List (Files D)) (next : Chain) (answer' : Answer) → after ≡ closed ++ f ∷ [] → length closed ≡ n → Reaches g image question paths closed n chain answer
+  pub added : (after : List (Files D)) (next : Chain) (answer' : Answer) → after ≡ closed ++ f ∷ [] → length closed ≡ n → Reaches g image question from_middle paths closed n chain answer
       → (AreClean g f.log f.db → HasOursFirst (image n) → HoldsSaid g (image n) question f looked)
       → (path : List ℕ) → path ≡ get_or paths n []
-      → ((files : List DeskFile) (H : History) (text : List ℕ) → Continues chain files → Says state.Stands H question looked → HasWritten answer text → Adds next files H question path text answer')
-      → Reaches g image question paths after (n + 1) (Some next) answer'
+      → ((files : List DeskFile) (H : History) (text : List ℕ) → Continues chain files → Says state.Stands H question looked → HasWritten answer text → Adds next files H question from_middle path text answer')
+      → Reaches g image question from_middle paths after (n + 1) (Some next) answer'
   added after next answer' is long was said path at adds honest =
       let it = both-in long was said (subst (λ (fs : List (Files D)). AreHonest g image fs) is honest) in
       let H = it.said.0 in
@@ -70,6 +81,7 @@ module _ {D : Type 0} (g : disk.Ghosts D) (image : ℕ → Image) (question : Qu
         count = omega (arith, it.before.count);
         held = (subst (λ (k : ℕ). HoldHistory g (image k) f H) (sym it.before.count) it.said.1, it.before.held);
         chained = more.adds;
+        begins = begins-next from_middle files file it.before.begins more.first;
         written = subst (HasWritten answer') (answer-next question paths files file path (at ∙ ap (λ k. get_or paths k []) (sym it.before.count))) more.written;
       }
 
@@ -78,7 +90,7 @@ module _ {D : Type 0} (g : disk.Ghosts D) (image : ℕ → Image) (question : Qu
   to-stop (BegunFrom mark) breaks = breaks
   to-stop (Differs difference) breaks = breaks
 
-  pub stopped : (after : List (Files D)) (fault : Fault) → after ≡ closed ++ f ∷ [] → length closed ≡ n → Reaches g image question paths closed n chain answer
+  pub stopped : (after : List (Files D)) (fault : Fault) → after ≡ closed ++ f ∷ [] → length closed ≡ n → Reaches g image question from_middle paths closed n chain answer
       → (AreClean g f.log f.db → HasOursFirst (image n) → HoldsSaid g (image n) question f looked)
       → ((files : List DeskFile) (H : History) → Continues chain files → Says state.Stands H question looked → Stops files H fault)
       → AreHonest g image after → IsStop g image n fault

@@ -3,8 +3,7 @@ use Rattle.std.specs.Prelude.{◌≡◌, ◌⊎◌, ℕ, List, [], ◌∷◌, �
 use Rattle.std.specs.Io.KnownBytes.{Appends}
 use Rattle.sqlite_disk.specs.declared.Disk as disk
 use Rattle.sqlite_disk.specs.declared.Files.{Files}
-use Rattle.sqlite_disk.specs.declared.start.Start as start
-use Rattle.sqlite_wal.specs.Files.{image_at}
+use Rattle.sqlite_wal.specs.Recovery.{Image}
 use Rattle.sqlite_wal.specs.Reads.{AreClean}
 use Rattle.desk_types.specs.declared.wire.Wire.{Wire}
 use Rattle.desk_types.specs.Wire.{inner_of}
@@ -31,27 +30,27 @@ SaysOf (Refused side fault) H H' = ⊥
 
 -- Two files held lawful histories with this relation, and still hold them, if their disks never lied and each held only a
 -- desk's tables, or those first.
-abbrev pub HoldBoth : {T U D E : Type 0} → start.Ghosts T → start.Ghosts U → disk.Ghosts D
-    → disk.Ghosts E → Files D → Files E → (History → History → Type 0) → Type 0
-HoldBoth of_old of_new g g' old new Relates =
-    AreClean g old.log old.db → HasOursFirst (image_at of_old)
-    → (H : History) × HoldHistory g (image_at of_old) old H
-    × (AreClean g' new.log new.db → HasOursFirst (image_at of_new)
-    → (H' : History) × HoldHistory g' (image_at of_new) new H' × Relates H H')
+abbrev pub HoldBoth : {D : Type 0} → disk.Ghosts D → (ℕ → Image) → Files D → Files D
+    → (History → History → Type 0) → Type 0
+HoldBoth g image old new Relates =
+    AreClean g old.log old.db → HasOursFirst (image 0)
+    → (H : History) × HoldHistory g (image 0) old H
+    × (AreClean g new.log new.db → HasOursFirst (image 1)
+    → (H' : History) × HoldHistory g (image 1) new H' × Relates H H')
 
 -- Both files were closed, and held such histories.
-abbrev pub FindsBoth : {T U D E : Type 0} → start.Ghosts T → start.Ghosts U → disk.Ghosts D
-    → disk.Ghosts E → List (Files D) → List (Files E) → Compared → Type 0
-FindsBoth {D = D} {E = E} of_old of_new g g' closed closed' found =
-    (old : Files D) × (new : Files E) × (closed ≡ old ∷ []) × (closed' ≡ new ∷ [])
-    × HoldBoth of_old of_new g g' old new (SaysOf found)
+abbrev pub FindsBoth : {D : Type 0} → disk.Ghosts D → (ℕ → Image) → List (Files D) → Compared
+    → Type 0
+FindsBoth {D = D} g image closed found =
+    (old : Files D) × (new : Files D) × (closed ≡ old ∷ new ∷ [])
+    × HoldBoth g image old new (SaysOf found)
 
 -- The result of a comparison, by the files that it closed.
-abbrev pub Finds : {T U D E : Type 0} → start.Ghosts T → start.Ghosts U → disk.Ghosts D
-    → disk.Ghosts E → List (Files D) → List (Files E) → Compared → Type 0
-Finds of_old of_new g g' closed closed' (Refused Old fault) = IsRefused of_old g [] closed fault
-Finds of_old of_new g g' closed closed' (Refused New fault) = IsRefused of_new g' [] closed' fault
-Finds of_old of_new g g' closed closed' found = FindsBoth of_old of_new g g' closed closed' found
+abbrev pub Finds : {D : Type 0} → disk.Ghosts D → (ℕ → Image) → List (Files D) → Compared → Type 0
+Finds g image closed (Refused Old fault) = IsRefused g (image 0) [] closed fault
+Finds {D = D} g image closed (Refused New fault) =
+    (old : Files D) × IsRefused g (image 1) (old ∷ []) closed fault
+Finds g image closed found = FindsBoth g image closed found
 
 -- ---- its line
 

@@ -1,9 +1,9 @@
 -- The files of a recall: their contents, and why there is no answer.
-use Rattle.std.specs.Prelude.{◌≡◌, ◌<◌, ◌⊎◌, ⊤, ℕ, Bool, true, false, Option, Some, None, List, [], ◌∷◌, ◌++◌, length, All, Vec}
+use Rattle.std.specs.Prelude.{◌≡◌, ◌<◌, ◌⊎◌, ⊤, ℕ, Bool, true, false, Option, Some, None, List, [], ◌∷◌, ◌++◌, length, string_bytes, All, Vec}
 use Rattle.sqlite_disk.specs.declared.Disk as disk
 use Rattle.sqlite_disk.specs.declared.Files.{Files}
 use Rattle.sqlite_disk.specs.declared.start.Start as start
-use Rattle.sqlite_wal.specs.Files.{image_at, outcomes}
+use Rattle.sqlite_wal.specs.Files.{outcomes}
 use Rattle.sqlite_wal.specs.Reads.{AreClean}
 use Rattle.sqlite_wal.specs.Recovery.{Image}
 use Rattle.sqlite.specs.Files.{image_of}
@@ -21,6 +21,7 @@ use Rattle.line_replay.specs.Rows.{ledger_tables}
 use Rattle.line_schema.specs.declared.fault.OpenFault.{OpenFault}
 use Rattle.line_schema.specs.declared.fault.OpenFault.TheVariants as open_fault
 use Rattle.chain_files.specs.declared.looking.Looked.{Looked}
+use Rattle.chain_files.specs.Begin.{IsMarkOf}
 use Rattle.chain_files.specs.Look.{Says}
 use Rattle.desk_file.specs.Files.{HasOursFirst, HasTables, IsWhole}
 use Rattle.desk_file.specs.Refused.{IsFaultFor}
@@ -37,10 +38,6 @@ use Rattle.chain_files.specs.declared.chain.Stopped.{Stopped}
 use Rattle.chain_files.specs.declared.closed.ClosedChain.{ClosedChain}
 
 -- ---- the closed files
-
--- The contents of each file when it was opened: the same for all files of a type.
-abbrev pub all_at : {T : Type 0} → start.Ghosts T → ℕ → Image
-all_at first place = image_at first
 
 -- The first to be closed comes first.
 abbrev pub files_in : {D : Type 0} → ClosedChain D → List (Files D)
@@ -93,13 +90,17 @@ abbrev pub Takes : {D : Type 0} → disk.Ghosts D → Image → Question → Lis
 Takes {D} g image question closed closed' looked = (f : Files D) × (closed' ≡ closed ++ f ∷ [])
     × (AreClean g f.log f.db → HasOursFirst image → HoldsSaid g image question f looked)
 
+-- What is known of files with these contents.
+abbrev pub start_of : Image → start.Ghosts ⊤
+start_of image = record { log = image.log; db = image.db; is_mixing = false }
+
 -- A file was refused for this fault. If its disk never lied, the fault is in its contents, and these are unchanged. Or it
 -- could not be read or closed.
-abbrev pub IsRefused : {T D : Type 0} → start.Ghosts T → disk.Ghosts D → List (Files D)
-    → List (Files D) → OpenFault → Type 0
-IsRefused {D = D} first g closed closed' fault = (fault ≡ open_fault.Unavailable)
+abbrev pub IsRefused : {D : Type 0} → disk.Ghosts D → Image → List (Files D) → List (Files D)
+    → OpenFault → Type 0
+IsRefused {D = D} g image closed closed' fault = (fault ≡ open_fault.Unavailable)
     ⊎ ((how : Close) × (files : Option (Files D)) × (closed' ≡ closed ++ option_to_list files)
-    × RefusesTo how first g files None fault)
+    × RefusesTo how (start_of image) g files None fault)
 
 -- The fault of a file that was refused is in it. That a file is missing or empty is reported without one.
 abbrev pub IsFaultOf : Image → OpenFault → Type 0
@@ -117,44 +118,52 @@ abbrev pub Continues : Option Chain → List DeskFile → Type 0
 Continues None files = files ≡ []
 Continues (Some chain) files = IsSoFar chain files
 
+-- The oldest file's desk was not begun from another file, by its first UniqueID, unless a chain may begin in the middle.
+abbrev pub BeginsAt : Bool → List DeskFile → Type 0
+BeginsAt from_middle [] = ⊤
+BeginsAt from_middle (file ∷ []) = from_middle ≡ false → IsMarkOf file.whole None
+BeginsAt from_middle (file ∷ before ∷ older) = BeginsAt from_middle (before ∷ older)
+
 -- A file with this history was added to the chain, and its rows to the text of the answer.
 pub record Adds (chain : Chain) (older : List DeskFile) (H : History) (question : Question)
-    (path : List ℕ) (text : List ℕ) (answer : Answer) : Type 0 where
+    (from_middle : Bool) (path : List ℕ) (text : List ℕ) (answer : Answer) : Type 0 where
   pub begun : History
+  pub first : older ≡ [] → from_middle ≡ false → IsMarkOf H None
   pub adds : IsSoFar chain (record { rules = Two; begun = begun; whole = H } ∷ older)
   pub written : HasWritten answer (text ++ rows_text (rows_in question path
       (facts_of (record { rules = Two; begun = begun; whole = H })) (asked_of question H)))
 
 -- So many files, which were closed, are a chain, and their rows were written.
 pub record SoFar {D : Type 0} (g : disk.Ghosts D) (image : ℕ → Image) (question : Question)
-    (paths : List (List ℕ)) (closed : List (Files D)) (number : ℕ) (chain : Option Chain)
-    (answer : Answer) : Type 0 where
+    (from_middle : Bool) (paths : List (List ℕ)) (closed : List (Files D)) (number : ℕ)
+    (chain : Option Chain) (answer : Answer) : Type 0 where
   pub newest_first : List (Files D)
   pub order : closed ≡ oldest_first newest_first
   pub files : List DeskFile
   pub count : length files ≡ number
   pub held : HoldEach g image newest_first files
   pub chained : Continues chain files
+  pub begins : BeginsAt from_middle files
   pub written : HasWritten answer (answer_over question paths files)
 
-abbrev pub Reaches : {D : Type 0} → disk.Ghosts D → (ℕ → Image) → Question → List (List ℕ)
-    → List (Files D) → ℕ → Option Chain → Answer → Type 0
-Reaches g image question paths closed number chain answer =
-    AreHonest g image closed → SoFar g image question paths closed number chain answer
+abbrev pub Reaches : {D : Type 0} → disk.Ghosts D → (ℕ → Image) → Question → Bool
+    → List (List ℕ) → List (Files D) → ℕ → Option Chain → Answer → Type 0
+Reaches g image question from_middle paths closed number chain answer = AreHonest g image closed
+    → SoFar g image question from_middle paths closed number chain answer
 
 -- All of them.
-abbrev pub Recalled : {D : Type 0} → disk.Ghosts D → (ℕ → Image) → Question → List (List ℕ)
-    → List (Files D) → ℕ → Answer → Type 0
-Recalled g image question paths closed number answer =
-    (chain : Option Chain) × Reaches g image question paths closed number chain answer
+abbrev pub Recalled : {D : Type 0} → disk.Ghosts D → (ℕ → Image) → Question → Bool
+    → List (List ℕ) → List (Files D) → ℕ → Answer → Type 0
+Recalled g image question from_middle paths closed number answer = (chain : Option Chain)
+    × Reaches g image question from_middle paths closed number chain answer
 
 -- ---- why there is no answer
 
--- A file with history H is not added to these: it is the first, and its desk was begun from another file. Or it was begun
--- with a history that doesn't carry on the newest.
+-- A file with history H is not added to these: it is the first, and its desk was begun from the file with this checksum, by
+-- its first UniqueID. Or it was begun with a history that doesn't carry on the newest.
 abbrev pub Stops : List DeskFile → History → Fault → Type 0
 Stops files H (Refused fault) = fault ≡ open_fault.Unavailable
-Stops files H (BegunFrom mark) = files ≡ []
+Stops files H (BegunFrom mark) = (files ≡ []) × IsMarkOf H (Some (string_bytes mark))
 Stops [] H (Differs difference) = ⊥
 Stops (before ∷ older) H (Differs difference) =
     (B : History) × IsPrefix B H × IsReason before.whole B difference

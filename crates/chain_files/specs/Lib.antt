@@ -1,7 +1,9 @@
+pub mod Begin
 pub mod Compared
 pub mod Files
 pub mod First
 pub mod Look
+pub mod Opened
 pub mod Stops
 pub mod Whole
 pub mod Words

@@ -3,7 +3,6 @@ use Rattle.std.specs.Prelude.{◌≡◌, ◌⊎◌, ℕ, Bool, Option, List, ◌
 use Rattle.std.specs.Io.KnownBytes.{Appends}
 use Rattle.sqlite_disk.specs.declared.Disk as disk
 use Rattle.sqlite_disk.specs.declared.Files.{Files}
-use Rattle.sqlite_disk.specs.declared.start.Start as start
 use Rattle.sqlite_wal.specs.Recovery.{Image}
 use Rattle.desk_types.specs.declared.wire.Wire.{Wire}
 use Rattle.desk_types.specs.Wire.{inner_of}
@@ -14,16 +13,18 @@ use Rattle.chain_check.specs.Rows.{answer_over}
 use Rattle.chain_files.specs.declared.chain.Fault.{Fault}
 use Rattle.chain_files.specs.declared.compared.Compared.{Compared}
 use Rattle.chain_files.specs.Compared.{Finds, NoDesk, Shows}
-use Rattle.chain_files.specs.Files.{AreHonest, HoldEach, IsStop, oldest_first}
+use Rattle.chain_files.specs.Files.{AreHonest, BeginsAt, HoldEach, IsStop, oldest_first}
 use Rattle.chain_files.specs.Stops.{status_of, stop_line}
 use Rattle.chain_files.specs.Words.{alike_words, question_words, middle_words}
 
 -- The files of these paths held, and still hold, lawful histories that are a chain, and this is the answer over them.
 pub record IsAnswer {D : Type 0} (g : disk.Ghosts D) (image : ℕ → Image) (closed : List (Files D))
-    (question : Question) (paths : List (List ℕ)) (text : List ℕ) : Type 0 where
+    (question : Question) (from_middle : Bool) (paths : List (List ℕ)) (text : List ℕ)
+    : Type 0 where
   pub files : List DeskFile
   pub count : length files ≡ length paths
   pub chain : IsChain files
+  pub begins : BeginsAt from_middle files
   pub newest_first : List (Files D)
   pub order : closed ≡ oldest_first newest_first
   pub held : HoldEach g image newest_first files
@@ -31,15 +32,15 @@ pub record IsAnswer {D : Type 0} (g : disk.Ghosts D) (image : ℕ → Image) (cl
 
 -- This text was written. If no disk lied, it is the answer.
 abbrev pub Answers : {D W : Type 0} → disk.Ghosts D → (ℕ → Image) → List (Files D) → Question
-    → List (List ℕ) → (W → Option (List ℕ)) → Wire W → Wire W → Type 0
-Answers g image closed question paths writes output output' = (text : List ℕ)
+    → Bool → List (List ℕ) → (W → Option (List ℕ)) → Wire W → Wire W → Type 0
+Answers g image closed question from_middle paths writes output output' = (text : List ℕ)
     × Appends (writes (inner_of output)) (writes (inner_of output')) text
-    × (AreHonest g image closed → IsAnswer g image closed question paths text)
+    × (AreHonest g image closed → IsAnswer g image closed question from_middle paths text)
 
--- The words ask this of these files.
-abbrev pub AsksOf : List (List ℕ) → Question → List (List ℕ) → Type 0
-AsksOf words question paths =
-    (m : Bool) × (words ≡ question_words question ++ middle_words m ++ paths)
+-- The words ask this of these files, whose chain may begin in the middle.
+abbrev pub AsksOf : List (List ℕ) → Question → Bool → List (List ℕ) → Type 0
+AsksOf words question from_middle paths =
+    words ≡ question_words question ++ middle_words from_middle ++ paths
 
 -- The words ask for help or the version.
 abbrev pub AsksForText : List (List ℕ) → Type 0
@@ -50,8 +51,9 @@ AsksForText words = (rest : List (List ℕ))
 abbrev pub Done : {D W : Type 0} → disk.Ghosts D → (ℕ → Image) → List (Files D) → List (List ℕ)
     → (W → Option (List ℕ)) → Wire W → Wire W → Type 0
 Done g image closed words writes output output' =
-    ((question : Question) × (paths : List (List ℕ)) × AsksOf words question paths
-    × Answers g image closed question paths writes output output')
+    ((question : Question) × (from_middle : Bool) × (paths : List (List ℕ))
+    × AsksOf words question from_middle paths
+    × Answers g image closed question from_middle paths writes output output')
     ⊎ AsksForText words
 
 -- Status 1, 3 or 5: there is no answer.
@@ -70,17 +72,16 @@ StopsAt {E = E} g image closed paths writes errors' status =
 abbrev pub Stops : {D E : Type 0} → disk.Ghosts D → (ℕ → Image) → List (Files D) → List (List ℕ)
     → (E → Option (List ℕ)) → Wire E → ℕ → Type 0
 Stops g image closed words writes errors' status =
-    (question : Question) × (paths : List (List ℕ)) × AsksOf words question paths
-    × StopsAt g image closed paths writes errors' status
+    (question : Question) × (from_middle : Bool) × (paths : List (List ℕ))
+    × AsksOf words question from_middle paths × StopsAt g image closed paths writes errors' status
 
 -- ---- a comparison
 
 -- The words ask for a comparison, which found this.
-abbrev pub Compares : {T U D E : Type 0} → start.Ghosts T → start.Ghosts U → disk.Ghosts D
-    → disk.Ghosts E → List (Files D) → List (Files E) → List (List ℕ) → Compared → Type 0
-Compares of_old of_new g g' closed closed' words found =
-    ((old : List ℕ) × (new : List ℕ) × (words ≡ alike_words old new))
-    × Finds of_old of_new g g' closed closed' found
+abbrev pub Compares : {D : Type 0} → disk.Ghosts D → (ℕ → Image) → List (Files D)
+    → List (List ℕ) → Compared → Type 0
+Compares g image closed words found =
+    ((old : List ℕ) × (new : List ℕ) × (words ≡ alike_words old new)) × Finds g image closed found
 
 -- Status 1 or 3: the desks differ, or there is no desk.
 abbrev pub Unlike : {W E : Type 0} → (Compared → Type 0) → (W → Option (List ℕ))
@@ -93,5 +94,6 @@ Unlike Made writes tells output output' errors errors' status =
 abbrev pub Fails : {W E : Type 0} → List (List ℕ) → (E → Option (List ℕ)) → Wire W → Wire W
     → Wire E → Wire E → Type 0
 Fails words tells output output' errors errors' =
-    ((question : Question) × (paths : List (List ℕ)) × AsksOf words question paths)
+    ((question : Question) × (from_middle : Bool) × (paths : List (List ℕ))
+    × AsksOf words question from_middle paths)
     ⊎ TellsUnwritten tells output output' errors errors'

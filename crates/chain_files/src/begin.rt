@@ -2,12 +2,21 @@
 //!
 //! A roll-over begins a new desk with the messages `begin-<checksum>-1`, `begin-<checksum>-2` and so on, each with the
 //! number of its command; UniqueIDs that the old desk knew may stand between them. No board is started before the last
-//! of them. The contracts promise nothing of this: whether a begin carries on the file before it is compared.
+//! of them. The contracts promise nothing of their number: whether a begin carries on the file before it is compared.
 
-ghost use Rattle.std.specs.Prelude.{◌≤◌, IfOk};
+ghost use Rattle.std.specs.Prelude.{◌≡◌, ◌≤◌, ℕ, IfOk, length, string_bytes};
+ghost use Rattle.std.specs.Option.{option_map};
+ghost use Rattle.sqlite.specs.State.{HasCleanDisk};
+ghost use Rattle.sqlite.specs.Held.{state};
 ghost use Rattle.desk_types.specs.declared.limits.TheConstants.{MOST_ENTRIES};
+ghost use Rattle.desk_types.specs.declared.rules.Rules.{Rules};
+ghost use Rattle.desk_types.specs.History.{History};
 ghost use Rattle.line_tables.specs.Frames.{ReadsOnly};
+ghost use Rattle.chain_files.specs.Begin.{IsMarkIn, IsMarkOf, ReadsMessage};
+ghost use Rattle.chain_files.specs.First.{HoldsHistory};
 
+use desk_types::{Command, Stamped};
+use line_replay::stamped_of;
 use line_schema::Unavailable;
 use line_tables::row_at;
 use sqlite::{Alter, Connection};
@@ -41,38 +50,52 @@ pub fn begin_of<S: Alter>(
 ) -> Result<Begin, Unavailable>
     requires bound { count ≤ MOST_ENTRIES }
     ensures bound { IfOk result (λ begin. begin.commands ≤ MOST_ENTRIES) }
+    ensures mark { (rules : Rules) (greatest : ℕ) (G : History)
+        → HoldsHistory rules (state S.Store conn.old) greatest G → count ≡ length G
+        → HasCleanDisk (state S.Store conn.new)
+        → IfOk result (λ begin. IsMarkOf G (option_map string_bytes begin.mark)) }
     ensures reads { ReadsOnly S.Store conn.old conn.new }
 {
     if count == 0 {
-        return Ok(unmarked());
+        return Ok(Begin {
+            commands: 0,
+            mark: None,
+        });
     }
-    let first = uid_at(conn, 1)?;
-    let Some(prefix) = first.as_str().strip_suffix("1") else {
-        return Ok(unmarked());
-    };
-    let mark = mark_in(alloc, prefix)?;
-    if is_first {
-        return Ok(Begin { commands: 0, mark });
-    }
-    let commands = numbered(alloc, conn, prefix, count)?;
+    let first = message_at(alloc, conn, 1)?;
+    let uid = first.uid.as_str();
+    let mark = mark_in(alloc, uid)?;
+    let commands = begun_with(alloc, conn, uid, count, is_first)?;
     Ok(Begin { commands, mark })
 }
 
-fn unmarked() -> Begin
-    ensures { result.commands ≤ MOST_ENTRIES }
+/// Returns the message of this number.
+fn message_at<S: Alter>(
+    alloc: Global,
+    conn: &mut Connection<S>,
+    number: u32,
+) -> Result<Stamped, Unavailable>
+    ensures message { IfOk result
+        (ReadsMessage (HasCleanDisk (state S.Store conn.new)) (state S.Store conn.old) number) }
+    ensures reads { ReadsOnly S.Store conn.old conn.new }
 {
-    Begin {
-        commands: 0,
-        mark: None,
+    let Ok(Some(row)) = row_at(conn, number) else {
+        return Err(Unavailable);
+    };
+    match stamped_of(alloc, &row) {
+        Ok(Some(stamped)) => Ok(stamped),
+        _ => Err(Unavailable),
     }
 }
 
-/// Returns the checksum between `begin-` and the last hyphen.
-fn mark_in(alloc: Global, prefix: &str) -> Result<Option<String>, Unavailable> {
-    let Some(rest) = prefix.strip_prefix("begin-") else {
+/// Returns the checksum in the UniqueID of the first message of a begin.
+fn mark_in(alloc: Global, uid: &str) -> Result<Option<String>, Unavailable>
+    ensures { IfOk result (λ mark. IsMarkIn uid.now (option_map string_bytes mark)) }
+{
+    let Some(rest) = uid.strip_prefix("begin-") else {
         return Ok(None);
     };
-    let Some(mark) = rest.strip_suffix("-") else {
+    let Some(mark) = rest.strip_suffix("-1") else {
         return Ok(None);
     };
     match String::from_str(alloc, mark) {
@@ -81,29 +104,24 @@ fn mark_in(alloc: Global, prefix: &str) -> Result<Option<String>, Unavailable> {
     }
 }
 
-fn uid_at<S: Alter>(conn: &mut Connection<S>, number: u32) -> Result<String, Unavailable>
-    ensures reads { ReadsOnly S.Store conn.old conn.new }
-{
-    match row_at(conn, number) {
-        Ok(Some(row)) => match row.get::<String>(1) {
-            Ok(uid) => Ok(uid),
-            Err(_) => Err(Unavailable),
-        },
-        _ => Err(Unavailable),
-    }
-}
-
-/// Returns the greatest number of a command whose UniqueID is the prefix with that number, before any work.
-fn numbered<S: Alter>(
+/// Returns the greatest number of a command whose UniqueID is the first one's with that number, before any work.
+fn begun_with<S: Alter>(
     alloc: Global,
     conn: &mut Connection<S>,
-    prefix: &str,
+    first: &str,
     count: u32,
+    is_first: bool,
 ) -> Result<u32, Unavailable>
     requires bound { count ≤ MOST_ENTRIES }
     ensures bound { IfOk result (λ begun. begun ≤ MOST_ENTRIES) }
     ensures reads { ReadsOnly S.Store conn.old conn.new }
 {
+    if is_first {
+        return Ok(0);
+    }
+    let Some(prefix) = first.strip_suffix("1") else {
+        return Ok(0);
+    };
     let mut begun = 0;
     for at in 0..count {
         match place_of(alloc, conn, prefix, at + 1)? {
@@ -123,22 +141,14 @@ fn place_of<S: Alter>(
 ) -> Result<Place, Unavailable>
     ensures reads { ReadsOnly S.Store conn.old conn.new }
 {
-    let Ok(Some(row)) = row_at(conn, number) else {
-        return Err(Unavailable);
-    };
-    let Ok(command) = row.get::<String>(5) else {
-        return Err(Unavailable);
-    };
-    if command.as_str().starts_with("WorkStarted") {
+    let message = message_at(alloc, conn, number)?;
+    if let Command::WorkStarted { .. } = message.command {
         return Ok(Place::Work);
     }
-    let Ok(uid) = row.get::<String>(1) else {
-        return Err(Unavailable);
-    };
     let Ok(own) = format!(in alloc; "{prefix}{number}") else {
         return Err(Unavailable);
     };
-    if uid.as_str() == own.as_str() {
+    if message.uid.as_str() == own.as_str() {
         Ok(Place::Begin)
     } else {
         Ok(Place::Other)

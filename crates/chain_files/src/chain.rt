@@ -1,7 +1,7 @@
 //! A recall over the files of a chain.
 
-ghost use Rattle.std.specs.Prelude.{◌≡◌, ◌<◌, ◌^◌, [], None, List, ℕ, IfOk, IfErr, length, map, string_bytes};
-ghost use Rattle.sqlite_wal.specs.Files.{image_at};
+ghost use Rattle.std.specs.Prelude.{◌≡◌, ◌<◌, ◌^◌, Bool, false, [], None, Some, List, ℕ, IfOk, IfErr, MatchOption, length, map, string_bytes};
+ghost use Rattle.sqlite_wal.specs.Recovery.{Image};
 ghost use Rattle.desk_commands.specs.Closed.{ClosesConn};
 ghost use Rattle.desk_file.specs.Refused.{RefusesRun};
 ghost use Rattle.desk_types.specs.History.{History};
@@ -11,22 +11,23 @@ ghost use Rattle.desk_laws.specs.Chain.{DeskFile};
 ghost use Rattle.trace_reports.specs.Csv.{HasWritten};
 ghost use Rattle.chain_check.specs.Chained.{IsSoFar};
 ghost use Rattle.chain_files.specs.Look.{Says};
-ghost use Rattle.chain_files.specs.Files.{Adds, Continues, IsRefused, IsWhyStopped, Recalled, Stops, Takes, all_at, close_of, files_in};
+ghost use Rattle.chain_files.specs.Files.{Adds, Continues, IsRefused, IsWhyStopped, Recalled, Stops, Takes, close_of, files_in};
 
 use crate::begin::Begin;
 use crate::closed::{ClosedChain, add_closed};
+use crate::kept::desk_in;
 use crate::looking::{Looked, look};
-use crate::opener::Fresh;
+use crate::opener::Opener;
 use crate::paths::path_at;
 use chain_check::{
     Chain, ChainFile, Difference, Question, ShownDifference, begin_rows, write_rows,
 };
 use desk_commands::tell_line;
-use desk_file::{RefusedFile, close_file, open_desk};
+use desk_file::{RefusedFile, close_file};
 use desk_types::{Desk, Wire};
 use feeder_state::StateDesk;
 use line_schema::OpenFault;
-use sqlite::{Connection, FileFrom, FileStore, Files};
+use sqlite::{Connection, FileStore, Files};
 use sqlite_disk::Disk;
 use std::alloc::{AllocError, Global};
 use std::fmt;
@@ -70,20 +71,23 @@ pub struct Stopped {
 }
 
 /// Looks into the file at a place, and closes it.
-pub fn look_at<T: Fresh>(
+pub fn look_at<O: Opener>(
     rt: &HostRuntime,
+    opener: &O,
     place: u64,
     path: &str,
     question: &Question,
-    closed: &mut ClosedChain<FileFrom<T>>,
+    closed: &mut ClosedChain<O::File>,
 ) -> Result<Looked<StateDesk>, OpenFault>
     ensures takes { IfOk result
-        (Takes ⟦<FileFrom<T> as Disk>⟧ (image_at T.Start) question.now
+        (Takes ⟦<O::File as Disk>⟧ (O.image opener.now place) question.now
         (files_in closed.old) (files_in closed.new)) }
     ensures refused { IfErr result
-        (IsRefused T.Start ⟦<FileFrom<T> as Disk>⟧ (files_in closed.old) (files_in closed.new)) }
+        (IsRefused ⟦<O::File as Disk>⟧ (O.image opener.now place)
+        (files_in closed.old) (files_in closed.new)) }
 {
-    match open_desk::<T, StateDesk>(rt, path, T::fresh(), None) {
+    let files = opener.open(rt, place, path)?;
+    match desk_in(rt, files) {
         Ok(store) => {
             let (conn, looked) = look(rt.alloc(), store, question, place == 0);
             let Ok(files) = close_file(conn) else {
@@ -102,13 +106,9 @@ pub fn look_at<T: Fresh>(
 }
 
 /// Closes a file that was refused. Returns its fault.
-fn shut<T: Fresh>(
-    refusal: RefusedFile<FileFrom<T>>,
-    closed: &mut ClosedChain<FileFrom<T>>,
-) -> OpenFault
-    ensures { RefusesRun (image_at T.Start) None refusal
-        → IsRefused T.Start ⟦<FileFrom<T> as Disk>⟧ (files_in closed.old) (files_in closed.new)
-        result }
+fn shut<D: Disk + Drop>(refusal: RefusedFile<D>, closed: &mut ClosedChain<D>) -> OpenFault
+    ensures { (image : Image) → RefusesRun image None refusal
+        → IsRefused D.Disk image (files_in closed.old) (files_in closed.new) result }
 {
     let RefusedFile { fault, file } = refusal;
     let Some(file) = file else {
@@ -122,7 +122,7 @@ fn shut<T: Fresh>(
 }
 
 /// Closes a file, or leaves what could not be closed. Returns whether it was closed.
-fn close_any<T: Fresh>(file: Connection<FileStore<FileFrom<T>>>) -> (bool, Files<FileFrom<T>>)
+fn close_any<D: Disk + Drop>(file: Connection<FileStore<D>>) -> (bool, Files<D>)
     ensures { ClosesConn (close_of result.0) file result.1 }
 {
     match close_file(file) {
@@ -144,7 +144,8 @@ fn add(
 ) -> Result<Chain, Fault>
     ensures ok { (files : List DeskFile) (H : History) (text : List ℕ) → Continues chain files
         → Says state.Stands H question.now looked → HasWritten answer.old text
-        → IfOk result (λ it. Adds it files H question.now path.now text answer.new) }
+        → IfOk result
+        (λ it. Adds it files H question.now from_middle path.now text answer.new) }
     ensures err { (files : List DeskFile) (H : History) → Continues chain files
         → Says state.Stands H question.now looked
         → IfErr result (Stops files H) }
@@ -165,8 +166,10 @@ fn add_first(
 ) -> Result<Chain, Fault>
     ensures ok { (H : History) (text : List ℕ)
         → Says state.Stands H question.now looked → HasWritten answer.old text
-        → IfOk result (λ it. Adds it [] H question.now path.now text answer.new) }
-    ensures err { (H : History) → IfErr result (Stops [] H) }
+        → IfOk result
+        (λ it. Adds it [] H question.now from_middle path.now text answer.new) }
+    ensures err { (H : History) → Says state.Stands H question.now looked
+        → IfErr result (Stops [] H) }
 {
     let Looked {
         begun: _begun,
@@ -179,10 +182,9 @@ fn add_first(
         commands: _none,
         mark,
     } = begin;
-    if let Some(mark) = mark {
-        if !from_middle {
-            return Err(Fault::BegunFrom(mark));
-        }
+    match left_out(mark, from_middle) {
+        Some(mark) => return Err(Fault::BegunFrom(mark)),
+        None => {}
     }
     let file = ChainFile {
         begun: 0,
@@ -195,6 +197,13 @@ fn add_first(
     }
 }
 
+/// Returns the checksum of the file before the first one, unless the chain may begin in the middle.
+fn left_out(mark: Option<String>, from_middle: bool) -> Option<String>
+    ensures { MatchOption result (from_middle ≡ false → mark ≡ None) (λ it. mark ≡ Some it) }
+{
+    if from_middle { None } else { mark }
+}
+
 fn add_next(
     alloc: Global,
     chain: Chain,
@@ -203,9 +212,11 @@ fn add_next(
     path: &str,
     answer: &mut TextWriter,
 ) -> Result<Chain, Fault>
-    ensures ok { (files : List DeskFile) (H : History) (text : List ℕ) → IsSoFar chain files
-        → Says state.Stands H question.now looked → HasWritten answer.old text
-        → IfOk result (λ it. Adds it files H question.now path.now text answer.new) }
+    ensures ok { (files : List DeskFile) (H : History) (from_middle : Bool) (text : List ℕ)
+        → IsSoFar chain files → Says state.Stands H question.now looked
+        → HasWritten answer.old text
+        → IfOk result
+        (λ it. Adds it files H question.now from_middle path.now text answer.new) }
     ensures err { (files : List DeskFile) (H : History) → IsSoFar chain files
         → Says state.Stands H question.now looked
         → IfErr result (Stops files H) }
@@ -233,21 +244,22 @@ fn add_next(
 
 /// Goes through these files, the oldest first, and prints a line for each. Returns the answer and, in `closed`, the
 /// files that it closed, which clauses name.
-pub fn recall_files<T: Fresh, E: Write>(
+pub fn recall_files<O: Opener, E: Write>(
     rt: &HostRuntime,
+    opener: &O,
     paths: &[String],
     question: &Question,
     from_middle: bool,
     errors: &mut Wire<E>,
-    closed: &mut ClosedChain<FileFrom<T>>,
+    closed: &mut ClosedChain<O::File>,
 ) -> Result<TextWriter, Stopped>
     requires none { files_in closed.old ≡ [] }
     requires few { failures_of errors.old < 2 ^ 63 }
     ensures recalled { IfOk result
-        (Recalled ⟦<FileFrom<T> as Disk>⟧ (all_at T.Start) question.now
+        (Recalled ⟦<O::File as Disk>⟧ (O.image opener.now) question.now from_middle
         (map string_bytes paths.now) (files_in closed.new) (length paths.now)) }
     ensures stopped { IfErr result
-        (IsWhyStopped ⟦<FileFrom<T> as Disk>⟧ (all_at T.Start) (files_in closed.new)) }
+        (IsWhyStopped ⟦<O::File as Disk>⟧ (O.image opener.now) (files_in closed.new)) }
     ensures few { failures_of errors.new < 2 ^ 63 }
 {
     let Ok(mut answer) = begin_rows(rt.alloc(), question) else {
@@ -260,7 +272,7 @@ pub fn recall_files<T: Fresh, E: Write>(
     for place in 0..paths.len() {
         let number = place as u64;
         let path = path_at(paths, number);
-        let looked = match look_at(rt, number, path, question, closed) {
+        let looked = match look_at(rt, opener, number, path, question, closed) {
             Ok(looked) => looked,
             Err(fault) => {
                 return Err(Stopped {

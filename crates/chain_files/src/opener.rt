@@ -1,15 +1,57 @@
-//! What is known of the files of a run.
+//! The files of a run, which are opened one after the other.
 
-use sqlite::{Start, Unknown};
+ghost use Rattle.std.specs.Prelude.{◌≡◌, ◌⊎◌, ℕ, None, IsTrue, IfOk, IfErr};
+ghost use Rattle.sqlite_wal.specs.Recovery.{Image};
+ghost use Rattle.sqlite.specs.Files.{image_of};
+ghost use Rattle.line_schema.specs.declared.fault.OpenFault.TheVariants as Fault;
 
-/// The contents of a file when it is opened, once for each file.
-pub trait Fresh: Start {
-    fn fresh() -> Self;
+use desk_file::is_empty_at;
+use line_schema::OpenFault;
+use sqlite::{FileFrom, Files, Start, Unknown};
+use sqlite_disk::Disk;
+
+/// Opens the files of a run. They have one type, and contents of their own: `image` is what the file at each place, from
+/// 0, held when it was opened.
+pub trait Opener {
+    type File: Disk + Drop;
+
+    ghost image: { Self → ℕ → Image };
+
+    /// Opens the file at a path, and its log. None is made.
+    fn open(&self, rt: &HostRuntime, place: u64, path: &str) -> Result<Files<Self::File>, OpenFault>
+        ensures log { IfOk result
+            (λ files. IsTrue (⟦<Self::File as Disk>⟧.is_usable files.log)) }
+        ensures db { IfOk result
+            (λ files. IsTrue (⟦<Self::File as Disk>⟧.is_usable files.db)) }
+        ensures image { IfOk result
+            (λ files. image_of ⟦<Self::File as Disk>⟧ files ≡ image self.now place) }
+        ensures err { IfErr result
+            (λ fault. (fault ≡ Fault.Unavailable) ⊎ (fault ≡ Fault.NotADesk)) };
 }
 
-/// Nothing is known of the files of the system.
-impl Fresh for Unknown {
-    fn fresh() -> Unknown {
-        Unknown
+/// The files of the system. Nothing is known of their contents.
+#[derive(Drop)]
+pub struct SystemFiles;
+
+impl Opener for SystemFiles {
+    ghost use Rattle.sqlite_wal.specs.Files.{image_at};
+
+    type File = FileFrom<Unknown>;
+
+    ghost image = { λ _ _. image_at ⟦<Unknown as Start>⟧ };
+
+    fn open(
+        &self,
+        rt: &HostRuntime,
+        _place: u64,
+        path: &str,
+    ) -> Result<Files<FileFrom<Unknown>>, OpenFault> {
+        if is_empty_at(rt, path)? {
+            return Err(OpenFault::NotADesk);
+        }
+        match sqlite_std_file::open(rt, path, Unknown) {
+            Ok(files) => Ok(files),
+            Err(_) => Err(OpenFault::Unavailable),
+        }
     }
 }

@@ -7,13 +7,13 @@ ghost use Rattle.desk_commands.specs.Told.{unavailable_line, TellsLine};
 ghost use Rattle.desk_commands.specs.Wires.{HaveFewFailures};
 ghost use Rattle.trace_reports.specs.Csv.{HasWritten};
 ghost use Rattle.chain_files.specs.Compared.{Shows};
-ghost use Rattle.chain_files.specs.Files.{all_at, files_in};
+ghost use Rattle.chain_files.specs.Files.{files_in};
 ghost use Rattle.chain_files.specs.Stops.{status_of, stop_line};
 ghost use Rattle.chain_files.specs.Whole.{Answers, Compares, Done, Fails, IsStopped, Stops, StopsAt, Unlike};
 
 use crate::chain::{Fault, Stopped, recall_files};
 use crate::closed::ClosedChain;
-use crate::opener::Fresh;
+use crate::opener::Opener;
 use crate::paths::path_at;
 use crate::two_files::alike;
 use crate::words::{ChainCommand, HELP, VERSION, read_words};
@@ -21,37 +21,36 @@ use chain_check::{Question, end_rows};
 use desk_answers::send;
 use desk_commands::{Exit, send_text, tell, tell_line, unavailable};
 use desk_types::Wire;
-use sqlite::FileFrom;
 use sqlite_disk::Disk;
 use std::alloc::Global;
 use std::io::Write;
 use trace_reports::TextWriter;
 
 /// Runs the program with these arguments. Returns the exit status, and the files that it closed, which clauses name: those
-/// of a recall, or the old file of a comparison, and its new file.
-pub fn program<T: Fresh, U: Fresh, W: Write, E: Write>(
+/// of a recall or a comparison, in the order in which they were named.
+pub fn program<O: Opener, W: Write, E: Write>(
     rt: &HostRuntime,
+    opener: &O,
     words: &[String],
     output: &mut Wire<W>,
     errors: &mut Wire<E>,
-) -> (u8, ClosedChain<FileFrom<T>>, ClosedChain<FileFrom<U>>)
+) -> (u8, ClosedChain<O::File>)
     requires few { HaveFewFailures output.old errors.old }
     ensures status { result.0 ≤ 5 }
     ensures done { result.0 ≡ 0
-        → Done ⟦<FileFrom<T> as Disk>⟧ (all_at T.Start) (files_in result.1)
+        → Done ⟦<O::File as Disk>⟧ (O.image opener.now) (files_in result.1)
         (map string_bytes words.now) W.contents output.old output.new
         ⊎ Shows
-        (Compares T.Start U.Start ⟦<FileFrom<T> as Disk>⟧ ⟦<FileFrom<U> as Disk>⟧
-        (files_in result.1) (files_in result.2) (map string_bytes words.now)) W.contents
-        output.old output.new 0 }
+        (Compares ⟦<O::File as Disk>⟧ (O.image opener.now) (files_in result.1)
+        (map string_bytes words.now)) W.contents output.old output.new 0 }
     ensures stopped { IsStopped result.0
         → (output.new ≡ output.old)
-        × Stops ⟦<FileFrom<T> as Disk>⟧ (all_at T.Start) (files_in result.1)
+        × Stops ⟦<O::File as Disk>⟧ (O.image opener.now) (files_in result.1)
         (map string_bytes words.now) E.contents errors.new result.0
         ⊎ Unlike
-        (Compares T.Start U.Start ⟦<FileFrom<T> as Disk>⟧ ⟦<FileFrom<U> as Disk>⟧
-        (files_in result.1) (files_in result.2) (map string_bytes words.now)) W.contents
-        E.contents output.old output.new errors.old errors.new result.0 }
+        (Compares ⟦<O::File as Disk>⟧ (O.image opener.now) (files_in result.1)
+        (map string_bytes words.now)) W.contents E.contents output.old output.new errors.old
+        errors.new result.0 }
     ensures bad { result.0 ≡ 2 → output.new ≡ output.old }
     ensures failed { result.0 ≡ 4
         → Fails (map string_bytes words.now) E.contents output.old output.new errors.old
@@ -62,19 +61,14 @@ pub fn program<T: Fresh, U: Fresh, W: Write, E: Write>(
             question,
             from_middle,
             files,
-        } => {
-            let (status, closed) = answer(rt, &question, from_middle, files, output, errors);
-            (status, closed, ClosedChain::new(rt.alloc()))
-        }
-        ChainCommand::Alike { old, new } => alike(rt, old, new, output, errors),
+        } => answer(rt, opener, &question, from_middle, files, output, errors),
+        ChainCommand::Alike { old, new } => alike(rt, opener, old, new, output, errors),
         ChainCommand::Help => (
             send_text(HELP, output, errors),
-            ClosedChain::new(rt.alloc()),
             ClosedChain::new(rt.alloc()),
         ),
         ChainCommand::Version => (
             send_text(VERSION, output, errors),
-            ClosedChain::new(rt.alloc()),
             ClosedChain::new(rt.alloc()),
         ),
         ChainCommand::Bad => {
@@ -82,36 +76,41 @@ pub fn program<T: Fresh, U: Fresh, W: Write, E: Write>(
                 errors,
                 "usage: tracedesk-chain check|lot NAME|board NAME|reel NAME [--pieces] [--from-middle] FILE.., alike OLD NEW, or --help\n",
             );
-            (
-                Exit::BadCommandLine as u8,
-                ClosedChain::new(rt.alloc()),
-                ClosedChain::new(rt.alloc()),
-            )
+            (Exit::BadCommandLine as u8, ClosedChain::new(rt.alloc()))
         }
     }
 }
 
 /// Recalls over the files, and prints the answer, or why there is none.
-fn answer<T: Fresh, W: Write, E: Write>(
+fn answer<O: Opener, W: Write, E: Write>(
     rt: &HostRuntime,
+    opener: &O,
     question: &Question,
     from_middle: bool,
     paths: &[String],
     output: &mut Wire<W>,
     errors: &mut Wire<E>,
-) -> (u8, ClosedChain<FileFrom<T>>)
+) -> (u8, ClosedChain<O::File>)
     requires few { HaveFewFailures output.old errors.old }
     ensures status { (result.0 ≤ 1) ⊎ (3 ≤ result.0) × (result.0 ≤ 5) }
     ensures done { result.0 ≡ 0
-        → Answers ⟦<FileFrom<T> as Disk>⟧ (all_at T.Start) (files_in result.1) question.now
-        (map string_bytes paths.now) W.contents output.old output.new }
+        → Answers ⟦<O::File as Disk>⟧ (O.image opener.now) (files_in result.1) question.now
+        from_middle (map string_bytes paths.now) W.contents output.old output.new }
     ensures stopped { IsStopped result.0
         → (output.new ≡ output.old)
-        × StopsAt ⟦<FileFrom<T> as Disk>⟧ (all_at T.Start) (files_in result.1)
+        × StopsAt ⟦<O::File as Disk>⟧ (O.image opener.now) (files_in result.1)
         (map string_bytes paths.now) E.contents errors.new result.0 }
 {
     let mut closed = ClosedChain::new(rt.alloc());
-    match recall_files(rt, paths, question, from_middle, errors, &mut closed) {
+    match recall_files(
+        rt,
+        opener,
+        paths,
+        question,
+        from_middle,
+        errors,
+        &mut closed,
+    ) {
         Ok(answer) => (send_answer(answer, output, errors), closed),
         Err(stopped) => {
             let status = tell_stop(rt.alloc(), paths, &stopped, errors);

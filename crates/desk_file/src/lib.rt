@@ -12,5 +12,8 @@ mod refusal;
 pub use law::next_run_goes_on;
 pub use memory::in_memory;
 pub use memory_file::MemoryFile;
-pub use opening::{DeskFile, FileDesk, close_desk, close_file, migrate_desk, open_desk};
+pub use opening::{
+    DeskFile, FileDesk, close_desk, close_file, is_empty_at, migrate_desk, open_desk,
+};
+pub use path::connect_to;
 pub use refusal::RefusedFile;

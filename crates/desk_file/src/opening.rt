@@ -20,6 +20,7 @@ use crate::path::open_path;
 use crate::refusal::RefusedFile;
 use line_schema::{LineStore, OpenFault};
 use sqlite::{Connection, FileFrom, FileStore, Files, Start};
+use sqlite_disk::Disk;
 use state_rows::KeepsRows;
 use std::fs;
 use std::fs::Metadata;
@@ -109,9 +110,9 @@ pub fn close_desk<T: Start, D: KeepsRows + Drop>(
 }
 
 /// Closes a desk's file by its connection, like `close_desk`.
-pub fn close_file<T: Start>(
-    conn: DeskFile<T>,
-) -> Result<Files<FileFrom<T>>, (OpenFault, Files<FileFrom<T>>)>
+pub fn close_file<D: Disk + Drop>(
+    conn: Connection<FileStore<D>>,
+) -> Result<Files<D>, (OpenFault, Files<D>)>
     ensures whole { IfOk result (KeepsTables conn) }
     ensures copied { IfOk result (Copies conn) }
     ensures err { IfErr result (λ e. e.0 ≡ Fault.Unavailable) }
@@ -128,13 +129,23 @@ pub fn close_file<T: Start>(
 fn is_blank<T: Start>(rt: &HostRuntime, path: &str) -> Result<bool, RefusedFile<FileFrom<T>>>
     ensures { IfErr result (λ r. r ≡ record { fault = Fault.Unavailable; file = None }) }
 {
+    match is_empty_at(rt, path) {
+        Ok(empty) => Ok(empty),
+        Err(_) => Err(no_connection()),
+    }
+}
+
+/// Returns whether the path has no file, or an empty one. A path that is no regular file is Unavailable.
+pub fn is_empty_at(rt: &HostRuntime, path: &str) -> Result<bool, OpenFault>
+    ensures { IfErr result (λ fault. fault ≡ Fault.Unavailable) }
+{
     match fs::metadata(rt, path) {
         Ok(found) => match has_no_byte(&found) {
-            Some(blank) => Ok(blank),
-            None => Err(no_connection()),
+            Some(empty) => Ok(empty),
+            None => Err(OpenFault::Unavailable),
         },
         Err(error) if error.kind() == ErrorKind::NotFound => Ok(true),
-        _ => Err(no_connection()),
+        _ => Err(OpenFault::Unavailable),
     }
 }
 

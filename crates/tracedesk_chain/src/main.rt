@@ -1,11 +1,10 @@
 //! The program that says whether desk files are the chain of one line, and recalls a lot, a board or a reel over them.
 #![tactic(auto)]
 
-use chain_files::program;
+use chain_files::{SystemFiles, program};
 use desk_commands::{tell_line, unavailable};
 use desk_types::Wire;
 use desk_words::words_behind_name;
-use sqlite::Unknown;
 use std::process::ExitCode;
 
 fn main(rt: HostRuntime) -> ExitCode {
@@ -21,8 +20,9 @@ fn main(rt: HostRuntime) -> ExitCode {
         return ExitCode::from(unavailable(&mut errors));
     };
     let mut output = Wire::new(rt.stdout());
-    let (status, _files, _new_files) = program::<Unknown, Unknown, _, _>(
+    let (status, _files) = program(
         &rt,
+        &SystemFiles,
         words.as_slice(),
         &mut output,
         &mut errors,

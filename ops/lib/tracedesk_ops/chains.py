@@ -25,7 +25,7 @@ from tracedesk_ops import copies, identity, plant
 NO_CHAIN, REFUSED, BEGUN = 1, 3, 5  # statuses of the program: no chain; a file was refused; the first one was begun from another
 OPTION = re.compile(": differs (minute|slot|board .* in work old)")  # what --at, --no-loads and --with-board-in-work make
 SECONDS_BETWEEN_NOTES = 10
-FILE = re.compile(r"[^:]*: (.*): (\d+) commands, last minute (\d+|none)(?:, begun from ([0-9a-f-]+))?; (\d+) to go")
+FILE = re.compile(r"[^:]*: (.*): (\d+) commands, last minute (\d+|none)(?:, begun from (.*))?; (\d+) to go")
 CHECKED, PIECES = "file,begun,commands,minute", "board,designator,part,lot,reel,machine,slot,overdue,minute,file"
 
 
@@ -60,11 +60,15 @@ def asked(chain, words, files, archives, about=""):
     """What the program answers to these words about files, from the oldest on, of which these are the lines of the catalogue; the last may
     have none. A NoAnswer where there is none, a Fault where a file changes meanwhile. Long runs are told about."""
     parts, options, first, last = [], [], 0, len(files)
+    middle: list = []
     while first < len(files):
         try:
-            parts.append((first, asked_of(chain, [*words, *(["--from-middle"] if first else [])], files[first:last], about)))
-            first, last = last, len(files)
+            parts.append((first, asked_of(chain, [*words, *middle], files[first:last], about)))
+            first, last, middle = last, len(files), ["--from-middle"]
         except NoAnswer as fault:
+            if fault.status == BEGUN and not middle and not identity.mark_of(files[0]):  # a sender's UniqueIDs begin as those of a beginning do
+                middle = ["--from-middle"]
+                continue
             last = first + len(fault.ends) - 1
             if fault.status != NO_CHAIN or not OPTION.search(str(fault)) or last <= first or not identity.follows(fault.ends[-1].mark, archives[last - 1]):
                 raise

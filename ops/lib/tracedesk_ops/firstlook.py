@@ -22,10 +22,14 @@ Told = collections.namedtuple("Told", "known pieces")  # by a desk or an archive
 def at(line, archive, question, wants_pieces=True):
     """Whether an archive of a line knows the name, once its checksum is that of its catalogue; and its pieces."""
     with catalogue.unchanged(line.catalogue, archive) as database:
-        rows = lambda query: database.execute(query, [question.name])
-        known = rows(KNOWN_AS[question.kind]).fetchone() is not None
-        placed = rows(PIECES.format(THOSE_OF[question.kind])) if known and wants_pieces else ()
-        return Told(known, [Piece._make((*map(sys.intern, row[:7]), "yes" if row[7] else "no", row[8], line.name, archive.file)) for row in placed])
+        return told_by(database, line, archive, question, wants_pieces)
+
+
+def told_by(database, line, archive, question, wants_pieces):
+    rows = lambda query: database.execute(query, [question.name])
+    known = rows(KNOWN_AS[question.kind]).fetchone() is not None
+    placed = rows(PIECES.format(THOSE_OF[question.kind])) if known and wants_pieces else ()
+    return Told(known, [Piece._make((*map(sys.intern, row[:7]), "yes" if row[7] else "no", row[8], line.name, archive.file)) for row in placed])
 
 
 def left_in(database, line, question, minute=None):

@@ -1,10 +1,16 @@
-use Rattle.desk_types.proofs.Common.{arith, History, IfOk, inl, inr, IsTrue, None, refl, subst, sym, ℕ}
-use Rattle.line_tables.proofs.Common.{Database, file_state, HasCleanDisk, Holds}
-use Rattle.chain_files.specs.Look.{Says}
-use Rattle.desk_file.specs.Files.{Begins, HasTables}
-use Rattle.feeder_state.specs.contracts.desk.StateDeskDesk.TheImpl.{ghosts as state}
-use Rattle.line_replay.specs.Rows.{ledger_tables}
+use Rattle.std.proofs.Common.{ℕ, None, IsTrue, inl, inr, refl, sym, subst, arith}
+use Rattle.std.specs.Prelude.{IfOk}
 use Rattle.sqlite_wal.specs.Recovery.{Image}
+use Rattle.sqlite.specs.Effect.{Database}
+use Rattle.sqlite.specs.State.{HasCleanDisk}
+use Rattle.sqlite.specs.Files.{file_state}
+use Rattle.desk_types.specs.History.{History}
+use Rattle.feeder_state.specs.contracts.desk.StateDeskDesk.TheImpl.{ghosts as state}
+use Rattle.line_tables.specs.Rows.{Holds}
+use Rattle.line_replay.specs.Rows.{ledger_tables}
+use Rattle.chain_files.specs.Look.{Says}
+use Rattle.desk_file.specs.Refused.{RefusesRun}
+use Rattle.desk_file.specs.Files.{Begins, HasOursFirst, HasTables}
 use Rattle.chain_files.proofs.chain.look_at.Goals as goal
 
 begins-tables : (image : Image) (greatest : ℕ) (H : History) → Begins image None greatest H → HasTables image (ledger_tables greatest H)
@@ -19,13 +25,21 @@ returns-in-Ok-looked-clause-takes g c = (
       let conn = c.look-conn.result.0 in
       let after : HasCleanDisk (file_state conn) = (c.in-Ok-close_file.ensures.copied clean).was_clean in
       let before : HasCleanDisk (file_state c.in-Ok.store.conn) = omega (arith, c.look-conn.ensures.reads.survives.clean, after) in
-      let b = c.in-Ok.ensures.begins before ours in
+      let b = c.in-Ok.ensures.opens before (subst HasOursFirst (sym c.in_ok-files.ensures.image) ours) in
       let tables = ledger_tables b.0 b.1 in
+      let held = subst (λ (image : Image). HasTables image tables) c.in_ok-files.ensures.image
+      (begins-tables _ b.0 b.1 b.2) in
       let keeps : HasCleanDisk (file_state conn) → IsTrue (file_state conn).is_open → Holds (file_state conn).committed tables = λ clean' is_open.
       let kept = c.look-conn.ensures.reads.kept clean' in
       subst (λ (db : Database). Holds db tables) (sym (kept.committed is_open)) (b.3.tables before refl (kept.was_open is_open)) in (
         b.1,
-        (b.0, begins-tables _ b.0 b.1 b.2, c.in-Ok-close_file.ensures.whole tables keeps clean, b.3.lawful before refl, b.3.consistent),
+        (b.0, held, c.in-Ok-close_file.ensures.whole tables keeps clean, b.3.lawful before refl, b.3.consistent),
         subst (λ r. IfOk r (Says state.Stands b.1 c.args.question.now)) c.in-Ok-looked.is (c.look-conn.ensures.says (record { greatest = b.0; history = b.1; own = _ }) b.3 refl after),
       ),
 )
+
+pub returns-in-Err-clause-refused : goal.returns-in-Err-clause-refused
+returns-in-Err-clause-refused g c =
+    let image : ℕ → Image = g.O.Opener.image c.args.opener.now in
+    c.shut.ensures (image c.args.place)
+    (subst (λ (i : Image). RefusesRun i None c.in-Err.refusal) c.in_ok-files.ensures.image c.in-Err.ensures.refused)

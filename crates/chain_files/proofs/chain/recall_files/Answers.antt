@@ -1,11 +1,7 @@
-use Rattle.desk_types.proofs.Common.{[], ◌+◌, ◌∙◌, ◌∷◌, ◌≡◌, ap, arith, length, length-append, map, refl}
-use Rattle.desk_types.proofs.Common.{string_bytes}
+use Rattle.std.proofs.Common.{◌≡◌, ◌∙◌, ◌+◌, ◌∷◌, [], length, length-append, map, string_bytes, refl, ap, arith}
+use Rattle.chain_files.specs.Files.{files_in}
 use Rattle.chain_files.proofs.OneFileMore.{added, stopped}
 use Rattle.chain_files.proofs.RefusedFiles.{to-fault}
-use Rattle.chain_files.specs.Files.{all_at, files_in}
-use Rattle.sqlite_disk.specs.contracts.modelled.ModelledDisk.TheImpl.{ghosts as disk}
-use Rattle.sqlite_std_file.specs.contracts.host.Host.{the_row}
-use Rattle.sqlite_std_file.specs.contracts.host.HostCalls.TheImpl.{dict as host_dict, ghosts as host}
 use Rattle.chain_files.proofs.chain.recall_files.Goals as goal
 
 pub loop-place-init : goal.loop-place-init
@@ -19,18 +15,19 @@ loop-place-init g c = record {
     count = refl;
     held = tt;
     chained = refl;
+    begins = tt;
     written = c.in-Ok.ensures;
   };
 }
 
 pub returns-in-Err-clause-stopped : goal.returns-in-Err-clause-stopped
-returns-in-Err-clause-stopped g c honest = to-fault (disk the_row g.row.T host host_dict g.T.Start g.T.Start-dict g.T.Destruct-dict) g.T.Start (files_in c.loop-place.closed) (files_in c.look_at.new.closed) c.in-Err.fault c.in-Err.ensures.refused honest.clean
+returns-in-Err-clause-stopped g c honest = to-fault g.O.File.Disk (g.O.Opener.image c.args.opener.now c.loop-place.place) (files_in c.loop-place.closed) (files_in c.look_at.new.closed) c.in-Err.fault c.in-Err.ensures.refused honest.clean
 
 pub returns-in-Err-add-clause-stopped : goal.returns-in-Err-add-clause-stopped
 returns-in-Err-add-clause-stopped g c honest =
     let was = c.loop-place.invariant in
     let takes = c.in-Ok-look_at.ensures.takes in
-    stopped _ (all_at g.T.Start) c.args.question.now (map string_bytes c.args.paths.now) c.loop-place.chain c.loop-place.answer c.loop-place.place (files_in c.loop-place.closed) takes.0 c.in-Ok-look_at.looked (files_in c.look_at.new.closed) c.in-Err-add.fault takes.1
+    stopped g.O.File.Disk (g.O.Opener.image c.args.opener.now) c.args.question.now c.args.from_middle (map string_bytes c.args.paths.now) c.loop-place.chain c.loop-place.answer c.loop-place.place (files_in c.loop-place.closed) takes.0 c.in-Ok-look_at.looked (files_in c.look_at.new.closed) c.in-Err-add.fault takes.1
     was.count was.so_far takes.2 c.in-Err-add.ensures.err honest
 
 pub loop-place-preserved : goal.loop-place-preserved
@@ -43,5 +40,5 @@ loop-place-preserved g c =
     record {
       few = c.tell_file.ensures.few;
       count = omega (arith, long, was.count);
-      so_far = added _ (all_at g.T.Start) c.args.question.now (map string_bytes c.args.paths.now) c.loop-place.chain c.loop-place.answer c.loop-place.place closed takes.0 c.in-Ok-look_at.looked after c.in-Ok-add.next c.add.new.answer takes.1 was.count was.so_far takes.2 _ c.path_at-path.ensures c.in-Ok-add.ensures.ok;
+      so_far = added g.O.File.Disk (g.O.Opener.image c.args.opener.now) c.args.question.now c.args.from_middle (map string_bytes c.args.paths.now) c.loop-place.chain c.loop-place.answer c.loop-place.place closed takes.0 c.in-Ok-look_at.looked after c.in-Ok-add.next c.add.new.answer takes.1 was.count was.so_far takes.2 _ c.path_at-path.ensures c.in-Ok-add.ensures.ok;
     }

@@ -1,5 +1,10 @@
-use Rattle.desk_types.proofs.Common.{◌∙◌, ◌≡◌, ap, arith, IfSome, IsTrue, Option, Some, subst, sym}
-use Rattle.line_tables.proofs.Common.{Database, HasCleanDisk, Held, Holds, state}
+use Rattle.std.proofs.Common.{◌≡◌, ◌∙◌, IsTrue, Option, Some, sym, ap, subst, arith}
+use Rattle.std.specs.Prelude.{IfSome}
+use Rattle.sqlite.specs.Effect.{Database}
+use Rattle.sqlite.specs.State.{HasCleanDisk}
+use Rattle.sqlite.specs.Held.{Held, state}
+use Rattle.desk_types.specs.declared.rules.Rules.TheVariants.{Two}
+use Rattle.line_tables.specs.Rows.{Holds}
 use Rattle.line_replay.specs.Rows.{ledger_tables}
 use Rattle.line_schema.specs.Traces.{working_of}
 use Rattle.chain_files.proofs.looking.look.Goals as goal
@@ -30,6 +35,7 @@ returns-in-Some-first_desk-clause-says g c L stands own clean =
         tables = λ is_open. subst (λ (db : Database). Holds db (ledger_tables L.greatest L.history)) (sym (kept.committed is_open)) (tables (kept.was_open is_open));
       }) clean;
       begun_with = sym begun.counted;
+      mark = c.in-Ok-begin_of.ensures.mark Two L.greatest L.history (record { judged = stands.judged; tables = tables }) (c.count-commands.ensures L stands) clean2;
       begun = begun.stands;
       count = c.count-commands.ensures L stands;
       whole = works.stands;

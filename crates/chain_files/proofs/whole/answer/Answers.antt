@@ -15,6 +15,7 @@ returns-in-Ok-clause-done g c zero =
             files = so_far.files;
             count = so_far.count ∙ sym (length-map c.args.paths.now string_bytes);
             chain = are-chain recalled.0 so_far.files so_far.chained;
+            begins = so_far.begins;
             newest_first = so_far.newest_first;
             order = so_far.order;
             held = so_far.held;

@@ -11,8 +11,8 @@ image log db = record { log = log; db = db }
 abbrev seen : List ℕ → List ℕ → Bool → List Event → List ℕ
 seen log db is_log history = (replay (cond is_log log db) history).seen
 
-pub returns-clause-found : goal.returns-clause-found
-returns-clause-found g c =
+pub returns-in-Ok-clause-found : goal.returns-in-Ok-clause-found
+returns-in-Ok-clause-found g c =
     let (log, db) = c.in-Ok.ensures.fresh in
     let same = ap₂ image (ap₂ (seen g.T.Start.log g.T.Start.db) log.0 log.1) (ap₂ (seen g.T.Start.log g.T.Start.db) db.0 db.1) in
-    IfOk-weaker c.open_files.result _ _ (λ conn found clean. subst (λ i. FindsAs i (file_state conn)) same (found clean)) c.open_files.ensures.found
+    IfOk-weaker c.connect_to.result _ _ (λ conn found clean. subst (λ i. FindsAs i (file_state conn)) same (found clean)) c.connect_to.ensures.found
