@@ -10,6 +10,7 @@ import time
 from tracedesk_ops import backups, catalogue, identity, plant
 
 RESTORED = ".restored"  # beside the desk: what is to take its place
+IN_PLACE = "in_place"  # in what a restore wrote down: its copy was in place and may have taken commands, so what lies aside never goes back
 
 
 class Rolling:
@@ -175,10 +176,14 @@ class Restoring:
                 continue
             for it in both:
                 it.unlink()
-            if is_untold(aside, self.asked.db) and not self.asked.db.exists():
+            if not is_untold(aside, self.asked.db):
+                continue
+            if self.asked.db.exists():
+                catalogue.put(aside / catalogue.LACKS, json.dumps({**said_of(aside), IN_PLACE: True}) + "\n")
+            elif not said_of(aside).get(IN_PLACE):
                 self.put_back(aside)
-            elif is_untold(aside, self.asked.db):
-                self.untold.append(aside)
+                continue
+            self.untold.append(aside)
 
     def put_all_back(self):
         """The same for a tool that restores nothing; a Fault where the desk is gone all the same."""
