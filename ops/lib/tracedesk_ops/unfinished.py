@@ -10,7 +10,7 @@ import time
 from tracedesk_ops import backups, catalogue, identity, plant
 
 RESTORED = ".restored"  # beside the desk: what is to take its place
-IN_PLACE = "in_place"  # in what a restore wrote down: its copy was in place and may have taken commands, so what lies aside never goes back
+IN_PLACE = "in_place"  # in what a restore wrote down: its copy is in place and may take commands, so what lies aside never goes back
 
 
 class Rolling:
@@ -179,7 +179,7 @@ class Restoring:
             if not is_untold(aside, self.asked.db):
                 continue
             if self.asked.db.exists():
-                catalogue.put(aside / catalogue.LACKS, json.dumps({**said_of(aside), IN_PLACE: True}) + "\n")
+                say_in_place(aside)
             elif not said_of(aside).get(IN_PLACE):
                 self.put_back(aside)
                 continue
@@ -220,6 +220,11 @@ def said_of(aside):
         if isinstance(told := json.loads((aside / catalogue.LACKS).read_text(encoding="utf-8")), dict):
             return told
     return {}
+
+
+def say_in_place(aside):
+    """Writes down that the copy is in place."""
+    catalogue.put(aside / catalogue.LACKS, json.dumps({**said_of(aside), IN_PLACE: True}) + "\n")
 
 
 def is_untold(aside, db):
