@@ -178,12 +178,13 @@ class Restoring:
                 it.unlink()
             if not is_untold(aside, self.asked.db):
                 continue
-            if self.asked.db.exists():
-                say_in_place(aside)
-            elif not said_of(aside).get(IN_PLACE):
+            is_in_place = said_of(aside).get(IN_PLACE)
+            if not is_in_place and self.asked.db.exists() and self.desk.exists() and self.desk.samefile(self.asked.db):
+                self.asked.db.unlink()  # no run has opened it, since it has a second name
+            if is_in_place or self.asked.db.exists():
+                self.untold.append(aside)
+            else:
                 self.put_back(aside)
-                continue
-            self.untold.append(aside)
 
     def put_all_back(self):
         """The same for a tool that restores nothing; a Fault where the desk is gone all the same."""
@@ -220,11 +221,6 @@ def said_of(aside):
         if isinstance(told := json.loads((aside / catalogue.LACKS).read_text(encoding="utf-8")), dict):
             return told
     return {}
-
-
-def say_in_place(aside):
-    """Writes down that the copy is in place."""
-    catalogue.put(aside / catalogue.LACKS, json.dumps({**said_of(aside), IN_PLACE: True}) + "\n")
 
 
 def is_untold(aside, db):
