@@ -10,7 +10,6 @@ import time
 from tracedesk_ops import backups, catalogue, identity, plant
 
 RESTORED = ".restored"  # beside the desk: what is to take its place
-IN_PLACE = "in_place"  # in what a restore wrote down: its copy is in place and may take commands, so what lies aside never goes back
 
 
 class Rolling:
@@ -151,7 +150,8 @@ class Restoring:
 
     def __init__(self, asked):
         self.asked = asked
-        self.desk, self.archive = (it.with_name(f".{it.name}{RESTORED}") for it in (asked.db, asked.archive))
+        self.desk = asked.db.with_name(f".{asked.db.name}{RESTORED}")
+        self.archive = asked.archive.with_name(f".{asked.archive.name}-{asked.db.name}{RESTORED}")  # other desks may have the same archive
         self.within = asked.db.parent / catalogue.ASIDE
         self.untold = []  # folders of `aside` of runs that were killed when the copy was in place
 
@@ -178,12 +178,11 @@ class Restoring:
                 it.unlink()
             if not is_untold(aside, self.asked.db):
                 continue
-            is_in_place = said_of(aside).get(IN_PLACE)
-            if not is_in_place and self.asked.db.exists() and self.desk.exists() and self.desk.samefile(self.asked.db):
-                self.asked.db.unlink()  # no run has opened it, since it has a second name
-            if is_in_place or self.asked.db.exists():
-                self.untold.append(aside)
+            is_open_to_runs = self.asked.db.exists() and not (self.desk.exists() and self.desk.samefile(self.asked.db))
+            if is_open_to_runs or not (self.archive / said_of(aside).get("entry", "none")).exists():
+                self.untold.append(aside)  # the copy is in place, and may have taken commands
             else:
+                self.asked.db.unlink(missing_ok=True)
                 self.put_back(aside)
 
     def put_all_back(self):
@@ -195,12 +194,9 @@ class Restoring:
 
     def put_back(self, aside):
         """Everything that lies aside has its place again: the desk at last, since with it a service could start."""
-        self.clear()
         if (aside / backups.ARCHIVE).exists():
             if self.asked.archive.exists():
-                if not (self.asked.archive / (said_of(aside).get("entry") or ".")).exists():
-                    raise plant.Fault(f"{self.asked.archive} was made since a restore was cut off that had put {aside / backups.ARCHIVE} aside: move its archives there, and take the folder away. Then tracedesk-settle --catalogue")
-                os.rename(self.asked.archive, self.archive)  # the copy's
+                raise plant.Fault(f"{self.asked.archive} was made since a restore was cut off that had put {aside / backups.ARCHIVE} aside: move its archives there, and take the folder away. Then tracedesk-settle --catalogue")
             os.rename(aside / backups.ARCHIVE, self.asked.archive)
         for tail in (*catalogue.LOGS, ""):
             if (it := aside / f"{self.asked.db.name}{tail}").exists():
