@@ -110,10 +110,10 @@ def kept_by_path(to, db):
     return [it for it in kept_in(to) if about(it)["desk"] in ("", os.path.realpath(db))]
 
 
-def held_by(copy):
-    """The archives that a copy has, by their checksums."""
-    missing = about(copy)["missing"]
-    return {it.sha256 for it in catalogue.survey(copy / ARCHIVE / catalogue.FILE_NAME).archives if it.file not in missing}
+def held_by(copy, whole=()):
+    """The archives that a copy has, by their checksums; those of `whole` only if the file is there, and has it."""
+    missing, path = about(copy)["missing"], copy / INDEX
+    return {it.sha256 for it in catalogue.survey(path).archives if it.file not in missing and (it.sha256 not in whole or is_whole(path, it))}
 
 
 def taken(copy):
@@ -128,12 +128,12 @@ def compare_sums(copy):
     """A Fault where a file of a copy is not that of its checksum, or has none."""
     try:
         sums = sums_of(copy)
-        there = {str(it.relative_to(copy)) for it in copy.rglob("*") if it.is_file()} - {SUMS, *(f"desk{tail}" for tail in catalogue.LOGS)}
+        there = {str(it.relative_to(copy)) for it in copy.rglob("*") if it.is_file()} - {SUMS, *(f"desk{tail}" for tail in (*catalogue.LOGS, "-shm"))}
         wrong = sorted(there ^ set(sums)) or [it for it in sums if catalogue.sha256_of(copy / it) != sums[it]]
     except (OSError, UnicodeDecodeError) as fault:
         raise plant.Fault(f"{copy} is not whole: {fault}") from fault
     if wrong or not sums:
-        raise plant.Fault(f"{copy} is damaged: {', '.join(wrong) or SUMS} is not the file of its checksum. Look at the disk; an older copy may be whole")
+        raise plant.Fault(f"{copy} is damaged: {', '.join(wrong) or SUMS} is not the file of its checksum, or has none. Look at the disk, and move elsewhere what somebody put there; an older copy may be whole")
 
 
 def is_whole(path, archive):

@@ -231,6 +231,8 @@ def settled(asked, service, may_be_damaged=False):
     rolling, is_done = Rolling(asked), False
     try:
         if rolling.plan.exists() and not rolling.is_left_to_start():
+            if plant.is_open(asked.db):
+                raise plant.Fault(f"a run has {asked.db} open: stop the service, and call tracedesk-settle again")
             is_done = rolling.goes_on(may_be_damaged)
         rolling.clear()
     finally:
