@@ -36,7 +36,7 @@ def about(copy):
         told = json.loads(text)
         return {"number": 0, "desk": "", "line": "", "name": "", "host": "", **told, "commands": told["commands"], "missing": told["missing"]}
     except (OSError, ValueError, KeyError, TypeError) as fault:
-        raise plant.Fault(f"{copy} can't be read: {fault}: the copy is damaged. Name another copy, or move this one out of the folder once you have looked at its disk") from fault
+        raise plant.Fault(f"{copy} can't be read: {fault}. If it is damaged, name another copy, or move this one out of the folder once you have looked at its disk") from fault
 
 
 def sums_of(copy):
