@@ -25,11 +25,14 @@ class Rolling:
         self.room = plant.rolled_in(asked.db)
         self.copy, self.new, self.plan = (self.room / name for name in ("archive", "desk", plant.PLAN))
         self.program = plant.Program(asked.program, asked.db)
-        self.may_put_back, self.held = False, None
+        self.may_put_back, self.held, self.new_sha256 = False, None, ""
 
     def is_left_to_start(self):
         """Whether the new desk is in place, and may not be started yet."""
-        return self.plan.exists() and not self.new.exists()
+        if not self.plan.exists() or self.new.exists():
+            return False
+        desk, archive = identity.of_running(self.db), self.read_plan()
+        return not desk or not archive or identity.follows(desk.mark, archive)  # else the new desk was lost in its folder
 
     def tidy(self):
         """Takes the folder away where the new desk is in place and runs, so that nothing else is left to do."""
@@ -46,6 +49,8 @@ class Rolling:
         if not archive:  # at most the file was filed before the catalogue had its line
             self.put_back()
             return False
+        if not self.copy.exists() and (filed := self.archives / archive.file).exists():
+            os.link(filed, self.copy)
         try:
             if not self.db.exists():
                 raise plant.Fault(f"{self.db} is gone")
@@ -55,15 +60,26 @@ class Rolling:
                 raise plant.Fault(f"{fault}. {self.room} has a whole copy of it: where the file is damaged, and no run has it open, call tracedesk-settle --damaged") from None
             self.salvage(archive, fault)
             return True
-        if backups.command(self.db, archive.commands) != backups.command(self.copy, archive.commands):
-            raise plant.Fault(f"{self.db} is another desk than the one in {self.room}, which an earlier run was to archive: move {self.room} elsewhere")
+        is_same = commands == archive.commands and self.hold() == archive.sha256
+        if not is_same:
+            self.let_go()
+            if backups.command(self.db, archive.commands) != backups.command(self.copy, archive.commands):
+                raise plant.Fault(f"{self.db} is another desk than the one in {self.room}, which an earlier run was to archive, or {self.copy} is damaged: move {self.room} elsewhere")
         self.may_put_back = True
-        if commands == archive.commands and self.hold() == archive.sha256:
+        if is_same and self.is_whole(archive):
             plant.tell("an earlier run is gone on with")
             self.put_in_place()
             return True
         self.let_go()
         self.put_back()
+        return False
+
+    def is_whole(self, archive):
+        """Whether the archive and the new desk are still as they were when the plan was written."""
+        with contextlib.suppress(OSError, plant.Fault):
+            if catalogue.sha256_of(self.copy) == archive.sha256 and (catalogue.sha256_of(self.new) == self.new_sha256 if self.new_sha256 else self.program.audit(self.new)):
+                return True
+        plant.tell(f"a file of {self.room} is damaged or gone, so the roll-over that was cut off can't be finished")
         return False
 
     def hold(self):
@@ -79,12 +95,14 @@ class Rolling:
     def read_plan(self):
         """The archive that is to be; if the plan is damaged, by the catalogue's line of the copy, and none if it has no line yet."""
         with contextlib.suppress(ValueError, TypeError):
-            return catalogue.Archive(**json.loads(self.plan.read_text(encoding="utf-8")))
+            told = dict(json.loads(self.plan.read_text(encoding="utf-8")))
+            self.new_sha256 = told.pop("new", "")  # none up to 0.3.0
+            return catalogue.Archive(**told)
         return next((it for it in catalogue.read(self.catalogue) if self.is_filed(self.archives / it.file)), None)
 
     def is_filed(self, file):
         """Whether a file of the archive's folder is the copy."""
-        return file.exists() and file.samefile(self.copy)
+        return file.exists() and self.copy.exists() and file.samefile(self.copy)
 
     def put_back(self):
         """Leaves the old desk, the archive and the catalogue as they were before."""
@@ -112,8 +130,8 @@ class Rolling:
 
     def salvage(self, archive, fault):
         """Finishes it without the desk's file, which is gone or damaged, by the copy of it that was to be the archive. What the file had more is not known, and an entry says so."""
-        if catalogue.sha256_of(self.copy) != archive.sha256:  # it was audited when it got that
-            raise plant.Fault(f"{fault}; and {self.copy} is not whole: restore a copy, after you have moved {self.room} elsewhere")
+        if not self.is_whole(archive):
+            raise plant.Fault(f"{fault}; and {self.room} is not whole: restore a copy, after you have moved {self.room} elsewhere")
         aside = self.db.parent / catalogue.ASIDE / f"damaged-{archive.file}"
         if not self.archives.exists():
             self.archives.mkdir(mode=0o700)
