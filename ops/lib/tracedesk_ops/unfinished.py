@@ -49,7 +49,7 @@ class Rolling:
         if not archive:  # at most the file was filed before the catalogue had its line
             self.put_back()
             return False
-        if not self.copy.exists() and (filed := self.archives / archive.file).exists():
+        if not self.copy.exists() and (filed := self.archives / archive.file).exists() and catalogue.sha256_of(filed) == archive.sha256:
             os.link(filed, self.copy)
         try:
             if not self.db.exists():
