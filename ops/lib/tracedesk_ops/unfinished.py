@@ -1,6 +1,7 @@
 """What a roll-over or a restore leaves that was cut off, and how it is finished or put back: for ops/settle, ops/rollover and ops/backup."""
 import contextlib
 import errno
+import hashlib
 import json
 import os
 import pathlib
@@ -25,7 +26,7 @@ class Rolling:
         self.room = plant.rolled_in(asked.db)
         self.copy, self.new, self.plan = (self.room / name for name in ("archive", "desk", plant.PLAN))
         self.program = plant.Program(asked.program, asked.db)
-        self.may_put_back, self.held, self.new_sha256 = False, None, ""
+        self.may_put_back, self.held, self.sealed = False, None, ""
 
     def is_left_to_start(self):
         """Whether the new desk is in place, and may not be started yet."""
@@ -75,12 +76,16 @@ class Rolling:
         return False
 
     def is_whole(self, archive):
-        """Whether the archive and the new desk are still as they were when the plan was written."""
+        """Whether the archive, the new desk and the plan are still as they were written."""
         with contextlib.suppress(OSError, plant.Fault):
-            if catalogue.sha256_of(self.copy) == archive.sha256 and (catalogue.sha256_of(self.new) == self.new_sha256 if self.new_sha256 else self.program.audit(self.new)):
+            if catalogue.sha256_of(self.copy) == archive.sha256 and (self.seal(archive) == self.sealed if self.sealed else self.program.audit(self.new)):
                 return True
         plant.tell(f"a file of {self.room} is damaged or gone, so the roll-over that was cut off can't be finished")
         return False
+
+    def seal(self, archive):
+        """The checksum of a plan and of the new desk."""
+        return hashlib.sha256(f"{json.dumps(archive)}{catalogue.sha256_of(self.new)}".encode()).hexdigest()
 
     def hold(self):
         """Keeps each run from the desk's file from now on; the checksum that it has then."""
@@ -96,7 +101,7 @@ class Rolling:
         """The archive that is to be; if the plan is damaged, by the catalogue's line of the copy, and none if it has no line yet."""
         with contextlib.suppress(ValueError, TypeError):
             told = dict(json.loads(self.plan.read_text(encoding="utf-8")))
-            self.new_sha256 = told.pop("new", "")  # none up to 0.3.0
+            self.sealed = told.pop("seal", "")  # none up to 0.3.0
             return catalogue.Archive(**told)
         return next((it for it in catalogue.read(self.catalogue) if self.is_filed(self.archives / it.file)), None)
 
@@ -109,7 +114,7 @@ class Rolling:
         if self.plan.exists():
             archive = self.read_plan()
             for it in catalogue.read(self.catalogue):
-                if archive and (it.file, it.sha256) == (archive.file, archive.sha256):
+                if self.is_filed(self.archives / it.file) or archive and (it.file, it.sha256) == (archive.file, archive.sha256):
                     catalogue.take_out(self.catalogue, it)
             for it in filter(self.is_filed, list(self.archives.iterdir()) if self.archives.exists() else []):
                 it.unlink()
