@@ -87,7 +87,7 @@ def survey(to, whose=None):
             there.append((it, about(it)))
         except plant.Fault as fault:
             its = identity.of_running(it / "desk")  # what is left may say that it is another desk's
-            if not (whose and whose.name and its and its.name and its.name != whose.name):
+            if it.exists() and not (whose and whose.name and its and its.name and its.name != whose.name):
                 faults.append(str(fault))
     if whose and not whose.desk:
         those = set(whose.guessed(there))
