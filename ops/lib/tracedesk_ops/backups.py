@@ -18,7 +18,7 @@ import socket
 import sqlite3
 import time
 
-from tracedesk_ops import catalogue, identity, plant
+from tracedesk_ops import catalogue, identity, plant, untraced
 
 ARCHIVE, SUMS, ABOUT = "archive", "SHA256SUMS", "backup.json"
 INDEX = f"{ARCHIVE}/{catalogue.FILE_NAME}"  # none in a copy without archives
@@ -27,10 +27,10 @@ FUTURE = 300  # seconds that the clocks of two machines may differ
 
 
 def about(copy):
-    """What a copy says of itself; a Fault where that, or its catalogue, is not the file of its checksum."""
+    """What a copy says of itself; a Fault where that, its catalogue or its untraced work is not the file of its checksum."""
     try:
         text, sums = (copy / ABOUT).read_bytes(), sums_of(copy)
-        for name in (ABOUT, INDEX):
+        for name in (ABOUT, INDEX, *(it for it in sums if it.startswith((f"{ARCHIVE}/{untraced.FILE_NAME}", f"{untraced.INBOX}/")))):
             if sums.get(name) != ((copy / name).exists() and catalogue.sha256_of(copy / name) or None):
                 raise ValueError(f"{name} is not the file of its checksum in {SUMS}")
         told = json.loads(text)

@@ -202,31 +202,31 @@ def want_chains(path, lines):
 def has_no_archives(path):
     """Whether a line has none yet: there is no catalogue, and nothing lies where it would be. Where all around is empty too, a disk may not be mounted."""
     folder = path.parent
-    with contextlib.suppress(PermissionError):  # that is told where the catalogue is read
+    with contextlib.suppress(OSError):  # that is told where the catalogue is read
         return not path.exists() and (all(any(map(it.match, STAY)) or it.suffix == ".new" for it in folder.iterdir()) if folder.exists() else folder.parent.is_dir() and any(folder.parent.iterdir()))
     return False
 
 
-def unasked(path, archives):
-    """What may have commands that no archive of the catalogue has, or has them twice; each with what to do."""
+def unasked(path, archives, desks=()):
+    """What may have commands that no archive of the catalogue has, or has them twice; each with what to do. The desks' files may be in another folder."""
     try:
-        yield from lying_around(path, archives)
+        yield from lying_around(path, archives, sorted({path.parent.parent, *(it.parent for it in desks)}))
     except OSError as fault:
         yield f"{fault.filename}: it can't be read, so it isn't known whether it has something of the line: {fault.strerror}"
 
 
-def lying_around(path, archives):
-    named, around = {archive.file for archive in archives}, path.parent.parent
+def lying_around(path, archives, around):
+    named = {archive.file for archive in archives}
     for file in sorted(path.parent.iterdir()) if path.parent.exists() else ():
         if file.name not in named and is_database(file):
-            yield f"{file}: it lies beside {path.name}, which has no line of it: add its line, or move it elsewhere"
-    for room in sorted(it for it in around.iterdir() if it.match(PLANS.partition("/")[0])):
+            yield f"{file}: it lies beside {path.name}, which has no line of it: if it is an archive, call tracedesk-settle --catalogue, else move it elsewhere"
+    for room in sorted(it for folder in around for it in folder.iterdir() if it.match(PLANS.partition("/")[0])):
         if (plan := room / PLANS.partition("/")[2]).exists():
             yield f"{plan}: a roll-over is on its way or was cut off, so commands may be in two files: ask again later, or call tracedesk-rollover; a folder that stays, move out of {around}"
     for entry in sorted(path.parent.glob(ENTRIES)):
         if lacks(entry):
             yield f"{entry}: a copy was restored that lacks what the desk had accepted: once its senders have sent that again, delete this entry"
-    for aside in sorted((around / ASIDE).iterdir()) if (around / ASIDE).exists() else ():
+    for aside in sorted(it for folder in around if (folder / ASIDE).exists() for it in (folder / ASIDE).iterdir()):
         if aside.is_dir() and any(aside.iterdir()) and lacks(aside / LACKS):
             yield f"{aside}: a restore put it aside, and nobody asks it: once its senders have sent again what it has, move it elsewhere"
 
@@ -353,10 +353,14 @@ def changed(path):
 
 def write(path, archives):
     """Puts a catalogue of these archives in the place of the one that is there."""
+    put(path, text_of(path, archives))
+
+
+def text_of(path, archives):
     text = io.StringIO()
     csv.writer(text, lineterminator="\n").writerows([HEADER, *map(row_of, archives)])
     whole(survey_text(path, text.getvalue().encode()))
-    put(path, text.getvalue())
+    return text.getvalue()
 
 
 def put(path, text, mode=None):

@@ -356,9 +356,9 @@ def minute_of(text):
     """The minute of a time as a message has it, none where that can't be read."""
     try:
         then = datetime.datetime.fromisoformat(text)
-    except ValueError:
+        utc = then.astimezone(datetime.timezone.utc).replace(tzinfo=None) if then.tzinfo else then
+    except (ValueError, OverflowError):  # the second of a year that UTC doesn't have
         return None
-    utc = then.astimezone(datetime.timezone.utc).replace(tzinfo=None) if then.tzinfo else then
     return (utc - catalogue.EPOCH) // datetime.timedelta(minutes=1)
 
 

@@ -57,6 +57,8 @@ def tell(text):
 
 def write_out(text):
     """Prints what was asked for; where that fails, the end of the tool doesn't try it again."""
+    if not sys.stdout:
+        raise Fault("standard output is closed")
     try:
         sys.stdout.reconfigure(errors="backslashreplace")  # type: ignore[attr-defined]
         sys.stdout.write(text)
@@ -107,10 +109,11 @@ def set_ups():
         except (OSError, UnicodeDecodeError) as fault:
             raise Fault(f"{file} can't be read: {fault}") from fault
         its = {name.strip(): value.strip() for name, _, value in rows}
-        if unknown := [name for name in its if name not in WORDS] + [name for name, value in its.items() if not value]:
-            raise Fault(f"{file}: {', '.join(unknown)} is none of {', '.join(WORDS)}, or has no value")
-        if len(its) < len(rows):
-            raise Fault(f"{file} says a word twice: take one of its lines away")
+        names = [name.strip() for name, _, _ in rows]
+        if wrong := [name for name in its if name not in WORDS or not its[name] or names.count(name) > 1]:
+            raise Fault(f"{file}: {', '.join(wrong)} is none of {', '.join(WORDS)}, has no value, or is there twice")
+        if wrong := [name for name in ("db", "archive", "copies") if not its.get(name, "/").startswith("/")]:
+            raise Fault(f"{file}: {', '.join(wrong)} is no whole path, which begins with /")
         if "line" not in its:
             raise Fault(f"{file} names no line: write line = LINE into it, or take it away")
         its = {"db": str(DESK), "port": str(PORT), "copies": str(COPIES), **its}

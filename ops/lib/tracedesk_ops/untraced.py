@@ -31,6 +31,7 @@ HANDLING = ("MaterialsLoaded", "MaterialsSpliced", "MaterialsUnloaded")
 BEGIN = "0" * 64
 MOST_DECIDED = 1_000  # ids that the status file names
 LONGEST = 2 << 20  # bytes of a record: a message has 1,048,576 at most
+csv.field_size_limit(LONGEST)  # a row has its record as one field
 
 
 class Record(NamedTuple):
