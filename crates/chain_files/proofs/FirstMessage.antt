@@ -1,6 +1,5 @@
 -- The first message of a history, and the checksum in its UniqueID.
-use Rattle.std.proofs.Common.{◌≡◌, ◌∙◌, ℕ, Bool, Option, Some, None, MatchOption, List, [], ◌∷◌, ◌++◌, codes, drop, take, length, filter, append-nil, refl, sym, ap, subst, arith}
-use Rattle.std.specs.Prelude.{◌≢◌}
+use Rattle.std.proofs.Common.{◌≡◌, ◌∙◌, ℕ, Option, Some, None, MatchOption, List, [], ◌∷◌, ◌++◌, length, filter, append-nil, refl, sym, ap, subst, arith}
 use Rattle.std.specs.List.Sorted.{IsPermutation}
 use Rattle.sqlite_trees.proofs.ListLemmas.{IsPermutation-filter}
 use Rattle.sqlite.proofs.Callers.{one_permutation}
@@ -15,7 +14,7 @@ use Rattle.desk_types.specs.History.{History}
 use Rattle.desk_types.specs.Judged.{IsJudged}
 use Rattle.line_tables.specs.Calls.{has_number}
 use Rattle.line_tables.specs.Rows.{accepted_in}
-use Rattle.line_replay.specs.Rows.{entry_row, rows_of}
+use Rattle.line_replay.specs.Rows.{rows_of}
 use Rattle.chain_files.specs.Begin.{IsMarkIn, IsMarkOf, ReadsMessage, first_entry}
 use Rattle.chain_files.specs.First.{HoldsHistory}
 use Rattle.chain_files.proofs.NextOfFirst.{next-in}

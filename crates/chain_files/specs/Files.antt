@@ -1,5 +1,5 @@
 -- The files of a recall: their contents, and why there is no answer.
-use Rattle.std.specs.Prelude.{◌≡◌, ◌<◌, ◌⊎◌, ⊤, ℕ, Bool, true, false, Option, Some, None, List, [], ◌∷◌, ◌++◌, length, string_bytes, All, Vec}
+use Rattle.std.specs.Prelude.{◌≡◌, ◌<◌, ◌⊎◌, ◌↔◌, ⊤, ℕ, Bool, true, false, Option, Some, None, List, [], ◌∷◌, ◌++◌, length, string_bytes, All, Vec}
 use Rattle.sqlite_disk.specs.declared.Disk as disk
 use Rattle.sqlite_disk.specs.declared.Files.{Files}
 use Rattle.sqlite_disk.specs.declared.start.Start as start
@@ -21,7 +21,12 @@ use Rattle.line_replay.specs.Rows.{ledger_tables}
 use Rattle.line_schema.specs.declared.fault.OpenFault.{OpenFault}
 use Rattle.line_schema.specs.declared.fault.OpenFault.TheVariants as open_fault
 use Rattle.chain_files.specs.declared.looking.Looked.{Looked}
+use Rattle.chain_files.specs.declared.chain.Older.{Older}
+use Rattle.chain_files.specs.declared.chain.Taken.{Taken}
+use Rattle.chain_files.specs.declared.marks.Links.{Links}
+use Rattle.chain_files.specs.declared.marks.Wanted.{Wanted}
 use Rattle.chain_files.specs.Begin.{IsMarkOf}
+use Rattle.chain_files.specs.Marks.{AreLinked, IsLinked, IsWanted, WantsNext}
 use Rattle.chain_files.specs.Look.{Says}
 use Rattle.desk_file.specs.Files.{HasOursFirst, HasTables, IsWhole}
 use Rattle.desk_file.specs.Refused.{IsFaultFor}
@@ -33,7 +38,7 @@ use Rattle.chain_check.specs.declared.question.Question.{Question}
 use Rattle.chain_check.specs.Chained.{IsReason, IsSoFar}
 use Rattle.chain_check.specs.Rows.{answer_over, asked_of, facts_of, rows_in, rows_text}
 use Rattle.chain_files.specs.declared.chain.Fault.{Fault}
-use Rattle.chain_files.specs.declared.chain.Fault.TheVariants.{Refused, BegunFrom, Differs}
+use Rattle.chain_files.specs.declared.chain.Fault.TheVariants.{Refused, BegunFrom, NotBegun, Differs}
 use Rattle.chain_files.specs.declared.chain.Stopped.{Stopped}
 use Rattle.chain_files.specs.declared.closed.ClosedChain.{ClosedChain}
 
@@ -84,11 +89,13 @@ abbrev pub HoldsSaid : {D : Type 0} → disk.Ghosts D → Image → Question →
 HoldsSaid g image question f looked = (H : History) × HoldHistory g image f H
     × Says state.Stands H question looked
 
--- One more was closed. If it is honest, it held such a history.
-abbrev pub Takes : {D : Type 0} → disk.Ghosts D → Image → Question → List (Files D)
-    → List (Files D) → Looked StateDesk → Type 0
-Takes {D} g image question closed closed' looked = (f : Files D) × (closed' ≡ closed ++ f ∷ [])
-    × (AreClean g f.log f.db → HasOursFirst image → HoldsSaid g image question f looked)
+-- One more was closed. If it is honest, it held such a history, and this is wanted of the next.
+abbrev pub Takes : {D : Type 0} → disk.Ghosts D → Image → Question → Bool → List (Files D)
+    → List (Files D) → Taken → Type 0
+Takes {D} g image question by_marks closed closed' taken =
+    (f : Files D) × (closed' ≡ closed ++ f ∷ [])
+    × (AreClean g f.log f.db → HasOursFirst image → HoldsSaid g image question f taken.looked)
+    × (AreClean g f.log f.db → WantsNext by_marks g f taken.wanted)
 
 -- What is known of files with these contents.
 abbrev pub start_of : Image → start.Ghosts ⊤
@@ -118,58 +125,59 @@ abbrev pub Continues : Option Chain → List DeskFile → Type 0
 Continues None files = files ≡ []
 Continues (Some chain) files = IsSoFar chain files
 
--- The oldest file's desk was not begun from another file, by its first UniqueID, unless a chain may begin in the middle.
-abbrev pub BeginsAt : Bool → List DeskFile → Type 0
-BeginsAt from_middle [] = ⊤
-BeginsAt from_middle (file ∷ []) = from_middle ≡ false → IsMarkOf file.whole None
-BeginsAt from_middle (file ∷ before ∷ older) = BeginsAt from_middle (before ∷ older)
+-- The first UniqueID of this history names what is wanted.
+abbrev pub HasWanted : Wanted → History → Type 0
+HasWanted wanted H = (mark : Option (List ℕ)) × IsMarkOf H mark × IsWanted wanted mark
 
 -- A file with this history was added to the chain, and its rows to the text of the answer.
-pub record Adds (chain : Chain) (older : List DeskFile) (H : History) (question : Question)
-    (from_middle : Bool) (path : List ℕ) (text : List ℕ) (answer : Answer) : Type 0 where
+pub record Adds (chain : Option Chain) (older : List DeskFile) (H : History) (question : Question)
+    (path : List ℕ) (text : List ℕ) (answer : Answer) : Type 0 where
   pub begun : History
-  pub first : older ≡ [] → from_middle ≡ false → IsMarkOf H None
-  pub adds : IsSoFar chain (record { rules = Two; begun = begun; whole = H } ∷ older)
+  pub adds : Continues chain (record { rules = Two; begun = begun; whole = H } ∷ older)
   pub written : HasWritten answer (text ++ rows_text (rows_in question path
       (facts_of (record { rules = Two; begun = begun; whole = H })) (asked_of question H)))
 
 -- So many files, which were closed, are a chain, and their rows were written.
 pub record SoFar {D : Type 0} (g : disk.Ghosts D) (image : ℕ → Image) (question : Question)
-    (from_middle : Bool) (paths : List (List ℕ)) (closed : List (Files D)) (number : ℕ)
-    (chain : Option Chain) (answer : Answer) : Type 0 where
+    (links : Links) (paths : List (List ℕ)) (closed : List (Files D)) (number : ℕ)
+    (older : Older) (answer : Answer) : Type 0 where
   pub newest_first : List (Files D)
   pub order : closed ≡ oldest_first newest_first
   pub files : List DeskFile
   pub count : length files ≡ number
   pub held : HoldEach g image newest_first files
-  pub chained : Continues chain files
-  pub begins : BeginsAt from_middle files
+  pub chained : Continues older.chain files
+  pub linked : AreLinked links g newest_first files
+  pub wants : (mark : Option (List ℕ))
+      → IsWanted older.wanted mark ↔ IsLinked links g newest_first mark
   pub written : HasWritten answer (answer_over question paths files)
 
-abbrev pub Reaches : {D : Type 0} → disk.Ghosts D → (ℕ → Image) → Question → Bool
-    → List (List ℕ) → List (Files D) → ℕ → Option Chain → Answer → Type 0
-Reaches g image question from_middle paths closed number chain answer = AreHonest g image closed
-    → SoFar g image question from_middle paths closed number chain answer
+abbrev pub Reaches : {D : Type 0} → disk.Ghosts D → (ℕ → Image) → Question → Links
+    → List (List ℕ) → List (Files D) → ℕ → Older → Answer → Type 0
+Reaches g image question links paths closed number older answer = AreHonest g image closed
+    → SoFar g image question links paths closed number older answer
 
 -- All of them.
-abbrev pub Recalled : {D : Type 0} → disk.Ghosts D → (ℕ → Image) → Question → Bool
+abbrev pub Recalled : {D : Type 0} → disk.Ghosts D → (ℕ → Image) → Question → Links
     → List (List ℕ) → List (Files D) → ℕ → Answer → Type 0
-Recalled g image question from_middle paths closed number answer = (chain : Option Chain)
-    × Reaches g image question from_middle paths closed number chain answer
+Recalled g image question links paths closed number answer =
+    (older : Older) × Reaches g image question links paths closed number older answer
 
 -- ---- why there is no answer
 
--- A file with history H is not added to these: it is the first, and its desk was begun from the file with this checksum, by
--- its first UniqueID. Or it was begun with a history that doesn't carry on the newest.
-abbrev pub Stops : List DeskFile → History → Fault → Type 0
-Stops files H (Refused fault) = fault ≡ open_fault.Unavailable
-Stops files H (BegunFrom mark) = (files ≡ []) × IsMarkOf H (Some (string_bytes mark))
-Stops [] H (Differs difference) = ⊥
-Stops (before ∷ older) H (Differs difference) =
+-- A file with history H is not added to these: its first UniqueID doesn't name what is wanted. Or it was begun with a history
+-- that doesn't carry on the newest.
+abbrev pub Stops : (Option (List ℕ) → Type 0) → List DeskFile → History → Fault → Type 0
+Stops Wants files H (Refused fault) = fault ≡ open_fault.Unavailable
+Stops Wants files H (BegunFrom mark) =
+    IsMarkOf H (Some (string_bytes mark)) × ¬ Wants (Some (string_bytes mark))
+Stops Wants files H NotBegun = IsMarkOf H None × ¬ Wants None
+Stops Wants [] H (Differs difference) = ⊥
+Stops Wants (before ∷ older) H (Differs difference) =
     (B : History) × IsPrefix B H × IsReason before.whole B difference
 
 -- The files before this place are a chain, and the file at it held a history that doesn't carry it on.
-pub record BreaksChain {D : Type 0} (g : disk.Ghosts D) (image : ℕ → Image)
+pub record BreaksChain {D : Type 0} (g : disk.Ghosts D) (image : ℕ → Image) (links : Links)
     (place : ℕ) (fault : Fault) : Type 0 where
   pub newest_first : List (Files D)
   pub before : List DeskFile
@@ -179,14 +187,14 @@ pub record BreaksChain {D : Type 0} (g : disk.Ghosts D) (image : ℕ → Image)
   pub f : Files D
   pub history : History
   pub holds : HoldHistory g (image place) f history
-  pub stops : Stops before history fault
+  pub stops : Stops (IsLinked links g newest_first) before history fault
 
-abbrev pub IsStop : {D : Type 0} → disk.Ghosts D → (ℕ → Image) → ℕ → Fault → Type 0
-IsStop g image place (Refused fault) = IsFaultOf (image place) fault
-IsStop g image place fault = BreaksChain g image place fault
+abbrev pub IsStop : {D : Type 0} → disk.Ghosts D → (ℕ → Image) → Links → ℕ → Fault → Type 0
+IsStop g image links place (Refused fault) = IsFaultOf (image place) fault
+IsStop g image links place fault = BreaksChain g image links place fault
 
 -- Why the files are no chain: the first one at fault, and its fault.
-abbrev pub IsWhyStopped : {D : Type 0} → disk.Ghosts D → (ℕ → Image) → List (Files D)
+abbrev pub IsWhyStopped : {D : Type 0} → disk.Ghosts D → (ℕ → Image) → Links → List (Files D)
     → Stopped → Type 0
-IsWhyStopped g image closed stopped =
-    AreHonest g image closed → IsStop g image stopped.place stopped.fault
+IsWhyStopped g image links closed stopped =
+    AreHonest g image closed → IsStop g image links stopped.place stopped.fault

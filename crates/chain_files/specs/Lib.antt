@@ -3,6 +3,7 @@ pub mod Compared
 pub mod Files
 pub mod First
 pub mod Look
+pub mod Marks
 pub mod Opened
 pub mod Stops
 pub mod Whole

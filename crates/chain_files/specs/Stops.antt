@@ -3,16 +3,18 @@ use Rattle.std.specs.Prelude.{ℕ, List, [], ◌++◌, codes, get_or, string_byt
 use Rattle.line_schema.specs.Opening.{fault_text}
 use Rattle.chain_check.specs.Texts.{difference_text}
 use Rattle.chain_files.specs.declared.chain.Fault.{Fault}
-use Rattle.chain_files.specs.declared.chain.Fault.TheVariants.{Refused, BegunFrom, Differs}
+use Rattle.chain_files.specs.declared.chain.Fault.TheVariants.{Refused, BegunFrom, NotBegun, Differs}
 
 abbrev pub stop_text : Fault → List ℕ
 stop_text (Refused fault) = fault_text fault
 stop_text (BegunFrom mark) = codes "begun from " ++ string_bytes mark
+stop_text NotBegun = codes "begun from no file"
 stop_text (Differs difference) = codes "differs " ++ difference_text difference
 
 abbrev pub status_of : Fault → ℕ
 status_of (Refused fault) = 3
 status_of (BegunFrom mark) = 5
+status_of NotBegun = 5
 status_of (Differs difference) = 1
 
 -- The line on standard error.

@@ -1,5 +1,5 @@
 -- The effect of a run of the program.
-use Rattle.std.specs.Prelude.{◌≡◌, ◌⊎◌, ℕ, Bool, Option, List, ◌∷◌, ◌++◌, length, codes}
+use Rattle.std.specs.Prelude.{◌≡◌, ◌⊎◌, ℕ, Option, List, ◌∷◌, ◌++◌, length, codes}
 use Rattle.std.specs.Io.KnownBytes.{Appends}
 use Rattle.sqlite_disk.specs.declared.Disk as disk
 use Rattle.sqlite_disk.specs.declared.Files.{Files}
@@ -13,34 +13,36 @@ use Rattle.chain_check.specs.Rows.{answer_over}
 use Rattle.chain_files.specs.declared.chain.Fault.{Fault}
 use Rattle.chain_files.specs.declared.compared.Compared.{Compared}
 use Rattle.chain_files.specs.Compared.{Finds, NoDesk, Shows}
-use Rattle.chain_files.specs.Files.{AreHonest, BeginsAt, HoldEach, IsStop, oldest_first}
+use Rattle.chain_files.specs.declared.marks.Links.{Links}
+use Rattle.chain_files.specs.Files.{AreHonest, HoldEach, IsStop, oldest_first}
+use Rattle.chain_files.specs.Marks.{AreLinked}
 use Rattle.chain_files.specs.Stops.{status_of, stop_line}
-use Rattle.chain_files.specs.Words.{alike_words, question_words, middle_words}
+use Rattle.chain_files.specs.Words.{alike_words, link_words, question_words}
 
 -- The files of these paths held, and still hold, lawful histories that are a chain, and this is the answer over them.
 pub record IsAnswer {D : Type 0} (g : disk.Ghosts D) (image : ℕ → Image) (closed : List (Files D))
-    (question : Question) (from_middle : Bool) (paths : List (List ℕ)) (text : List ℕ)
+    (question : Question) (links : Links) (paths : List (List ℕ)) (text : List ℕ)
     : Type 0 where
   pub files : List DeskFile
   pub count : length files ≡ length paths
   pub chain : IsChain files
-  pub begins : BeginsAt from_middle files
   pub newest_first : List (Files D)
   pub order : closed ≡ oldest_first newest_first
   pub held : HoldEach g image newest_first files
+  pub linked : AreLinked links g newest_first files
   pub answer : text ≡ answer_over question paths files
 
 -- This text was written. If no disk lied, it is the answer.
 abbrev pub Answers : {D W : Type 0} → disk.Ghosts D → (ℕ → Image) → List (Files D) → Question
-    → Bool → List (List ℕ) → (W → Option (List ℕ)) → Wire W → Wire W → Type 0
-Answers g image closed question from_middle paths writes output output' = (text : List ℕ)
+    → Links → List (List ℕ) → (W → Option (List ℕ)) → Wire W → Wire W → Type 0
+Answers g image closed question links paths writes output output' = (text : List ℕ)
     × Appends (writes (inner_of output)) (writes (inner_of output')) text
-    × (AreHonest g image closed → IsAnswer g image closed question from_middle paths text)
+    × (AreHonest g image closed → IsAnswer g image closed question links paths text)
 
--- The words ask this of these files, whose chain may begin in the middle.
-abbrev pub AsksOf : List (List ℕ) → Question → Bool → List (List ℕ) → Type 0
-AsksOf words question from_middle paths =
-    words ≡ question_words question ++ middle_words from_middle ++ paths
+-- The words ask this of these files.
+abbrev pub AsksOf : List (List ℕ) → Question → Links → List (List ℕ) → Type 0
+AsksOf words question links paths =
+    words ≡ question_words question ++ link_words links ++ paths
 
 -- The words ask for help or the version.
 abbrev pub AsksForText : List (List ℕ) → Type 0
@@ -51,9 +53,9 @@ AsksForText words = (rest : List (List ℕ))
 abbrev pub Done : {D W : Type 0} → disk.Ghosts D → (ℕ → Image) → List (Files D) → List (List ℕ)
     → (W → Option (List ℕ)) → Wire W → Wire W → Type 0
 Done g image closed words writes output output' =
-    ((question : Question) × (from_middle : Bool) × (paths : List (List ℕ))
-    × AsksOf words question from_middle paths
-    × Answers g image closed question from_middle paths writes output output')
+    ((question : Question) × (links : Links) × (paths : List (List ℕ))
+    × AsksOf words question links paths
+    × Answers g image closed question links paths writes output output')
     ⊎ AsksForText words
 
 -- Status 1, 3 or 5: there is no answer.
@@ -61,19 +63,19 @@ abbrev pub IsStopped : ℕ → Type 0
 IsStopped status = (status ≡ 1) ⊎ (status ≡ 3) ⊎ (status ≡ 5)
 
 -- Standard error names the first file at fault, and its fault. Or memory was refused.
-abbrev pub StopsAt : {D E : Type 0} → disk.Ghosts D → (ℕ → Image) → List (Files D)
+abbrev pub StopsAt : {D E : Type 0} → disk.Ghosts D → (ℕ → Image) → List (Files D) → Links
     → List (List ℕ) → (E → Option (List ℕ)) → Wire E → ℕ → Type 0
-StopsAt {E = E} g image closed paths writes errors' status =
+StopsAt {E = E} g image closed links paths writes errors' status =
     (errors : Wire E) × (((place : ℕ) × (fault : Fault) × (status_of fault ≡ status)
     × TellsLine writes errors errors' (stop_line paths place fault)
-    × (AreHonest g image closed → IsStop g image place fault))
+    × (AreHonest g image closed → IsStop g image links place fault))
     ⊎ ((status ≡ 3) × TellsLine writes errors errors' unavailable_line))
 
 abbrev pub Stops : {D E : Type 0} → disk.Ghosts D → (ℕ → Image) → List (Files D) → List (List ℕ)
     → (E → Option (List ℕ)) → Wire E → ℕ → Type 0
 Stops g image closed words writes errors' status =
-    (question : Question) × (from_middle : Bool) × (paths : List (List ℕ))
-    × AsksOf words question from_middle paths × StopsAt g image closed paths writes errors' status
+    (question : Question) × (links : Links) × (paths : List (List ℕ))
+    × AsksOf words question links paths × StopsAt g image closed links paths writes errors' status
 
 -- ---- a comparison
 
@@ -94,6 +96,6 @@ Unlike Made writes tells output output' errors errors' status =
 abbrev pub Fails : {W E : Type 0} → List (List ℕ) → (E → Option (List ℕ)) → Wire W → Wire W
     → Wire E → Wire E → Type 0
 Fails words tells output output' errors errors' =
-    ((question : Question) × (from_middle : Bool) × (paths : List (List ℕ))
-    × AsksOf words question from_middle paths)
+    ((question : Question) × (links : Links) × (paths : List (List ℕ))
+    × AsksOf words question links paths)
     ⊎ TellsUnwritten tells output output' errors errors'

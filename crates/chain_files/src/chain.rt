@@ -1,6 +1,7 @@
 //! A recall over the files of a chain.
 
-ghost use Rattle.std.specs.Prelude.{◌≡◌, ◌<◌, ◌^◌, Bool, false, [], None, Some, List, ℕ, IfOk, IfErr, MatchOption, length, map, string_bytes};
+ghost use Rattle.std.specs.Prelude.{◌≡◌, ◌<◌, ◌^◌, [], None, Some, List, ℕ, IfOk, IfErr, length, map, string_bytes};
+ghost use Rattle.std.specs.Option.{option_map};
 ghost use Rattle.sqlite_wal.specs.Recovery.{Image};
 ghost use Rattle.desk_commands.specs.Closed.{ClosesConn};
 ghost use Rattle.desk_file.specs.Refused.{RefusesRun};
@@ -11,12 +12,16 @@ ghost use Rattle.desk_laws.specs.Chain.{DeskFile};
 ghost use Rattle.trace_reports.specs.Csv.{HasWritten};
 ghost use Rattle.chain_check.specs.Chained.{IsSoFar};
 ghost use Rattle.chain_files.specs.Look.{Says};
-ghost use Rattle.chain_files.specs.Files.{Adds, Continues, IsRefused, IsWhyStopped, Recalled, Stops, Takes, close_of, files_in};
+ghost use Rattle.chain_files.specs.Begin.{IsMarkOf};
+ghost use Rattle.chain_files.specs.Marks.{IsWanted};
+ghost use Rattle.chain_files.specs.declared.marks.Wanted.{Wanted};
+ghost use Rattle.chain_files.specs.Files.{Adds, Continues, HasWanted, IsRefused, IsWhyStopped, Recalled, Stops, Takes, close_of, files_in};
 
 use crate::begin::Begin;
 use crate::closed::{ClosedChain, add_closed};
 use crate::kept::desk_in;
 use crate::looking::{Looked, look};
+use crate::marks::{Links, Wanted, is_wanted, wanted_after, wanted_first};
 use crate::opener::Opener;
 use crate::paths::path_at;
 use chain_check::{
@@ -39,8 +44,10 @@ use trace_reports::TextWriter;
 pub enum Fault {
     /// The file holds no desk, or it could not be read or closed.
     Refused(OpenFault),
-    /// The first file's desk was begun from the file with this checksum.
+    /// The file's desk was begun from the file with this checksum: it is the first, or that isn't the file before it.
     BegunFrom(String),
+    /// The file's desk was begun from no other file, and isn't the first.
+    NotBegun,
     /// The desk does not carry on that of the file before it.
     Differs(Difference),
 }
@@ -55,6 +62,7 @@ impl fmt::Display for Fault {
         match self {
             Fault::Refused(fault) => write!(f, "{fault}"),
             Fault::BegunFrom(mark) => write!(f, "begun from {mark}"),
+            Fault::NotBegun => f.write_str("begun from no file"),
             Fault::Differs(difference) => write!(f, "differs {}", ShownDifference(*difference)),
         }
     }
@@ -70,6 +78,22 @@ pub struct Stopped {
     pub fault: Fault,
 }
 
+/// A file that was looked into.
+#[derive(Drop)]
+pub struct Taken {
+    pub looked: Looked<StateDesk>,
+    /// What the next file has to name.
+    pub wanted: Wanted,
+}
+
+/// The files of a chain so far.
+#[derive(Drop)]
+struct Older {
+    chain: Option<Chain>,
+    /// What the next file has to name.
+    wanted: Wanted,
+}
+
 /// Looks into the file at a place, and closes it.
 pub fn look_at<O: Opener>(
     rt: &HostRuntime,
@@ -77,10 +101,11 @@ pub fn look_at<O: Opener>(
     place: u64,
     path: &str,
     question: &Question,
+    by_marks: bool,
     closed: &mut ClosedChain<O::File>,
-) -> Result<Looked<StateDesk>, OpenFault>
+) -> Result<Taken, OpenFault>
     ensures takes { IfOk result
-        (Takes ⟦<O::File as Disk>⟧ (O.image opener.now place) question.now
+        (Takes ⟦<O::File as Disk>⟧ (O.image opener.now place) question.now by_marks
         (files_in closed.old) (files_in closed.new)) }
     ensures refused { IfErr result
         (IsRefused ⟦<O::File as Disk>⟧ (O.image opener.now place)
@@ -93,11 +118,15 @@ pub fn look_at<O: Opener>(
             let Ok(files) = close_file(conn) else {
                 return Err(OpenFault::Unavailable);
             };
+            let (wanted, files) = wanted_after(rt.alloc(), files, by_marks);
             let Ok(()) = add_closed(closed, files) else {
                 return Err(OpenFault::Unavailable);
             };
+            let Ok(wanted) = wanted else {
+                return Err(OpenFault::Unavailable);
+            };
             match looked {
-                Ok(looked) => Ok(looked),
+                Ok(looked) => Ok(Taken { looked, wanted }),
                 Err(_) => Err(OpenFault::Unavailable),
             }
         }
@@ -131,61 +160,106 @@ fn close_any<D: Disk + Drop>(file: Connection<FileStore<D>>) -> (bool, Files<D>)
     }
 }
 
-/// Adds a file to the chain of the older ones, and its rows to the answer. The first file must not have been begun from
-/// another one, unless the chain is asked for from its middle.
+/// Adds a file to the chain of the older ones, and its rows to the answer. Its first UniqueID has to name what is wanted.
 fn add(
+    alloc: Global,
+    older: Older,
+    taken: Taken,
+    question: &Question,
+    path: &str,
+    answer: &mut TextWriter,
+) -> Result<Older, Fault>
+    ensures ok { (files : List DeskFile) (H : History) (text : List ℕ)
+        → Continues older.chain files → Says state.Stands H question.now taken.looked
+        → HasWritten answer.old text
+        → IfOk result (λ it. Adds it.chain files H question.now path.now text answer.new) }
+    ensures wanted { (H : History) → Says state.Stands H question.now taken.looked
+        → IfOk result (λ it. HasWanted older.wanted H) }
+    ensures next { IfOk result (λ it. it.wanted ≡ taken.wanted) }
+    ensures err { (files : List DeskFile) (H : History) → Continues older.chain files
+        → Says state.Stands H question.now taken.looked
+        → IfErr result (Stops (IsWanted older.wanted) files H) }
+{
+    let Older { chain, wanted } = older;
+    let Taken {
+        looked,
+        wanted: next,
+    } = taken;
+    if !is_wanted(&wanted, &looked.begin.mark) {
+        return Err(begun_otherwise(looked));
+    }
+    match join(alloc, chain, looked, question, path, answer) {
+        Ok(chain) => Ok(Older {
+            chain: Some(chain),
+            wanted: next,
+        }),
+        Err(fault) => Err(fault),
+    }
+}
+
+/// The same for a file that was begun as wanted.
+fn join(
     alloc: Global,
     chain: Option<Chain>,
     looked: Looked<StateDesk>,
-    from_middle: bool,
     question: &Question,
     path: &str,
     answer: &mut TextWriter,
 ) -> Result<Chain, Fault>
     ensures ok { (files : List DeskFile) (H : History) (text : List ℕ) → Continues chain files
         → Says state.Stands H question.now looked → HasWritten answer.old text
-        → IfOk result
-        (λ it. Adds it files H question.now from_middle path.now text answer.new) }
-    ensures err { (files : List DeskFile) (H : History) → Continues chain files
-        → Says state.Stands H question.now looked
-        → IfErr result (Stops files H) }
+        → IfOk result (λ it. Adds (Some it) files H question.now path.now text answer.new) }
+    ensures err { (wanted : Wanted) (files : List DeskFile) (H : History)
+        → Continues chain files → Says state.Stands H question.now looked
+        → IfErr result (Stops (IsWanted wanted) files H) }
 {
     match chain {
-        None => add_first(alloc, looked, from_middle, question, path, answer),
+        None => add_first(alloc, looked, question, path, answer),
         Some(chain) => add_next(alloc, chain, looked, question, path, answer),
+    }
+}
+
+/// Returns the fault of a file that was begun otherwise than wanted.
+fn begun_otherwise(looked: Looked<StateDesk>) -> Fault
+    ensures { (wanted : Wanted) (files : List DeskFile) (H : History)
+        → IsMarkOf H (option_map string_bytes looked.begin.mark)
+        → ¬ IsWanted wanted (option_map string_bytes looked.begin.mark)
+        → Stops (IsWanted wanted) files H result }
+{
+    let Looked {
+        begun: _begun,
+        begin,
+        whole: _whole,
+        commands: _,
+        pieces: _pieces,
+    } = looked;
+    let Begin { commands: _, mark } = begin;
+    match mark {
+        Some(mark) => Fault::BegunFrom(mark),
+        None => Fault::NotBegun,
     }
 }
 
 fn add_first(
     alloc: Global,
     looked: Looked<StateDesk>,
-    from_middle: bool,
     question: &Question,
     path: &str,
     answer: &mut TextWriter,
 ) -> Result<Chain, Fault>
     ensures ok { (H : History) (text : List ℕ)
         → Says state.Stands H question.now looked → HasWritten answer.old text
-        → IfOk result
-        (λ it. Adds it [] H question.now from_middle path.now text answer.new) }
-    ensures err { (H : History) → Says state.Stands H question.now looked
-        → IfErr result (Stops [] H) }
+        → IfOk result (λ it. Adds (Some it) [] H question.now path.now text answer.new) }
+    ensures err { (wanted : Wanted) (H : History)
+        → IfErr result (Stops (IsWanted wanted) [] H) }
 {
     let Looked {
         begun: _begun,
-        begin,
+        begin: _begin,
         whole,
         commands,
         pieces,
     } = looked;
-    let Begin {
-        commands: _none,
-        mark,
-    } = begin;
-    match left_out(mark, from_middle) {
-        Some(mark) => return Err(Fault::BegunFrom(mark)),
-        None => {}
-    }
     let file = ChainFile {
         begun: 0,
         commands: u64::from(commands),
@@ -197,13 +271,6 @@ fn add_first(
     }
 }
 
-/// Returns the checksum of the file before the first one, unless the chain may begin in the middle.
-fn left_out(mark: Option<String>, from_middle: bool) -> Option<String>
-    ensures { MatchOption result (from_middle ≡ false → mark ≡ None) (λ it. mark ≡ Some it) }
-{
-    if from_middle { None } else { mark }
-}
-
 fn add_next(
     alloc: Global,
     chain: Chain,
@@ -212,14 +279,13 @@ fn add_next(
     path: &str,
     answer: &mut TextWriter,
 ) -> Result<Chain, Fault>
-    ensures ok { (files : List DeskFile) (H : History) (from_middle : Bool) (text : List ℕ)
+    ensures ok { (files : List DeskFile) (H : History) (text : List ℕ)
         → IsSoFar chain files → Says state.Stands H question.now looked
         → HasWritten answer.old text
-        → IfOk result
-        (λ it. Adds it files H question.now from_middle path.now text answer.new) }
-    ensures err { (files : List DeskFile) (H : History) → IsSoFar chain files
-        → Says state.Stands H question.now looked
-        → IfErr result (Stops files H) }
+        → IfOk result (λ it. Adds (Some it) files H question.now path.now text answer.new) }
+    ensures err { (wanted : Wanted) (files : List DeskFile) (H : History)
+        → IsSoFar chain files → Says state.Stands H question.now looked
+        → IfErr result (Stops (IsWanted wanted) files H) }
 {
     let Looked {
         begun,
@@ -249,17 +315,17 @@ pub fn recall_files<O: Opener, E: Write>(
     opener: &O,
     paths: &[String],
     question: &Question,
-    from_middle: bool,
+    links: Links,
     errors: &mut Wire<E>,
     closed: &mut ClosedChain<O::File>,
 ) -> Result<TextWriter, Stopped>
     requires none { files_in closed.old ≡ [] }
     requires few { failures_of errors.old < 2 ^ 63 }
     ensures recalled { IfOk result
-        (Recalled ⟦<O::File as Disk>⟧ (O.image opener.now) question.now from_middle
+        (Recalled ⟦<O::File as Disk>⟧ (O.image opener.now) question.now links
         (map string_bytes paths.now) (files_in closed.new) (length paths.now)) }
     ensures stopped { IfErr result
-        (IsWhyStopped ⟦<O::File as Disk>⟧ (O.image opener.now) (files_in closed.new)) }
+        (IsWhyStopped ⟦<O::File as Disk>⟧ (O.image opener.now) links (files_in closed.new)) }
     ensures few { failures_of errors.new < 2 ^ 63 }
 {
     let Ok(mut answer) = begin_rows(rt.alloc(), question) else {
@@ -268,12 +334,15 @@ pub fn recall_files<O: Opener, E: Write>(
             fault: NO_MEMORY,
         });
     };
-    let mut chain: Option<Chain> = None;
+    let mut older = Older {
+        chain: None,
+        wanted: wanted_first(links),
+    };
     for place in 0..paths.len() {
         let number = place as u64;
         let path = path_at(paths, number);
-        let looked = match look_at(rt, opener, number, path, question, closed) {
-            Ok(looked) => looked,
+        let taken = match look_at(rt, opener, number, path, question, links.by_marks, closed) {
+            Ok(taken) => taken,
             Err(fault) => {
                 return Err(Stopped {
                     place: number,
@@ -281,17 +350,9 @@ pub fn recall_files<O: Opener, E: Write>(
                 });
             }
         };
-        tell_file(rt.alloc(), path, &looked, paths.len() - place, errors);
-        match add(
-            rt.alloc(),
-            chain,
-            looked,
-            from_middle,
-            question,
-            path,
-            &mut answer,
-        ) {
-            Ok(next) => chain = Some(next),
+        tell_file(rt.alloc(), path, &taken.looked, paths.len() - place, errors);
+        match add(rt.alloc(), older, taken, question, path, &mut answer) {
+            Ok(longer) => older = longer,
             Err(fault) => {
                 return Err(Stopped {
                     place: number,

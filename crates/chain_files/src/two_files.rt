@@ -55,7 +55,7 @@ fn compare_files<O: Opener>(
     requires none { files_in closed.old ≡ [] }
     ensures { Finds ⟦<O::File as Disk>⟧ (O.image opener.now) (files_in closed.new) result }
 {
-    let first = match look_at(rt, opener, 0, old, &Question::Chain, closed) {
+    let first = match look_at(rt, opener, 0, old, &Question::Chain, false, closed) {
         Ok(first) => first,
         Err(fault) => {
             return Compared::Refused {
@@ -64,7 +64,7 @@ fn compare_files<O: Opener>(
             };
         }
     };
-    let second = match look_at(rt, opener, 1, new, &Question::Chain, closed) {
+    let second = match look_at(rt, opener, 1, new, &Question::Chain, false, closed) {
         Ok(second) => second,
         Err(fault) => {
             return Compared::Refused {
@@ -73,10 +73,10 @@ fn compare_files<O: Opener>(
             };
         }
     };
-    match first_difference(&first.whole, &second.whole) {
+    match first_difference(&first.looked.whole, &second.looked.whole) {
         Some(difference) => Compared::Differs(difference),
         None => {
-            let rows = second.whole.rows();
+            let rows = second.looked.whole.rows();
             Compared::Alike {
                 reels: rows.reels().len() as u64,
                 mounts: rows.mounts().len() as u64,

@@ -13,6 +13,7 @@ ghost use Rattle.chain_files.specs.Whole.{Answers, Compares, Done, Fails, IsStop
 
 use crate::chain::{Fault, Stopped, recall_files};
 use crate::closed::ClosedChain;
+use crate::marks::Links;
 use crate::opener::Opener;
 use crate::paths::path_at;
 use crate::two_files::alike;
@@ -59,9 +60,9 @@ pub fn program<O: Opener, W: Write, E: Write>(
     match read_words(words) {
         ChainCommand::Recall {
             question,
-            from_middle,
+            links,
             files,
-        } => answer(rt, opener, &question, from_middle, files, output, errors),
+        } => answer(rt, opener, &question, links, files, output, errors),
         ChainCommand::Alike { old, new } => alike(rt, opener, old, new, output, errors),
         ChainCommand::Help => (
             send_text(HELP, output, errors),
@@ -74,7 +75,7 @@ pub fn program<O: Opener, W: Write, E: Write>(
         ChainCommand::Bad => {
             tell(
                 errors,
-                "usage: tracedesk-chain check|lot NAME|board NAME|reel NAME [--pieces] [--from-middle] FILE.., alike OLD NEW, or --help\n",
+                "usage: tracedesk-chain check|lot NAME|board NAME|reel NAME [--pieces] [--from-middle] [--marks] FILE.., alike OLD NEW, or --help\n",
             );
             (Exit::BadCommandLine as u8, ClosedChain::new(rt.alloc()))
         }
@@ -86,7 +87,7 @@ fn answer<O: Opener, W: Write, E: Write>(
     rt: &HostRuntime,
     opener: &O,
     question: &Question,
-    from_middle: bool,
+    links: Links,
     paths: &[String],
     output: &mut Wire<W>,
     errors: &mut Wire<E>,
@@ -95,22 +96,14 @@ fn answer<O: Opener, W: Write, E: Write>(
     ensures status { (result.0 ≤ 1) ⊎ (3 ≤ result.0) × (result.0 ≤ 5) }
     ensures done { result.0 ≡ 0
         → Answers ⟦<O::File as Disk>⟧ (O.image opener.now) (files_in result.1) question.now
-        from_middle (map string_bytes paths.now) W.contents output.old output.new }
+        links (map string_bytes paths.now) W.contents output.old output.new }
     ensures stopped { IsStopped result.0
         → (output.new ≡ output.old)
-        × StopsAt ⟦<O::File as Disk>⟧ (O.image opener.now) (files_in result.1)
+        × StopsAt ⟦<O::File as Disk>⟧ (O.image opener.now) (files_in result.1) links
         (map string_bytes paths.now) E.contents errors.new result.0 }
 {
     let mut closed = ClosedChain::new(rt.alloc());
-    match recall_files(
-        rt,
-        opener,
-        paths,
-        question,
-        from_middle,
-        errors,
-        &mut closed,
-    ) {
+    match recall_files(rt, opener, paths, question, links, errors, &mut closed) {
         Ok(answer) => (send_answer(answer, output, errors), closed),
         Err(stopped) => {
             let status = tell_stop(rt.alloc(), paths, &stopped, errors);
@@ -175,7 +168,7 @@ fn status_of(fault: &Fault) -> u8
 {
     match fault {
         Fault::Refused(_) => Exit::NoDesk as u8,
-        Fault::BegunFrom(_) => 5,
+        Fault::BegunFrom(_) | Fault::NotBegun => 5,
         Fault::Differs(_) => Exit::Refused as u8,
     }
 }

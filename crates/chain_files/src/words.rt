@@ -1,8 +1,9 @@
 //! The command line.
 
-ghost use Rattle.std.specs.Prelude.{◌≡◌, ◌∷◌, IfSome, codes, map, string_bytes};
-ghost use Rattle.chain_files.specs.Words.{Asks, AsksAbout, AsksFiles, Recalls};
+ghost use Rattle.std.specs.Prelude.{◌≡◌, ◌∷◌, ◌++◌, IfSome, codes, map, string_bytes};
+ghost use Rattle.chain_files.specs.Words.{Asks, AsksAbout, AsksFiles, Recalls, flag_words};
 
+use crate::marks::Links;
 use chain_check::{Question, Subject};
 use desk_types::Id;
 
@@ -12,8 +13,7 @@ pub enum ChainCommand<'a> {
     /// Recall over these files, the oldest first.
     Recall {
         question: Question,
-        /// The first file may be one that was begun from another.
-        from_middle: bool,
+        links: Links,
         files: &'a [String],
     },
     /// Compare the desk in the old file with the one that follows it in the new file.
@@ -33,10 +33,10 @@ pub enum ChainCommand<'a> {
 pub const HELP: &str = "\
 Says whether desk files are the chain of one line, recalls a lot, a board or a reel over them, or compares two desks.
 
-Usage: tracedesk-chain check [--from-middle] FILE..
-       tracedesk-chain lot NAME [--pieces] [--from-middle] FILE..
-       tracedesk-chain board NAME [--pieces] [--from-middle] FILE..
-       tracedesk-chain reel NAME [--pieces] [--from-middle] FILE..
+Usage: tracedesk-chain check [--from-middle] [--marks] FILE..
+       tracedesk-chain lot NAME [--pieces] [--from-middle] [--marks] FILE..
+       tracedesk-chain board NAME [--pieces] [--from-middle] [--marks] FILE..
+       tracedesk-chain reel NAME [--pieces] [--from-middle] [--marks] FILE..
        tracedesk-chain alike OLD NEW
 
 Name the files oldest first. Each is opened as an audit opens it, and not changed. Standard error has a line for each
@@ -56,6 +56,7 @@ pieces that were left of each reel. Otherwise it prints the first difference, as
 Options:
   --pieces       Print each piece: board,designator,part,lot,reel,machine,slot,overdue,minute,file
   --from-middle  The first file is one that was begun from an older file, which is left out
+  --marks        Each file has to be begun from the very file before it: its first UniqueID names the checksum of that one
   --help         Print help
   --version      Print the version
 
@@ -65,7 +66,7 @@ Exit status:
   2  The command line asks for nothing that the program does
   3  A file was refused, or memory was; standard error names the file, or old or new, and its fault
   4  The output failed
-  5  The first file was begun from another: standard error names its archive
+  5  The first file was begun from another, or with --marks a later one was not begun from the file before it: standard error names the file, and the archive that it was begun from
 
 Examples:
   tracedesk-chain check archive/L1-2026* desk.db
@@ -148,18 +149,38 @@ fn about<'a>(subject: Subject, rest: &'a [String]) -> ChainCommand<'a>
 fn files_of<'a>(question: Question, rest: &'a [String]) -> ChainCommand<'a>
     ensures { AsksFiles question (map string_bytes rest.now) result }
 {
-    let Some((first, files)) = rest.split_first() else {
-        return ChainCommand::Bad;
-    };
-    if first.as_str() == "--from-middle" {
-        return named(question, true, files);
+    let (from_middle, rest) = flag_in("--from-middle", rest);
+    let (by_marks, files) = flag_in("--marks", rest);
+    named(
+        question,
+        Links {
+            from_middle,
+            by_marks,
+        },
+        files,
+    )
+}
+
+/// Returns whether this option comes first, and the words after it.
+fn flag_in<'a>(option: &str, words: &'a [String]) -> (bool, &'a [String])
+    ensures { map string_bytes words.now
+        ≡ flag_words option.now result.0 ++ map string_bytes result.1.now }
+{
+    match words.split_first() {
+        Some((first, rest)) => {
+            if first.as_str() == option {
+                (true, rest)
+            } else {
+                (false, words)
+            }
+        }
+        None => (false, words),
     }
-    named(question, false, rest)
 }
 
 /// At least one file, and no word that looks like an option.
-fn named<'a>(question: Question, from_middle: bool, files: &'a [String]) -> ChainCommand<'a>
-    ensures { Recalls question from_middle (map string_bytes files.now) result }
+fn named<'a>(question: Question, links: Links, files: &'a [String]) -> ChainCommand<'a>
+    ensures { Recalls question links (map string_bytes files.now) result }
 {
     if files.is_empty() {
         return ChainCommand::Bad;
@@ -171,7 +192,7 @@ fn named<'a>(question: Question, from_middle: bool, files: &'a [String]) -> Chai
     }
     ChainCommand::Recall {
         question,
-        from_middle,
+        links,
         files,
     }
 }

@@ -2,7 +2,8 @@
 
 A copy is a folder that is named by when it was taken, in UTC: `desk`, `archive` with the catalogue, the checksums in
 SHA256SUMS, and backup.json, which has the copy's number, its desk's name, file and line, how many commands it has, and
-which archives it is without. Copies are in the order of their numbers, since a clock may jump; up to 0.2.0 they have
+which archives it is without. Copies are in the order of their numbers, since a clock may jump: the second in which a copy
+was taken, or one more than the greatest in the folder. Up to 0.3.0 the first copy in a folder has the number 1; up to 0.2.0 they have
 none. Up to 0.3.0 they have no name: then the first command of the desk in them says whose they are.
 
 A copy that can't be read is a fault, and never passed over: it may be the newest one.
@@ -13,6 +14,7 @@ import json
 import os
 import pathlib
 import re
+import socket
 import sqlite3
 import time
 
@@ -34,7 +36,7 @@ def about(copy):
         told = json.loads(text)
         return {"number": 0, "desk": "", "line": "", "name": "", "host": "", **told, "commands": told["commands"], "missing": told["missing"]}
     except (OSError, ValueError, KeyError, TypeError) as fault:
-        raise plant.Fault(f"{copy} can't be read: {fault}: the copy is damaged. Name another copy, or move this one out of the folder once you have looked at its disk") from fault
+        raise plant.Fault(f"{copy} can't be read: {fault}. If it is damaged, name another copy, or move this one out of the folder once you have looked at its disk") from fault
 
 
 def sums_of(copy):
@@ -47,14 +49,13 @@ def number_of(copy):
 
 
 class Whose:
-    """A desk whose copies are looked for: its name, and the first commands of it and of its archives. Neither is known where its disk is lost."""
+    """A desk whose copies are looked for: its name, and the first commands of it and of its archives. Neither is known if its file is lost."""
 
     def __init__(self, db, archive=None):
         self.db, path = pathlib.Path(db), pathlib.Path(archive or pathlib.Path(db).parent / ARCHIVE) / catalogue.FILE_NAME
-        self.desk, there = identity.of_running(db), catalogue.survey(path).archives
-        chain = identity.chain(path, there, self.desk.mark)[0] if self.desk else there
-        names = {self.desk.name} if self.desk else {it.name for it in there if it.name}
-        self.name = names.pop() if len(names) == 1 else ""
+        self.desk = identity.of_running(db)
+        self.name = self.desk.name if self.desk else ""
+        chain = identity.chain(path, catalogue.survey(path).archives, self.desk.mark)[0] if self.desk else []
         self.firsts = {command(file, 1) for file in (db, *(catalogue.path_of(path, it) for it in chain))} - {None}
 
     def has(self, copy, told):
@@ -64,12 +65,12 @@ class Whose:
         return command(copy / "desk", 1) in self.firsts
 
     def guessed(self, copies):
-        """The copies of a desk whose disk is lost: all of them, if they are of one desk; a Fault where they are of several."""
-        names, here = {told["name"] for _, told in copies} - {""}, [(it, told) for it, told in copies if told["name"] or told["desk"] in ("", os.path.realpath(self.db))]
-        unnamed = {command(it / "desk", 1) for it, told in here if not told["name"]}
-        if len(names) > 1 or (not names and len(unnamed) > 1) or names and unnamed - {first for it, told in here if told["name"] for first in firsts_of(it)}:
+        """The copies of a desk whose file is lost: those of a file of this path and host, if they are of one desk; a Fault if they are of several, or there are others only."""
+        here = [(it, told) for it, told in copies if told["desk"] in ("", os.path.realpath(self.db)) and told["host"] in ("", socket.gethostname())]
+        names, unnamed = {told["name"] for _, told in here} - {""}, {command(it / "desk", 1) for it, told in here if not told["name"]}
+        if copies and not here or len(names) > 1 or (not names and len(unnamed) > 1) or names and unnamed - {first for it, told in here if told["name"] for first in firsts_of(it)}:
             whose = sorted({f"{it.name} ({told['line'] or 'no line'}, {told['host'] or 'no host'}, {told['desk']})" for it, told in copies})
-            raise plant.Fault(f"{self.db} can't be read, so nothing says which desk it was, and the copies are of several. Name one: {', '.join(whose)}")
+            raise plant.Fault(f"{self.db} can't be read, so nothing says which desk it was, and the copies are of several, or of another path or host. Name one: {', '.join(whose)}")
         return [it for it, _ in here]
 
 
@@ -86,9 +87,9 @@ def survey(to, whose=None):
             there.append((it, about(it)))
         except plant.Fault as fault:
             its = identity.of_running(it / "desk")  # what is left may say that it is another desk's
-            if not (whose and whose.name and its and its.name and its.name != whose.name):
+            if it.exists() and not (whose and whose.name and its and its.name and its.name != whose.name):
                 faults.append(str(fault))
-    if whose and not whose.desk and not whose.name:
+    if whose and not whose.desk:
         those = set(whose.guessed(there))
         there = [it for it in there if it[0] in those]
     elif whose:
@@ -109,10 +110,10 @@ def kept_by_path(to, db):
     return [it for it in kept_in(to) if about(it)["desk"] in ("", os.path.realpath(db))]
 
 
-def held_by(copy):
-    """The archives that a copy has, by their checksums."""
-    missing = about(copy)["missing"]
-    return {it.sha256 for it in catalogue.survey(copy / ARCHIVE / catalogue.FILE_NAME).archives if it.file not in missing}
+def held_by(copy, whole=()):
+    """The archives that a copy has, by their checksums; those of `whole` only if the file is there, and has it."""
+    missing, path = about(copy)["missing"], copy / INDEX
+    return {it.sha256 for it in catalogue.survey(path).archives if it.file not in missing and (it.sha256 not in whole or is_whole(path, it))}
 
 
 def taken(copy):
@@ -127,12 +128,12 @@ def compare_sums(copy):
     """A Fault where a file of a copy is not that of its checksum, or has none."""
     try:
         sums = sums_of(copy)
-        there = {str(it.relative_to(copy)) for it in copy.rglob("*") if it.is_file()} - {SUMS, *(f"desk{tail}" for tail in catalogue.LOGS)}
+        there = {str(it.relative_to(copy)) for it in copy.rglob("*") if it.is_file()} - {SUMS, *(f"desk{tail}" for tail in (*catalogue.LOGS, "-shm"))}
         wrong = sorted(there ^ set(sums)) or [it for it in sums if catalogue.sha256_of(copy / it) != sums[it]]
     except (OSError, UnicodeDecodeError) as fault:
         raise plant.Fault(f"{copy} is not whole: {fault}") from fault
     if wrong or not sums:
-        raise plant.Fault(f"{copy} is damaged: {', '.join(wrong) or SUMS} is not the file of its checksum. Look at the disk; an older copy may be whole")
+        raise plant.Fault(f"{copy} is damaged: {', '.join(wrong) or SUMS} is not the file of its checksum, or has none. Look at the disk, and move elsewhere what somebody put there; an older copy may be whole")
 
 
 def is_whole(path, archive):
@@ -182,6 +183,7 @@ def commands(file):
 
 def have_the_same(file, other):
     """Whether one of two desks has all commands of the other: so it is where a roll-over was cut off."""
-    least = min(commands(file), commands(other))
-    last = command(file, least)
-    return last is not None and last == command(other, least)
+    with contextlib.suppress(sqlite3.Error):
+        least = min(commands(file), commands(other))
+        return (last := command(file, least)) is not None and last == command(other, least)
+    return False

@@ -109,12 +109,12 @@ def chain(path, archives, mark):
     while mark:
         it = next((it for it in archives if follows(mark, it)), None)
         if it is None or it in found:
-            return found, [f"{path}: no archive has the checksum {mark}.., from which {found[-1].file if found else 'the desk'} was begun: take it from a copy"]
+            return found, [f"{path}: no archive has the checksum {mark}.., from which {found[-1].file if found else 'the desk'} was begun: take it from a copy, and give it to the owner of its folder"]
         found.append(it)
         try:
             mark = mark_of(catalogue.path_of(path, it))
         except (OSError, sqlite3.Error) as fault:
-            return found, [f"{catalogue.path_of(path, it)}: it can't be read: {fault}: take it from a copy"]
+            return found, [f"{catalogue.path_of(path, it)}: it can't be read: {fault}: take it from a copy, and give it to the owner of its folder"]
     return found, []
 
 
@@ -125,7 +125,7 @@ def gaps(path, archives, marks=()):
     for it in archives:
         with contextlib.suppress(OSError, sqlite3.Error):
             begun.append((it.file, mark_of(catalogue.path_of(path, it))))
-    return [f"{path}: no archive has the checksum {mark}.., from which {name} was begun: take it from a copy" for name, mark in begun if mark and mark not in there]
+    return [f"{path}: no archive has the checksum {mark}.., from which {name} was begun: take it from a copy, and give it to the owner of its folder" for name, mark in begun if mark and mark not in there]
 
 
 # --- A running desk

@@ -106,7 +106,7 @@ def set_ups():
     found = []
     for file in sorted(it for it in SET_UP.glob("*.conf") if it.name != PROXYS):
         try:
-            rows = [it.partition("=") for it in file.read_text(encoding="utf-8").splitlines() if it.strip() and not it.lstrip().startswith("#")]
+            rows = [it.partition("=") for it in file.read_text(encoding="utf-8-sig").splitlines() if it.strip() and not it.lstrip().startswith("#")]
         except (OSError, UnicodeDecodeError) as fault:
             raise Fault(f"{file} can't be read: {fault}") from fault
         its = {name.strip(): value.strip() for name, _, value in rows}
@@ -117,8 +117,9 @@ def set_ups():
             raise Fault(f"{file} names no line: write line = LINE into it, or take it away")
         its = {"db": str(DESK), "port": str(PORT), "copies": str(COPIES), **its}
         found.append({"archive": f"{pathlib.Path(its['db']).parent}/archive", "url": f"http://127.0.0.1:{its['port']}", **its})
-    if twice := {it["db"] for it in found if [other["db"] for other in found].count(it["db"]) > 1}:
-        raise Fault(f"two files of {SET_UP} have the desk {', '.join(twice)}")
+    for word in ("db", "line"):
+        if twice := {it[word] for it in found if [other[word] for other in found].count(it[word]) > 1}:
+            raise Fault(f"two files of {SET_UP} have {word} = {', '.join(twice)}: take one of them away")
     return found
 
 

@@ -1,6 +1,7 @@
 """What a roll-over or a restore leaves that was cut off, and how it is finished or put back: for ops/settle, ops/rollover and ops/backup."""
 import contextlib
 import errno
+import hashlib
 import json
 import os
 import pathlib
@@ -10,7 +11,6 @@ import time
 from tracedesk_ops import backups, catalogue, identity, plant
 
 RESTORED = ".restored"  # beside the desk: what is to take its place
-IN_PLACE = "in_place"  # in what a restore wrote down: its copy was in place and may have taken commands, so what lies aside never goes back
 
 
 class Rolling:
@@ -26,11 +26,14 @@ class Rolling:
         self.room = plant.rolled_in(asked.db)
         self.copy, self.new, self.plan = (self.room / name for name in ("archive", "desk", plant.PLAN))
         self.program = plant.Program(asked.program, asked.db)
-        self.may_put_back, self.held = False, None
+        self.may_put_back, self.held, self.sealed = False, None, ""
 
     def is_left_to_start(self):
         """Whether the new desk is in place, and may not be started yet."""
-        return self.plan.exists() and not self.new.exists()
+        if not self.plan.exists() or self.new.exists():
+            return False
+        desk, archive = identity.of_running(self.db), self.read_plan()
+        return not desk or not archive or identity.follows(desk.mark, archive)  # else the new desk was lost in its folder
 
     def tidy(self):
         """Takes the folder away where the new desk is in place and runs, so that nothing else is left to do."""
@@ -47,6 +50,8 @@ class Rolling:
         if not archive:  # at most the file was filed before the catalogue had its line
             self.put_back()
             return False
+        if not self.copy.exists() and (filed := self.archives / archive.file).exists() and catalogue.sha256_of(filed) == archive.sha256:
+            os.link(filed, self.copy)
         try:
             if not self.db.exists():
                 raise plant.Fault(f"{self.db} is gone")
@@ -56,16 +61,31 @@ class Rolling:
                 raise plant.Fault(f"{fault}. {self.room} has a whole copy of it: where the file is damaged, and no run has it open, call tracedesk-settle --damaged") from None
             self.salvage(archive, fault)
             return True
-        if backups.command(self.db, archive.commands) != backups.command(self.copy, archive.commands):
-            raise plant.Fault(f"{self.db} is another desk than the one in {self.room}, which an earlier run was to archive: move {self.room} elsewhere")
+        is_same = commands == archive.commands and self.hold() == archive.sha256
+        if not is_same:
+            self.let_go()
+            if backups.command(self.db, archive.commands) != backups.command(self.copy, archive.commands):
+                raise plant.Fault(f"{self.db} is another desk than the one in {self.room}, which an earlier run was to archive, or {self.copy} is damaged: move {self.room} elsewhere")
         self.may_put_back = True
-        if commands == archive.commands and self.hold() == archive.sha256:
+        if is_same and self.is_whole(archive):
             plant.tell("an earlier run is gone on with")
             self.put_in_place()
             return True
         self.let_go()
         self.put_back()
         return False
+
+    def is_whole(self, archive):
+        """Whether the archive, the new desk and the plan are still as they were written."""
+        with contextlib.suppress(OSError, plant.Fault):
+            if catalogue.sha256_of(self.copy) == archive.sha256 and (self.seal(archive) == self.sealed if self.sealed else self.program.audit(self.new)):
+                return True
+        plant.tell(f"a file of {self.room} is damaged or gone, so the roll-over that was cut off can't be finished")
+        return False
+
+    def seal(self, archive):
+        """The checksum of a plan and of the new desk."""
+        return hashlib.sha256(f"{json.dumps(archive)}{catalogue.sha256_of(self.new)}".encode()).hexdigest()
 
     def hold(self):
         """Keeps each run from the desk's file from now on; the checksum that it has then."""
@@ -80,19 +100,21 @@ class Rolling:
     def read_plan(self):
         """The archive that is to be; if the plan is damaged, by the catalogue's line of the copy, and none if it has no line yet."""
         with contextlib.suppress(ValueError, TypeError):
-            return catalogue.Archive(**json.loads(self.plan.read_text(encoding="utf-8")))
+            told = dict(json.loads(self.plan.read_text(encoding="utf-8")))
+            self.sealed = told.pop("seal", "")  # none up to 0.3.0
+            return catalogue.Archive(**told)
         return next((it for it in catalogue.read(self.catalogue) if self.is_filed(self.archives / it.file)), None)
 
     def is_filed(self, file):
         """Whether a file of the archive's folder is the copy."""
-        return file.exists() and file.samefile(self.copy)
+        return file.exists() and self.copy.exists() and file.samefile(self.copy)
 
     def put_back(self):
         """Leaves the old desk, the archive and the catalogue as they were before."""
         if self.plan.exists():
             archive = self.read_plan()
             for it in catalogue.read(self.catalogue):
-                if archive and (it.file, it.sha256) == (archive.file, archive.sha256):
+                if self.is_filed(self.archives / it.file) or archive and (it.file, it.sha256) == (archive.file, archive.sha256):
                     catalogue.take_out(self.catalogue, it)
             for it in filter(self.is_filed, list(self.archives.iterdir()) if self.archives.exists() else []):
                 it.unlink()
@@ -113,8 +135,8 @@ class Rolling:
 
     def salvage(self, archive, fault):
         """Finishes it without the desk's file, which is gone or damaged, by the copy of it that was to be the archive. What the file had more is not known, and an entry says so."""
-        if catalogue.sha256_of(self.copy) != archive.sha256:  # it was audited when it got that
-            raise plant.Fault(f"{fault}; and {self.copy} is not whole: restore a copy, after you have moved {self.room} elsewhere")
+        if not self.is_whole(archive):
+            raise plant.Fault(f"{fault}; and {self.room} is not whole: restore a copy, after you have moved {self.room} elsewhere")
         aside = self.db.parent / catalogue.ASIDE / f"damaged-{archive.file}"
         if not self.archives.exists():
             self.archives.mkdir(mode=0o700)
@@ -151,7 +173,8 @@ class Restoring:
 
     def __init__(self, asked):
         self.asked = asked
-        self.desk, self.archive = (it.with_name(f".{it.name}{RESTORED}") for it in (asked.db, asked.archive))
+        self.desk = asked.db.with_name(f".{asked.db.name}{RESTORED}")
+        self.archive = asked.archive.with_name(f".{asked.archive.name}-{asked.db.name}{RESTORED}")  # other desks may have the same archive
         self.within = asked.db.parent / catalogue.ASIDE
         self.untold = []  # folders of `aside` of runs that were killed when the copy was in place
 
@@ -178,12 +201,12 @@ class Restoring:
                 it.unlink()
             if not is_untold(aside, self.asked.db):
                 continue
-            if self.asked.db.exists():
-                catalogue.put(aside / catalogue.LACKS, json.dumps({**said_of(aside), IN_PLACE: True}) + "\n")
-            elif not said_of(aside).get(IN_PLACE):
+            is_open_to_runs = self.asked.db.exists() and not (self.desk.exists() and self.desk.samefile(self.asked.db))
+            if is_open_to_runs or not (self.archive / said_of(aside).get("entry", "none")).exists():
+                self.untold.append(aside)  # the copy is in place, and may have taken commands
+            else:
+                self.asked.db.unlink(missing_ok=True)
                 self.put_back(aside)
-                continue
-            self.untold.append(aside)
 
     def put_all_back(self):
         """The same for a tool that restores nothing; a Fault where the desk is gone all the same."""
@@ -194,12 +217,9 @@ class Restoring:
 
     def put_back(self, aside):
         """Everything that lies aside has its place again: the desk at last, since with it a service could start."""
-        self.clear()
         if (aside / backups.ARCHIVE).exists():
             if self.asked.archive.exists():
-                if not (self.asked.archive / (said_of(aside).get("entry") or ".")).exists():
-                    raise plant.Fault(f"{self.asked.archive} was made since a restore was cut off that had put {aside / backups.ARCHIVE} aside: move its archives there, and take the folder away. Then tracedesk-settle --catalogue")
-                os.rename(self.asked.archive, self.archive)  # the copy's
+                raise plant.Fault(f"{self.asked.archive} was made since a restore was cut off that had put {aside / backups.ARCHIVE} aside: move its archives there, and take the folder away. Then tracedesk-settle --catalogue")
             os.rename(aside / backups.ARCHIVE, self.asked.archive)
         for tail in (*catalogue.LOGS, ""):
             if (it := aside / f"{self.asked.db.name}{tail}").exists():
@@ -234,6 +254,8 @@ def settled(asked, service, may_be_damaged=False):
     rolling, is_done = Rolling(asked), False
     try:
         if rolling.plan.exists() and not rolling.is_left_to_start():
+            if plant.is_open(asked.db):
+                raise plant.Fault(f"a run has {asked.db} open: stop the service, and call tracedesk-settle again")
             is_done = rolling.goes_on(may_be_damaged)
         rolling.clear()
     finally:

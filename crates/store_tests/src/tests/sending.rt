@@ -97,8 +97,9 @@ pub fn viewed<S: Alter>(store: &mut LineStore<S, StateDesk>) -> Option<View>
     }
 }
 
+/// The UniqueID is that of a message that begins a desk after a roll-over.
 fn message_of_text(alloc: Global, number: u32, text: &str) -> Option<Stamped> {
-    let uid = format!(in alloc; "u{number}").ok()?;
+    let uid = format!(in alloc; "begin-0-{number}").ok()?;
     Some(Stamped {
         uid: Id::read(uid.as_bytes())?,
         source: Id::read(b"S")?,
@@ -157,7 +158,7 @@ pub fn send<L: Shown>(
 {
     let mut told = Told::new(alloc);
     for text in row.split('\n') {
-        let message = message_of_text(alloc, told.count, text).ok_or(AllocError)?;
+        let message = message_of_text(alloc, told.count.saturating_add(1), text).ok_or(AllocError)?;
         let (count, desk) = line.shown();
         let mut answer = send_one(rt, line, &message);
         if matches!(answer, Answer::Unavailable) {

@@ -24,7 +24,7 @@ pub fn files(alloc: Global, log: u64, db: u64) -> Files<Fuse<Memory>>
 
 /// What came of commands that were sent over a connection: the version of the tables and their number of commands
 /// before, if there were tables; the answers; and whether a migration was reported.
-struct Session {
+pub struct Session {
     version: Option<i64>,
     began: Option<u32>,
     told: Result<Told, AllocError>,
@@ -60,7 +60,7 @@ fn session_over<S: Alter>(
 }
 
 /// The same over files, which are closed again. Returns them too, and whether they were closed whole.
-fn work<D: Disk + Drop>(
+pub fn work<D: Disk + Drop>(
     rt: &impl Abort,
     alloc: Global,
     files: Files<D>,

@@ -1,21 +1,8 @@
-use Rattle.desk_types.proofs.Common.{[], ◌≡◌, IfErr, IfOk, List, Option, subst, sym}
-use Rattle.desk_laws.proofs.Common.{DeskFile}
-use Rattle.chain_check.specs.declared.chain.Chain.{Chain}
-use Rattle.chain_files.specs.Files.{Adds, Continues, Stops}
 use Rattle.chain_files.proofs.chain.add.Goals as goal
 
-pub returns-in-None-clause-ok : goal.returns-in-None-clause-ok
-returns-in-None-clause-ok c files H text is says written =
-    let none : files ≡ [] = subst (λ (o : Option Chain). Continues o files) c.in-None.is is in
-    subst (λ (fs : List DeskFile). IfOk c.add_first.result (λ it. Adds it fs H c.args.question.now c.args.from_middle c.args.path.now text c.add_first.new.answer)) (sym none) (c.add_first.ensures.ok H text says written)
+pub returns-then-not-is_wanted-clause-err : goal.returns-then-not-is_wanted-clause-err
+returns-then-not-is_wanted-clause-err c files H is says =
+    c.begun_otherwise.ensures c.args.older.wanted files H says.mark (c.is_wanted.ensures.no c.if-not-is_wanted.true)
 
-pub returns-in-None-clause-err : goal.returns-in-None-clause-err
-returns-in-None-clause-err c files H is says =
-    let none : files ≡ [] = subst (λ (o : Option Chain). Continues o files) c.in-None.is is in
-    subst (λ (fs : List DeskFile). IfErr c.add_first.result (Stops fs H)) (sym none) (c.add_first.ensures.err H says)
-
-pub returns-in-Some-clause-ok : goal.returns-in-Some-clause-ok
-returns-in-Some-clause-ok c files H text is says written = c.add_next.ensures.ok files H c.args.from_middle text (subst (λ (o : Option Chain). Continues o files) c.in-Some.is is) says written
-
-pub returns-in-Some-clause-err : goal.returns-in-Some-clause-err
-returns-in-Some-clause-err c files H is says = c.add_next.ensures.err files H (subst (λ (o : Option Chain). Continues o files) c.in-Some.is is) says
+pub returns-clause-err : goal.returns-clause-err
+returns-clause-err c files H is says = c.in-Err.ensures.err c.args.older.wanted files H is says

@@ -1,9 +1,7 @@
-use Rattle.std.proofs.Common.{◌≡◌, ◌∙◌, ◌++◌, [], List, ℕ, Option, string_bytes, refl, ap, subst}
-use Rattle.std.specs.Option.{option_map}
+use Rattle.std.proofs.Common.{◌≡◌, ◌∙◌, ◌++◌, [], subst}
 use Rattle.desk_types.specs.declared.rules.Rules.TheVariants.{Two}
 use Rattle.desk_types.specs.History.{basis}
 use Rattle.trace_reports.specs.Csv.{HasWritten}
-use Rattle.chain_files.specs.Begin.{IsMarkOf}
 use Rattle.chain_check.specs.Rows.{asked_of, facts_of, rows_in, rows_text}
 use Rattle.chain_files.proofs.chain.add_first.Goals as goal
 
@@ -14,10 +12,6 @@ returns-in-Ok-clause-ok c H text says written =
     let pieces : c.as_slice.result.now ≡ asked_of question H = c.as_slice.ensures ∙ says.pieces in
     record {
       begun = [];
-      first = λ _ whole. subst (λ (mark : Option (List ℕ)). IsMarkOf H mark) (ap (option_map string_bytes) (c.in-None.ensures whole)) says.mark;
       adds = c.first.ensures H says.whole;
       written = subst (HasWritten c.write_rows.new.writer) (λ j. text ++ rows_text (rows_in question c.args.path.now (file j) (pieces j))) (c.in-Ok.ensures text written);
     }
-
-pub returns-in-Some-clause-err : goal.returns-in-Some-clause-err
-returns-in-Some-clause-err c H says = (refl, subst (λ (mark : Option (List ℕ)). IsMarkOf H mark) (ap (option_map string_bytes) c.in-Some.ensures) says.mark)

@@ -15,7 +15,8 @@ loop-place-init g c = record {
     count = refl;
     held = tt;
     chained = refl;
-    begins = tt;
+    linked = tt;
+    wants = c.wanted_first.ensures;
     written = c.in-Ok.ensures;
   };
 }
@@ -27,7 +28,7 @@ pub returns-in-Err-add-clause-stopped : goal.returns-in-Err-add-clause-stopped
 returns-in-Err-add-clause-stopped g c honest =
     let was = c.loop-place.invariant in
     let takes = c.in-Ok-look_at.ensures.takes in
-    stopped g.O.File.Disk (g.O.Opener.image c.args.opener.now) c.args.question.now c.args.from_middle (map string_bytes c.args.paths.now) c.loop-place.chain c.loop-place.answer c.loop-place.place (files_in c.loop-place.closed) takes.0 c.in-Ok-look_at.looked (files_in c.look_at.new.closed) c.in-Err-add.fault takes.1
+    stopped g.O.File.Disk (g.O.Opener.image c.args.opener.now) c.args.question.now c.args.links (map string_bytes c.args.paths.now) c.loop-place.older c.loop-place.answer c.loop-place.place (files_in c.loop-place.closed) takes.0 c.in-Ok-look_at.taken (files_in c.look_at.new.closed) c.in-Err-add.fault takes.1
     was.count was.so_far takes.2 c.in-Err-add.ensures.err honest
 
 pub loop-place-preserved : goal.loop-place-preserved
@@ -40,5 +41,5 @@ loop-place-preserved g c =
     record {
       few = c.tell_file.ensures.few;
       count = omega (arith, long, was.count);
-      so_far = added g.O.File.Disk (g.O.Opener.image c.args.opener.now) c.args.question.now c.args.from_middle (map string_bytes c.args.paths.now) c.loop-place.chain c.loop-place.answer c.loop-place.place closed takes.0 c.in-Ok-look_at.looked after c.in-Ok-add.next c.add.new.answer takes.1 was.count was.so_far takes.2 _ c.path_at-path.ensures c.in-Ok-add.ensures.ok;
+      so_far = added g.O.File.Disk (g.O.Opener.image c.args.opener.now) c.args.question.now c.args.links (map string_bytes c.args.paths.now) c.loop-place.older c.loop-place.answer c.loop-place.place closed takes.0 c.in-Ok-look_at.taken after c.in-Ok-add.longer c.add.new.answer takes.1 was.count was.so_far takes.2 takes.3 _ c.path_at-path.ensures c.in-Ok-add.ensures.wanted c.in-Ok-add.ensures.next c.in-Ok-add.ensures.ok;
     }

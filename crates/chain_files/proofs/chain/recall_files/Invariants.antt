@@ -7,5 +7,5 @@ abbrev pub invariant-loop-place : goal.invariant-loop-place
 invariant-loop-place g l = record {
   few : failures_of l.errors < 2 ^ 63;
   count : length (files_in l.closed) ≡ l.place;
-  so_far : Reaches g.O.File.Disk (g.O.Opener.image l.opener) l.question l.from_middle (map string_bytes l.paths) (files_in l.closed) l.place l.chain l.answer;
+  so_far : Reaches g.O.File.Disk (g.O.Opener.image l.opener) l.question l.links (map string_bytes l.paths) (files_in l.closed) l.place l.older l.answer;
 }

@@ -1,4 +1,4 @@
-use Rattle.desk_types.proofs.Common.{[], ◌∙◌, ◌∷◌, append-nil, arith, basis, refl, subst, sym}
+use Rattle.desk_types.proofs.Common.{[], ◌∷◌, append-nil, arith, basis, refl, sym}
 use Rattle.line_tables.proofs.Common.{HasCleanDisk, state}
 use Rattle.chain_files.{proofs.NextOfFirst.next-prefix, specs.First.TakesNext}
 use Rattle.line_replay.proofs.ReadOfCommitted.{reads_back}

@@ -1,11 +1,10 @@
-use Rattle.std.proofs.Common.{◌≡◌, ◌∙◌, ◌∷◌, ◌++◌, [], ℕ, List, ap, subst}
+use Rattle.std.proofs.Common.{◌≡◌, ◌∙◌, ◌∷◌, ◌++◌, [], ℕ, false, List, ap, subst}
 use Rattle.sqlite_disk.specs.declared.Disk as disk
 use Rattle.sqlite_disk.specs.declared.Files.{Files}
 use Rattle.sqlite_wal.specs.Recovery.{Image}
 use Rattle.desk_types.specs.History.{History}
-use Rattle.feeder_state.specs.declared.desk.StateDesk.{StateDesk}
 use Rattle.feeder_state.specs.State.{IsState}
-use Rattle.chain_files.specs.declared.looking.Looked.{Looked}
+use Rattle.chain_files.specs.declared.chain.Taken.{Taken}
 use Rattle.desk_laws.specs.Chain.{Carries}
 use Rattle.chain_check.specs.Difference.{IsDifference, Refutes}
 use Rattle.chain_check.specs.declared.question.Question.TheVariants.{Chain}
@@ -14,13 +13,13 @@ use Rattle.chain_files.specs.Files.{IsRefused, Takes, files_in}
 use Rattle.chain_files.proofs.two_files.compare_files.Goals as goal
 
 module _ {D : Type 0} (g : disk.Ghosts D) (image : ℕ → Image) (closed first after : List (Files D))
-    (one : Looked StateDesk) (none : closed ≡ []) (takes : Takes g (image 0) Chain closed first one) where
+    (one : Taken) (none : closed ≡ []) (takes : Takes g (image 0) Chain false closed first one) where
   first-alone : first ≡ takes.0 ∷ []
   first-alone = takes.1 ∙ ap (λ (fs : List (Files D)). fs ++ takes.0 ∷ []) none
 
-  both-found : (two : Looked StateDesk) (Relates : History → History → Type 0)
-      → Takes g (image 1) Chain first after two
-      → ((H H' : History) → IsState H one.whole → IsState H' two.whole → Relates H H')
+  both-found : (two : Taken) (Relates : History → History → Type 0)
+      → Takes g (image 1) Chain false first after two
+      → ((H H' : History) → IsState H one.looked.whole → IsState H' two.looked.whole → Relates H H')
       → (old : Files D) × (new : Files D) × (after ≡ old ∷ new ∷ []) × HoldBoth g image old new Relates
   both-found two Relates takes' says = (
     takes.0,

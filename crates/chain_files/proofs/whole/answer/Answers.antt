@@ -14,11 +14,11 @@ returns-in-Ok-clause-done g c zero =
           record {
             files = so_far.files;
             count = so_far.count ∙ sym (length-map c.args.paths.now string_bytes);
-            chain = are-chain recalled.0 so_far.files so_far.chained;
-            begins = so_far.begins;
+            chain = are-chain recalled.0.chain so_far.files so_far.chained;
             newest_first = so_far.newest_first;
             order = so_far.order;
             held = so_far.held;
+            linked = so_far.linked;
             answer = sent.2 (answer_over c.args.question.now (map string_bytes c.args.paths.now) so_far.files) so_far.written;
           },
     )

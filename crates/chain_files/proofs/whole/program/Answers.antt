@@ -5,12 +5,12 @@ pub returns-in-Recall-clause-stopped : goal.returns-in-Recall-clause-stopped
 returns-in-Recall-clause-stopped g c stopped =
     let is = c.answer.ensures.stopped stopped in
     let asked = c.in-Recall in
-    inl (is.0, (asked.question, asked.from_middle, map string_bytes asked.files.now, asked.ensures, is.1))
+    inl (is.0, (asked.question, asked.links, map string_bytes asked.files.now, asked.ensures, is.1))
 
 pub returns-in-Recall-clause-failed : goal.returns-in-Recall-clause-failed
 returns-in-Recall-clause-failed g c failed =
     let asked = c.in-Recall in
-    inl (asked.question, asked.from_middle, map string_bytes asked.files.now, asked.ensures)
+    inl (asked.question, asked.links, map string_bytes asked.files.now, asked.ensures)
 
 pub returns-in-Alike-clause-status : goal.returns-in-Alike-clause-status
 returns-in-Alike-clause-status g c =

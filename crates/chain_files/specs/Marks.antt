@@ -1,0 +1,64 @@
+-- From which file each desk of a chain was begun.
+use Rattle.std.specs.Prelude.{◌≡◌, ◌↔◌, ⊤, ℕ, Bool, true, false, IsTrue, List, [], ◌∷◌, Option, Some, None, take, string_bytes}
+use Rattle.std.specs.Option.{option_map}
+use Rattle.sqlite_disk.specs.declared.Disk as disk
+use Rattle.sqlite_disk.specs.declared.Files.{Files}
+use Rattle.sqlite_wal.specs.Files.{outcomes}
+use Rattle.sqlite_wal.specs.Reads.{AreClean}
+use Rattle.sqlite_wal.specs.Recovery.{Image}
+use Rattle.sqlite.specs.Files.{image_of}
+use Rattle.sha2.specs.Sha256.{sha256}
+use Rattle.hex.specs.Hex.{encode_lower}
+use Rattle.desk_laws.specs.Chain.{DeskFile}
+use Rattle.chain_files.specs.Begin.{IsMarkOf}
+use Rattle.chain_files.specs.declared.marks.Links.{Links}
+use Rattle.chain_files.specs.declared.marks.Wanted.{Wanted}
+use Rattle.chain_files.specs.declared.marks.Wanted.TheVariants.{Anything, Mark}
+
+-- ---- checksums
+
+-- The checksum of a file's bytes: the first 24 hex digits of their SHA-256.
+abbrev pub file_mark : List ℕ → List ℕ
+file_mark bytes = encode_lower (take 12 (sha256 bytes))
+
+-- A file was only read: it has the same bytes, and a crash leaves nothing else.
+pub record OnlyRead {D : Type 0} (g : disk.Ghosts D) (old new : D) : Type 0 where
+  pub seen : g.seen new ≡ g.seen old
+  pub leaves : (bytes : List ℕ) → g.may_leave new bytes → g.may_leave old bytes
+  pub clean : IsTrue (g.is_clean new) → IsTrue (g.is_clean old)
+
+-- So were a database and its log.
+pub record OnlyReadFiles {D : Type 0} (g : disk.Ghosts D) (old new : Files D) : Type 0 where
+  pub same : image_of g new ≡ image_of g old
+  pub leaves : (image : Image) → outcomes g new.log new.db image → outcomes g old.log old.db image
+  pub clean : AreClean g new.log new.db → AreClean g old.log old.db
+
+-- ---- links
+
+-- A first UniqueID that names this checksum, or none, is wanted.
+abbrev pub IsWanted : Wanted → Option (List ℕ) → Type 0
+IsWanted Anything mark = ⊤
+IsWanted (Mark wanted) mark = mark ≡ option_map string_bytes wanted
+
+-- The file after this one may name this checksum, or none. By marks it must be that of this file.
+abbrev pub IsNext : {D : Type 0} → Bool → disk.Ghosts D → Files D → Option (List ℕ) → Type 0
+IsNext by_marks g f mark = by_marks ≡ true → mark ≡ Some (file_mark (g.seen f.db))
+
+abbrev pub WantsNext : {D : Type 0} → Bool → disk.Ghosts D → Files D → Wanted → Type 0
+WantsNext by_marks g f wanted =
+    (mark : Option (List ℕ)) → IsWanted wanted mark ↔ IsNext by_marks g f mark
+
+-- The file after these, newest first, may name this checksum, or none. The first file was begun from no other, unless a chain
+-- may begin in the middle.
+abbrev pub IsLinked : {D : Type 0} → Links → disk.Ghosts D → List (Files D)
+    → Option (List ℕ) → Type 0
+IsLinked links g [] mark = links.from_middle ≡ false → mark ≡ None
+IsLinked links g (f ∷ closed) mark = IsNext links.by_marks g f mark
+
+-- Each file names what it may, by its first UniqueID.
+abbrev pub AreLinked : {D : Type 0} → Links → disk.Ghosts D → List (Files D) → List DeskFile
+    → Type 0
+AreLinked links g (f ∷ closed) (file ∷ older) =
+    ((mark : Option (List ℕ)) × IsMarkOf file.whole mark × IsLinked links g closed mark)
+    × AreLinked links g closed older
+AreLinked links g _ _ = ⊤

@@ -1,0 +1,52 @@
+//! Files in memory that a run of `tracedesk-chain` opens: their contents are known, and are those of the place.
+
+ghost use Rattle.std.specs.Prelude.{◌≡◌, IfOk, IsTrue};
+ghost use Rattle.sqlite_disk.specs.Memory.{memory_bytes, memory_is_usable};
+
+use chain_files::Opener;
+use line_schema::OpenFault;
+use sqlite::Files;
+use sqlite_disk::{Disk, Memory};
+use std::alloc::Global;
+
+/// The files of each place.
+#[derive(Drop)]
+pub struct KeptFiles {
+    pub files: Vec<Files<Memory>>,
+}
+
+impl Opener for KeptFiles {
+    ghost use Rattle.std.specs.Prelude.{get_or, map, []};
+    ghost use Rattle.sqlite.specs.Files.{image_of};
+
+    type File = Memory;
+
+    ghost image = { λ kept place. get_or (map (image_of ⟦<Memory as Disk>⟧) kept.files.items) place
+        (record { log = []; db = [] }) };
+
+    fn open(&self, rt: &HostRuntime, place: u64, _path: &str) -> Result<Files<Memory>, OpenFault> {
+        let Some(files) = self.files.get(place as usize) else {
+            return Err(OpenFault::NotADesk);
+        };
+        Ok(Files {
+            log: copy_of(rt.alloc(), &files.log)?,
+            db: copy_of(rt.alloc(), &files.db)?,
+        })
+    }
+}
+
+/// Returns another file with the same bytes.
+fn copy_of(alloc: Global, file: &Memory) -> Result<Memory, OpenFault>
+    ensures bytes { IfOk result (λ copy. memory_bytes copy ≡ memory_bytes file.now) }
+    ensures usable { IfOk result (λ copy. IsTrue (memory_is_usable copy)) }
+{
+    let mut copy = Memory::new(alloc);
+    let bytes = file.bytes();
+    if bytes.is_empty() {
+        return Ok(copy);
+    }
+    match copy.write_at(0, bytes) {
+        Ok(()) => Ok(copy),
+        Err(_) => Err(OpenFault::Unavailable),
+    }
+}
