@@ -11,11 +11,7 @@ CREATE TEMPORARY TABLE going (id integer, line text, name text, stays boolean); 
     INSERT INTO going SELECT id, line, name, true FROM file WHERE NOT dropped AND taken = '' AND last_minute * 60 < extract(epoch FROM :'before'::timestamp);
 \else
     INSERT INTO going SELECT id, line, name, false FROM file WHERE line = :'line' AND name = :'name';
-    WITH gone AS (DELETE FROM lacking WHERE line = :'line' AND name = :'name' RETURNING 1)
-    SELECT count(*) = 0 AND NOT EXISTS (SELECT FROM going) AS is_unknown FROM gone \gset
-    \if :is_unknown
-        DO $$ BEGIN RAISE EXCEPTION 'there is no such file, and none is missing: files.sql lists them'; END $$;
-    \endif
+    DELETE FROM lacking WHERE line = :'line' AND name = :'name';
     INSERT INTO lacking SELECT line, name, 'it was taken out', sha256 FROM file JOIN going USING (id, line, name)
     WHERE NOT dropped AND NOT EXISTS (SELECT FROM file other WHERE other.sha256 = file.sha256 AND other.id <> file.id AND NOT other.dropped);
 \endif

@@ -14,7 +14,7 @@ import re
 import sqlite3
 from typing import NamedTuple
 
-from tracedesk_ops import catalogue, copies, identity, stored
+from tracedesk_ops import catalogue, copies, identity, plant, stored
 
 FLOOR_LIFE = {"1": None, "2": 525_600, "2a": 40_320, "3": 10_080, "4": 4_320, "5": 2_880, "5a": 1_440}
 GREATEST_FLOOR_LIFE = 525_600  # in minutes, a label's too
@@ -94,7 +94,7 @@ class Archive:
         self.spent = {reel for (reel,) in rows("SELECT reel FROM reel WHERE remaining = 0")}
         self.tapes: dict = {}
         for machine, slot, reel in rows("SELECT machine, slot, reel FROM mount ORDER BY machine, slot, since"):
-            self.tapes.setdefault((machine, slot), []).append(self.reels[reel])
+            self.tapes.setdefault((machine, slot), []).append(self.reels.get(reel))
         self.in_work = rows("SELECT machine, board FROM board WHERE machine <> '' ORDER BY machine")
         self.identity = identity.read(database)
         self.known = known(database, self.identity)
@@ -122,6 +122,14 @@ def known(database, desk):
             WHERE NOT (number <= ?1 AND source = ?2 AND uid LIKE ?3) AND uid NOT IN (?4, ?5))
         SELECT number, uid, source, own FROM (SELECT *, row_number() OVER (PARTITION BY source ORDER BY turn DESC) AS place FROM those)
         WHERE place <= ?6 ORDER BY turn DESC""", [desk.begun, source, numbered, desk.name, identity.BEGUN, KNOWN]).fetchall()
+
+
+def judged(path, program):
+    """What the tables of a desk's file say, once an audit has found its copy lawful: else a changed bit would go to another desk."""
+    with copies.copied(path) as copy_of_it:
+        archive = Archive(copy_of_it, copies.database)
+        plant.Program(program, copy_of_it).audit(copy_of_it)
+        return archive
 
 
 class Messages:

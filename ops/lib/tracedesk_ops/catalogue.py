@@ -353,13 +353,14 @@ def changed(path):
 
 def write(path, archives):
     """Puts a catalogue of these archives in the place of the one that is there."""
-    put(path, text_of(path, archives))
+    text = csv_text([HEADER, *map(row_of, archives)])
+    whole(survey_text(path, text.encode()))
+    put(path, text)
 
 
-def text_of(path, archives):
+def csv_text(table):
     text = io.StringIO()
-    csv.writer(text, lineterminator="\n").writerows([HEADER, *map(row_of, archives)])
-    whole(survey_text(path, text.getvalue().encode()))
+    csv.writer(text, lineterminator="\n").writerows(table)
     return text.getvalue()
 
 

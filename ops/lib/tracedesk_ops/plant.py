@@ -86,10 +86,11 @@ def offer_program(reader):
 
 
 def find_program(reader, asked):
-    """Makes the program's name a path; the tool ends where there is none."""
+    """Makes the program's name a path, in the words that it returns; the tool ends where there is none."""
     asked.program = shutil.which(asked.program)
     if asked.program is None:
         reader.error("there is no program: name it by --program, or PROGRAM in the environment")
+    return asked
 
 
 def chain_of(program):
@@ -110,10 +111,8 @@ def set_ups():
             raise Fault(f"{file} can't be read: {fault}") from fault
         its = {name.strip(): value.strip() for name, _, value in rows}
         names = [name.strip() for name, _, _ in rows]
-        if wrong := [name for name in its if name not in WORDS or not its[name] or names.count(name) > 1]:
-            raise Fault(f"{file}: {', '.join(wrong)} is none of {', '.join(WORDS)}, has no value, or is there twice")
-        if wrong := [name for name in ("db", "archive", "copies") if not its.get(name, "/").startswith("/")]:
-            raise Fault(f"{file}: {', '.join(wrong)} is no whole path, which begins with /")
+        if wrong := [name for name in its if name not in WORDS or not its[name] or names.count(name) > 1 or name in WORDS[1:4] and its[name][0] != "/"]:
+            raise Fault(f"{file}: {', '.join(wrong)} is none of {', '.join(WORDS)}, has no value, is there twice, or is no whole path, which begins with /")
         if "line" not in its:
             raise Fault(f"{file} names no line: write line = LINE into it, or take it away")
         its = {"db": str(DESK), "port": str(PORT), "copies": str(COPIES), **its}
