@@ -56,7 +56,7 @@ class Whose:
         self.desk = identity.of_running(db)
         self.name = self.desk.name if self.desk else ""
         chain = identity.chain(path, catalogue.survey(path).archives, self.desk.mark)[0] if self.desk else []
-        self.firsts = {command(file, 1) for file in (db, *(catalogue.path_of(path, it) for it in chain))} - {None}
+        self.firsts = firsts_of(db, path, chain)
 
     def has(self, copy, told):
         """Whether a copy is of this desk."""
@@ -68,15 +68,14 @@ class Whose:
         """The copies of a desk whose file is lost: those of a file of this path and host, if they are of one desk; a Fault if they are of several, or there are others only."""
         here = [(it, told) for it, told in copies if told["desk"] in ("", os.path.realpath(self.db)) and told["host"] in ("", socket.gethostname())]
         names, unnamed = {told["name"] for _, told in here} - {""}, {command(it / "desk", 1) for it, told in here if not told["name"]}
-        if copies and not here or len(names) > 1 or (not names and len(unnamed) > 1) or names and unnamed - {first for it, told in here if told["name"] for first in firsts_of(it)}:
+        if copies and not here or len(names) > 1 or (not names and len(unnamed) > 1) or names and unnamed - {first for it, told in here if told["name"] for first in firsts_of(it / "desk", it / INDEX, catalogue.survey(it / INDEX).archives)}:
             whose = sorted({f"{it.name} ({told['line'] or 'no line'}, {told['host'] or 'no host'}, {told['desk']})" for it, told in copies})
             raise plant.Fault(f"{self.db} can't be read, so nothing says which desk it was, and the copies are of several, or of another path or host. Name one: {', '.join(whose)}")
-        return [it for it, _ in here]
+        return here
 
 
-def firsts_of(copy):
-    path = copy / ARCHIVE / catalogue.FILE_NAME
-    return {command(it, 1) for it in (copy / "desk", *(catalogue.path_of(path, it) for it in catalogue.survey(path).archives))} - {None}
+def firsts_of(desk, path, archives):
+    return {command(it, 1) for it in (desk, *(catalogue.path_of(path, it) for it in archives))} - {None}
 
 
 def survey(to, whose=None):
@@ -89,11 +88,8 @@ def survey(to, whose=None):
             its = identity.of_running(it / "desk")  # what is left may say that it is another desk's
             if it.exists() and not (whose and whose.name and its and its.name and its.name != whose.name):
                 faults.append(str(fault))
-    if whose and not whose.desk:
-        those = set(whose.guessed(there))
-        there = [it for it in there if it[0] in those]
-    elif whose:
-        there = [it for it in there if whose.has(*it)]
+    if whose:
+        there = [it for it in there if whose.has(*it)] if whose.desk else whose.guessed(there)
     return [it for it, _ in sorted(there, key=lambda it: (it[1]["number"], it[0].name))], faults
 
 
@@ -138,11 +134,10 @@ def compare_sums(copy):
 
 def is_whole(path, archive):
     """Whether an archive of the catalogue in that file is there, as the file of its checksum."""
-    try:
+    with contextlib.suppress(catalogue.CatalogueError):
         catalogue.check(path, archive)
         return True
-    except catalogue.CatalogueError:
-        return False
+    return False
 
 
 def note_of(to, db):
