@@ -111,9 +111,9 @@ def kept_by_path(to, db):
 
 
 def held_by(copy, whole=()):
-    """The archives that a copy has, by their checksums; those of `whole` only if the file is there, and has it."""
+    """The files of the archives that a copy has, by their checksums; those of `whole` only if the file is there, and has it."""
     missing, path = about(copy)["missing"], copy / INDEX
-    return {it.sha256 for it in catalogue.survey(path).archives if it.file not in missing and (it.sha256 not in whole or is_whole(path, it))}
+    return {it.sha256: catalogue.path_of(path, it) for it in catalogue.survey(path).archives if it.file not in missing and (it.sha256 not in whole or is_whole(path, it))}
 
 
 def taken(copy):

@@ -222,7 +222,7 @@ def lying_around(path, archives, around):
             yield f"{file}: it lies beside {path.name}, which has no line of it: if it is an archive, call tracedesk-settle --catalogue, else move it elsewhere"
     for room in sorted(it for folder in around for it in folder.iterdir() if it.match(PLANS.partition("/")[0])):
         if (plan := room / PLANS.partition("/")[2]).exists():
-            yield f"{plan}: a roll-over is on its way or was cut off, so commands may be in two files: ask again later, or call tracedesk-rollover"
+            yield f"{plan}: a roll-over is on its way or was cut off, so commands may be in two files: ask again later, or call tracedesk-rollover; a folder that stays, move out of {around}"
     for entry in sorted(path.parent.glob(ENTRIES)):
         if lacks(entry):
             yield f"{entry}: a copy was restored that lacks what the desk had accepted: once its senders have sent that again, delete this entry"

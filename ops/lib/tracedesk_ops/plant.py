@@ -191,7 +191,7 @@ def ends_by_exception():
 
     def end(number, _):
         for it in numbers:
-            signal.signal(it, signal.SIG_IGN)
+            signal.signal(it, lambda *_: None)  # what is ignored, the service that is started would ignore too
         raise Fault(f"it was stopped by {signal.Signals(number).name}")
     for number in numbers:
         signal.signal(number, end)

@@ -114,7 +114,8 @@ class Rolling:
         if self.plan.exists():
             archive = self.read_plan()
             for it in catalogue.read(self.catalogue):
-                if self.is_filed(self.archives / it.file) or archive and (it.file, it.sha256) == (archive.file, archive.sha256):
+                file = self.archives / it.file
+                if self.is_filed(file) or not file.exists() and archive and (it.file, it.sha256) == (archive.file, archive.sha256):
                     catalogue.take_out(self.catalogue, it)
             for it in filter(self.is_filed, list(self.archives.iterdir()) if self.archives.exists() else []):
                 it.unlink()

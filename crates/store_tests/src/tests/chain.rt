@@ -66,7 +66,7 @@ const RUNS: [(bool, &str, u8, &str, &str); 6] = [
         "lot L1 --from-middle b a",
         1,
         "",
-        "tracedesk-chain: a: differs\n",
+        "tracedesk-chain: a: differs reel K1 remaining 98 100\n",
     ),
     (
         false,

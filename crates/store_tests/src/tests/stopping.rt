@@ -24,6 +24,7 @@ pub fn files(alloc: Global, log: u64, db: u64) -> Files<Fuse<Memory>>
 
 /// What came of commands that were sent over a connection: the version of the tables and their number of commands
 /// before, if there were tables; the answers; and whether a migration was reported.
+#[derive(Drop)]
 pub struct Session {
     version: Option<i64>,
     began: Option<u32>,
