@@ -137,7 +137,7 @@ def said_of(run, words, files, about):
 def can_be_opened(run, file):
     with contextlib.suppress(OSError), open(file, "r+b") as it:
         about = os.fstat(it.fileno())
-        return str(file).isprintable() and about.st_nlink == 1 and (not run.how or about.st_uid == run.uid) and os.access(file.parent, os.W_OK) and not copies.is_locked(it)
+        return str(file).isprintable() and about.st_nlink == 1 and about.st_uid == (run.uid if run.how else os.geteuid()) and os.access(file.parent, os.W_OK) and not copies.is_locked(it)
     return False
 
 

@@ -334,14 +334,13 @@ def without_log(file):
 
 
 class Program:
-    """The program, run as the owner of the desk's file, so that nothing beside that file is root's. A run ends with the tool,
+    """The program, run as the owner of the desk's file where root calls, so that nothing beside that file is root's. A run ends with the tool,
     also where that is killed: else it would have a file open that the next call of the tool wants."""
 
     def __init__(self, program, db):
         self.program, owner = program, (db if db.exists() else db.parent).stat()
         self.uid, self.gid = owner.st_uid, owner.st_gid
-        own = os.geteuid() == self.uid or os.geteuid() != os.getuid()  # the second within `as_owner`
-        self.how = {} if own else {"user": self.uid, "group": self.gid, "extra_groups": []}
+        self.how = {} if os.geteuid() or not self.uid else {"user": self.uid, "group": self.gid, "extra_groups": []}
         self.parent = os.getpid()
 
     def give(self, path):
