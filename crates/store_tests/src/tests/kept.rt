@@ -1,6 +1,6 @@
 //! Files in memory that a run of `tracedesk-chain` opens: their contents are known, and are those of the place.
 
-ghost use Rattle.std.specs.Prelude.{◌≡◌, IfOk, IsTrue};
+ghost use Rattle.std.specs.Prelude.{◌≡◌, IfSome, IsTrue};
 ghost use Rattle.sqlite_disk.specs.Memory.{memory_bytes, memory_is_usable};
 
 use chain_files::Opener;
@@ -28,25 +28,28 @@ impl Opener for KeptFiles {
         let Some(files) = self.files.get(place as usize) else {
             return Err(OpenFault::NotADesk);
         };
-        Ok(Files {
-            log: copy_of(rt.alloc(), &files.log)?,
-            db: copy_of(rt.alloc(), &files.db)?,
-        })
+        let Some(log) = copy_of(rt.alloc(), &files.log) else {
+            return Err(OpenFault::Unavailable);
+        };
+        let Some(db) = copy_of(rt.alloc(), &files.db) else {
+            return Err(OpenFault::Unavailable);
+        };
+        Ok(Files { log, db })
     }
 }
 
-/// Returns another file with the same bytes.
-fn copy_of(alloc: Global, file: &Memory) -> Result<Memory, OpenFault>
-    ensures bytes { IfOk result (λ copy. memory_bytes copy ≡ memory_bytes file.now) }
-    ensures usable { IfOk result (λ copy. IsTrue (memory_is_usable copy)) }
+/// Returns another file with the same bytes, or `None` if memory is refused.
+fn copy_of(alloc: Global, file: &Memory) -> Option<Memory>
+    ensures bytes { IfSome result (λ copy. memory_bytes copy ≡ memory_bytes file.now) }
+    ensures usable { IfSome result (λ copy. IsTrue (memory_is_usable copy)) }
 {
     let mut copy = Memory::new(alloc);
     let bytes = file.bytes();
     if bytes.is_empty() {
-        return Ok(copy);
+        return Some(copy);
     }
     match copy.write_at(0, bytes) {
-        Ok(()) => Ok(copy),
-        Err(_) => Err(OpenFault::Unavailable),
+        Ok(()) => Some(copy),
+        Err(_) => None,
     }
 }
