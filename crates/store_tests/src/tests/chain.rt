@@ -6,7 +6,7 @@ use chain_files::program;
 use desk_types::Wire;
 use sqlite::Files;
 use sqlite_disk::Memory;
-use std::alloc::Global;
+use std::alloc::{AllocError, Global};
 use std::process::Abort;
 use std::test::Fail;
 
@@ -87,28 +87,49 @@ fn desk_of(rt: &impl Abort, alloc: Global, row: &str) -> Files<Memory> {
     files
 }
 
+/// What a run of the program left.
+#[derive(Drop)]
+struct Left {
+    status: u8,
+    output: Vec<u8>,
+    errors: Vec<u8>,
+}
+
+/// Runs the program over these files with these arguments.
+fn run(rt: &HostRuntime, kept: &KeptFiles, words: &str) -> Result<Left, AllocError> {
+    let mut arguments = Vec::new(rt.alloc());
+    for word in words.split(' ') {
+        arguments.push(String::from_str(rt.alloc(), word)?)?;
+    }
+    let mut output = Wire::new(Vec::new(rt.alloc()));
+    let mut errors = Wire::new(Vec::new(rt.alloc()));
+    let (status, _closed) = program(rt, kept, arguments.as_slice(), &mut output, &mut errors);
+    Ok(Left {
+        status,
+        output: output.into_inner(),
+        errors: errors.into_inner(),
+    })
+}
+
+/// The files of both desks, the old one first unless they are turned round.
+fn both_desks(rt: &impl Abort, alloc: Global, is_turned: bool) -> Result<KeptFiles, AllocError> {
+    let (first, second) = if is_turned { (NEW, OLD) } else { (OLD, NEW) };
+    let mut files = Vec::new(alloc);
+    files.push(desk_of(rt, alloc, first))?;
+    files.push(desk_of(rt, alloc, second))?;
+    Ok(KeptFiles { files })
+}
+
 /// The program answers over files that an `Opener` knows, so its theorem is of files with different contents.
 #[test]
 fn a_chain_in_memory(rt: HostRuntime) -> Result<(), Fail> {
     for (is_turned, words, status, output, error) in RUNS {
-        let mut files = Vec::new(rt.alloc());
-        files.push(desk_of(&rt, rt.alloc(), if is_turned { NEW } else { OLD }))?;
-        files.push(desk_of(&rt, rt.alloc(), if is_turned { OLD } else { NEW }))?;
-        let mut arguments = Vec::new(rt.alloc());
-        for word in words.split(' ') {
-            arguments.push(String::from_str(rt.alloc(), word)?)?;
-        }
-        let mut told = Wire::new(Vec::new(rt.alloc()));
-        let mut errors = Wire::new(Vec::new(rt.alloc()));
-        let kept = KeptFiles { files };
-        let (ended, _closed) = program(&rt, &kept, arguments.as_slice(), &mut told, &mut errors);
-        assert_eq!(rt; ended, status, "{words}");
+        let kept = both_desks(&rt, rt.alloc(), is_turned)?;
+        let left = run(&rt, &kept, words)?;
+        assert_eq!(rt; left.status, status, "{words}");
+        assert!(rt; left.output.as_slice() == output.as_bytes(), "{words}");
         assert!(rt;
-            told.into_inner().as_slice() == output.as_bytes(),
-            "{words}"
-        );
-        assert!(rt;
-            errors.into_inner().as_slice().ends_with(error.as_bytes()),
+            left.errors.as_slice().ends_with(error.as_bytes()),
             "{words}"
         );
     }
