@@ -19,13 +19,29 @@ import pathlib
 import sys
 
 HERE = pathlib.Path(__file__).resolve().parent
-sys.path[1:1] = [str(HERE.parent / "clients/python"), "/usr/bin/tracedesk-send"]  # the package lies in the repository, or in that file
-from tracedesk import Desk, NotTaken, Sender, Spool, SpoolError, WorkStarted, is_taken, why  # noqa: E402
+sys.path[1:1] = [
+    str(HERE.parent / "clients/python"),
+    "/usr/bin/tracedesk-send",
+]  # the package lies in the repository, or in that file
+from tracedesk import (
+    Desk,
+    NotTaken,
+    Sender,
+    Spool,
+    SpoolError,
+    WorkStarted,
+    is_taken,
+    why,
+)  # noqa: E402
 from tracedesk.console import ended, tell  # noqa: E402
 
 
 def main():
-    reader = argparse.ArgumentParser(description=__doc__, formatter_class=argparse.RawDescriptionHelpFormatter, usage=argparse.SUPPRESS)
+    reader = argparse.ArgumentParser(
+        description=__doc__,
+        formatter_class=argparse.RawDescriptionHelpFormatter,
+        usage=argparse.SUPPRESS,
+    )
     reader.add_argument("--url", default="http://127.0.0.1:8080")
     reader.add_argument("--spool", metavar="FOLDER")
     reader.add_argument("machine", metavar="MACHINE")
@@ -47,4 +63,6 @@ def main():
 
 
 if __name__ == "__main__":
-    sys.exit(ended(main, {NotTaken: 2, SpoolError: 2, ValueError: 2, OSError: 2}))  # OutOfRange is a ValueError
+    sys.exit(
+        ended(main, {NotTaken: 2, SpoolError: 2, ValueError: 2, OSError: 2})
+    )  # OutOfRange is a ValueError

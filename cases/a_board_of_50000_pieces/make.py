@@ -13,7 +13,9 @@ rows = [{"Slot": str(n), "PartNumber": "P", "Designators": names[n]} for n in sl
 
 
 def received(n):
-    asked = message(f"r{n}", "ReelReceived", Reel=f"K{n}", PartNumber="P", Lot="L1", Level="5a", Quantity=5_000)
+    asked = message(
+        f"r{n}", "ReelReceived", Reel=f"K{n}", PartNumber="P", Lot="L1", Level="5a", Quantity=5_000
+    )
     return asked, accepted(3 + n, f"r{n}")
 
 
@@ -23,7 +25,9 @@ def loaded(n):
 
 
 def installed(n):
-    asked = message(f"i{n}", "MaterialsInstalled", 1_440, Machine="M", Board="B1", Designators=names[n])
+    asked = message(
+        f"i{n}", "MaterialsInstalled", 1_440, Machine="M", Board="B1", Designators=names[n]
+    )
     return asked, accepted(24 + n, f"i{n}", Reels=[f"K{n}"] * 5_000)
 
 
@@ -31,15 +35,17 @@ def csv(name, header, rows):
     pathlib.Path(name).write_text("".join(f"{line}\n" for line in [header, *rows]))
 
 
-write([
-    (message("u1", "PartDefined", PartNumber="P"), accepted(1, "u1")),
-    (message("u2", "SheetDefined", Product="PR", Machine="M", Rows=rows), accepted(2, "u2")),
-    (message("u3", "ProductSelected", Machine="M", Product="PR"), accepted(3, "u3")),
-    *map(received, slots),
-    *map(loaded, slots),
-    (message("u4", "WorkStarted", 1_439, Machine="M", Board="B1"), accepted(24, "u4")),
-    *map(installed, slots),
-])
+write(
+    [
+        (message("u1", "PartDefined", PartNumber="P"), accepted(1, "u1")),
+        (message("u2", "SheetDefined", Product="PR", Machine="M", Rows=rows), accepted(2, "u2")),
+        (message("u3", "ProductSelected", Machine="M", Product="PR"), accepted(3, "u3")),
+        *map(received, slots),
+        *map(loaded, slots),
+        (message("u4", "WorkStarted", 1_439, Machine="M", Board="B1"), accepted(24, "u4")),
+        *map(installed, slots),
+    ]
+)
 pieces = [(n, name) for n in slots for name in names[n]]
 by_name = sorted((name.encode(), n) for n, name in pieces)  # byte by byte
 header = "designator,part,lot,reel,machine,slot,overdue"

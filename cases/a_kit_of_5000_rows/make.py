@@ -14,7 +14,15 @@ reels = [(f"K{n:03}", "P", 1) for n in range(1, 101)] + [("Q1", "Q", 3_000)]
 
 
 def received(number, reel, part, quantity):
-    asked = message(f"u{number}", "ReelReceived", Reel=reel, PartNumber=part, Lot="L1", Level="1", Quantity=quantity)
+    asked = message(
+        f"u{number}",
+        "ReelReceived",
+        Reel=reel,
+        PartNumber=part,
+        Lot="L1",
+        Level="1",
+        Quantity=quantity,
+    )
     return asked, accepted(number, f"u{number}")
 
 
@@ -26,11 +34,13 @@ def kit_rows(n):
     return [f"{n},{parts[n]},2,,2,short"]
 
 
-write([
-    (message("u1", "PartDefined", PartNumber="P"), accepted(1, "u1")),
-    (message("u2", "PartDefined", PartNumber="Q"), accepted(2, "u2")),
-    (message("u3", "SheetDefined", Product="PR", Machine="M", Rows=rows), accepted(3, "u3")),
-    *(received(number, *reel) for number, reel in enumerate(reels, 4)),
-])
+write(
+    [
+        (message("u1", "PartDefined", PartNumber="P"), accepted(1, "u1")),
+        (message("u2", "PartDefined", PartNumber="Q"), accepted(2, "u2")),
+        (message("u3", "SheetDefined", Product="PR", Machine="M", Rows=rows), accepted(3, "u3")),
+        *(received(number, *reel) for number, reel in enumerate(reels, 4)),
+    ]
+)
 lines = ["slot,part,needed,reel,pieces,minutes_left", *(row for n in slots for row in kit_rows(n))]
 pathlib.Path("kit.csv").write_text("".join(f"{line}\n" for line in lines))

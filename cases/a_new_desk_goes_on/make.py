@@ -9,7 +9,10 @@ import pathlib
 
 from spelling import accepted, answer, message, refused, stamp, text
 
-SHEET = [{"Slot": "1", "PartNumber": "P", "Designators": ["R1"]}, {"Slot": "2", "PartNumber": "P", "Designators": ["R2"]}]
+SHEET = [
+    {"Slot": "1", "PartNumber": "P", "Designators": ["R1"]},
+    {"Slot": "2", "PartNumber": "P", "Designators": ["R2"]},
+]
 SETUP = [
     ("PartDefined", {"PartNumber": "P"}),
     ("PartDefined", {"PartNumber": "Q"}),
@@ -20,7 +23,17 @@ SETUP = [
 
 
 def receipt(reel, part, lot, level, quantity, **label):
-    return ("ReelReceived", {"Reel": reel, "PartNumber": part, "Lot": lot, "Level": level, "Quantity": quantity, **label})
+    return (
+        "ReelReceived",
+        {
+            "Reel": reel,
+            "PartNumber": part,
+            "Lot": lot,
+            "Level": level,
+            "Quantity": quantity,
+            **label,
+        },
+    )
 
 
 def mount(word, slot, reel):
@@ -67,9 +80,16 @@ NEW = [(400, *it, {}) for it in SETUP] + [
     (1700, "ReelOpened", {"Reel": "K5"}, {}),
     (1940, "ReelOpened", {"Reel": "K3"}, {}),
     (2000, "ReelSealed", {"Reel": "K5"}, {}),
-    (2000, "ClockSet", {}, {}),  # desk-begun, by which the desk says that it was begun from another; else u20 would have number 20 in both
+    (
+        2000,
+        "ClockSet",
+        {},
+        {},
+    ),  # desk-begun, by which the desk says that it was begun from another; else u20 would have number 20 in both
 ]
-KNOWN = [(f"u{n}", minute) for n, (minute, *_) in reversed(list(enumerate(OLD, 1)))]  # the old one's UniqueIDs, the newest first
+KNOWN = [
+    (f"u{n}", minute) for n, (minute, *_) in reversed(list(enumerate(OLD, 1)))
+]  # the old one's UniqueIDs, the newest first
 ALL = len(NEW) + len(KNOWN) + 1  # the last command is a ClockSet of its own
 
 
@@ -80,7 +100,11 @@ def own(number):
 
 def begun(uid, minute, word, body, source="begin"):
     """A message of ops/begin."""
-    envelope = {"MessageName": "TraceDesk." + word, "UniqueID": uid, "Source": "tracedesk" if uid == "desk-begun" else source}
+    envelope = {
+        "MessageName": "TraceDesk." + word,
+        "UniqueID": uid,
+        "Source": "tracedesk" if uid == "desk-begun" else source,
+    }
     return text({**envelope, "TimeStamp": stamp(minute).removesuffix("Z"), "MessageBody": body})
 
 
@@ -90,15 +114,29 @@ def lines(name, them):
 
 def later(first):
     """What both desks are told afterwards, of which the second is one number behind the first, and their answers."""
-    yield message("v1", "MaterialsLoaded", 2000, Machine="M", Slot="2", Reel="K3"), refused("v1", "Expired", "K3")
+    yield message("v1", "MaterialsLoaded", 2000, Machine="M", Slot="2", Reel="K3"), refused(
+        "v1", "Expired", "K3"
+    )
     yield message("v2", "WorkStarted", 2000, Machine="M", Board="B2"), refused("v2", "Expired", "1")
-    yield message("v3", "MaterialsLoaded", 2010, Machine="M", Slot="2", Reel="K5"), accepted(first, "v3", MinutesLeft=4020)
-    yield message("v4", "MaterialsScrapped", 2010, Machine="M", Slot="1", Quantity=9), accepted(first + 1, "v4", Taken=9)
-    yield message("v5", "WorkStarted", 10479, Machine="M", Board="B2"), refused("v5", "Expired", "2")
+    yield message("v3", "MaterialsLoaded", 2010, Machine="M", Slot="2", Reel="K5"), accepted(
+        first, "v3", MinutesLeft=4020
+    )
+    yield message("v4", "MaterialsScrapped", 2010, Machine="M", Slot="1", Quantity=9), accepted(
+        first + 1, "v4", Taken=9
+    )
+    yield message("v5", "WorkStarted", 10479, Machine="M", Board="B2"), refused(
+        "v5", "Expired", "2"
+    )
     yield message("v6", "MaterialsUnloaded", 6000, Machine="M", Slot="1"), accepted(first + 2, "v6")
-    yield message("v7", "MaterialsLoaded", 10479, Machine="M", Slot="1", Reel="K2"), accepted(first + 3, "v7", MinutesLeft=1)
-    yield message("v8", "MaterialsUnloaded", 10480, Machine="M", Slot="1"), accepted(first + 4, "v8")
-    yield message("v9", "MaterialsLoaded", 10480, Machine="M", Slot="1", Reel="K2"), refused("v9", "Expired", "K2")
+    yield message("v7", "MaterialsLoaded", 10479, Machine="M", Slot="1", Reel="K2"), accepted(
+        first + 3, "v7", MinutesLeft=1
+    )
+    yield message("v8", "MaterialsUnloaded", 10480, Machine="M", Slot="1"), accepted(
+        first + 4, "v8"
+    )
+    yield message("v9", "MaterialsLoaded", 10480, Machine="M", Slot="1", Reel="K2"), refused(
+        "v9", "Expired", "K2"
+    )
 
 
 def again():
@@ -106,25 +144,47 @@ def again():
     for place, (uid, minute) in enumerate(KNOWN, len(NEW) + 1):
         _, word, body, _ = OLD[int(uid[1:]) - 1]
         if word != "ClockSet":
-            yield message(uid, word, minute, **body), answer(Answer="Refused", Number=place, Refusal="IdReused", UniqueID=uid)
+            yield message(uid, word, minute, **body), answer(
+                Answer="Refused", Number=place, Refusal="IdReused", UniqueID=uid
+            )
         yield message(uid, "ClockSet", minute), accepted(place, uid)
 
 
-lines("messages.jsonl", [message(f"u{n}", word, minute, **body) for n, (minute, word, body, _) in enumerate(OLD, 1)])
+lines(
+    "messages.jsonl",
+    [message(f"u{n}", word, minute, **body) for n, (minute, word, body, _) in enumerate(OLD, 1)],
+)
 lines("answers.jsonl", [accepted(n, f"u{n}", **detail) for n, (*_, detail) in enumerate(OLD, 1)])
-lines("begin.jsonl", [
-    *(begun(own(n), minute, word, body) for n, (minute, word, body, _) in enumerate(NEW, 1)),
-    *(begun(uid, minute, "ClockSet", {}, "S") for uid, minute in KNOWN), begun(own(ALL), 2000, "ClockSet", {})])
-lines("begun.jsonl", [
-    *(accepted(n, own(n), **detail) for n, (*_, detail) in enumerate(NEW, 1)),
-    *(accepted(n, uid) for n, (uid, _) in enumerate(KNOWN, len(NEW) + 1)), accepted(ALL, own(ALL))])
+lines(
+    "begin.jsonl",
+    [
+        *(begun(own(n), minute, word, body) for n, (minute, word, body, _) in enumerate(NEW, 1)),
+        *(begun(uid, minute, "ClockSet", {}, "S") for uid, minute in KNOWN),
+        begun(own(ALL), 2000, "ClockSet", {}),
+    ],
+)
+lines(
+    "begun.jsonl",
+    [
+        *(accepted(n, own(n), **detail) for n, (*_, detail) in enumerate(NEW, 1)),
+        *(accepted(n, uid) for n, (uid, _) in enumerate(KNOWN, len(NEW) + 1)),
+        accepted(ALL, own(ALL)),
+    ],
+)
 lines("again.jsonl", [asked for asked, _ in again()])
 lines("again_new.jsonl", [told for _, told in again()])
 lines("later.jsonl", [asked for asked, _ in later(1)])
 lines("later_old.jsonl", [told for _, told in later(len(OLD) + 1)])
 lines("later_new.jsonl", [told for _, told in later(ALL + 1)])
 # of both desks: K3 is expired, so of the free reels K5 alone is for the kit, with more than the 5 pieces of slot 1
-lines("slots.csv", ["slot,position,reel,part,lot,remaining,minutes_left", "1,1,K1,P,L1,9,0", "1,2,K2,P,L1,30,8480"])
+lines(
+    "slots.csv",
+    [
+        "slot,position,reel,part,lot,remaining,minutes_left",
+        "1,1,K1,P,L1,9,0",
+        "1,2,K2,P,L1,30,8480",
+    ],
+)
 lines("kit.csv", ["slot,part,needed,reel,pieces,minutes_left", "1,P,5,K5,7,4020", "2,P,5,,5,short"])
 CARD = "reel,part,lot,level,received,placed,scrapped,remaining,minutes_left,state"
 lines("K3.csv", [CARD, "K3,P,L2,6,5,0,0,5,0,open"])

@@ -27,20 +27,38 @@ first = http.client.HTTPConnection("127.0.0.1", PORT, timeout=20)
 first.sock = link()
 first.request("GET", "/trace/lot?lot=L-77&detail=1", headers={"ACCEPT": "text/csv"})
 told(first)
-message = {"MessageName": "TraceDesk.PartDefined", "UniqueID": "h-01", "Source": "host", "TimeStamp": "2026-03-02T06:30:00Z", "MessageBody": {"PartNumber": "RES-10K"}}
-first.request("POST", "/messages", body=json.dumps(message).encode(), headers={"cOnTeNt-TyPe": "application/json"})
+message = {
+    "MessageName": "TraceDesk.PartDefined",
+    "UniqueID": "h-01",
+    "Source": "host",
+    "TimeStamp": "2026-03-02T06:30:00Z",
+    "MessageBody": {"PartNumber": "RES-10K"},
+}
+first.request(
+    "POST",
+    "/messages",
+    body=json.dumps(message).encode(),
+    headers={"cOnTeNt-TyPe": "application/json"},
+)
 told(first)
 first.request("GET", "/trace/board?board=SN-119&detail=1")
 told(first)
 first.close()
 
 with link() as second:  # three in one piece, and then half of one
-    second.sendall(b"GET /trace/board?board=SN-117&detail=1 HTTP/1.1\r\n\r\nGET /trace/board?board=SN-118&detail=1 HTTP/1.1\r\n\r\nGET /overdue HTTP/1.1\r\n\r\nGET /over")
+    second.sendall(
+        b"GET /trace/board?board=SN-117&detail=1 HTTP/1.1\r\n\r\nGET /trace/board?board=SN-118&detail=1 HTTP/1.1\r\n\r\nGET /overdue HTTP/1.1\r\n\r\nGET /over"
+    )
     second.shutdown(socket.SHUT_WR)
     got = b""
     while data := second.recv(65536):
         got += data
-print(got.count(b"HTTP/1.1 200 OK\r\n"), "answers,", got.count(b"\r\n\r\npart\nCAP-100N\n"), "with a part")
+print(
+    got.count(b"HTTP/1.1 200 OK\r\n"),
+    "answers,",
+    got.count(b"\r\n\r\npart\nCAP-100N\n"),
+    "with a part",
+)
 
 third = http.client.HTTPConnection("127.0.0.1", PORT, timeout=20)
 third.sock = link()

@@ -34,7 +34,9 @@ while not got.endswith(b"board,designator,reel,minute\n"):
 
 second = link()
 second.sendall(POST)
-second.setsockopt(socket.SOL_SOCKET, socket.SO_LINGER, struct.pack("ii", 1, 0))  # closing it resets it
+second.setsockopt(
+    socket.SOL_SOCKET, socket.SO_LINGER, struct.pack("ii", 1, 0)
+)  # closing it resets it
 second.close()
 first.close()
 

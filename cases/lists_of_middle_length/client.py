@@ -24,5 +24,7 @@ def lines(target):
 desk = http.client.HTTPConnection("127.0.0.1", PORT, timeout=100)
 desk.sock = link()
 for n in sorted(int(board[1:]) for board in BOARDS):
-    print(f"{n}: {lines(f'/trace/board?board=B{n}&detail=4')} {lines(f'/kit?product=PR{n}&machine=M&boards=1')}")
+    print(
+        f"{n}: {lines(f'/trace/board?board=B{n}&detail=4')} {lines(f'/kit?product=PR{n}&machine=M&boards=1')}"
+    )
 desk.close()

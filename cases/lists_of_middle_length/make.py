@@ -14,19 +14,43 @@ def accept(word, body, **detail):
 
 
 accept("PartDefined", {"PartNumber": "P"})
-accept("SheetDefined", {"Product": "PR", "Machine": "M", "Rows": [{"Slot": "1", "PartNumber": "P", "Designators": NAMES}]})
+accept(
+    "SheetDefined",
+    {
+        "Product": "PR",
+        "Machine": "M",
+        "Rows": [{"Slot": "1", "PartNumber": "P", "Designators": NAMES}],
+    },
+)
 accept("ProductSelected", {"Machine": "M", "Product": "PR"})
-accept("ReelReceived", {"Reel": "K", "PartNumber": "P", "Lot": "L", "Level": "1", "Quantity": 1_000_000})
+accept(
+    "ReelReceived",
+    {"Reel": "K", "PartNumber": "P", "Lot": "L", "Level": "1", "Quantity": 1_000_000},
+)
 accept("MaterialsLoaded", {"Machine": "M", "Slot": "1", "Reel": "K"}, MinutesLeft=None)
 for n in range(1, 3_073):
-    accept("ReelReceived", {"Reel": f"K{n}", "PartNumber": "P", "Lot": "L2", "Level": "1", "Quantity": 2})
+    accept(
+        "ReelReceived",
+        {"Reel": f"K{n}", "PartNumber": "P", "Lot": "L2", "Level": "1", "Quantity": 2},
+    )
 for n in LENGTHS:
     accept("WorkStarted", {"Machine": "M", "Board": f"B{n}"})
-    accept("MaterialsInstalled", {"Machine": "M", "Board": f"B{n}", "Designators": NAMES[:n]}, Reels=["K"] * n)
+    accept(
+        "MaterialsInstalled",
+        {"Machine": "M", "Board": f"B{n}", "Designators": NAMES[:n]},
+        Reels=["K"] * n,
+    )
     accept("WorkCompleted", {"Machine": "M", "Board": f"B{n}"})
-    rows = [{"Slot": str(slot), "PartNumber": "P", "Designators": [NAMES[slot - 1]]} for slot in range(1, n + 1)]
+    rows = [
+        {"Slot": str(slot), "PartNumber": "P", "Designators": [NAMES[slot - 1]]}
+        for slot in range(1, n + 1)
+    ]
     accept("SheetDefined", {"Product": f"PR{n}", "Machine": "M", "Rows": rows})
-    accept("CountsTaken", {"Counts": [{"Reel": f"K{reel}", "Quantity": 2} for reel in range(1, n + 1)]}, Taken=0)
+    accept(
+        "CountsTaken",
+        {"Counts": [{"Reel": f"K{reel}", "Quantity": 2} for reel in range(1, n + 1)]},
+        Taken=0,
+    )
 write(pairs)
 boards = sorted(f"B{n}" for n in LENGTHS)
 pathlib.Path("lawful.txt").write_text(f"lawful {len(pairs)}\n")

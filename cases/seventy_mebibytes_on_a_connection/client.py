@@ -20,7 +20,13 @@ def link():
 desk = http.client.HTTPConnection("127.0.0.1", PORT, timeout=20)
 desk.sock = link()
 for n in range(1, 71):
-    message = {"MessageName": "TraceDesk.PartDefined", "UniqueID": f"u{n}", "Source": "S", "TimeStamp": "1970-01-01T00:00:00Z", "MessageBody": {"PartNumber": f"P{n}"}}
+    message = {
+        "MessageName": "TraceDesk.PartDefined",
+        "UniqueID": f"u{n}",
+        "Source": "S",
+        "TimeStamp": "1970-01-01T00:00:00Z",
+        "MessageBody": {"PartNumber": f"P{n}"},
+    }
     desk.request("POST", "/messages", json.dumps(message).ljust(1_048_576))
     answer = desk.getresponse()
     print(answer.status, answer.read().decode())

@@ -34,7 +34,9 @@ from tracedesk_dev import program, shift, trial
 def used(folder, words, given=subprocess.DEVNULL, **how):
     """Seconds of a run, seconds of processor time, and the most memory that it had, in MB."""
     usage, begun = folder / "usage", time.perf_counter()
-    done = subprocess.run(["/usr/bin/time", "-q", "-f", "%U %S %M", "-o", usage, *words], stdin=given, **how)
+    done = subprocess.run(
+        ["/usr/bin/time", "-q", "-f", "%U %S %M", "-o", usage, *words], stdin=given, **how
+    )
     seconds = time.perf_counter() - begun
     if done.returncode not in (0, 1):
         sys.exit(f"dev/bench/run day: {' '.join(map(str, words))}: status {done.returncode}")
@@ -61,7 +63,10 @@ def compare(answers, lines):
 
 def counts(file):
     with contextlib.closing(sqlite3.connect(file)) as database:
-        return [database.execute(f"SELECT count(*) FROM {name}").fetchone()[0] for name in ("accepted", "placement")]
+        return [
+            database.execute(f"SELECT count(*) FROM {name}").fetchone()[0]
+            for name in ("accepted", "placement")
+        ]
 
 
 def first_commands(lines, commands):
@@ -87,10 +92,20 @@ def in_memory(asked, folder, lines):
     commands, pieces = counts(file)
     if not pieces:
         sys.exit(f"dev/bench/run day: the first {commands} commands place no piece: ask for more")
-    told = {"commands": commands, "pieces": pieces, **{name: statistics.median(values) for name, values in told.items()}}
+    told = {
+        "commands": commands,
+        "pieces": pieces,
+        **{name: statistics.median(values) for name, values in told.items()},
+    }
     for name in given:
-        told[f"{name}: processor time a piece, us"] = 1e6 * told[f"{name}: processor time, seconds"] / pieces
-    print(f"{commands} commands in memory: {told['in memory: seconds']:.2f} s", file=sys.stderr, flush=True)
+        told[f"{name}: processor time a piece, us"] = (
+            1e6 * told[f"{name}: processor time, seconds"] / pieces
+        )
+    print(
+        f"{commands} commands in memory: {told['in memory: seconds']:.2f} s",
+        file=sys.stderr,
+        flush=True,
+    )
     return told
 
 
@@ -107,11 +122,17 @@ def one_by_one(lines, sent):
 
 def feed_latencies(asked, folder, lines):
     trial.remove(folder / "desk")
-    with subprocess.Popen([asked.program, "feed", "--db", folder / "desk"], stdin=subprocess.PIPE, stdout=subprocess.PIPE, bufsize=0) as process, \
-            os.fdopen(os.dup(process.stdout.fileno()), "rb", 65_536) as answers:
+    with subprocess.Popen(
+        [asked.program, "feed", "--db", folder / "desk"],
+        stdin=subprocess.PIPE,
+        stdout=subprocess.PIPE,
+        bufsize=0,
+    ) as process, os.fdopen(os.dup(process.stdout.fileno()), "rb", 65_536) as answers:
+
         def sent(text):
             process.stdin.write(text + b"\n")
             return answers.readline()
+
         times = one_by_one(lines, sent)
         process.stdin.close()
     return times, None
@@ -120,9 +141,11 @@ def feed_latencies(asked, folder, lines):
 def serve_latencies(asked, folder, lines):
     trial.remove(folder / "desk")
     with trial.served(asked.program, folder / "desk") as (process, connection):
+
         def sent(text):
             connection.request("POST", "/messages", text)
             return connection.getresponse().read()
+
         return one_by_one(lines, sent), trial.memory_of(process, "VmHWM") / 1e6
 
 
@@ -131,29 +154,41 @@ def by_sqlite(folder, desk):
     copy = folder / "sqlite"
     trial.remove(copy)
     with contextlib.closing(sqlite3.connect(desk)) as source:
-        schema = [sql for (sql,) in source.execute("SELECT sql FROM sqlite_schema WHERE sql IS NOT NULL")]
+        schema = [
+            sql for (sql,) in source.execute("SELECT sql FROM sqlite_schema WHERE sql IS NOT NULL")
+        ]
         accepted = source.execute("SELECT * FROM accepted ORDER BY number").fetchall()
         placed, others = {}, {}
         for row in source.execute("SELECT * FROM placement ORDER BY number, place"):
             placed.setdefault(row[0], []).append(row)
         for name in ("part", "alternate", "sheet_row", "selected", "board", "found", "reel"):
             others[name] = source.execute(f"SELECT * FROM {name}").fetchall()
-        reel = [name for _id, name, *_more in source.execute("PRAGMA table_info(placement)")].index("reel")
+        reel = [name for _id, name, *_more in source.execute("PRAGMA table_info(placement)")].index(
+            "reel"
+        )
     with contextlib.closing(sqlite3.connect(copy, isolation_level=None)) as base:
         base.execute("PRAGMA journal_mode = WAL")
         base.execute("PRAGMA synchronous = FULL")
         for sql in schema:
             base.execute(sql)
         for name, rows in others.items():
-            base.executemany(f"INSERT INTO {name} VALUES ({', '.join('?' * len(rows[0] if rows else 'xx'))})", rows)
+            base.executemany(
+                f"INSERT INTO {name} VALUES ({', '.join('?' * len(rows[0] if rows else 'xx'))})",
+                rows,
+            )
         begun = time.perf_counter()
         for row in accepted:
             base.execute("BEGIN")
             base.execute("INSERT INTO accepted VALUES (?, ?, ?, ?, ?, ?, ?)", row)
             if pieces := placed.get(row[0], []):
-                base.executemany(f"INSERT INTO placement VALUES ({', '.join('?' * len(pieces[0]))})", pieces)
+                base.executemany(
+                    f"INSERT INTO placement VALUES ({', '.join('?' * len(pieces[0]))})", pieces
+                )
                 for name in {piece[reel] for piece in pieces}:
-                    base.execute("UPDATE reel SET placed = placed + 1, received = received + 1 WHERE reel = ?", [name])
+                    base.execute(
+                        "UPDATE reel SET placed = placed + 1, received = received + 1 WHERE reel = ?",
+                        [name],
+                    )
             base.execute("COMMIT")
         seconds = time.perf_counter() - begun
     return seconds, os.path.getsize(copy)
@@ -167,18 +202,36 @@ def measured(asked, folder, boards):
         commands, pieces = counts(file)
         opening, _processor, opening_memory = used(folder, [asked.program, "feed", "--db", file])
         sqlite_seconds, sqlite_size = by_sqlite(folder, file)
-        its = {"commands": commands, "pieces": pieces, "feed, seconds": seconds, "feed, commands a second": commands / seconds,
-               "feed, pieces a second": pieces / seconds, "memory of feed, MB": memory, "file, MB": os.path.getsize(file) / 1e6,
-               "opening, seconds": opening, "memory of opening, MB": opening_memory, "SQLite: the rows alone, seconds": sqlite_seconds,
-               "SQLite: commands a second": commands / sqlite_seconds, "SQLite: file, MB": sqlite_size / 1e6}
+        its = {
+            "commands": commands,
+            "pieces": pieces,
+            "feed, seconds": seconds,
+            "feed, commands a second": commands / seconds,
+            "feed, pieces a second": pieces / seconds,
+            "memory of feed, MB": memory,
+            "file, MB": os.path.getsize(file) / 1e6,
+            "opening, seconds": opening,
+            "memory of opening, MB": opening_memory,
+            "SQLite: the rows alone, seconds": sqlite_seconds,
+            "SQLite: commands a second": commands / sqlite_seconds,
+            "SQLite: file, MB": sqlite_size / 1e6,
+        }
         for name, latencies in (("feed", feed_latencies), ("serve", serve_latencies)):
             times, memory = latencies(asked, folder, lines)
             its[f"latency of {name}, median, us"] = 1e6 * times[len(times) // 2]
             its[f"latency of {name}, 99 %, us"] = 1e6 * times[len(times) * 99 // 100]
             if memory:
-                its |= {f"{name}, commands a second": commands / sum(times), f"{name}, pieces a second": pieces / sum(times), f"memory of {name}, MB": memory}
+                its |= {
+                    f"{name}, commands a second": commands / sum(times),
+                    f"{name}, pieces a second": pieces / sum(times),
+                    f"memory of {name}, MB": memory,
+                }
         turns.append(its)
-        print(f"{boards} boards, turn {turn + 1}: {commands} commands in {seconds:.2f} s", file=sys.stderr, flush=True)
+        print(
+            f"{boards} boards, turn {turn + 1}: {commands} commands in {seconds:.2f} s",
+            file=sys.stderr,
+            flush=True,
+        )
     return {name: statistics.median(it[name] for it in turns) for name in turns[0]}
 
 
@@ -227,9 +280,15 @@ def main(asked, _reader):
         told = [measured(asked, folder, boards) for boards in asked.boards]
         # (a board takes some eight commands)
         lines = shift.Shift(asked.seed, 60 + max(asked.commands, default=0) // 8).lines
-        beside = [in_memory(asked, folder, first_commands(lines, commands)) for commands in asked.commands]
-    print(f"{platform.system()} {platform.machine()}, {os.cpu_count()} cores, load {load:.1f} at the start; a write of 4 KiB with its sync takes {probe:.0f} us; SQLite {sqlite3.sqlite_version}; {'one turn' if asked.turns == 1 else f'medians of {asked.turns} turns'}.")
+        beside = [
+            in_memory(asked, folder, first_commands(lines, commands)) for commands in asked.commands
+        ]
+    print(
+        f"{platform.system()} {platform.machine()}, {os.cpu_count()} cores, load {load:.1f} at the start; a write of 4 KiB with its sync takes {probe:.0f} us; SQLite {sqlite3.sqlite_version}; {'one turn' if asked.turns == 1 else f'medians of {asked.turns} turns'}."
+    )
     for heads, figures in ((asked.boards, told), (asked.commands, beside)):
         if figures:
             print()
-            table([f"{it:,} {'boards' if figures is told else 'commands'}" for it in heads], figures)
+            table(
+                [f"{it:,} {'boards' if figures is told else 'commands'}" for it in heads], figures
+            )

@@ -65,7 +65,11 @@ def first_archive(asked, file):
     lines = [it.text for it in shift.Shift(1, asked.boards, BASE).lines]
     with tempfile.TemporaryDirectory(dir=MEMORY if os.path.isdir(MEMORY) else None) as room:
         desk = pathlib.Path(room, "desk")
-        done = subprocess.run([asked.program, "feed", "--db", desk], input=b"\n".join(lines) + b"\n", stdout=subprocess.PIPE)
+        done = subprocess.run(
+            [asked.program, "feed", "--db", desk],
+            input=b"\n".join(lines) + b"\n",
+            stdout=subprocess.PIPE,
+        )
         if done.returncode not in (0, 1):
             sys.exit(f"{plant.NAME}: feed ended with status {done.returncode}")
         whole(desk)
@@ -81,23 +85,37 @@ def another(first, number, file):
     file.write_bytes(first)
     with contextlib.closing(sqlite3.connect(file, isolation_level=None)) as database:
         database.execute("PRAGMA journal_mode = DELETE")
-        for table, column in (("accepted", "command"), ("accepted", "detail"), ("sheet_row", "designators")):  # no other text goes beyond a page
+        for table, column in (
+            ("accepted", "command"),
+            ("accepted", "detail"),
+            ("sheet_row", "designators"),
+        ):  # no other text goes beyond a page
             for old, new in changes:
-                database.execute(f"UPDATE {table} SET {column} = replace({column}, ?1, ?2) WHERE instr({column}, ?1)", [old, new])
+                database.execute(
+                    f"UPDATE {table} SET {column} = replace({column}, ?1, ?2) WHERE instr({column}, ?1)",
+                    [old, new],
+                )
 
 
 def of_its_own(file, number):
     """Makes the last command of an archive one of no other, by which it is told apart."""
     with contextlib.closing(sqlite3.connect(file, isolation_level=None)) as database:
         database.execute("PRAGMA journal_mode = DELETE")
-        database.execute("UPDATE accepted SET uid = ?1, detail = replace(detail, uid, ?1) WHERE number = (SELECT max(number) FROM accepted)", [f"last-{number}"])
+        database.execute(
+            "UPDATE accepted SET uid = ?1, detail = replace(detail, uid, ?1) WHERE number = (SELECT max(number) FROM accepted)",
+            [f"last-{number}"],
+        )
 
 
 def line_of(file, desk, before=""):
     with catalogue.opened(file) as database:
-        ((commands, first, last),) = database.execute("SELECT count(*), min(effective), max(effective) FROM accepted")
+        ((commands, first, last),) = database.execute(
+            "SELECT count(*), min(effective), max(effective) FROM accepted"
+        )
         ((pieces,),) = database.execute("SELECT count(*) FROM placement")
-    return catalogue.Archive(file.name, catalogue.sha256_of(file), desk, first, last, commands, pieces, before)
+    return catalogue.Archive(
+        file.name, catalogue.sha256_of(file), desk, first, last, commands, pieces, before
+    )
 
 
 def made(asked, room, folder_of):
@@ -111,7 +129,9 @@ def made(asked, room, folder_of):
         of_its_own(file, number)
         if number == 1:
             audited = shutil.copy(file, room / "audited")
-            subprocess.run([asked.program, "audit", "--db", audited], check=True, stdout=subprocess.DEVNULL)
+            subprocess.run(
+                [asked.program, "audit", "--db", audited], check=True, stdout=subprocess.DEVNULL
+            )
             os.unlink(audited)
         yield number, file
 
@@ -119,7 +139,9 @@ def made(asked, room, folder_of):
 def taken(server):
     """Seconds by the clock, and of the processor: of ended children of this tool and of ended sessions of the server, where there is one."""
     own = resource.getrusage(resource.RUSAGE_CHILDREN)
-    return time.monotonic(), own.ru_utime + own.ru_stime + (server.processor_seconds() if server else 0)
+    return time.monotonic(), own.ru_utime + own.ru_stime + (
+        server.processor_seconds() if server else 0
+    )
 
 
 def since(server, before):
@@ -128,6 +150,7 @@ def since(server, before):
 
 def loads(asked, server, room):
     """Loads each archive by itself: its seconds, how many pieces it has, and its bytes."""
+
     def folder_of(number):
         at = room / f"archive-{number}"
         at.mkdir()
@@ -137,7 +160,11 @@ def loads(asked, server, room):
         its, at, size = line_of(file, f"L{number + 1}"), file.parent, file.stat().st_size
         catalogue.add(at / catalogue.FILE_NAME, its)
         began = taken(server)
-        subprocess.run([ROOT / "ops/plant-load", at / catalogue.FILE_NAME], check=True, stdout=subprocess.DEVNULL)
+        subprocess.run(
+            [ROOT / "ops/plant-load", at / catalogue.FILE_NAME],
+            check=True,
+            stdout=subprocess.DEVNULL,
+        )
         yield since(server, began), its.pieces, size
         shutil.rmtree(at)
 
@@ -147,29 +174,52 @@ def loads(asked, server, room):
 
 def chain_of(asked, at):
     """Makes the archives of one line that rolls over, and its catalogue; the path of each, and how many pieces there are."""
-    messages, files, pieces, ticks, end = starts.Line().messages(), [], 0, program.Ticks(), time.monotonic() + 60 * asked.minutes
+    messages, files, pieces, ticks, end = (
+        starts.Line().messages(),
+        [],
+        0,
+        program.Ticks(),
+        time.monotonic() + 60 * asked.minutes,
+    )
     for number in range(asked.archives):
         if time.monotonic() > end:
             break
-        with tempfile.TemporaryDirectory(dir=MEMORY if os.path.isdir(MEMORY) else None) as room, tempfile.TemporaryFile(dir=room) as given:
+        with tempfile.TemporaryDirectory(
+            dir=MEMORY if os.path.isdir(MEMORY) else None
+        ) as room, tempfile.TemporaryFile(dir=room) as given:
             desk = pathlib.Path(room, "desk")
             if files:
-                subprocess.run([ROOT / "ops/begin", files[-1]], check=True, stdout=given, stderr=subprocess.DEVNULL)
+                subprocess.run(
+                    [ROOT / "ops/begin", files[-1]],
+                    check=True,
+                    stdout=given,
+                    stderr=subprocess.DEVNULL,
+                )
                 given.seek(0, os.SEEK_END)
             placed = 0
             for text, some in messages:
                 given.write(text)
                 placed += some
-                if placed >= asked.pieces and b"WorkCompleted" in text and f"-M{starts.MACHINES}".encode() in text:
+                if (
+                    placed >= asked.pieces
+                    and b"WorkCompleted" in text
+                    and f"-M{starts.MACHINES}".encode() in text
+                ):
                     break  # no board is in work
-            given.seek(0)  # and not through a pipe: on a busy machine two processes would wait for each other
-            done = subprocess.run([asked.program, "feed", "--db", desk], stdin=given, stdout=subprocess.DEVNULL)
+            given.seek(
+                0
+            )  # and not through a pipe: on a busy machine two processes would wait for each other
+            done = subprocess.run(
+                [asked.program, "feed", "--db", desk], stdin=given, stdout=subprocess.DEVNULL
+            )
             if done.returncode:
                 sys.exit(f"{plant.NAME}: feed ended with status {done.returncode}")
             whole(desk)
             files.append(at / f"archive-{number}")
             shutil.move(desk, files[-1])
-        catalogue.add(at / catalogue.FILE_NAME, line_of(files[-1], "L1", files[-2].name if number else ""))
+        catalogue.add(
+            at / catalogue.FILE_NAME, line_of(files[-1], "L1", files[-2].name if number else "")
+        )
         pieces += placed
         ticks.tell(f"{number + 1} archives")
     return files, pieces
@@ -177,8 +227,14 @@ def chain_of(asked, at):
 
 def measured(*words):
     """Seconds of a call by the clock and of the processor, the most memory that it had in bytes, and how many lines it printed."""
-    with tempfile.NamedTemporaryFile("r") as used:  # by `time`: a child of this process has its memory too at first
-        done = subprocess.run(["time", "-q", "-o", used.name, "-f", "%e %U %S %M", *map(str, words)], stdout=subprocess.PIPE, stderr=subprocess.DEVNULL)
+    with tempfile.NamedTemporaryFile(
+        "r"
+    ) as used:  # by `time`: a child of this process has its memory too at first
+        done = subprocess.run(
+            ["time", "-q", "-o", used.name, "-f", "%e %U %S %M", *map(str, words)],
+            stdout=subprocess.PIPE,
+            stderr=subprocess.DEVNULL,
+        )
         if done.returncode not in (0, 3):  # 3: a first look
             sys.exit(f"{plant.NAME}: {words[0]} ended with status {done.returncode}")
         clock, user, system, memory = map(float, used.read().split())
@@ -191,8 +247,16 @@ def recall_bench(asked, room):
     at.mkdir()
     files, pieces = chain_of(asked, at)
     with catalogue.opened(files[len(files) // 2]) as database:
-        ((lot, board),) = database.execute("SELECT lot, board FROM placement JOIN reel USING (reel) WHERE remaining > 0 ORDER BY placement.number DESC LIMIT 1")
-    tell({"pieces": pieces, "archives": len(files), "bytes of them": sum(it.stat().st_size for it in files)})
+        ((lot, board),) = database.execute(
+            "SELECT lot, board FROM placement JOIN reel USING (reel) WHERE remaining > 0 ORDER BY placement.number DESC LIMIT 1"
+        )
+    tell(
+        {
+            "pieces": pieces,
+            "archives": len(files),
+            "bytes of them": sum(it.stat().st_size for it in files),
+        }
+    )
 
     def of(name, measured):
         tell({f"{name}, by the clock, of the processor, bytes of memory, lines": measured})
@@ -201,14 +265,38 @@ def recall_bench(asked, room):
     if len(copies) > 2:
         of("check of the last two", measured(asked.chain, "check", "--from-middle", *copies[-2:]))
     audits = [measured(asked.program, "audit", "--db", it) for it in copies]
-    of("the sum of their audits", (round(sum(it[0] for it in audits), 2), round(sum(it[1] for it in audits), 2), max(it[2] for it in audits), len(audits)))
+    of(
+        "the sum of their audits",
+        (
+            round(sum(it[0] for it in audits), 2),
+            round(sum(it[1] for it in audits), 2),
+            max(it[2] for it in audits),
+            len(audits),
+        ),
+    )
     of("check", measured(asked.chain, "check", *copies))
     of("lot", measured(asked.chain, "lot", lot, *copies))
     for it in room.glob("archive-*"):
         it.unlink()
-    line = ["--line", "L1", "-", at / catalogue.FILE_NAME, "--archives-only", "--program", asked.program]
-    for words in (["lot", lot, "--quick"], ["board", board, "--quick"], ["lot", lot], ["board", board]):
-        of("ops/recall " + " ".join((words[0], *words[2:])), measured(ROOT / "ops/recall", *words, *line))
+    line = [
+        "--line",
+        "L1",
+        "-",
+        at / catalogue.FILE_NAME,
+        "--archives-only",
+        "--program",
+        asked.program,
+    ]
+    for words in (
+        ["lot", lot, "--quick"],
+        ["board", board, "--quick"],
+        ["lot", lot],
+        ["board", board],
+    ):
+        of(
+            "ops/recall " + " ".join((words[0], *words[2:])),
+            measured(ROOT / "ops/recall", *words, *line),
+        )
 
 
 # --- By PostgreSQL
@@ -244,7 +332,9 @@ def restarted(server, **options):
     postgres.asked("-c", "CHECKPOINT")
     server.stop()
     out_of_cache(server.data)
-    server.options.update({"fsync": "on", "wal_level": "replica", "max_wal_senders": "10", **options})
+    server.options.update(
+        {"fsync": "on", "wal_level": "replica", "max_wal_senders": "10", **options}
+    )
     server.start()
 
 
@@ -270,13 +360,24 @@ RENAMED = "CREATE FUNCTION plant.renamed(name text, number integer) RETURNS text
 
 def copied(asked, server, last):
     """Lets SQL copy the first file until there are --files; how many there are."""
-    template, ticks, end = server.folder / "template", program.Ticks(), time.monotonic() + 60 * asked.minutes
+    template, ticks, end = (
+        server.folder / "template",
+        program.Ticks(),
+        time.monotonic() + 60 * asked.minutes,
+    )
     restarted(server, fsync="off", wal_level="minimal", max_wal_senders="0")
     postgres.asked("-c", f"COPY plant.placement_1 TO '{template}'", "-c", RENAMED)
-    name = postgres.asked("-At", "-c", "SELECT left(board, 4) FROM plant.start WHERE file = 1 LIMIT 1").strip()
+    name = postgres.asked(
+        "-At", "-c", "SELECT left(board, 4) FROM plant.start WHERE file = 1 LIMIT 1"
+    ).strip()
     while last < asked.files and time.monotonic() < end:
         first, last = last + 1, min(asked.files, last + 20)
-        postgres.asked("-c", "SET search_path TO plant", "-c", COPIES.format(first=first, last=last, name=name, file=template))
+        postgres.asked(
+            "-c",
+            "SET search_path TO plant",
+            "-c",
+            COPIES.format(first=first, last=last, name=name, file=template),
+        )
         ticks.tell(f"{last} files")
     template.unlink()
     return last
@@ -284,15 +385,41 @@ def copied(asked, server, last):
 
 def ask(server):
     """Asks for the lot, one of its reels and a board, cold and warm, and for no piece; and how many pages of 8,192 bytes are read, cold."""
-    board, reel = postgres.asked("-At", "-F", " ", "-c", f"""SELECT (SELECT board FROM plant.start WHERE file = (SELECT max(id) / 2 FROM plant.file) ORDER BY number LIMIT 1),
-        (SELECT min(reel) FROM plant.reel WHERE lot = '{LOT}')""").split()
+    board, reel = postgres.asked(
+        "-At",
+        "-F",
+        " ",
+        "-c",
+        f"""SELECT (SELECT board FROM plant.start WHERE file = (SELECT max(id) / 2 FROM plant.file) ORDER BY number LIMIT 1),
+        (SELECT min(reel) FROM plant.reel WHERE lot = '{LOT}')""",
+    ).split()
     names = {"lot": LOT, "reel": reel, "board": board}
-    calls = {f"{kind}, its pieces": ("-v", f"{kind}={name}", "-f", postgres.SQL / "pieces.sql") for kind, name in names.items()}
-    calls |= {"lot, its boards": ("-v", f"lot={LOT}", "-f", postgres.SQL / "recall.sql"), "files.sql": ("-f", postgres.SQL / "files.sql"), "nothing": ("-c", "SELECT 1")}
+    calls = {
+        f"{kind}, its pieces": ("-v", f"{kind}={name}", "-f", postgres.SQL / "pieces.sql")
+        for kind, name in names.items()
+    }
+    calls |= {
+        "lot, its boards": ("-v", f"lot={LOT}", "-f", postgres.SQL / "recall.sql"),
+        "files.sql": ("-f", postgres.SQL / "files.sql"),
+        "nothing": ("-c", "SELECT 1"),
+    }
     for kind, name in names.items():
         restarted(server)
-        plan = json.loads(postgres.asked("-At", "-c", f"EXPLAIN (ANALYZE, BUFFERS, FORMAT JSON) SELECT FROM plant.pieces_of('{kind}', '{name}')"))[0]["Plan"]
-        tell({f"{kind}, pages read cold, of so many pieces": (plan["Shared Read Blocks"], plan["Actual Rows"])})
+        plan = json.loads(
+            postgres.asked(
+                "-At",
+                "-c",
+                f"EXPLAIN (ANALYZE, BUFFERS, FORMAT JSON) SELECT FROM plant.pieces_of('{kind}', '{name}')",
+            )
+        )[0]["Plan"]
+        tell(
+            {
+                f"{kind}, pages read cold, of so many pieces": (
+                    plan["Shared Read Blocks"],
+                    plan["Actual Rows"],
+                )
+            }
+        )
     for name, words in calls.items():
         cold = []
         for _ in range(COLD):
@@ -300,26 +427,56 @@ def ask(server):
             its, printed = timed(server, *words)
             cold.append(its)
         warm = [timed(server, *words)[0] for _ in range(WARM)]
-        tell({name: {"rows": printed.count("\n"), "cold, by the clock and of the processor": cold, "warm, the least": least(warm), "warm, median": medians(warm)}})
+        tell(
+            {
+                name: {
+                    "rows": printed.count("\n"),
+                    "cold, by the clock and of the processor": cold,
+                    "warm, the least": least(warm),
+                    "warm, median": medians(warm),
+                }
+            }
+        )
 
 
 def postgres_bench(asked):
-    with tempfile.TemporaryDirectory(prefix="plant-", dir=asked.folder) as room, tempfile.TemporaryDirectory(prefix="plant-", dir=asked.folder) as folder:
+    with tempfile.TemporaryDirectory(
+        prefix="plant-", dir=asked.folder
+    ) as room, tempfile.TemporaryDirectory(prefix="plant-", dir=asked.folder) as folder:
         with postgres.Server(pathlib.Path(folder), fsync="on") as server:
             postgres.asked("-f", postgres.SQL / "schema.sql")
             loading = loads(asked, server, pathlib.Path(room))
             first = list(itertools.islice(loading, asked.archives - 1))
-            tell({"pieces and bytes of an archive": first[0][1:], "a load, by the clock and of the processor": medians(it[0] for it in first)})
+            tell(
+                {
+                    "pieces and bytes of an archive": first[0][1:],
+                    "a load, by the clock and of the processor": medians(it[0] for it in first),
+                }
+            )
             count = copied(asked, server, len(first))
             of_the_lot = [1 + number * count // 5 for number in range(5)]
             for it in of_the_lot:
-                postgres.asked("-c", f"UPDATE plant.reel SET lot = '{LOT}' WHERE file = {it} AND reel IN (SELECT reel FROM plant.placement_{it} GROUP BY reel ORDER BY count(*) DESC, reel LIMIT 2)")
-            postgres.asked("-c", "SELECT setval('plant.file_id', (SELECT max(id) FROM plant.file))", "-c", "VACUUM ANALYZE plant.file, plant.reel, plant.start, plant.command")
+                postgres.asked(
+                    "-c",
+                    f"UPDATE plant.reel SET lot = '{LOT}' WHERE file = {it} AND reel IN (SELECT reel FROM plant.placement_{it} GROUP BY reel ORDER BY count(*) DESC, reel LIMIT 2)",
+                )
+            postgres.asked(
+                "-c",
+                "SELECT setval('plant.file_id', (SELECT max(id) FROM plant.file))",
+                "-c",
+                "VACUUM ANALYZE plant.file, plant.reel, plant.start, plant.command",
+            )
             restarted(server)
             tell({"files": count, "a load then, of its own archive": [it[0] for it in loading]})
             tell(json.loads(postgres.asked("-At", "-c", SIZES)))
             ask(server)
-            tell({"drop.sql, of all": timed(server, "-v", "before=2027-01-01", "-f", postgres.SQL / "drop.sql")[0]})
+            tell(
+                {
+                    "drop.sql, of all": timed(
+                        server, "-v", "before=2027-01-01", "-f", postgres.SQL / "drop.sql"
+                    )[0]
+                }
+            )
 
 
 def tell(told):

@@ -30,7 +30,9 @@ ANSWER = '{{"Answer":"Accepted","Number":{0},"UniqueID":"u{0}"}}'
 def feed(program, rows, *words):
     """Seconds from start to end of a run over so many messages; each has to be accepted."""
     given, begun = "".join(map(MESSAGE.format, range(1, rows + 1))).encode(), time.perf_counter()
-    taken = subprocess.run([program, "feed", *words], input=given, stdout=subprocess.PIPE, check=True).stdout
+    taken = subprocess.run(
+        [program, "feed", *words], input=given, stdout=subprocess.PIPE, check=True
+    ).stdout
     seconds = time.perf_counter() - begun
     if taken.decode().splitlines() != [ANSWER.format(number) for number in range(1, rows + 1)]:
         sys.exit("dev/bench/run rows: not each message was accepted")
@@ -45,7 +47,10 @@ def sqlite(path, rows):
         base.execute(TABLE)
         begun = time.perf_counter()
         for number in range(1, rows + 1):
-            base.execute("INSERT INTO accepted VALUES (?1, ?2, ?3, ?4, ?5, ?6, ?7)", (number, f"u{number}", "S", 0, 0, "ClockSet", ANSWER.format(number)))
+            base.execute(
+                "INSERT INTO accepted VALUES (?1, ?2, ?3, ?4, ?5, ?6, ?7)",
+                (number, f"u{number}", "S", 0, 0, "ClockSet", ANSWER.format(number)),
+            )
         return time.perf_counter() - begun
 
 
@@ -65,6 +70,8 @@ def main(asked, _reader):
             told["in memory"].append(feed(asked.program, asked.rows))
             told["in a file"].append(feed(asked.program, asked.rows, "--db", desk))
             told["SQLite, the row alone"].append(sqlite(pathlib.Path(room, "base"), asked.rows))
-            told["a repeat"].append(feed(asked.program, asked.rows, "--db", desk) - feed(asked.program, 0, "--db", desk))
+            told["a repeat"].append(
+                feed(asked.program, asked.rows, "--db", desk) - feed(asked.program, 0, "--db", desk)
+            )
     for name, seconds in told.items():
         print(f"{name}: {statistics.median(seconds) / asked.rows * 1e6:.1f} us")

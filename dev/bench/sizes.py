@@ -26,7 +26,9 @@ def names():
 
 def lines(files, comment):
     """How many lines are neither empty nor a comment."""
-    texts = (line.strip() for file in files for line in file.read_text(encoding="utf-8").splitlines())
+    texts = (
+        line.strip() for file in files for line in file.read_text(encoding="utf-8").splitlines()
+    )
     return sum(1 for text in texts if text and not text.startswith(comment))
 
 
@@ -35,7 +37,11 @@ def sizes(crate):
         return [it for it in (crate / folder).rglob("*.antt") if "tests" not in it.parts]
 
     sources = list((crate / "src").rglob("*.rt"))
-    code = [it for it in sources if it.name != "tests.rt" and "tests" not in it.parts and not crate.name.endswith("_tests")]
+    code = [
+        it
+        for it in sources
+        if it.name != "tests.rt" and "tests" not in it.parts and not crate.name.endswith("_tests")
+    ]
     texts = [it.read_text(encoding="utf-8") for it in code]
     return [
         lines(code, "//"),
@@ -53,8 +59,13 @@ def words(_reader):
 
 
 def main(_asked, _reader):
-    print("| Crate | Code | Definitions | Proofs | Public functions | Tests | Wrong bodies in the gate | outside it |")
+    print(
+        "| Crate | Code | Definitions | Proofs | Public functions | Tests | Wrong bodies in the gate | outside it |"
+    )
     print("|" + "---|" * 8)
     rows = [(f"`{name}`", sizes(CRATES / name)) for name in names()]
-    for name, row in [*rows, ("together", [sum(column) for column in zip(*(row for _, row in rows))])]:
+    for name, row in [
+        *rows,
+        ("together", [sum(column) for column in zip(*(row for _, row in rows))]),
+    ]:
         print(f"| {name} | {' | '.join(f'{number:,}' for number in row)} |")

@@ -49,20 +49,34 @@ class Line:
     def say(self, word, **body):
         stamp = (START + datetime.timedelta(minutes=self.minute)).isoformat() + "Z"
         uid = str(uuid.UUID(int=self.random.getrandbits(128), version=4))
-        envelope = {"MessageName": "TraceDesk." + word, "UniqueID": uid, "Source": "LINE1", "TimeStamp": stamp, "MessageBody": body}
-        return json.dumps(envelope, separators=(",", ":")).encode() + b"\n", len(body.get("Designators", ()))
+        envelope = {
+            "MessageName": "TraceDesk." + word,
+            "UniqueID": uid,
+            "Source": "LINE1",
+            "TimeStamp": stamp,
+            "MessageBody": body,
+        }
+        return json.dumps(envelope, separators=(",", ":")).encode() + b"\n", len(
+            body.get("Designators", ())
+        )
 
     def sheet(self, machine):
         """The slots of a machine with their designators: three on the first half, two on the others."""
         names = iter(f"{'CRUL'[machine]}{number}" for number in range(1, 1_000))
-        return {str(slot): [next(names) for _ in range(3 if slot <= SLOTS // 2 else 2)] for slot in range(1, SLOTS + 1)}
+        return {
+            str(slot): [next(names) for _ in range(3 if slot <= SLOTS // 2 else 2)]
+            for slot in range(1, SLOTS + 1)
+        }
 
     def messages(self):
         sheets = {f"LINE1-M{number + 1}": self.sheet(number) for number in range(MACHINES)}
         for machine, sheet in sheets.items():
             for slot in sheet:
                 yield self.say("PartDefined", PartNumber=f"{machine}-P{slot}")
-            rows = [{"Slot": slot, "PartNumber": f"{machine}-P{slot}", "Designators": them} for slot, them in sheet.items()]
+            rows = [
+                {"Slot": slot, "PartNumber": f"{machine}-P{slot}", "Designators": them}
+                for slot, them in sheet.items()
+            ]
             yield self.say("SheetDefined", Product="CTRL-A100", Machine=machine, Rows=rows)
             yield self.say("ProductSelected", Machine=machine, Product="CTRL-A100")
         while True:
@@ -76,21 +90,36 @@ class Line:
                 yield from self.reel(machine, slot)
             self.left[machine, slot] -= len(them)
         yield self.say("WorkStarted", Machine=machine, Board=board)
-        yield self.say("MaterialsInstalled", Machine=machine, Board=board, Designators=[it for them in sheet.values() for it in them])
+        yield self.say(
+            "MaterialsInstalled",
+            Machine=machine,
+            Board=board,
+            Designators=[it for them in sheet.values() for it in them],
+        )
         yield self.say("WorkCompleted", Machine=machine, Board=board)
 
     def reel(self, machine, slot):
         """One more reel, at level 3 on every tenth slot."""
         self.reels += 1
-        name, word = f"R{self.reels:06}", "MaterialsSpliced" if (machine, slot) in self.left else "MaterialsLoaded"
-        yield self.say("ReelReceived", Reel=name, PartNumber=f"{machine}-P{slot}", Lot=f"LOT-{self.reels // 3:05}",
-                       Level="1" if int(slot) % 10 else "3", Quantity=REEL)
+        name, word = (
+            f"R{self.reels:06}",
+            "MaterialsSpliced" if (machine, slot) in self.left else "MaterialsLoaded",
+        )
+        yield self.say(
+            "ReelReceived",
+            Reel=name,
+            PartNumber=f"{machine}-P{slot}",
+            Lot=f"LOT-{self.reels // 3:05}",
+            Level="1" if int(slot) % 10 else "3",
+            Quantity=REEL,
+        )
         yield self.say(word, Machine=machine, Slot=slot, Reel=name)
         self.left[machine, slot] = self.left.get((machine, slot), 0) + REEL
 
 
 class Figure(NamedTuple):
     """What was measured of a file: pieces, commands, bytes, seconds by the clock and of the processor, bytes of memory."""
+
     pieces: int
     commands: int
     size: int
@@ -102,7 +131,9 @@ class Figure(NamedTuple):
 
 def grown(asked, file, messages, told, pieces):
     """Feeds messages until so many pieces are placed."""
-    running = subprocess.Popen([asked.program, "feed", "--db", file], stdin=subprocess.PIPE, stdout=subprocess.DEVNULL)
+    running = subprocess.Popen(
+        [asked.program, "feed", "--db", file], stdin=subprocess.PIPE, stdout=subprocess.DEVNULL
+    )
     ticks = program.Ticks()
     with contextlib.suppress(BrokenPipeError):  # its status says why
         while told["pieces"] < pieces:
@@ -123,8 +154,21 @@ def started(asked, file):
         connection.request("GET", "/overdue")
         connection.getresponse().read()
         seconds = time.perf_counter() - began
-        ticks = sum(map(int, pathlib.Path(f"/proc/{process.pid}/stat").read_text().rpartition(")")[2].split()[11:13]))  # user and system
-        return seconds, ticks / os.sysconf("SC_CLK_TCK"), trial.memory_of(process, "VmRSS"), trial.memory_of(process, "VmHWM")
+        ticks = sum(
+            map(
+                int,
+                pathlib.Path(f"/proc/{process.pid}/stat")
+                .read_text()
+                .rpartition(")")[2]
+                .split()[11:13],
+            )
+        )  # user and system
+        return (
+            seconds,
+            ticks / os.sysconf("SC_CLK_TCK"),
+            trial.memory_of(process, "VmRSS"),
+            trial.memory_of(process, "VmHWM"),
+        )
 
 
 def figures(asked):
@@ -133,14 +177,26 @@ def figures(asked):
         for pieces in asked.pieces:
             grown(asked, file, messages, told, pieces)
             turns = [started(asked, file) for _ in range(asked.turns)]
-            yield Figure(told["pieces"], told["commands"], file.stat().st_size, *map(statistics.median, zip(*turns)))
+            yield Figure(
+                told["pieces"],
+                told["commands"],
+                file.stat().st_size,
+                *map(statistics.median, zip(*turns)),
+            )
 
 
 def sourced(asked):
     """Which program was measured."""
-    version = subprocess.run([asked.program, "--version"], stdout=subprocess.PIPE, text=True, check=True).stdout.strip()
+    version = subprocess.run(
+        [asked.program, "--version"], stdout=subprocess.PIPE, text=True, check=True
+    ).stdout.strip()
     digest = hashlib.sha256(pathlib.Path(asked.program).read_bytes()).hexdigest()[:12]
-    commit = asked.commit or subprocess.run(["git", "-C", trial.ROOT, "log", "-1", "--format=%h"], stdout=subprocess.PIPE, text=True).stdout.strip()
+    commit = (
+        asked.commit
+        or subprocess.run(
+            ["git", "-C", trial.ROOT, "log", "-1", "--format=%h"], stdout=subprocess.PIPE, text=True
+        ).stdout.strip()
+    )
     return f"`{version}` of the commit {commit} (its file's SHA-256 begins with {digest})"
 
 
@@ -148,7 +204,11 @@ def section(asked, load, rows):
     loads = load, os.getloadavg()[0]
     turns = "single runs" if asked.turns == 1 else f"medians of {asked.turns} starts"
     at = f"{datetime.date.today()}, on {platform.system()} {platform.machine()}, {os.cpu_count()} cores, load {loads[0]:.1f} at the begin and {loads[1]:.1f} at the end"
-    busy = " The machine was busy with other work, so the seconds by the clock say little." if max(loads) > os.cpu_count() else ""
+    busy = (
+        " The machine was busy with other work, so the seconds by the clock say little."
+        if max(loads) > os.cpu_count()
+        else ""
+    )
     text = f"""{HEADING}
 
 `dev/bench/run starts` measured the program {sourced(asked)}: {at}; {turns}.{busy} One file grows: a line of four machines, of which each places 100 pieces on each board. A start is the time from the run of `serve` to its first answer; beside it stands how long the processor worked for it. Resident is its memory then, and most the most until then. The picture on [long-life.md](long-life.md) is drawn from this table by `make pictures`.
@@ -156,7 +216,10 @@ def section(asked, load, rows):
 | pieces | commands | file, MB | start, s | of the processor, s | resident, MB | most, MB |
 |---:|---:|---:|---:|---:|---:|---:|
 """
-    return text + "".join(f"| {it.pieces:,} | {it.commands:,} | {it.size / 1e6:.1f} | {it.start:.2f} | {it.processor:.2f} | {it.resident / 1e6:.1f} | {it.most / 1e6:.1f} |\n" for it in rows)
+    return text + "".join(
+        f"| {it.pieces:,} | {it.commands:,} | {it.size / 1e6:.1f} | {it.start:.2f} | {it.processor:.2f} | {it.resident / 1e6:.1f} | {it.most / 1e6:.1f} |\n"
+        for it in rows
+    )
 
 
 def put_into(page, text):
@@ -171,10 +234,25 @@ def put_into(page, text):
 
 def words(reader):
     program.offer(reader)
-    reader.add_argument("--commit", metavar="COMMIT", help="the commit of the program's sources, where it isn't that of this checkout")
-    reader.add_argument("--pieces", type=lambda text: sorted(int(it) for it in text.split(",")), default=SIZES, metavar="N,N,..", help=f"the sizes ({SIZES})")
+    reader.add_argument(
+        "--commit",
+        metavar="COMMIT",
+        help="the commit of the program's sources, where it isn't that of this checkout",
+    )
+    reader.add_argument(
+        "--pieces",
+        type=lambda text: sorted(int(it) for it in text.split(",")),
+        default=SIZES,
+        metavar="N,N,..",
+        help=f"the sizes ({SIZES})",
+    )
     reader.add_argument("--turns", type=int, default=3, metavar="N", help="starts of each size (3)")
-    reader.add_argument("--into", type=pathlib.Path, metavar="PAGE", help="the page whose section gives way to the new one")
+    reader.add_argument(
+        "--into",
+        type=pathlib.Path,
+        metavar="PAGE",
+        help="the page whose section gives way to the new one",
+    )
     reader.add_argument("folder", nargs="?", metavar="FOLDER", help="where the file grows")
 
 
@@ -187,7 +265,9 @@ def main(asked, reader):
     load, rows = os.getloadavg()[0], []
     for it in figures(asked):
         rows.append(it)
-        program.tell(f"{it.pieces:,} pieces: {it.start:.2f} s, {it.processor:.2f} s of the processor, {it.resident / 1e6:.0f} MB")
+        program.tell(
+            f"{it.pieces:,} pieces: {it.start:.2f} s, {it.processor:.2f} s of the processor, {it.resident / 1e6:.0f} MB"
+        )
     text = section(asked, load, rows)
     if asked.into:
         put_into(asked.into, text)

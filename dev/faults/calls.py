@@ -65,11 +65,23 @@ EINTR, EIO, ENOSPC, EPIPE = 4, 5, 28, 32
 EVER = 10**9
 SECTOR = 512
 
-FEEDS = ("feed first_run", "feed a_splice_in_mid_board", "feed a_reel_moved_to_another_slot", "migrate a_file_of_version_1_is_migrated")
+FEEDS = (
+    "feed first_run",
+    "feed a_splice_in_mid_board",
+    "feed a_reel_moved_to_another_slot",
+    "migrate a_file_of_version_1_is_migrated",
+)
 WHOLE = {
     "wire": ("feed first_run", "serve first_run"),
-    "memory": ("feed first_run", "serve first_run", "import-setup a_setup_file_is_one_sheet", "import-counts a_count_file_is_all_or_nothing"),
-    "disk": FEEDS, "kill": FEEDS, "power": FEEDS,
+    "memory": (
+        "feed first_run",
+        "serve first_run",
+        "import-setup a_setup_file_is_one_sheet",
+        "import-counts a_count_file_is_all_or_nothing",
+    ),
+    "disk": FEEDS,
+    "kill": FEEDS,
+    "power": FEEDS,
 }
 ONE_IN = 8  # of the other points that --gate tries
 
@@ -82,7 +94,12 @@ class Rooms:
     """A folder for each thread, emptied for each run."""
 
     def __init__(self, folder):
-        self.folder, self.own, self.lock, self.count = pathlib.Path(folder), threading.local(), threading.Lock(), 0
+        self.folder, self.own, self.lock, self.count = (
+            pathlib.Path(folder),
+            threading.local(),
+            threading.Lock(),
+            0,
+        )
 
     def room(self, files):
         if not hasattr(self.own, "room"):
@@ -137,20 +154,33 @@ class Story:
         self.cache, self.judged, self.lock = {}, set(), threading.Lock()
 
     def process(self, room, words, env=None, **how):
-        words = [str(room / word) if word == "desk" or word in self.beside else word for word in words]
+        words = [
+            str(room / word) if word == "desk" or word in self.beside else word for word in words
+        ]
         return subprocess.Popen([self.asked.program, *words], cwd=room, env=env, **how)
 
     def ran(self, room, words, given=b"", env=None, patience=None):
         """One run: what it put out, and told, and how it ended. All of it goes through files."""
         (room / "given").write_bytes(given)
-        with open(room / "given") as source, open(room / "out", "w") as out, open(room / "told", "w") as told:
-            process = self.process(room, words, env, stdin=source if self.reads else subprocess.DEVNULL, stdout=out, stderr=told)
+        with open(room / "given") as source, open(room / "out", "w") as out, open(
+            room / "told", "w"
+        ) as told:
+            process = self.process(
+                room,
+                words,
+                env,
+                stdin=source if self.reads else subprocess.DEVNULL,
+                stdout=out,
+                stderr=told,
+            )
             ended(process, patience or self.asked.patience)
         return (room / "out").read_bytes(), (room / "told").read_bytes(), process.returncode
 
     def once(self, room, order, env=None):
         """One run on these parts: the whole answers, what is behind them, what was told, and the status."""
-        return self.taken(*self.ran(room, self.words, b"".join(self.parts[part] for part in order), env))
+        return self.taken(
+            *self.ran(room, self.words, b"".join(self.parts[part] for part in order), env)
+        )
 
     def taken(self, out, told, status, _answered=b""):
         return *self.split(out), told, status
@@ -164,11 +194,19 @@ class Story:
 
     def statuses(self, answers):
         """How a run ends that gave these answers, and in which nothing failed but what was answered Unavailable."""
-        return (0,) if all(re.match(rb'{"Answer":"(Accepted|Ignored)"', answer) for answer in answers) else (1,)
+        return (
+            (0,)
+            if all(re.match(rb'{"Answer":"(Accepted|Ignored)"', answer) for answer in answers)
+            else (1,)
+        )
 
     def faults(self, kind):
         """What is told, and how a run ends, where calls of this kind failed and no answer could say so."""
-        return [{"input": ("tracedesk: Read\n", 4), "output": ("tracedesk: Write\n", 4)}.get(kind, ("tracedesk: Unavailable\n", 3))]
+        return [
+            {"input": ("tracedesk: Read\n", 4), "output": ("tracedesk: Write\n", 4)}.get(
+                kind, ("tracedesk: Unavailable\n", 3)
+            )
+        ]
 
     def is_whole(self, got):
         """Whether a run that told nothing has answered all that it had to."""
@@ -178,7 +216,13 @@ class Story:
         return change.text
 
     def failing(self, room, fail):
-        return {**os.environ, "LD_PRELOAD": self.asked.library, "FAIL": fail, "FAIL_DESK": str(room / "desk"), "FAIL_COUNTS": str(room / "counts")}
+        return {
+            **os.environ,
+            "LD_PRELOAD": self.asked.library,
+            "FAIL": fail,
+            "FAIL_DESK": str(room / "desk"),
+            "FAIL_COUNTS": str(room / "counts"),
+        }
 
     def failed(self, fail="", record=False, files=None):
         """A run of all parts in which these calls fail."""
@@ -188,33 +232,79 @@ class Story:
             env["FAIL_RECORD"] = str(room / "record")
         answers, rest, told, status = self.once(room, self.all, env)
         counts = dict(zip(KINDS, struct.unpack(f"{len(KINDS)}q", (room / "counts").read_bytes())))
-        return Got(answers, rest, told, status, files_in(room), counts, (room / "record").read_bytes() if record else b"")
+        return Got(
+            answers,
+            rest,
+            told,
+            status,
+            files_in(room),
+            counts,
+            (room / "record").read_bytes() if record else b"",
+        )
 
     def branched(self, base, points):
         """One run in which the calls of `base` fail, and at each point a copy of it, in which the calls of the point
-        fail: what each copy gave, in the order of the points; where the run came to no such point, what it gave itself."""
+        fail: what each copy gave, in the order of the points; where the run came to no such point, what it gave itself.
+        """
         room = self.asked.rooms.room({**self.start, **self.beside})
         copies = room.with_name(room.name + ".copies")
         shutil.rmtree(copies, ignore_errors=True)
         copies.mkdir()
-        order = sorted((fail.split()[0], int(fail.split()[1]), name, fail) for name, fail in enumerate(points))
-        (room / "points").write_text("".join(f"{kind} {number} {name} {fail}\n" for kind, number, name, fail in order))
-        env = {**self.failing(room, base), "FAIL_POINTS": str(room / "points"), "FAIL_ROOMS": str(copies),
-               "FAIL_GIVEN": str(room / "given"), "FAIL_SECONDS": f"{self.asked.patience:.0f}"}
-        _out, _told, status = self.ran(room, [*self.words, *self.port(20_000)], b"".join(self.parts), env, self.asked.patience * (1 + len(points)))
+        order = sorted(
+            (fail.split()[0], int(fail.split()[1]), name, fail) for name, fail in enumerate(points)
+        )
+        (room / "points").write_text(
+            "".join(f"{kind} {number} {name} {fail}\n" for kind, number, name, fail in order)
+        )
+        env = {
+            **self.failing(room, base),
+            "FAIL_POINTS": str(room / "points"),
+            "FAIL_ROOMS": str(copies),
+            "FAIL_GIVEN": str(room / "given"),
+            "FAIL_SECONDS": f"{self.asked.patience:.0f}",
+        }
+        _out, _told, status = self.ran(
+            room,
+            [*self.words, *self.port(20_000)],
+            b"".join(self.parts),
+            env,
+            self.asked.patience * (1 + len(points)),
+        )
         own = self.got(room, status)
-        if not base and (own.answers, own.rest, own.told, own.status) != (self.known(self.all).answers, b"", b"", self.known(self.all).status):
+        if not base and (own.answers, own.rest, own.told, own.status) != (
+            self.known(self.all).answers,
+            b"",
+            b"",
+            self.known(self.all).status,
+        ):
             raise Found(f"a run with copies: status {own.status}, {own.told!r}, {own.answers!r}")
-        statuses = {int(name): os.waitstatus_to_exitcode(int(it)) for name, it in map(str.split, (copies / "ended").read_text().splitlines())}
-        gots = [self.got(copies / str(name), statuses[name]) if name in statuses else own for name in range(len(points))]
+        statuses = {
+            int(name): os.waitstatus_to_exitcode(int(it))
+            for name, it in map(str.split, (copies / "ended").read_text().splitlines())
+        }
+        gots = [
+            self.got(copies / str(name), statuses[name]) if name in statuses else own
+            for name in range(len(points))
+        ]
         shutil.rmtree(copies)
         return gots
 
     def got(self, room, status):
         """What a run gave that put its answers into files."""
         if status == -14:
-            return Got([], b"", f"had not ended after {self.asked.patience:.0f} seconds".encode(), status, {}, {}, b"")
-        out, told, answered = ((room / name).read_bytes() if (room / name).exists() else b"" for name in ("out", "told", "answered"))
+            return Got(
+                [],
+                b"",
+                f"had not ended after {self.asked.patience:.0f} seconds".encode(),
+                status,
+                {},
+                {},
+                b"",
+            )
+        out, told, answered = (
+            (room / name).read_bytes() if (room / name).exists() else b""
+            for name in ("out", "told", "answered")
+        )
         try:
             return Got(*self.taken(out, told, status, answered), files_in(room), {}, b"")
         except Found as it:
@@ -277,7 +367,9 @@ class Command(Story):
     def taken(self, out, told, status, _answered=b""):
         if status == 3 and not out:
             return [UNAVAILABLE if told == b"tracedesk: Unavailable\n" else told], b"", b"", status
-        return ([out], b"", told, status) if status in (0, 1, 3) else (*self.split(out), told, status)
+        return (
+            ([out], b"", told, status) if status in (0, 1, 3) else (*self.split(out), told, status)
+        )
 
     def split(self, out):
         lines = self.wanted[0].count(b"\n") if self.wanted else 1
@@ -298,12 +390,21 @@ class Served(Story):
     def __init__(self, *its, **more):
         super().__init__(*its, **more)
         head = "HTTP/1.1 503 Service Unavailable\r\nContent-Type: application/json\r\nContent-Length: 24\r\n"
-        self.refusals = tuple((head + end + "\r\n").encode() + UNAVAILABLE for end in ("", "Connection: close\r\n"))
+        self.refusals = tuple(
+            (head + end + "\r\n").encode() + UNAVAILABLE for end in ("", "Connection: close\r\n")
+        )
 
     def once(self, room, order, env=None):
         given = b"".join(self.parts[part] for part in order)
-        told = self.ran(room, [*self.words, *self.port(20_000)], given, {**(env or self.failing(room, "")), "FAIL_GIVEN": str(room / "given")})
-        return self.taken(*told, (room / "answered").read_bytes() if (room / "answered").exists() else b"")
+        told = self.ran(
+            room,
+            [*self.words, *self.port(20_000)],
+            given,
+            {**(env or self.failing(room, "")), "FAIL_GIVEN": str(room / "given")},
+        )
+        return self.taken(
+            *told, (room / "answered").read_bytes() if (room / "answered").exists() else b""
+        )
 
     reads = False
 
@@ -312,8 +413,12 @@ class Served(Story):
 
     def taken(self, out, told, status, answered=b""):
         answers, rest = self.split(answered)
-        if status in (0, 1) and not re.fullmatch(rb"1 %d( Read| Write| TooManyReads)?\n" % len(answers), out):
-            raise Found(f"of the connection is told {out!r}, where {len(answers)} requests were answered")
+        if status in (0, 1) and not re.fullmatch(
+            rb"1 %d( Read| Write| TooManyReads)?\n" % len(answers), out
+        ):
+            raise Found(
+                f"of the connection is told {out!r}, where {len(answers)} requests were answered"
+            )
         return answers, rest, told, status
 
     def put_out(self, change):
@@ -322,7 +427,7 @@ class Served(Story):
     def split(self, out):
         answers = []
         while (head := out.find(b"\r\n\r\n")) >= 0:
-            length = re.search(rb"Content-Length: (\d+)\r\n", out[:head + 2])
+            length = re.search(rb"Content-Length: (\d+)\r\n", out[: head + 2])
             end = head + 4 + int(length[1])
             if len(out) < end:
                 break
@@ -348,17 +453,26 @@ class Served(Story):
 # ---- what has to be ----------------------------------------------------------------------------------------------
 def judge(story, got, files, seen, may_be_done=True):
     """Judges what a run answered, and the files that it left; where it may be, a part at hand may be done in them."""
-    done = tuple(part for part, answer in enumerate(got.answers) if not story.is_unavailable(answer))
+    done = tuple(
+        part for part, answer in enumerate(got.answers) if not story.is_unavailable(answer)
+    )
     known = story.known(done).answers
     if [got.answers[part] for part in done] != known:
-        raise Found(f"answers {got.answers!r}, where an undisturbed run of those that were not Unavailable gives {known!r}")
+        raise Found(
+            f"answers {got.answers!r}, where an undisturbed run of those that were not Unavailable gives {known!r}"
+        )
     may = [done] + [done + (part,) for part in at_hand(story, got)]
-    if got.rest and not any(answer.startswith(got.rest) for answer in (*story.refusals, *(story.known(order).answers[-1] for order in may[1:]))):
+    if got.rest and not any(
+        answer.startswith(got.rest)
+        for answer in (*story.refusals, *(story.known(order).answers[-1] for order in may[1:]))
+    ):
         raise Found(f"the last answer begins with {got.rest!r}")
     if not may_be_done or got.status in (0, 1) and len(got.answers) == len(story.parts):
         may = may[:1]
     seen["with a line that was Unavailable"] += len(done) < len(got.answers)
-    seen["of these with a later line that was taken"] += any(part < last for part in range(len(got.answers)) if part not in done for last in done[-1:])
+    seen["of these with a later line that was taken"] += any(
+        part < last for part in range(len(got.answers)) if part not in done for last in done[-1:]
+    )
     if story.has_desk and story.is_new(files, may):
         judge_files(story, files, may, seen)
 
@@ -366,8 +480,17 @@ def judge(story, got, files, seen, may_be_done=True):
 def at_hand(story, got):
     """The parts of which one may be done without an answer that says so: the one behind the last answer, and those
     that were answered Unavailable since the last that was Accepted."""
-    last = max((part for part, answer in enumerate(got.answers) if b'"Answer":"Accepted"' in answer), default=-1)
-    return [part for part in story.all[last + 1:] if part == len(got.answers) or part < len(got.answers) and story.is_unavailable(got.answers[part])]
+    last = max(
+        (part for part, answer in enumerate(got.answers) if b'"Answer":"Accepted"' in answer),
+        default=-1,
+    )
+    return [
+        part
+        for part in story.all[last + 1 :]
+        if part == len(got.answers)
+        or part < len(got.answers)
+        and story.is_unavailable(got.answers[part])
+    ]
 
 
 def judge_files(story, files, may, seen):
@@ -376,13 +499,27 @@ def judge_files(story, files, may, seen):
         order, files = (), {}
         seen["files: no desk was made yet"] += 1
     else:
-        order = next((order for order in may if story.known(order).audit == audit and story.known(order).tables == tables(after["desk"])), None)
+        order = next(
+            (
+                order
+                for order in may
+                if story.known(order).audit == audit
+                and story.known(order).tables == tables(after["desk"])
+            ),
+            None,
+        )
         if order is None:
-            raise Found(f"audit says {audit!r}, and the rows are not those of any of the parts {may}")
-        seen["files: no more was done than was answered" if order == may[0] else "files: the part at hand was done"] += 1
+            raise Found(
+                f"audit says {audit!r}, and the rows are not those of any of the parts {may}"
+            )
+        seen[
+            "files: no more was done than was answered"
+            if order == may[0]
+            else "files: the part at hand was done"
+        ] += 1
     wanted = story.known(order + story.all)
     answers, _status, after = story.plainly(story.all, files)
-    if answers != wanted.answers[len(order):]:
+    if answers != wanted.answers[len(order) :]:
         raise Found(f"sent again after the parts {order}: {answers!r}")
     if tables(after["desk"]) != wanted.tables:
         raise Found(f"sent again after the parts {order}: other rows")
@@ -403,7 +540,9 @@ def stopped(story, kind, fail, seen, got=None):
     judge(story, got, got.files, seen, kind not in ("memory", "input"))
     judge_status(story, got, kind)
     if is_refused_once(fail) and sum(map(story.is_unavailable, got.answers)) > 1:
-        raise Found(f"memory was refused once, and more than one answer is Unavailable: {got.answers!r}")
+        raise Found(
+            f"memory was refused once, and more than one answer is Unavailable: {got.answers!r}"
+        )
     seen[f"status {got.status}{' ' + got.told.decode().strip() if got.told else ''}"] += 1
 
 
@@ -441,7 +580,7 @@ def changes_in(record):
         end = record.index(b"\n", at)
         what, name, number, length = record[at:end].decode().split(" ")
         at = end + 1 + int(length)
-        yield Change(what, name, int(number), record[end + 1:at])
+        yield Change(what, name, int(number), record[end + 1 : at])
 
 
 def apply(text, change):
@@ -449,9 +588,9 @@ def apply(text, change):
     end = change.number + len(change.text)
     text.extend(bytes(max(0, end - len(text))))
     if change.what == "length":
-        del text[change.number:]
+        del text[change.number :]
     else:
-        text[change.number:end] = change.text
+        text[change.number : end] = change.text
 
 
 class Disk:
@@ -484,7 +623,12 @@ class Disk:
             self.sure[name] = bytes(text)
 
     def unsure(self):
-        return [(name, at) for name in sorted(self.open) for at, it in enumerate(self.open[name]) if not it[1]]
+        return [
+            (name, at)
+            for name in sorted(self.open)
+            for at, it in enumerate(self.open[name])
+            if not it[1]
+        ]
 
     def with_these(self, kept):
         """The files where of the unsure changes these are kept, each whole."""
@@ -499,33 +643,58 @@ class Disk:
 
     def pieces(self, name, size):
         """Where the pieces of this size begin that an unsure write touches."""
-        writes = [change for change, is_sure, _dropped in self.open[name] if not is_sure and change.what == "write"]
-        return sorted({at for it in writes for at in range(it.number // size * size, it.number + len(it.text), size)})
+        writes = [
+            change
+            for change, is_sure, _dropped in self.open[name]
+            if not is_sure and change.what == "write"
+        ]
+        return sorted(
+            {
+                at
+                for it in writes
+                for at in range(it.number // size * size, it.number + len(it.text), size)
+            }
+        )
 
     def mixed(self, size, chance):
         """The files where each piece of this size is old or new by chance, and past the sure end of a file its length
         is anywhere, and any byte may be anything where pieces are of a byte."""
-        old, new, share = self.with_these(()), self.with_these(self.unsure()), chance.choice((0.03, 0.5, 0.97))
+        old, new, share = (
+            self.with_these(()),
+            self.with_these(self.unsure()),
+            chance.choice((0.03, 0.5, 0.97)),
+        )
         files = {}
         for name, text in new.items():
             before, both = old[name], bytearray(text)
             for at in self.pieces(name, size):
                 if at < min(len(before), len(text)) and chance.random() < share:
-                    both[at:at + size] = before[at:at + size][:len(both) - at]
+                    both[at : at + size] = before[at : at + size][: len(both) - at]
             if len(text) > len(before):
                 past = len(both) - len(before)
                 if size == 1 and chance.random() < 0.5:
-                    both[len(before):] = chance.randbytes(past)
-                del both[len(before) + chance.randint(0, past):]
+                    both[len(before) :] = chance.randbytes(past)
+                del both[len(before) + chance.randint(0, past) :]
             files[name] = bytes(both)
         return files
 
     def outcomes(self, chance):
         """Files that a power cut may leave now."""
         unsure = self.unsure()
-        few = [{at for bit, at in enumerate(unsure) if number >> bit & 1} for number in range(2 ** len(unsure))] if len(unsure) <= 3 else [
-            set(), set(unsure), *(set(unsure) - {it} for it in chance.sample(unsure, 4)), *({it} for it in chance.sample(unsure, 4)),
-            *({it for it in unsure if chance.random() < 0.5} for _ in range(4))]
+        few = (
+            [
+                {at for bit, at in enumerate(unsure) if number >> bit & 1}
+                for number in range(2 ** len(unsure))
+            ]
+            if len(unsure) <= 3
+            else [
+                set(),
+                set(unsure),
+                *(set(unsure) - {it} for it in chance.sample(unsure, 4)),
+                *({it} for it in chance.sample(unsure, 4)),
+                *({it for it in unsure if chance.random() < 0.5} for _ in range(4)),
+            ]
+        )
         yield from map(self.with_these, few)
         if unsure:
             for size in (SECTOR, SECTOR, 1, 1):
@@ -535,7 +704,9 @@ class Disk:
             del files[name]
             yield files
         if self.names:
-            yield {name: text for name, text in self.with_these(()).items() if name not in self.names}
+            yield {
+                name: text for name, text in self.with_these(()).items() if name not in self.names
+            }
 
 
 def replayed(story, record, files):
@@ -579,7 +750,9 @@ def chosen(asked, count):
     """The numbers from 1 on, or a seeded choice where they are too many; the first and the last are in it."""
     if count <= asked.most:
         return range(1, count + 1)
-    return sorted({1, count, *random.Random(f"{asked.seed} {count}").sample(range(1, count + 1), asked.most)})
+    return sorted(
+        {1, count, *random.Random(f"{asked.seed} {count}").sample(range(1, count + 1), asked.most)}
+    )
 
 
 def wire(story, counts):
@@ -624,7 +797,12 @@ def disk(story, counts):
 
 
 def kill(story, counts):
-    for kind, ways in (("write", ("kill", "killtorn")), ("sync", ("kill",)), ("output", ("kill", "killtorn")), ("call", ("kill",))):
+    for kind, ways in (
+        ("write", ("kill", "killtorn")),
+        ("sync", ("kill",)),
+        ("output", ("kill", "killtorn")),
+        ("call", ("kill",)),
+    ):
         for number in chosen(story.asked, counts[kind]):
             for way in ways:
                 yield killed, kind, f"{kind} {number} {number} {way}"
@@ -638,13 +816,25 @@ def power(story, counts, always="", one_in=1):
         got, failed = recorded(story, fail), not number
         for at, (change, out, disk) in enumerate(replayed(story, got.record, story.start)):
             failed = failed or change.what == "unsynced"
-            if not failed or number and chance.random() > 0.1 or one_in > 1 and chance.randrange(one_in):
+            if (
+                not failed
+                or number
+                and chance.random() > 0.1
+                or one_in > 1
+                and chance.randrange(one_in)
+            ):
                 continue
             answers, rest = story.split(out)
             outcomes = list(disk.outcomes(chance))
             for files in outcomes if not number else chance.sample(outcomes, min(4, len(outcomes))):
-                again = random.Random(f"{story.asked.seed} {number} {at}") if chance.random() < 0.1 else None
-                yield cut, got._replace(answers=answers, rest=rest, status=-9, told=b""), files, again, f"{fail or 'nothing failed'}, and the power at change {at + 1}"
+                again = (
+                    random.Random(f"{story.asked.seed} {number} {at}")
+                    if chance.random() < 0.1
+                    else None
+                )
+                yield cut, got._replace(
+                    answers=answers, rest=rest, status=-9, told=b""
+                ), files, again, f"{fail or 'nothing failed'}, and the power at change {at + 1}"
 
 
 # ---- what is run ---------------------------------------------------------------------------------------------------
@@ -659,7 +849,13 @@ def lines_of(asked, case, name):
 def fed(asked, case):
     """`feed` of a case's messages into a file."""
     said = [line + b"\n" for line in lines_of(asked, case, "messages.jsonl")]
-    return Story(asked, f"feed {case}", ["feed", "--db", "desk"], said, wanted=lines_of(asked, case, "answers.jsonl"))
+    return Story(
+        asked,
+        f"feed {case}",
+        ["feed", "--db", "desk"],
+        said,
+        wanted=lines_of(asked, case, "answers.jsonl"),
+    )
 
 
 def in_memory(asked, case):
@@ -682,11 +878,24 @@ def imported(asked, case):
             text = {step["write"]: step["text"].encode()}
         if step.get("answer", {}).get("Answer") == "Accepted":
             wanted = json.dumps(step["answer"], separators=(",", ":")).encode() + b"\n"
-            return Command(asked, f"{step['run'][0]} {case}", step["run"], [b""], fed_files(asked, case), text, [wanted])
+            return Command(
+                asked,
+                f"{step['run'][0]} {case}",
+                step["run"],
+                [b""],
+                fed_files(asked, case),
+                text,
+                [wanted],
+            )
 
 
 def spelled(status, kind, body):
-    return b"HTTP/1.1 %s\r\nContent-Type: %s\r\nContent-Length: %d\r\n\r\n%s" % (status, kind, len(body), body)
+    return b"HTTP/1.1 %s\r\nContent-Type: %s\r\nContent-Length: %d\r\n\r\n%s" % (
+        status,
+        kind,
+        len(body),
+        body,
+    )
 
 
 def report_of(story, count, target):
@@ -705,7 +914,10 @@ def report_of(story, count, target):
 def served(asked, case, targets):
     """A case's messages as requests, a report after each of them, and the first message once more."""
     feeding = fed(asked, case)
-    posts = [b"POST /messages HTTP/1.1\r\nContent-Length: %d\r\n\r\n%s" % (len(line) - 1, line[:-1]) for line in feeding.parts]
+    posts = [
+        b"POST /messages HTTP/1.1\r\nContent-Length: %d\r\n\r\n%s" % (len(line) - 1, line[:-1])
+        for line in feeding.parts
+    ]
     told = [spelled(b"200 OK", b"application/json", answer) for answer in feeding.wanted]
     parts, wanted = [posts[0]], [told[0]]
     for number, post in enumerate(posts):
@@ -727,23 +939,52 @@ def of_version_1(asked, case):
 
 
 REPORTS = {
-    "slots": ("/slots?machine=M", b"slot,position,reel,part,lot,remaining,minutes_left\n2,1,K2,P,L1,20,unlimited\n"),
-    "trace": ("/trace/board?board=B1&detail=4", b"designator,part,lot,reel,machine,slot,overdue\nR1,P,L1,K1,M,1,no\n"),
+    "slots": (
+        "/slots?machine=M",
+        b"slot,position,reel,part,lot,remaining,minutes_left\n2,1,K2,P,L1,20,unlimited\n",
+    ),
+    "trace": (
+        "/trace/board?board=B1&detail=4",
+        b"designator,part,lot,reel,machine,slot,overdue\nR1,P,L1,K1,M,1,no\n",
+    ),
 }
 
 
 def migrating(asked, case):
-    return Command(asked, f"migrate {case}", ["migrate", "--db", "desk"], [b""], of_version_1(asked, case), wanted=[b"version 2\n"])
+    return Command(
+        asked,
+        f"migrate {case}",
+        ["migrate", "--db", "desk"],
+        [b""],
+        of_version_1(asked, case),
+        wanted=[b"version 2\n"],
+    )
 
 
 def auditing(asked, case):
-    count = sum(line.startswith(b'{"Answer":"Accepted"') for line in lines_of(asked, case, "answers.jsonl"))
-    return Command(asked, f"audit {case}", ["audit", "--db", "desk"], [b""], fed_files(asked, case), wanted=[b"lawful %d\n" % count])
+    count = sum(
+        line.startswith(b'{"Answer":"Accepted"') for line in lines_of(asked, case, "answers.jsonl")
+    )
+    return Command(
+        asked,
+        f"audit {case}",
+        ["audit", "--db", "desk"],
+        [b""],
+        fed_files(asked, case),
+        wanted=[b"lawful %d\n" % count],
+    )
 
 
 def reporting(name):
     target, text = REPORTS[name]
-    return lambda asked, case: Command(asked, f"report {name} {case}", ["report", "--db", "desk", "--get", target], [b""], fed_files(asked, case), wanted=[text])
+    return lambda asked, case: Command(
+        asked,
+        f"report {name} {case}",
+        ["report", "--db", "desk", "--get", target],
+        [b""],
+        fed_files(asked, case),
+        wanted=[text],
+    )
 
 
 def serving(*targets):
@@ -752,28 +993,55 @@ def serving(*targets):
 
 MOVED = "a_reel_moved_to_another_slot"
 STORIES = (
-    ("feed", "first_run", fed), ("feed", "a_splice_in_mid_board", fed), ("feed", MOVED, fed), ("feed, in memory,", "first_run", in_memory),
-    ("import-setup", "a_setup_file_is_one_sheet", imported), ("import-counts", "a_count_file_is_all_or_nothing", imported),
-    ("migrate", "a_file_of_version_1_is_migrated", migrating), ("audit", MOVED, auditing),
-    ("report slots", MOVED, reporting("slots")), ("report trace", MOVED, reporting("trace")),
+    ("feed", "first_run", fed),
+    ("feed", "a_splice_in_mid_board", fed),
+    ("feed", MOVED, fed),
+    ("feed, in memory,", "first_run", in_memory),
+    ("import-setup", "a_setup_file_is_one_sheet", imported),
+    ("import-counts", "a_count_file_is_all_or_nothing", imported),
+    ("migrate", "a_file_of_version_1_is_migrated", migrating),
+    ("audit", MOVED, auditing),
+    ("report slots", MOVED, reporting("slots")),
+    ("report trace", MOVED, reporting("trace")),
     ("serve", "first_run", serving("/slots?machine=M")),
-    ("serve", MOVED, serving("/slots?machine=M", "/reel?reel=K2", "/kit?product=PR&machine=M&boards=1", "/trace/lot?lot=L1&detail=4", "/reel?reel=K1")),
+    (
+        "serve",
+        MOVED,
+        serving(
+            "/slots?machine=M",
+            "/reel?reel=K2",
+            "/kit?product=PR&machine=M&boards=1",
+            "/trace/lot?lot=L1&detail=4",
+            "/reel?reel=K1",
+        ),
+    ),
 )
 
 
 def stories(asked):
     """What is run."""
     for name, case, make in STORIES:
-        if re.match("[a-z-]+", name)[0] in asked.commands and (asked.only or "") in f"{name} {case}":
+        if (
+            re.match("[a-z-]+", name)[0] in asked.commands
+            and (asked.only or "") in f"{name} {case}"
+        ):
             it = make(asked, case)
             it.name = f"{name} {case}"
             yield it
 
 
 PLANTED = {
-    "answers that are told as written, and are not": lambda story, counts, _one_in: ((stopped, "output", f"output {number} {number} lie") for number in range(1, counts["output"] + 1)),
-    "writes that are told as done, and are not": lambda story, counts, _one_in: ((stopped, "write", f"write {number} {number} lie") for number in range(1, counts["write"] + 1)),
-    "syncs that are told as done, and are not, and the power failing": lambda story, counts, one_in: power(story, counts, f"sync 1 {EVER} lie", one_in),
+    "answers that are told as written, and are not": lambda story, counts, _one_in: (
+        (stopped, "output", f"output {number} {number} lie")
+        for number in range(1, counts["output"] + 1)
+    ),
+    "writes that are told as done, and are not": lambda story, counts, _one_in: (
+        (stopped, "write", f"write {number} {number} lie")
+        for number in range(1, counts["write"] + 1)
+    ),
+    "syncs that are told as done, and are not, and the power failing": lambda story, counts, one_in: power(
+        story, counts, f"sync 1 {EVER} lie", one_in
+    ),
 }
 PARTS = {"wire": wire, "memory": memory, "disk": disk, "kill": kill, "power": power}
 
@@ -800,8 +1068,22 @@ def many(story, base, points):
     try:
         gots = story.branched(base, [fail for _call, _kind, fail in points])
     except Found as it:
-        return len(points), collections.Counter(), [f"{points[0][2]} and {len(points) - 1} more: {it}"]
-    return judged([(fail, lambda seen, call=call, kind=kind, fail=fail, got=got: call(story, kind, fail, seen, got)) for (call, kind, fail), got in zip(points, gots)])
+        return (
+            len(points),
+            collections.Counter(),
+            [f"{points[0][2]} and {len(points) - 1} more: {it}"],
+        )
+    return judged(
+        [
+            (
+                fail,
+                lambda seen, call=call, kind=kind, fail=fail, got=got: call(
+                    story, kind, fail, seen, got
+                ),
+            )
+            for (call, kind, fail), got in zip(points, gots)
+        ]
+    )
 
 
 def tasks_of(story, points, until):
@@ -826,7 +1108,11 @@ def tried(asked, points_of, story, until):
     seen, found, count = collections.Counter(), [], 0
     counts = story.failed().counts
     with concurrent.futures.ThreadPoolExecutor(asked.jobs) as pool:
-        tasks, running, ticks = tasks_of(story, points_of(story, counts), until), set(), program.Ticks()
+        tasks, running, ticks = (
+            tasks_of(story, points_of(story, counts), until),
+            set(),
+            program.Ticks(),
+        )
         while True:
             try:
                 while len(running) < 2 * asked.jobs and (task := next(tasks, None)) is not None:
@@ -836,7 +1122,9 @@ def tried(asked, points_of, story, until):
                 tasks = iter(())
             if not running:
                 break
-            ready, running = concurrent.futures.wait(running, return_when=concurrent.futures.FIRST_COMPLETED)
+            ready, running = concurrent.futures.wait(
+                running, return_when=concurrent.futures.FIRST_COMPLETED
+            )
             ticks.tell(f"{story.name}: {count} points so far")
             for it in ready:
                 more, own, wrong = it.result()
@@ -853,19 +1141,32 @@ def points_for(asked, name, story):
     if name == "power":
         return lambda story, counts: power(story, counts, one_in=ONE_IN)
     chance = random.Random(f"{asked.seed} {name} {story.name}")
-    return lambda story, counts: (it for it in PARTS[name](story, counts) if chance.randrange(ONE_IN) == 0)
+    return lambda story, counts: (
+        it for it in PARTS[name](story, counts) if chance.randrange(ONE_IN) == 0
+    )
 
 
 def part_of(asked, name, story):
     """Tries a part of a story, tells it in a line, and gives how many points there were and what was found."""
     begun = time.monotonic()
     if story.wanted is not None and story.known(story.all).answers != story.wanted:
-        count, seen, found = 0, {}, [f"an undisturbed run has not the case's answers, but {story.known(story.all).answers!r}"]
+        count, seen, found = (
+            0,
+            {},
+            [
+                f"an undisturbed run has not the case's answers, but {story.known(story.all).answers!r}"
+            ],
+        )
     else:
-        count, seen, found = tried(asked, points_for(asked, name, story), story, begun + asked.seconds)
+        count, seen, found = tried(
+            asked, points_for(asked, name, story), story, begun + asked.seconds
+        )
     time_up = ", and its time was up" if time.monotonic() - begun > asked.seconds else ""
     told = "; ".join(f"{number} {word}" for word, number in sorted(seen.items()))
-    print(f"{name}, {story.name}: {count} points in {time.monotonic() - begun:.0f} s{time_up}: {told}", flush=True)
+    print(
+        f"{name}, {story.name}: {count} points in {time.monotonic() - begun:.0f} s{time_up}: {told}",
+        flush=True,
+    )
     for it in found[:20]:
         print(f"  FOUND {it[:1500]}", flush=True)
     if len(found) > 20:
@@ -892,7 +1193,11 @@ def planted(asked, names, points, ends, one_in=1):
             count, _seen, found = tried(asked, points_of, story, time.monotonic() + asked.seconds)
             points["planted"] += count
             ends["passed" if found else "failed"] += 1
-            print(f"planted, {story.name}: {name}: {count} points, {len(found)} of them found out" + (", as " + found[0][:300] if found else ""), flush=True)
+            print(
+                f"planted, {story.name}: {name}: {count} points, {len(found)} of them found out"
+                + (", as " + found[0][:300] if found else ""),
+                flush=True,
+            )
 
 
 def gate(asked, points, ends):
@@ -901,7 +1206,9 @@ def gate(asked, points, ends):
     parts(asked, points, ends)
     planted(asked, ("feed first_run",), points, ends, ONE_IN)
     kinds = ", ".join(f"{name} {count:,}" for name, count in points.items())
-    print(f"points: {kinds}; {points.total():,} in all, in {time.monotonic() - begun:.0f} s; the seed of the choice: {asked.seed}")
+    print(
+        f"points: {kinds}; {points.total():,} in all, in {time.monotonic() - begun:.0f} s; the seed of the choice: {asked.seed}"
+    )
     print(f"{ends['passed']} passed, {ends['failed']} failed", flush=True)
 
 
@@ -910,11 +1217,19 @@ def words(reader):
     reader.add_argument("--cases", type=pathlib.Path, default=ROOT / "cases")
     reader.add_argument("--jobs", type=int, default=max(1, (os.cpu_count() or 2) // 2))
     reader.add_argument("--most", type=int, default=1_000_000)
-    reader.add_argument("--seconds", type=float, default=1_800, help="how long one story of a part goes on at most")
-    reader.add_argument("--seed", type=int, help="1 where none is given, and with --gate the commit's")
+    reader.add_argument(
+        "--seconds", type=float, default=1_800, help="how long one story of a part goes on at most"
+    )
+    reader.add_argument(
+        "--seed", type=int, help="1 where none is given, and with --gate the commit's"
+    )
     reader.add_argument("--patience", type=float, default=60, help="seconds for one run")
     reader.add_argument("--only", help="the stories alone that have this in their names")
-    reader.add_argument("--folder", default="/dev/shm" if os.path.isdir("/dev/shm") else None, help="where the desks are made")
+    reader.add_argument(
+        "--folder",
+        default="/dev/shm" if os.path.isdir("/dev/shm") else None,
+        help="where the desks are made",
+    )
     reader.add_argument("--planted", action="store_true")
     reader.add_argument("--gate", action="store_true")
     reader.add_argument("parts", nargs="*", metavar="PART")
@@ -924,16 +1239,34 @@ def main(asked, reader):
     if set(asked.parts) - set(PARTS):
         reader.error(f"the parts are {', '.join(PARTS)}")
     if asked.gate and not program.can_compile():
-        print("skipped: there is no C compiler here with the C library's headers: apt-get install gcc libc6-dev\n0 passed, 0 failed")
+        print(
+            "skipped: there is no C compiler here with the C library's headers: apt-get install gcc libc6-dev\n0 passed, 0 failed"
+        )
         return 0
     program.want("cc", "gcc libc6-dev")
     if asked.seed is None:
         asked.seed = program.seed_of_commit() if asked.gate else 1
     asked.program = program.to_use(asked.program)
-    asked.commands = re.findall(r"^  ([a-z-]+) ", subprocess.run([asked.program, "--help"], capture_output=True, text=True).stdout, re.M)
+    asked.commands = re.findall(
+        r"^  ([a-z-]+) ",
+        subprocess.run([asked.program, "--help"], capture_output=True, text=True).stdout,
+        re.M,
+    )
     with tempfile.TemporaryDirectory(prefix="calls-", dir=asked.folder) as folder:
         asked.library = str(pathlib.Path(folder, "calls.so"))
-        subprocess.run(["cc", "-shared", "-fPIC", "-O1", "-fno-delete-null-pointer-checks", "-o", asked.library, ROOT / "dev/faults/calls.c"], check=True)
+        subprocess.run(
+            [
+                "cc",
+                "-shared",
+                "-fPIC",
+                "-O1",
+                "-fno-delete-null-pointer-checks",
+                "-o",
+                asked.library,
+                ROOT / "dev/faults/calls.c",
+            ],
+            check=True,
+        )
         asked.rooms = Rooms(os.path.realpath(folder))
         points, ends = collections.Counter(), collections.Counter()
         if asked.gate:

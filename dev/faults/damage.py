@@ -27,12 +27,16 @@ import time
 from tracedesk_dev import program, shift, trial
 
 PATIENCE = float(os.environ.get("PATIENCE", "60"))  # seconds for a run of audit
-FAULT = re.compile(rb"tracedesk: (NotADesk|OtherVersion \d+|NotLawful \d+|TableDiffers \w+|Unavailable)\n")
+FAULT = re.compile(
+    rb"tracedesk: (NotADesk|OtherVersion \d+|NotLawful \d+|TableDiffers \w+|Unavailable)\n"
+)
 
 
 def rows_of(file):
     """All rows of all tables, or none where stock SQLite finds the file unsound."""
-    with contextlib.closing(sqlite3.connect(f"file:{file}?mode=ro&immutable=1", uri=True)) as database:
+    with contextlib.closing(
+        sqlite3.connect(f"file:{file}?mode=ro&immutable=1", uri=True)
+    ) as database:
         try:
             if database.execute("PRAGMA integrity_check").fetchall() != [("ok",)]:
                 return None
@@ -50,7 +54,9 @@ def made(asked, folder):
     """A whole file, and how many commands it has."""
     file, said = pathlib.Path(folder, "whole"), shift.Shift(asked.seed, asked.boards, "L1").lines
     given = b"".join(it.text + b"\n" for it in said)
-    subprocess.run([asked.program, "feed", "--db", file], input=given, stdout=subprocess.DEVNULL, check=False)
+    subprocess.run(
+        [asked.program, "feed", "--db", file], input=given, stdout=subprocess.DEVNULL, check=False
+    )
     return file, sum(it.wanted == "Accepted" for it in said)
 
 
@@ -60,7 +66,7 @@ def damages(whole, page, asked):
     some = sorted(chance.sample(places, min(asked.pages, len(places))))
     for at in some:
         yield "cut at the end of a page", at, whole[:at]
-        yield "a page of zeros", at, whole[:at] + bytes(page) + whole[at + page:]
+        yield "a page of zeros", at, whole[:at] + bytes(page) + whole[at + page :]
     for at in some:
         within = at + chance.randrange(1, page)
         yield "cut within a page", within, whole[:within]
@@ -72,7 +78,9 @@ def damages(whole, page, asked):
 def judged(program, file, before, rows, count):
     """What `audit` says of a damaged file; a text that begins with FOUND where that may not be."""
     try:
-        done = subprocess.run([program, "audit", "--db", file], capture_output=True, timeout=PATIENCE)
+        done = subprocess.run(
+            [program, "audit", "--db", file], capture_output=True, timeout=PATIENCE
+        )
     except subprocess.TimeoutExpired:
         return f"FOUND no end after {PATIENCE} seconds"
     if done.returncode == 3 and not done.stdout and FAULT.fullmatch(done.stderr):
@@ -108,9 +116,14 @@ def tried(asked, folder):
             wrong += 1
             print(f"{kind}, byte {at}: {said}", flush=True)
         told[kind][said.split(",")[0]] += 1
-    print(f"{count} commands in {len(whole)} bytes, {len(whole) // page} pages of {page}; {time.monotonic() - begun:.0f} s")
+    print(
+        f"{count} commands in {len(whole)} bytes, {len(whole) // page} pages of {page}; {time.monotonic() - begun:.0f} s"
+    )
     for kind, words in told.items():
-        print(f"{kind}: {sum(words.values())} files; " + ", ".join(f"{number} {word}" for word, number in words.most_common()))
+        print(
+            f"{kind}: {sum(words.values())} files; "
+            + ", ".join(f"{number} {word}" for word, number in words.most_common())
+        )
     return wrong
 
 

@@ -76,10 +76,14 @@ class Desk:
             if number < len(self.answers):
                 known = self.answers[number]
                 if known.startswith(b'{"Answer":"Accepted"') and answer != known:
-                    raise Found(f"line {number + 1} was answered {known!r}, and sent again {answer!r}")
+                    raise Found(
+                        f"line {number + 1} was answered {known!r}, and sent again {answer!r}"
+                    )
                 continue
             if answer != self.said[number].answer:
-                raise Found(f"line {number + 1}: wanted {self.said[number].answer[:300]!r}, got {answer[:300]!r}")
+                raise Found(
+                    f"line {number + 1}: wanted {self.said[number].answer[:300]!r}, got {answer[:300]!r}"
+                )
             self.answers.append(answer)
 
     def audit(self):
@@ -100,10 +104,15 @@ class Desk:
         count = int(done.stdout.split()[1])
         if not acknowledged <= count <= acknowledged + 1:
             raise Found(f"{acknowledged} commands were acknowledged, and audit finds {count}")
-        rows = read(self.file, lambda it: it.execute("SELECT uid, detail FROM accepted ORDER BY number").fetchall())
+        rows = read(
+            self.file,
+            lambda it: it.execute("SELECT uid, detail FROM accepted ORDER BY number").fetchall(),
+        )
         if [uid for uid, _detail in rows] != self.uids[:count]:
             raise Found("the accepted commands are not those that were sent, in their order")
-        accepted = [answer for said, answer in zip(self.said, self.answers) if said.wanted == "Accepted"]
+        accepted = [
+            answer for said, answer in zip(self.said, self.answers) if said.wanted == "Accepted"
+        ]
         if [detail.encode() for _uid, detail in rows[:acknowledged]] != accepted:
             raise Found("an accepted command has not the answer that was given")
         return count - acknowledged
@@ -131,7 +140,9 @@ def run(words, given=b""):
 
 def read(file, look):
     """What `look` finds in a copy of a file that no run has open."""
-    with tempfile.TemporaryDirectory() as room, contextlib.closing(sqlite3.connect(shutil.copy(file, room))) as database:
+    with tempfile.TemporaryDirectory() as room, contextlib.closing(
+        sqlite3.connect(shutil.copy(file, room))
+    ) as database:
         return look(database)
 
 
@@ -149,7 +160,9 @@ def feed_for(desk, first, seconds):
         given.writelines(said.text + b"\n" for said in desk.said[first:])
         given.seek(0)
         words = [desk.program, "feed", "--db", desk.file]
-        process = subprocess.Popen(words, stdin=given, stdout=taken, stderr=told, start_new_session=True)
+        process = subprocess.Popen(
+            words, stdin=given, stdout=taken, stderr=told, start_new_session=True
+        )
         with contextlib.suppress(subprocess.TimeoutExpired):
             process.wait(seconds)
         ended = process.poll()
@@ -164,8 +177,19 @@ def feed_for(desk, first, seconds):
 def serve_for(desk, first, seconds):
     """Posts the lines from this one on to `serve` for a while, then kills it, and gives the whole answers."""
     port, answers = free_port(), []
-    words = [desk.program, "serve", "--db", desk.file, "--port", str(port), "--connections", "1000000"]
-    process = subprocess.Popen(words, stdout=subprocess.DEVNULL, stderr=subprocess.DEVNULL, start_new_session=True)
+    words = [
+        desk.program,
+        "serve",
+        "--db",
+        desk.file,
+        "--port",
+        str(port),
+        "--connections",
+        "1000000",
+    ]
+    process = subprocess.Popen(
+        words, stdout=subprocess.DEVNULL, stderr=subprocess.DEVNULL, start_new_session=True
+    )
     timer = threading.Timer(seconds, kill, [process])
     timer.start()
     try:
@@ -187,7 +211,12 @@ def serve_for(desk, first, seconds):
 
 
 def kill_audit(desk, seconds):
-    process = subprocess.Popen([desk.program, "audit", "--db", desk.file], stdout=subprocess.DEVNULL, stderr=subprocess.DEVNULL, start_new_session=True)
+    process = subprocess.Popen(
+        [desk.program, "audit", "--db", desk.file],
+        stdout=subprocess.DEVNULL,
+        stderr=subprocess.DEVNULL,
+        start_new_session=True,
+    )
     with contextlib.suppress(subprocess.TimeoutExpired):
         process.wait(seconds)
     kill(process)
@@ -195,7 +224,12 @@ def kill_audit(desk, seconds):
 
 def killed(asked, folder, take_for):
     """Kills so many times, or for so long; says what was seen."""
-    chance, begun, seen, seed = random.Random(asked.seed), time.monotonic(), collections.Counter(), asked.seed
+    chance, begun, seen, seed = (
+        random.Random(asked.seed),
+        time.monotonic(),
+        collections.Counter(),
+        asked.seed,
+    )
     desk, ticks = Desk(asked.program, folder, seed, asked.boards), program.Ticks()
     while seen["kills"] < asked.kills and time.monotonic() - begun < asked.seconds:
         ticks.tell(f"{seen['kills']} of {asked.kills} kills")
@@ -207,7 +241,9 @@ def killed(asked, folder, take_for):
         else:
             first, before = max(0, len(desk.answers) - 3), len(desk.answers)
             desk.take(first, take_for(desk, first, chance.uniform(0, span)))
-            seen["before an answer" if len(desk.answers) == before else "while commands were taken"] += 1
+            seen[
+                "before an answer" if len(desk.answers) == before else "while commands were taken"
+            ] += 1
         seen["left one command more"] += desk.look()
         if desk.done():
             seen["commands"] += desk.acknowledged()
@@ -217,9 +253,14 @@ def killed(asked, folder, take_for):
             desk = Desk(asked.program, folder, seed, asked.boards)
     seen["commands"] += desk.acknowledged()
     remove(desk.file)
-    where = ", ".join(f"{seen[name]} {name}" for name in ("while commands were taken", "before an answer", "of audit"))
-    return (f"{seen['kills']} kills in {time.monotonic() - begun:.0f} s ({where}); each audit said lawful; {seen['commands']} commands acknowledged, none missing; "
-            f"{seen['left one command more']} times the one that was sent besides was there; {seen['shifts']} shifts done, with the tables of an undisturbed run")
+    where = ", ".join(
+        f"{seen[name]} {name}"
+        for name in ("while commands were taken", "before an answer", "of audit")
+    )
+    return (
+        f"{seen['kills']} kills in {time.monotonic() - begun:.0f} s ({where}); each audit said lawful; {seen['commands']} commands acknowledged, none missing; "
+        f"{seen['left one command more']} times the one that was sent besides was there; {seen['shifts']} shifts done, with the tables of an undisturbed run"
+    )
 
 
 # ---- the order of calls ------------------------------------------------------------------------------------------
@@ -248,7 +289,9 @@ def ordered(log, file):
         elif not ours and not resumed and '\\"Answer\\":\\"Accepted\\"' in rest:
             for number in re.findall(r'\\"Number\\":(\d+)', rest):
                 if number not in answered and (open_writes or not written):
-                    raise Found(f"the answer of command {number} goes out before its commit is synced")
+                    raise Found(
+                        f"the answer of command {number} goes out before its commit is synced"
+                    )
                 answered.add(number)
             written = False
     return len(answered)
@@ -271,7 +314,9 @@ def order(asked, folder):
         taken.seek(0)
         desk.take(0, taken.read().splitlines())
     with open(log, errors="replace") as lines:
-        told.append(f"feed: {ordered(lines, desk.file)} Accepted answers, each after the sync of its commit")
+        told.append(
+            f"feed: {ordered(lines, desk.file)} Accepted answers, each after the sync of its commit"
+        )
     desk.look()
     if has_serve(asked.program):
         told.append(order_of_serve(asked, folder, log))
@@ -280,7 +325,11 @@ def order(asked, folder):
 
 def order_of_serve(asked, folder, log):
     desk, port = Desk(asked.program, folder, asked.seed, 24), free_port()
-    process = traced([desk.program, "serve", "--db", desk.file, "--port", str(port), "--connections", "2"], log, stdout=subprocess.DEVNULL)
+    process = traced(
+        [desk.program, "serve", "--db", desk.file, "--port", str(port), "--connections", "2"],
+        log,
+        stdout=subprocess.DEVNULL,
+    )
     try:
         for _ in range(1000):
             with contextlib.suppress(OSError):
@@ -317,7 +366,13 @@ def answer_of(process):
 def talk(desk, start):
     """Sends the lines one by one to what `start` starts, one that is Unavailable three times; gives the end's status, and what was told."""
     with tempfile.TemporaryFile() as told:
-        process = start([desk.program, "feed", "--db", desk.file], stdin=subprocess.PIPE, stdout=subprocess.PIPE, stderr=told, bufsize=0)
+        process = start(
+            [desk.program, "feed", "--db", desk.file],
+            stdin=subprocess.PIPE,
+            stdout=subprocess.PIPE,
+            stderr=told,
+            bufsize=0,
+        )
         refused = 0
         try:
             while not desk.done() and refused < 3:
@@ -347,23 +402,32 @@ def plain(words, **how):
 
 def limited(size, ignored):
     """A start under a limit on the size of files, whose signal is ignored or not."""
+
     def limit():
         signal.signal(signal.SIGXFSZ, signal.SIG_IGN if ignored else signal.SIG_DFL)
         resource.setrlimit(resource.RLIMIT_FSIZE, (size, size))
 
-    return lambda words, **how: subprocess.Popen(words, start_new_session=True, preexec_fn=limit, restore_signals=False, **how)
+    return lambda words, **how: subprocess.Popen(
+        words, start_new_session=True, preexec_fn=limit, restore_signals=False, **how
+    )
 
 
 def failed(desk, how, start, seen):
     """One run that fails, what is found after it, and the next run, which doesn't fail."""
     status, told = talk(desk, start)
-    if status not in (0, 1, 3, 4, -signal.SIGXFSZ) or told and not re.fullmatch(r"(tracedesk: \w+\s*)+", told):
+    if (
+        status not in (0, 1, 3, 4, -signal.SIGXFSZ)
+        or told
+        and not re.fullmatch(r"(tracedesk: \w+\s*)+", told)
+    ):
         raise Found(f"{how}: status {status}, {told!r}")
     seen[f"status {status}{' ' + told if told else ''}"] += 1
     seen["left one command more"] += desk.look()
     status, told = talk(desk, plain)
     if not desk.done():
-        raise Found(f"{how}: the next run stopped after {len(desk.answers)} lines: status {status}, {told!r}")
+        raise Found(
+            f"{how}: the next run stopped after {len(desk.answers)} lines: status {status}, {told!r}"
+        )
     desk.look()
     desk.end()
 
@@ -372,7 +436,9 @@ def small_disk(folder, size):
     """A folder on a file system of this size, or none where this user may not mount."""
     room = pathlib.Path(folder, "small")
     room.mkdir()
-    done = subprocess.run(["mount", "-t", "tmpfs", "-o", f"size={size}", "tmpfs", room], capture_output=True)
+    done = subprocess.run(
+        ["mount", "-t", "tmpfs", "-o", f"size={size}", "tmpfs", room], capture_output=True
+    )
     return room if done.returncode == 0 else None
 
 
@@ -395,7 +461,12 @@ def disk(asked, folder):
         seen = collections.Counter()
         for _turn in within(asked, asked.turns, begun):
             limit = chance.randint(0, size)
-            failed(Desk(asked.program, folder, asked.seed, 12), f"limit {limit}", limited(limit, ignored), seen)
+            failed(
+                Desk(asked.program, folder, asked.seed, 12),
+                f"limit {limit}",
+                limited(limit, ignored),
+                seen,
+            )
             seen["runs"] += 1
         told.append(f"limit on files, {'without' if ignored else 'with'} its signal: {shown(seen)}")
     told.append(full(asked, folder, size, chance, begun))
@@ -403,7 +474,9 @@ def disk(asked, folder):
 
 
 def shown(seen):
-    return f"{seen.pop('runs', 0)} runs; " + ", ".join(f"{count} {name}" for name, count in sorted(seen.items()))
+    return f"{seen.pop('runs', 0)} runs; " + ", ".join(
+        f"{count} {name}" for name, count in sorted(seen.items())
+    )
 
 
 def full(asked, folder, size, chance, begun):
@@ -431,8 +504,12 @@ def full(asked, folder, size, chance, begun):
 
 
 # ---- all of it ---------------------------------------------------------------------------------------------------
-PARTS = {"feed": lambda asked, folder: killed(asked, folder, feed_for), "serve": lambda asked, folder: killed(asked, folder, serve_for),
-         "order": order, "disk": disk}
+PARTS = {
+    "feed": lambda asked, folder: killed(asked, folder, feed_for),
+    "serve": lambda asked, folder: killed(asked, folder, serve_for),
+    "order": order,
+    "disk": disk,
+}
 
 
 def parts(asked):
@@ -454,8 +531,12 @@ def parts(asked):
 def words(reader):
     program.offer(reader)
     reader.add_argument("--kills", type=int, default=200)
-    reader.add_argument("--seconds", type=float, default=900, help="how long a part goes on at most")
-    reader.add_argument("--turns", type=int, default=10, help="runs for each way in which a disk fails")
+    reader.add_argument(
+        "--seconds", type=float, default=900, help="how long a part goes on at most"
+    )
+    reader.add_argument(
+        "--turns", type=int, default=10, help="runs for each way in which a disk fails"
+    )
     reader.add_argument("--boards", type=int, default=120)
     reader.add_argument("--seed", type=int, default=1)
     reader.add_argument("--folder", help="where the desks are made, so on the disk in question")
@@ -474,5 +555,9 @@ def main(asked, reader):
     os.environ["PROGRAM"], asked.program = asked.program, str(ROOT / "dev/faults/early-answers")
     asked.parts = ["feed", "serve", "order"] if has_serve(asked.program) else ["feed", "order"]
     wrong = parts(asked)
-    print("the planted program was found out" if wrong == len(asked.parts) else "the planted program was NOT found out")
+    print(
+        "the planted program was found out"
+        if wrong == len(asked.parts)
+        else "the planted program was NOT found out"
+    )
     return 0 if wrong == len(asked.parts) else 1

@@ -28,7 +28,10 @@ def words(reader):
 
 def moved(process):
     """The bytes that the process read and wrote so far, those of its input and output too."""
-    fields = dict(line.split(": ") for line in pathlib.Path(f"/proc/{process.pid}/io").read_text().splitlines())
+    fields = dict(
+        line.split(": ")
+        for line in pathlib.Path(f"/proc/{process.pid}/io").read_text().splitlines()
+    )
     return int(fields["rchar"]) + int(fields["wchar"])
 
 
@@ -37,7 +40,16 @@ def give(process, first, count):
     before = moved(process)
     for begin in range(first, first + count, BATCH):
         numbers = range(begin, min(begin + BATCH, first + count))
-        lines = [{"MessageName": "TraceDesk.ClockSet", "UniqueID": f"u{number:09}", "Source": "S", "TimeStamp": "1970-01-01T00:00:00Z", "MessageBody": {}} for number in numbers]
+        lines = [
+            {
+                "MessageName": "TraceDesk.ClockSet",
+                "UniqueID": f"u{number:09}",
+                "Source": "S",
+                "TimeStamp": "1970-01-01T00:00:00Z",
+                "MessageBody": {},
+            }
+            for number in numbers
+        ]
         process.stdin.write("".join(json.dumps(it) + "\n" for it in lines).encode())
         process.stdin.flush()
         for number in numbers:
@@ -52,9 +64,14 @@ def main(asked, reader):
         reader.error("COMMANDS is 2,000 at least")
     its = program.to_use(asked.program)
     memory = pathlib.Path("/dev/shm")  # a million syncs of a disk would take half an hour
-    with tempfile.TemporaryDirectory(prefix="large-", dir=memory if memory.is_dir() and shutil.disk_usage(memory).free > 2**29 else None) as room:
+    with tempfile.TemporaryDirectory(
+        prefix="large-",
+        dir=memory if memory.is_dir() and shutil.disk_usage(memory).free > 2**29 else None,
+    ) as room:
         desk = f"{room}/desk"
-        process = subprocess.Popen([its, "feed", "--db", desk], stdin=subprocess.PIPE, stdout=subprocess.PIPE)
+        process = subprocess.Popen(
+            [its, "feed", "--db", desk], stdin=subprocess.PIPE, stdout=subprocess.PIPE
+        )
         give(process, 1, 1_000)
         early = give(process, 1_001, BATCH)
         give(process, 1_101, asked.commands - BATCH - 1_100)
@@ -62,6 +79,8 @@ def main(asked, reader):
         process.stdin.close()
         status = process.wait()
         audit = subprocess.run([its, "audit", "--db", desk], capture_output=True, text=True)
-    print(f"{BATCH} commands moved {early} bytes after the first thousand, {late} at {asked.commands}; status {status}, {audit.stdout.strip() or audit.stderr.strip()}")
+    print(
+        f"{BATCH} commands moved {early} bytes after the first thousand, {late} at {asked.commands}; status {status}, {audit.stdout.strip() or audit.stderr.strip()}"
+    )
     is_right = late <= 2 * early and status == 0 and audit.stdout == f"lawful {asked.commands}\n"
     return 0 if is_right else 1

@@ -24,17 +24,28 @@ from tracedesk_dev.trial import Difference as Found
 
 GATE = {"store_tests": "refused_memory", "desk_tests": "memory_was_refused"}
 SHOWN = {"refused_memory_is_made_good": "the desk was made again"}
-OUT_OF_MEMORY = re.compile(r"^error: (AllocError|AllocFailed|out of memory|(Kind|SqliteFailure)\(OutOfMemory\))", re.M)
+OUT_OF_MEMORY = re.compile(
+    r"^error: (AllocError|AllocFailed|out of memory|(Kind|SqliteFailure)\(OutOfMemory\))", re.M
+)
 SECONDS = 120  # for one run
 
 
 def told(library, tests, name, number):
     """A run in which the allocation of this number is refused, with 0 none: whether it went well, and what it told."""
     try:
-        done = subprocess.run([tests, name], env={**os.environ, "REFUSED": str(number), "LD_PRELOAD": library}, stdin=subprocess.DEVNULL,
-                              stdout=subprocess.PIPE, stderr=subprocess.STDOUT, errors="replace", timeout=SECONDS)
+        done = subprocess.run(
+            [tests, name],
+            env={**os.environ, "REFUSED": str(number), "LD_PRELOAD": library},
+            stdin=subprocess.DEVNULL,
+            stdout=subprocess.PIPE,
+            stderr=subprocess.STDOUT,
+            errors="replace",
+            timeout=SECONDS,
+        )
     except subprocess.TimeoutExpired:
-        raise Found(f"allocation {number} refused: it had not ended after {SECONDS} seconds") from None
+        raise Found(
+            f"allocation {number} refused: it had not ended after {SECONDS} seconds"
+        ) from None
     return done.returncode == 0, done.stdout
 
 
@@ -54,7 +65,9 @@ def tried(pool, library, tests, name):
     asked = re.search(r"^asked (\d+)$", text, re.M)
     if not asked:
         raise Found("its allocations were not counted")
-    runs = [pool.submit(refused, library, tests, name, number) for number in range(1, int(asked[1]) + 1)]
+    runs = [
+        pool.submit(refused, library, tests, name, number) for number in range(1, int(asked[1]) + 1)
+    ]
     try:
         its = [it.result() for it in runs]
     finally:
@@ -64,8 +77,13 @@ def tried(pool, library, tests, name):
     shown = SHOWN.get(name.split("::")[-1])
     times = sum(shown is not None and shown in text for _is_well, text in its)
     if shown and not times:
-        raise Found(f"each of its {len(its)} allocations was refused, and never was told that {shown}")
-    return f"{len(its)} allocations, each refused once: {well} times it went well, {len(its) - well} times it said that it is out of memory" + (f"; {times} times {shown}" if shown else "")
+        raise Found(
+            f"each of its {len(its)} allocations was refused, and never was told that {shown}"
+        )
+    return (
+        f"{len(its)} allocations, each refused once: {well} times it went well, {len(its) - well} times it said that it is out of memory"
+        + (f"; {times} times {shown}" if shown else "")
+    )
 
 
 def names_of(tests, word):
@@ -77,7 +95,13 @@ def proved(crate):
     """The program of a crate's tests, which are proved and built first."""
     program.want_kit()
     program.tell("proving and building the tests")
-    done = subprocess.run(["rt", "test"], cwd=program.CRATES / crate, stdout=subprocess.PIPE, stderr=subprocess.STDOUT, errors="replace")
+    done = subprocess.run(
+        ["rt", "test"],
+        cwd=program.CRATES / crate,
+        stdout=subprocess.PIPE,
+        stderr=subprocess.STDOUT,
+        errors="replace",
+    )
     if done.returncode:
         print(done.stdout)
         sys.exit(1)
@@ -101,15 +125,24 @@ def main(words, reader):
     if words.crate and not (program.CRATES / words.crate / "src").is_dir():
         reader.error(f"there is no crate {words.crate}")
     if words.gate and not program.can_compile():
-        print("skipped: there is no C compiler here with the C library's headers: apt-get install gcc libc6-dev\n0 passed, 0 failed")
+        print(
+            "skipped: there is no C compiler here with the C library's headers: apt-get install gcc libc6-dev\n0 passed, 0 failed"
+        )
         return 0
     program.want("cc", "gcc libc6-dev")
     ready, passed, failed = os.environ.get("TESTS"), 0, 0
-    with tempfile.TemporaryDirectory() as room, concurrent.futures.ThreadPoolExecutor(words.jobs) as pool:
+    with tempfile.TemporaryDirectory() as room, concurrent.futures.ThreadPoolExecutor(
+        words.jobs
+    ) as pool:
         library = str(pathlib.Path(room, "refuse.so"))
-        subprocess.run(["cc", "-shared", "-fPIC", "-O1", "-o", library, program.ROOT / "dev/faults/memory.c"], check=True)
+        subprocess.run(
+            ["cc", "-shared", "-fPIC", "-O1", "-o", library, program.ROOT / "dev/faults/memory.c"],
+            check=True,
+        )
         for crate, word in GATE.items() if words.gate else [(words.crate, words.word)]:
-            tests = built(crate) if words.gate else os.path.abspath(ready) if ready else proved(crate)
+            tests = (
+                built(crate) if words.gate else os.path.abspath(ready) if ready else proved(crate)
+            )
             if not program.can_run(tests):
                 program.stop(f"there is no {tests}")
             names = names_of(tests, word)

@@ -46,16 +46,38 @@ def main(asked, reader):
         reader.error("READS is 2,000,000 at least")
     program.want("cc", "gcc libc6-dev")
     its, begun = program.to_use(asked.program), time.monotonic()
-    wanted = b'{"Answer":"Faulty","Fault":"NotJson"}\n', b"tracedesk: TooManyReads\n4294967294 reads\n", 4
+    wanted = (
+        b'{"Answer":"Faulty","Fault":"NotJson"}\n',
+        b"tracedesk: TooManyReads\n4294967294 reads\n",
+        4,
+    )
     if asked.reads is not None:
-        wanted = wanted[0] + b'{"Answer":"Faulty","Fault":"LineTooLong"}\n', b"%d reads\n" % asked.reads, 1
+        wanted = (
+            wanted[0] + b'{"Answer":"Faulty","Fault":"LineTooLong"}\n',
+            b"%d reads\n" % asked.reads,
+            1,
+        )
     with tempfile.TemporaryDirectory() as room:
         library = pathlib.Path(room, "reads.so")
-        subprocess.run(["cc", "-shared", "-fPIC", "-O2", "-x", "c", "-o", library, "-"], input=SOURCE.encode(), check=True)
-        done = subprocess.run([its, "feed"], env={**os.environ, "READS": str(asked.reads or 99_999_999_999), "LD_PRELOAD": str(library)},
-                              stdin=subprocess.DEVNULL, capture_output=True)
+        subprocess.run(
+            ["cc", "-shared", "-fPIC", "-O2", "-x", "c", "-o", library, "-"],
+            input=SOURCE.encode(),
+            check=True,
+        )
+        done = subprocess.run(
+            [its, "feed"],
+            env={
+                **os.environ,
+                "READS": str(asked.reads or 99_999_999_999),
+                "LD_PRELOAD": str(library),
+            },
+            stdin=subprocess.DEVNULL,
+            capture_output=True,
+        )
     if (done.stdout, done.stderr, done.returncode) != wanted:
         print(f"FOUND status {done.returncode}, {done.stdout[:1000]!r} {done.stderr[:1000]!r}")
         return 1
-    print(f"{done.stderr.decode()}in {time.monotonic() - begun:.0f} s, {resource.getrusage(resource.RUSAGE_CHILDREN).ru_utime:.0f} s of the processor")
+    print(
+        f"{done.stderr.decode()}in {time.monotonic() - begun:.0f} s, {resource.getrusage(resource.RUSAGE_CHILDREN).ru_utime:.0f} s of the processor"
+    )
     return 0

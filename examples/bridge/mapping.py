@@ -16,7 +16,9 @@ NUMBER = "#"  # the place of an element in its list, from 1 on
 OTHERS = "*"  # in a list of names: all that it doesn't have
 
 
-ROUNDED = 2**53  # from this number on programs that calculate in doubles round, so that two names become one
+ROUNDED = (
+    2**53
+)  # from this number on programs that calculate in doubles round, so that two names become one
 
 
 class BadTable(Exception):
@@ -62,7 +64,9 @@ def whole(path, value):
         return int(value)
     if isinstance(value, (int, float, decimal.Decimal)) and not isinstance(value, bool):
         if not -ROUNDED < value < ROUNDED:
-            raise NotMapped(f"{path} is {value!s:.100}, and many programs round numbers from 2^53 on: it has to come as a text")
+            raise NotMapped(
+                f"{path} is {value!s:.100}, and many programs round numbers from 2^53 on: it has to come as a text"
+            )
         if value == int(value):
             return int(value)
     raise NotMapped(f"{path} is {value!r:.100}, and no whole number")
@@ -127,7 +131,9 @@ class Hash:
         self.text, self.paths = text, text.paths
 
     def made(self, scope, number):
-        return hashlib.sha256(self.text.made(scope, number).encode("utf-8", "surrogatepass")).hexdigest()[:32]
+        return hashlib.sha256(
+            self.text.made(scope, number).encode("utf-8", "surrogatepass")
+        ).hexdigest()[:32]
 
 
 class Each:
@@ -137,7 +143,10 @@ class Each:
         self.path, self.form = path, form
 
     def made(self, scope, number):
-        return [self.form.made((*scope, it), at) for at, it in enumerate(elements(self.path, scope, number), 1)]
+        return [
+            self.form.made((*scope, it), at)
+            for at, it in enumerate(elements(self.path, scope, number), 1)
+        ]
 
 
 class OrNone:
@@ -160,7 +169,9 @@ class Members:
         self.kind, self.made_of = kind, made_of
 
     def made(self, scope, number):
-        return self.kind(**{attribute: form.made(scope, number) for attribute, form in self.made_of.items()})
+        return self.kind(
+            **{attribute: form.made(scope, number) for attribute, form in self.made_of.items()}
+        )
 
 
 # --- A table
@@ -169,7 +180,10 @@ class Members:
 def members_of(place, given, *wanted, **optional):
     """The members of an object of a table, which has these and no others; of an optional one that is not there what stands for it."""
     if not isinstance(given, dict) or not set(wanted) <= set(given) <= {*wanted, *optional}:
-        raise BadTable(f"{place} is no object with {', '.join(wanted)}" + (f", and if wanted {', '.join(optional)}" if optional else ""))
+        raise BadTable(
+            f"{place} is no object with {', '.join(wanted)}"
+            + (f", and if wanted {', '.join(optional)}" if optional else "")
+        )
     return [given.get(name, optional.get(name)) for name in (*wanted, *optional)]
 
 
@@ -180,8 +194,15 @@ def path_of(place, path):
 
 
 def text_of(place, text):
-    if not isinstance(text, str) or not text or re.search(r"[{}]", HOLE.sub("", text)) or "" in HOLE.findall(text):
-        raise BadTable(f"{place}: {text!r:.100} is no text with paths in braces, as {{/UniqueID}}-{{#}}")
+    if (
+        not isinstance(text, str)
+        or not text
+        or re.search(r"[{}]", HOLE.sub("", text))
+        or "" in HOLE.findall(text)
+    ):
+        raise BadTable(
+            f"{place}: {text!r:.100} is no text with paths in braces, as {{/UniqueID}}-{{#}}"
+        )
     return Text(text)
 
 
@@ -192,10 +213,10 @@ def form_of(place, given, names, kind=None):
     if isinstance(given, str):
         return text_of(place, given)
     if isinstance(given, dict) and "Number" in given:
-        path, = members_of(place, given, "Number")
+        (path,) = members_of(place, given, "Number")
         return Number(path_of(place, path))
     if isinstance(given, dict) and "Hash" in given:
-        text, = members_of(place, given, "Hash")
+        (text,) = members_of(place, given, "Hash")
         return Hash(text_of(place, text))
     text, which = members_of(place, given, "Of", "Names")
     if not isinstance(which, str) or which not in names:
@@ -210,14 +231,18 @@ def row_of(place, given, names, kind):
     known = {name: (attribute, form) for name, attribute, form in kind.MEMBERS}
     needed = {name for name, (_, form) in known.items() if not isinstance(form, forms.Where)}
     if not needed <= set(given) <= set(known):
-        raise BadTable(f"{place} has {', '.join(given) or 'nothing'}, and {kind.__name__} has {', '.join(known)}")
+        raise BadTable(
+            f"{place} has {', '.join(given) or 'nothing'}, and {kind.__name__} has {', '.join(known)}"
+        )
     made_of = {}
     for name, it in given.items():
         attribute, form = known[name]
         there = f"{place}, {name}"
         if isinstance(form, forms.ListOf):
             path, each = members_of(there, it, "Each", "Make")
-            made_of[attribute] = Each(path_of(there, path), form_of(there, each, names, getattr(form.form, "kind", None)))
+            made_of[attribute] = Each(
+                path_of(there, path), form_of(there, each, names, getattr(form.form, "kind", None))
+            )
         else:
             made = form_of(there, it, names)
             made_of[attribute] = OrNone(made) if isinstance(form, forms.Where) else made
@@ -228,17 +253,23 @@ class Entry:
     """How one message is made, or one for each element of a list."""
 
     def __init__(self, place, given, names):
-        word, uid, source, time, body, self.each = members_of(place, given, "Word", "UniqueID", "Source", "TimeStamp", "Members", Each=None)
+        word, uid, source, time, body, self.each = members_of(
+            place, given, "Word", "UniqueID", "Source", "TimeStamp", "Members", Each=None
+        )
         if not isinstance(word, str) or word not in WORDS:
             raise BadTable(f"{place}: {word!r:.100} is none of {', '.join(WORDS)}")
         if self.each is not None:
             path_of(place, self.each)
         self.uid = form_of(f"{place}, UniqueID", uid, names)
-        self.source, self.time = form_of(f"{place}, Source", source, names), form_of(f"{place}, TimeStamp", time, names)
+        self.source, self.time = form_of(f"{place}, Source", source, names), form_of(
+            f"{place}, TimeStamp", time, names
+        )
         self.body = row_of(f"{place}, Members", body, names, WORDS[word])
         self.spelled = json.dumps(uid)
         if self.each is not None and NUMBER not in getattr(self.uid, "paths", ()):
-            raise BadTable(f"{place}: the UniqueID has to have {{#}}, since there is a message for each element of {self.each}")
+            raise BadTable(
+                f"{place}: the UniqueID has to have {{#}}, since there is a message for each element of {self.each}"
+            )
 
     def one(self, scope, number):
         uid, source, time = (it.made(scope, number) for it in (self.uid, self.source, self.time))
@@ -261,8 +292,12 @@ def moment(text):
 
 def names_of(given):
     for which, names in given.items() if isinstance(given, dict) else [("all", None)]:
-        if not isinstance(names, dict) or not all(it is None or isinstance(it, str) for it in names.values()):
-            raise BadTable(f"Names, {which}: it is no object of texts; null passes a message over, and * is any other")
+        if not isinstance(names, dict) or not all(
+            it is None or isinstance(it, str) for it in names.values()
+        ):
+            raise BadTable(
+                f"Names, {which}: it is no object of texts; null passes a message over, and * is any other"
+            )
     return given
 
 
@@ -280,7 +315,9 @@ class Table:
     """A table that was looked at: it makes messages of a message."""
 
     def __init__(self, given):
-        messages, _, self.name, names = members_of("the table", given, "Messages", About=None, Name="/MessageName", Names={})
+        messages, _, self.name, names = members_of(
+            "the table", given, "Messages", About=None, Name="/MessageName", Names={}
+        )
         path_of("Name", self.name)
         names_of(names)
         if not isinstance(messages, dict):
@@ -289,7 +326,10 @@ class Table:
         for name, entries in messages.items():
             if not isinstance(entries, list) or not entries:
                 raise BadTable(f"{name} has no list of messages")
-            self.entries[name] = [Entry(f"{name}, the {number}. message", it, names) for number, it in enumerate(entries, 1)]
+            self.entries[name] = [
+                Entry(f"{name}, the {number}. message", it, names)
+                for number, it in enumerate(entries, 1)
+            ]
             if len({it.spelled for it in self.entries[name]}) < len(entries):
                 raise BadTable(f"{name}: each of its messages needs a UniqueID of its own")
 
@@ -309,12 +349,19 @@ class Table:
 
     def made(self, message):
         """The desk's messages that it gives, all or none; none where the table passes it over. Entries of the same list, one behind the
-        other, are made element by element, and an element for which one of them has nothing to say gives none."""
+        other, are made element by element, and an element for which one of them has nothing to say gives none.
+        """
         found = []
-        for each, entries in itertools.groupby(self.entries.get(self.name_of(message), ()), lambda it: it.each or id(it)):
+        for each, entries in itertools.groupby(
+            self.entries.get(self.name_of(message), ()), lambda it: it.each or id(it)
+        ):
             entries = list(entries)
             with contextlib.suppress(NothingToSay):
-                scopes = [(message, it) for it in elements(each, (message,), 0)] if entries[0].each else [(message,)]
+                scopes = (
+                    [(message, it) for it in elements(each, (message,), 0)]
+                    if entries[0].each
+                    else [(message,)]
+                )
                 for number, scope in enumerate(scopes, 1):
                     with contextlib.suppress(NothingToSay):
                         found += [it.one(scope, number) for it in entries]

@@ -21,8 +21,15 @@ from tracedesk import SpoolError, console, spool as spools
 LOOK = 0.2  # seconds between two looks at what is followed
 PIECE = 1 << 16  # bytes that are read at a time, and more where a line is longer
 BEFORE = 4096  # bytes at the beginning of a file, and before a position, by which it is known again
-STAYS = 600.0  # seconds without a line more, after which nobody writes to a file that was moved away
-PACKED = {".gz": gzip.open, ".bz2": bz2.open, ".xz": lzma.open, ".zst": None}  # endings of files that are no lines any more
+STAYS = (
+    600.0  # seconds without a line more, after which nobody writes to a file that was moved away
+)
+PACKED = {
+    ".gz": gzip.open,
+    ".bz2": bz2.open,
+    ".xz": lzma.open,
+    ".zst": None,
+}  # endings of files that are no lines any more
 NOT_UNPACKED = OSError, EOFError, lzma.LZMAError, zlib.error
 KNOWN = 200  # rotated files that are remembered, besides those that are there
 SETTLES = 2.0  # seconds after a change of the folder, in which another one may have the same time
@@ -57,15 +64,28 @@ class Opened:
         self.packed = None  # by what the packed file is known again, once it is read
         if told:
             at = told["At"]
-            self.at, self.head, self.last = at, os.pread(self.file.fileno(), min(at, BEFORE), 0), os.pread(self.file.fileno(), min(at, BEFORE), max(0, at - BEFORE))
+            self.at, self.head, self.last = (
+                at,
+                os.pread(self.file.fileno(), min(at, BEFORE), 0),
+                os.pread(self.file.fileno(), min(at, BEFORE), max(0, at - BEFORE)),
+            )
 
     def told(self):
         """What is kept of it."""
-        return {"At": self.at, "Head": digest(self.head), "Before": digest(self.last), "Inode": self.id[1]}
+        return {
+            "At": self.at,
+            "Head": digest(self.head),
+            "Before": digest(self.last),
+            "Inode": self.id[1],
+        }
 
     def is_of(self, told):
         """Whether it is the file of which this was kept."""
-        return told["At"] > 0 and digest(self.last) == told["Before"] and digest(self.head) == told["Head"]
+        return (
+            told["At"] > 0
+            and digest(self.last) == told["Before"]
+            and digest(self.head) == told["Head"]
+        )
 
     def next_lines(self):
         """The next whole lines, as bytes; they aren't counted as read yet."""
@@ -73,8 +93,18 @@ class Opened:
         while True:
             begin = self.at - len(self.last)
             got = os.pread(handle, len(self.last) + size, begin)
-            if got[: len(self.last)] != self.last or os.pread(handle, len(self.head), 0) != self.head:
-                self.at, self.head, self.last, self.rest, self.taken, self.since = 0, b"", b"", b"", b"", time.monotonic()
+            if (
+                got[: len(self.last)] != self.last
+                or os.pread(handle, len(self.head), 0) != self.head
+            ):
+                self.at, self.head, self.last, self.rest, self.taken, self.since = (
+                    0,
+                    b"",
+                    b"",
+                    b"",
+                    b"",
+                    time.monotonic(),
+                )
                 continue
             got = got[len(self.last) :]
             whole = got[: got.rfind(b"\n") + 1]
@@ -91,7 +121,11 @@ class Opened:
         """Counts these lines as read."""
         if lines:
             self.head = (self.head + lines)[:BEFORE] if len(self.head) < BEFORE else self.head
-            self.at, self.last, self.since = self.at + len(lines), (self.last + lines)[-BEFORE:], time.monotonic()
+            self.at, self.last, self.since = (
+                self.at + len(lines),
+                (self.last + lines)[-BEFORE:],
+                time.monotonic(),
+            )
 
 
 def open_log(path):
@@ -131,15 +165,24 @@ def read_position(spool):
         told = json.loads(place.read_text())
         for mine in told.values():
             files, known = (mine, []) if isinstance(mine, list) else (mine["Files"], mine["Known"])
-            if any(type(it[name]) is not kind for it in files for name, kind in (("At", int), ("Head", str), ("Before", str), ("Inode", int))) or \
-               any(type(it[name]) is not kind for it in known for name, kind in (("Head", str), ("Inode", int), ("Size", int))):
+            if any(
+                type(it[name]) is not kind
+                for it in files
+                for name, kind in (("At", int), ("Head", str), ("Before", str), ("Inode", int))
+            ) or any(
+                type(it[name]) is not kind
+                for it in known
+                for name, kind in (("Head", str), ("Inode", int), ("Size", int))
+            ):
                 raise ValueError
         return told
     except FileNotFoundError:
         return {}
     except (ValueError, KeyError, TypeError, AttributeError):
-        raise SpoolError(f"{place} is damaged, and says no more how far files were read: give what wasn't read by standard input, and delete {place}. "
-                         "Then a file is read from its beginning, and rotated ones aren't read") from None
+        raise SpoolError(
+            f"{place} is damaged, and says no more how far files were read: give what wasn't read by standard input, and delete {place}. "
+            "Then a file is read from its beginning, and rotated ones aren't read"
+        ) from None
 
 
 class Following:
@@ -152,10 +195,28 @@ class Following:
         self.bridge, self.path, self.all, self.follows = bridge, path.absolute(), position, follows
         self.rotated = re.compile(fnmatch.translate(rotated) if rotated else usual_names(path))
         mine = position.get(str(self.path))
-        self.known = mine["Known"] if isinstance(mine, dict) else [
-            identity(there.st_ino, head_of(it)) for it, there in self.candidates() if mine is None or there.st_mtime_ns < max((file.get("Time", 0) for file in mine), default=0)]
-        self.files = [it for it in map(self.found, mine["Files"] if isinstance(mine, dict) else mine or ()) if it]
-        self.kept, self.is_told, self.folder, self.changed, self.unreadable = None, False, None, 0.0, {}
+        self.known = (
+            mine["Known"]
+            if isinstance(mine, dict)
+            else [
+                identity(there.st_ino, head_of(it))
+                for it, there in self.candidates()
+                if mine is None
+                or there.st_mtime_ns < max((file.get("Time", 0) for file in mine), default=0)
+            ]
+        )
+        self.files = [
+            it
+            for it in map(self.found, mine["Files"] if isinstance(mine, dict) else mine or ())
+            if it
+        ]
+        self.kept, self.is_told, self.folder, self.changed, self.unreadable = (
+            None,
+            False,
+            None,
+            0.0,
+            {},
+        )
         self.keep()
 
     def gap(self, why):
@@ -168,30 +229,48 @@ class Following:
         for path in self.path.parent.iterdir():
             with contextlib.suppress(FileNotFoundError):
                 there = path.stat()
-                if path.name != self.path.name and self.rotated.fullmatch(path.name) and stat.S_ISREG(there.st_mode) and there.st_size:
+                if (
+                    path.name != self.path.name
+                    and self.rotated.fullmatch(path.name)
+                    and stat.S_ISREG(there.st_mode)
+                    and there.st_size
+                ):
                     found.append((path, there))
         return sorted(found, key=lambda it: (it[1].st_mtime_ns, it[0].name))
 
     def found(self, told):
         """The file of which this was kept: here, or under a new name in the same folder, and packed where it is there in no other way.
         One that is there and can't be read now is an OSError, and no gap: it is waited for."""
-        files, there = [], [self.path, *sorted(it for it in self.path.parent.iterdir() if it != self.path)]
+        files, there = [], [
+            self.path,
+            *sorted(it for it in self.path.parent.iterdir() if it != self.path),
+        ]
         for path in sorted(there, key=lambda it: it.suffix in PACKED):
             is_packed, is_same = path.suffix in PACKED, False
             try:
                 is_same = path.stat().st_ino == told["Inode"]
-                if path.is_file() and not (files and is_packed) and (is_packed or path.stat().st_size >= told["At"]):
+                if (
+                    path.is_file()
+                    and not (files and is_packed)
+                    and (is_packed or path.stat().st_size >= told["At"])
+                ):
                     files.append(Opened(path, told))
                     if not (files[-1].is_of(told) or told["At"] == 0 and is_same):
                         files.pop().file.close()
             except NOT_UNPACKED as fault:
-                if (is_packed or is_same) and getattr(fault, "errno", None) not in (None, errno.ENOENT, errno.EACCES if is_packed else None):
+                if (is_packed or is_same) and getattr(fault, "errno", None) not in (
+                    None,
+                    errno.ENOENT,
+                    errno.EACCES if is_packed else None,
+                ):
                     raise  # no errno: what is packed is damaged
         files.sort(key=lambda it: it.id[1] != told["Inode"])
         for it in files[1:]:
             it.file.close()
         if not files and told["At"]:
-            self.gap(f"{self.path}: the file that was read to byte {told['At']} is not there any more. What it had is given by its new name")
+            self.gap(
+                f"{self.path}: the file that was read to byte {told['At']} is not there any more. What it had is given by its new name"
+            )
         return files[0] if files else None
 
     def look_for_another(self):
@@ -208,12 +287,20 @@ class Following:
 
     def new_ones(self, newest):
         """The rotated files that aren't known, each opened, up to one that can't be read yet: those after it wait, so that lines stay in their order."""
-        found, open_ones, candidates = [], {it.id[1] for it in self.files} | {newest.st_ino}, self.candidates()
-        self.unreadable = {path: since for path, since in self.unreadable.items() if path in dict(candidates)}
+        found, open_ones, candidates = (
+            [],
+            {it.id[1] for it in self.files} | {newest.st_ino},
+            self.candidates(),
+        )
+        self.unreadable = {
+            path: since for path, since in self.unreadable.items() if path in dict(candidates)
+        }
         for path, there in candidates:
             try:
                 head = head_of(path)
-                if there.st_ino not in open_ones and not any(it["Inode"] == there.st_ino and begins_so(head, it) for it in self.known):
+                if there.st_ino not in open_ones and not any(
+                    it["Inode"] == there.st_ino and begins_so(head, it) for it in self.known
+                ):
                     new, mine = self.opened(path), identity(there.st_ino, head)
                     if new:
                         new.packed = mine if path.suffix in PACKED else None
@@ -221,9 +308,15 @@ class Following:
                     else:
                         self.known.append(mine)
             except NOT_UNPACKED as fault:
-                if self.follows and time.monotonic() - self.unreadable.setdefault(path, time.monotonic()) < UNFINISHED:
+                if (
+                    self.follows
+                    and time.monotonic() - self.unreadable.setdefault(path, time.monotonic())
+                    < UNFINISHED
+                ):
                     break
-                self.gap(f"{path} can't be read: {fault or repr(fault)}. What it had is given by its name, once it is mended")
+                self.gap(
+                    f"{path} can't be read: {fault or repr(fault)}. What it had is given by its name, once it is mended"
+                )
                 self.known.append(identity(there.st_ino, head))
             self.unreadable.pop(path, None)
         del self.known[: -(KNOWN + 4 * len(candidates))]
@@ -284,8 +377,16 @@ class Following:
         told = [it.told() for it in self.files]
         if told != self.kept:
             heads = {it.id[1]: it.head for it in self.files if it.at}
-            self.known = [it for it in self.known if it["Inode"] not in heads or not begins_so(heads[it["Inode"]], it)] + [identity(*it) for it in heads.items()]
-            self.known += [it.packed for it in self.files if it.at and it.packed and it.packed not in self.known]
+            self.known = [
+                it
+                for it in self.known
+                if it["Inode"] not in heads or not begins_so(heads[it["Inode"]], it)
+            ] + [identity(*it) for it in heads.items()]
+            self.known += [
+                it.packed
+                for it in self.files
+                if it.at and it.packed and it.packed not in self.known
+            ]
             self.all[str(self.path)] = {"Files": told, "Known": self.known}
             place = self.bridge.kept.spool.folder / ".position"
             spools.write_synced(place, json.dumps(self.all).encode())
@@ -347,6 +448,7 @@ def unpacked(message):
 
 def message_of(proton):
     """Messages whose body is what came, where that can't be read, as a text that is no UTF-8."""
+
     class Message(proton.Message):
         def decode(self, data):
             try:
@@ -354,6 +456,7 @@ def message_of(proton):
             except (ValueError, TypeError, proton.ProtonException):
                 self.clear()
                 self.body = bytes(data)
+
     return Message
 
 
@@ -361,12 +464,14 @@ def connection_of(proton):
     """Connections that also tell when the broker ends their session: so RabbitMQ says that there is no such queue."""
     from proton import _handlers
     from proton.utils import BlockingConnection
+
     _handlers.Message = message_of(proton)  # proton has no other place for it
 
     class Connection(BlockingConnection):
         def on_session_remote_close(self, event):
             if not self.closing:
                 raise proton.SessionException(str(event.session.remote_condition))
+
     return Connection
 
 
@@ -377,7 +482,9 @@ class Queue:
         try:
             import proton
         except ImportError as fault:
-            raise ImportError(f"{fault}: apt-get install python3-qpid-proton, and start this by /usr/bin/python3") from None
+            raise ImportError(
+                f"{fault}: apt-get install python3-qpid-proton, and start this by /usr/bin/python3"
+            ) from None
         self.proton, self.bridge, self.asked = proton, bridge, asked
         self.pause, self.why = FIRST_PAUSE, None
 
@@ -387,8 +494,14 @@ class Queue:
             domain = self.proton.SSLDomain(self.proton.SSLDomain.MODE_CLIENT)
             domain.set_trusted_ca_db(asked.ca or "/etc/ssl/certs/ca-certificates.crt")
             domain.set_peer_authentication(self.proton.SSLDomain.VERIFY_PEER_NAME)
-        who = {"user": asked.user, "password": asked.password, "allowed_mechs": "PLAIN"} if asked.user else {"allowed_mechs": "ANONYMOUS"}
-        return connection_of(self.proton)(asked.broker, timeout=20, ssl_domain=domain, heartbeat=HEARTBEAT, **who)
+        who = (
+            {"user": asked.user, "password": asked.password, "allowed_mechs": "PLAIN"}
+            if asked.user
+            else {"allowed_mechs": "ANONYMOUS"}
+        )
+        return connection_of(self.proton)(
+            asked.broker, timeout=20, ssl_domain=domain, heartbeat=HEARTBEAT, **who
+        )
 
     def is_answered(self, names):
         return all(map(self.bridge.kept.is_answered, names))
@@ -422,7 +535,9 @@ class Queue:
                     console.tell(f"{self.asked.broker}: {why}. It is asked again")
                 self.why = why
             if link is not None:
-                with contextlib.suppress(Exception):  # proton closes what is broken with errors of many kinds
+                with contextlib.suppress(
+                    Exception
+                ):  # proton closes what is broken with errors of many kinds
                     link.close()
             time.sleep(self.pause)
             self.pause = min(2 * self.pause, LONGEST_PAUSE)

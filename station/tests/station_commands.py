@@ -50,22 +50,47 @@ class Command:
 
     def __init__(self, dice):
         self.machine, self.slot = dice.choice(SLOTS)
-        self.reel, self.number, self.yes = dice.choice(REELS)[0], dice.choice([1, 2, 5, 40]), dice.random() < 0.5
-        self.deed = dice.choice(["LOAD", "LOAD", "LOAD", "UNLOAD", "SCRAP", "OPEN", "SEAL", "BAKE", "COUNT"])
+        self.reel, self.number, self.yes = (
+            dice.choice(REELS)[0],
+            dice.choice([1, 2, 5, 40]),
+            dice.random() < 0.5,
+        )
+        self.deed = dice.choice(
+            ["LOAD", "LOAD", "LOAD", "UNLOAD", "SCRAP", "OPEN", "SEAL", "BAKE", "COUNT"]
+        )
         place = f"S/{self.machine}/{self.slot}"
-        self.codes = {"LOAD": [place, self.reel], "UNLOAD": [place, "A/UNLOAD"], "SCRAP": [place, "A/SCRAP", str(self.number)], "COUNT": [self.reel, "A/COUNT", str(self.number)]}.get(self.deed, [f"A/{self.deed}", self.reel])
+        self.codes = {
+            "LOAD": [place, self.reel],
+            "UNLOAD": [place, "A/UNLOAD"],
+            "SCRAP": [place, "A/SCRAP", str(self.number)],
+            "COUNT": [self.reel, "A/COUNT", str(self.number)],
+        }.get(self.deed, [f"A/{self.deed}", self.reel])
         if self.deed in ("UNLOAD", "OPEN", "SEAL", "BAKE") and dice.random() < 0.5:
             self.codes.reverse()
 
     def message(self, held):
         """The message that the operator expects; of a load the strip said before whether it loads or splices."""
         on = {"Machine": self.machine, "Slot": self.slot}
-        return {"LOAD": (LOADS["SPLICE" in held], {**on, "Reel": self.reel}), "UNLOAD": ("MaterialsUnloaded", on), "SCRAP": ("MaterialsScrapped", {**on, "Quantity": self.number}), "OPEN": ("ReelOpened", {"Reel": self.reel}),
-                "SEAL": ("ReelSealed", {"Reel": self.reel}), "BAKE": ("ReelBaked", {"Reel": self.reel}), "COUNT": ("CountsTaken", {"Counts": [{"Reel": self.reel, "Quantity": self.number}]})}[self.deed]
+        return {
+            "LOAD": (LOADS["SPLICE" in held], {**on, "Reel": self.reel}),
+            "UNLOAD": ("MaterialsUnloaded", on),
+            "SCRAP": ("MaterialsScrapped", {**on, "Quantity": self.number}),
+            "OPEN": ("ReelOpened", {"Reel": self.reel}),
+            "SEAL": ("ReelSealed", {"Reel": self.reel}),
+            "BAKE": ("ReelBaked", {"Reel": self.reel}),
+            "COUNT": ("CountsTaken", {"Counts": [{"Reel": self.reel, "Quantity": self.number}]}),
+        }[self.deed]
 
     def about(self):
         """The slot and the reel that it is about."""
-        return {it for it in ((self.machine, self.slot) if self.deed in ("LOAD", "UNLOAD", "SCRAP") else None, self.reel if self.deed not in ("UNLOAD", "SCRAP") else None) if it}
+        return {
+            it
+            for it in (
+                (self.machine, self.slot) if self.deed in ("LOAD", "UNLOAD", "SCRAP") else None,
+                self.reel if self.deed not in ("UNLOAD", "SCRAP") else None,
+            )
+            if it
+        }
 
     def __str__(self):
         return " ".join(self.codes)
@@ -79,20 +104,41 @@ class Page:
 
     def is_same(self, command, word, body):
         """Whether the last one about the same slot or reel is this very one."""
-        last = next(((one, kind, what) for one, kind, what in reversed(self.waiting) if one.about() & command.about()), None)
+        last = next(
+            (
+                (one, kind, what)
+                for one, kind, what in reversed(self.waiting)
+                if one.about() & command.about()
+            ),
+            None,
+        )
         return bool(last) and last[2] == body and (last[1] == word or {last[1], word} == set(LOADS))
 
     def judged(self, command, told, is_away):
         """Looks whether a command made its message, or its loss was shown; gives the message or None. Only `is_away`, with nobody to answer, is known which of the two it has to be."""
         word, body = command.message(told["held"])
         made, shown, is_same = told["made"], told["shown"], self.is_same(command, word, body)
-        words = LOADS if word in LOADS and not (is_away and ("LOAD" in told["held"] or "SPLICE" in told["held"])) else (word,)
-        is_lost = not made and ((told["asked"] and not command.yes) or (shown["kind"] == "fault" and "DROPPED" in shown["text"]))
+        words = (
+            LOADS
+            if word in LOADS
+            and not (is_away and ("LOAD" in told["held"] or "SPLICE" in told["held"]))
+            else (word,)
+        )
+        is_lost = not made and (
+            (told["asked"] and not command.yes)
+            or (shown["kind"] == "fault" and "DROPPED" in shown["text"])
+        )
         is_kept = len(made) == 1 and made[0]["word"] in words and made[0]["body"] == body
         if is_away and shown["kind"] == "accepted":
             raise Difference(f"{command}: green without an answer of the desk: {told}")
-        if not (is_kept or is_lost) or (is_away and (told["asked"], is_lost) != (is_same and word in TAKES, is_same and not (word in TAKES and command.yes))):
-            raise Difference(f"{command}, wanted {word} {body} once, or to be told of its loss; unanswered are {[(str(one), kind) for one, kind, _ in self.waiting[-5:]]}: {told}")
+        if not (is_kept or is_lost) or (
+            is_away
+            and (told["asked"], is_lost)
+            != (is_same and word in TAKES, is_same and not (word in TAKES and command.yes))
+        ):
+            raise Difference(
+                f"{command}, wanted {word} {body} once, or to be told of its loss; unanswered are {[(str(one), kind) for one, kind, _ in self.waiting[-5:]]}: {told}"
+            )
         if is_kept:
             self.waiting.append((command, made[0]["word"], body))
         return made[0] if is_kept else None
@@ -122,6 +168,7 @@ def all_answered(it):
     def answered():
         scans = it.scans()
         return [scans] if all(scan["state"] == "answered" for scan in scans) else None
+
     return {scan["uid"]: scan for scan in wait_for("all scans are answered", answered)[0]}
 
 
@@ -129,14 +176,20 @@ def taken(site, it, made):
     """How many of these messages the desk accepted: each once, as it answered, and none that it refused."""
     by_uid, desk = all_answered(it), accepted(site)
     lacking = [uid for uid in made if uid not in by_uid]
-    wrong = [by_uid[uid] for uid in made if uid in by_uid and desk[uid] != (by_uid[uid]["answer"]["Answer"] == "Accepted")]
+    wrong = [
+        by_uid[uid]
+        for uid in made
+        if uid in by_uid and desk[uid] != (by_uid[uid]["answer"]["Answer"] == "Accepted")
+    ]
     if lacking or wrong or any(count > 1 for count in desk.values()):
         raise Difference(f"not kept: {lacking}; acted otherwise than answered: {wrong}")
     return sum(desk[uid] for uid in made)
 
 
 def done(it, commands):
-    told = it.page.execute_async_script(DOES, [{"codes": command.codes, "yes": command.yes} for command in commands])
+    told = it.page.execute_async_script(
+        DOES, [{"codes": command.codes, "yes": command.yes} for command in commands]
+    )
     if isinstance(told, str):
         raise Difference(told)
     return told
@@ -146,7 +199,9 @@ def one_round(site, it, dice, outage, count):
     """So many commands under an outage; then those that were lost once more, with the desk there. Gives how many messages were made, accepted and lost."""
     commands, made, lost, page = [], [], [], Page()
     for _ in range(count):
-        commands.append(dice.choice(commands) if commands and dice.random() < 0.3 else Command(dice))
+        commands.append(
+            dice.choice(commands) if commands and dice.random() < 0.3 else Command(dice)
+        )
     away(site, outage)
     try:
         told = done(it, commands)
@@ -180,7 +235,9 @@ def commands_under_outages(site, count=COMMANDS, seed=1):
                     sums = [a + b for a, b in zip(sums, one_round(lossy, it, dice, outage, ROUND))]
                 except Difference as fault:
                     raise Difference(f"seed {seed}, round {turn} ({outage}): {fault}") from None
-                ticks.tell(f"{ROUND * (turn + 1)} of {count} commands: {sums} messages, accepted, lost")
+                ticks.tell(
+                    f"{ROUND * (turn + 1)} of {count} commands: {sums} messages, accepted, lost"
+                )
     made, acted, lost = sums
     return f"{count} commands under {count // ROUND} outages in {time.monotonic() - begun:.0f} s: {made} messages, {acted} accepted once, {lost} losses shown and scanned again"
 

@@ -42,7 +42,11 @@ def to_a_verdict(site, scans=30):
                 at = turn // 2 % len(machines) // 2 * 2  # where the slot is empty
                 it.does(f"S/{machines[at]}/1-8", "A/UNLOAD" if turn % 2 else f"R{at:02}007")
             took = it.script("return window.took")
-            told[screen] = {"scans": len(took), "median": round(statistics.median(took)), "95 %": round(statistics.quantiles(took, n=20)[-1])}
+            told[screen] = {
+                "scans": len(took),
+                "median": round(statistics.median(took)),
+                "95 %": round(statistics.quantiles(took, n=20)[-1]),
+            }
     return told
 
 
@@ -80,8 +84,14 @@ def each_scan(site):
     told = {}
     with Operator(site, name="C") as it:
         it.ready()
-        for name, kind, codes in (("open", "accepted", ("A/OPEN", "K-1")), ("load", "accepted", ("S/M1/1", "K-1")), ("splice", "accepted", ("S/M1/1", "K-3")), ("unload", "accepted", ("S/M1/1", "A/UNLOAD")),
-                                  ("a load of a wrong part", "refused", ("S/M1/1", "K-2")), ("the same again", "refused", ("S/M1/1", "K-2"))):
+        for name, kind, codes in (
+            ("open", "accepted", ("A/OPEN", "K-1")),
+            ("load", "accepted", ("S/M1/1", "K-1")),
+            ("splice", "accepted", ("S/M1/1", "K-3")),
+            ("unload", "accepted", ("S/M1/1", "A/UNLOAD")),
+            ("a load of a wrong part", "refused", ("S/M1/1", "K-2")),
+            ("the same again", "refused", ("S/M1/1", "K-2")),
+        ):
             time.sleep(5)
             before = site.connections()
             it.does(*codes, kind=kind)
@@ -93,8 +103,10 @@ def each_scan(site):
 
 def measure(program, scans):
     """From scan to verdict on each screen, the tab's memory over so many scans, and the connections of a scan; the exit status."""
+
     def say(name, value):
         print(json.dumps({name: value}), flush=True)
+
     with Site(program, station_flows.folder()) as site:
         say("from scan to verdict, milliseconds", to_a_verdict(site))
     with Site(program, station_flows.folder()) as site:
@@ -105,6 +117,9 @@ def measure(program, scans):
             for _ in range(0, scans, 500):
                 many(it, min(500, scans))
                 memory.append(round(heap(it), 1))
-            say("heap of the tab, MB, at first and after each 500 scans", {"heap": memory, "connections": site.connections() - answers})
+            say(
+                "heap of the tab, MB, at first and after each 500 scans",
+                {"heap": memory, "connections": site.connections() - answers},
+            )
         say("connections of a scan", each_scan(site))
     return 0

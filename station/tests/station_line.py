@@ -8,7 +8,14 @@ from tracedesk_dev import shift
 import station_site
 from station_site import Difference
 
-WORDS = {"EMPTY": "EMPTY", "EXPIRED": "EXPIRED", "LOW": "LOW", "EXPIRES": "EXPIRES", "OTHER": "OTHER PART", "OFF": "NOT ON SHEET"}
+WORDS = {
+    "EMPTY": "EMPTY",
+    "EXPIRED": "EXPIRED",
+    "LOW": "LOW",
+    "EXPIRES": "EXPIRES",
+    "OTHER": "OTHER PART",
+    "OFF": "NOT ON SHEET",
+}
 URGENT = ["EXPIRED", "EMPTY", "LOW", "EXPIRES"]
 
 
@@ -21,7 +28,13 @@ def life(minutes):
     if not minutes.isdigit():
         return {"unlimited": "no limit", "unbaked": "to be baked first"}[minutes]
     left = int(minutes)
-    return "EXPIRED" if left == 0 else f"{left // 1440} d {left % 1440 // 60} h" if left >= 1440 else f"{left // 60} h {left % 60} min"
+    return (
+        "EXPIRED"
+        if left == 0
+        else f"{left // 1440} d {left % 1440 // 60} h"
+        if left >= 1440
+        else f"{left // 60} h {left % 60} min"
+    )
 
 
 def order(minutes):
@@ -33,17 +46,42 @@ class Slot:
 
     def __init__(self, machine, slot, part, needed, reels, boards, expires):
         self.machine, self.slot, self.part, self.reels = machine, slot, part, reels
-        pieces, ends = [int(it["remaining"]) for it in reels], [order(it["minutes_left"]) for it in reels]
-        usable = sum(pieces[:ends.index(0)] if 0 in ends else pieces)
+        pieces, ends = [int(it["remaining"]) for it in reels], [
+            order(it["minutes_left"]) for it in reels
+        ]
+        usable = sum(pieces[: ends.index(0)] if 0 in ends else pieces)
         self.worst = reels[ends.index(min(ends))] if reels else None
         self.life, self.boards = min(ends, default=-1), usable // needed if needed else None
         others = list(dict.fromkeys(it["part"] for it in reels if it["part"] != part))
-        self.states = [state for state, holds in (
-            ("EMPTY", not reels), ("EXPIRED", self.life == 0), ("LOW", reels and ends[0] > 0 and needed and self.boards < boards), ("EXPIRES", 0 < self.life < expires),
-            ("OTHER", others), ("OFF", not needed)) if holds]
-        said = "" if not reels else life(self.worst["minutes_left"]) + ("" if self.worst is reels[0] else f": {self.worst['reel']}")
-        self.row = [slot, f"{part} ({', '.join(others)})" if others else part, reels[0]["reel"] if reels else "", f"{pieces[0]:,}" if reels else "", f"{sum(pieces):,}" if reels[1:] else "",
-                    f"{self.boards:,}" if needed else "", ", ".join(f"{it['reel']} {int(it['remaining']):,}" for it in reels[1:]), said, " · ".join(WORDS[it] for it in self.states) or "OK"]
+        self.states = [
+            state
+            for state, holds in (
+                ("EMPTY", not reels),
+                ("EXPIRED", self.life == 0),
+                ("LOW", reels and ends[0] > 0 and needed and self.boards < boards),
+                ("EXPIRES", 0 < self.life < expires),
+                ("OTHER", others),
+                ("OFF", not needed),
+            )
+            if holds
+        ]
+        said = (
+            ""
+            if not reels
+            else life(self.worst["minutes_left"])
+            + ("" if self.worst is reels[0] else f": {self.worst['reel']}")
+        )
+        self.row = [
+            slot,
+            f"{part} ({', '.join(others)})" if others else part,
+            reels[0]["reel"] if reels else "",
+            f"{pieces[0]:,}" if reels else "",
+            f"{sum(pieces):,}" if reels[1:] else "",
+            f"{self.boards:,}" if needed else "",
+            ", ".join(f"{it['reel']} {int(it['remaining']):,}" for it in reels[1:]),
+            said,
+            " · ".join(WORDS[it] for it in self.states) or "OK",
+        ]
 
     def tile(self):
         """What stands on top of the screen where the slot needs a person: how urgent, and its words."""
@@ -51,26 +89,68 @@ class Slot:
         if rank is None:
             return None
         behind = "" if not self.reels or self.worst is self.reels[0] else " BEHIND"
-        words = [{"EXPIRED": f"EXPIRED{behind}", "LOW": f"LOW: {self.boards}", "EXPIRES": f"EXPIRES {life(self.worst['minutes_left']) if self.worst else ''}"}.get(it, WORDS[it]) for it in self.states if it != "OTHER"]
-        reel = self.worst["reel"] if {"EXPIRED", "EXPIRES"} & set(self.states) else self.reels[0]["reel"] if self.reels else self.part
-        return (rank, {2: self.boards, 3: self.life}.get(rank, 0)), [f"{self.machine} {self.slot}", " · ".join(words), reel]
+        words = [
+            {
+                "EXPIRED": f"EXPIRED{behind}",
+                "LOW": f"LOW: {self.boards}",
+                "EXPIRES": f"EXPIRES {life(self.worst['minutes_left']) if self.worst else ''}",
+            }.get(it, WORDS[it])
+            for it in self.states
+            if it != "OTHER"
+        ]
+        reel = (
+            self.worst["reel"]
+            if {"EXPIRED", "EXPIRES"} & set(self.states)
+            else self.reels[0]["reel"]
+            if self.reels
+            else self.part
+        )
+        return (rank, {2: self.boards, 3: self.life}.get(rank, 0)), [
+            f"{self.machine} {self.slot}",
+            " · ".join(words),
+            reel,
+        ]
 
 
 def slots_of(site, machine, product, boards, expires):
     """The slots of a machine in the order of its sheet, and behind them those that are on no row of it."""
     mounted = report(site, f"/slots?machine={machine}")
-    sheet = list(dict.fromkeys((it["slot"], it["part"], int(it["needed"])) for it in report(site, f"/kit?product={product}&machine={machine}&boards=1")))
-    off = [(slot, next(it["part"] for it in mounted if it["slot"] == slot), 0) for slot in sorted({it["slot"] for it in mounted} - {slot for slot, _, _ in sheet}, key=int)]
-    return [Slot(machine, slot, part, needed, [it for it in mounted if it["slot"] == slot], boards, expires) for slot, part, needed in sheet + off]
+    sheet = list(
+        dict.fromkeys(
+            (it["slot"], it["part"], int(it["needed"]))
+            for it in report(site, f"/kit?product={product}&machine={machine}&boards=1")
+        )
+    )
+    off = [
+        (slot, next(it["part"] for it in mounted if it["slot"] == slot), 0)
+        for slot in sorted({it["slot"] for it in mounted} - {slot for slot, _, _ in sheet}, key=int)
+    ]
+    return [
+        Slot(
+            machine,
+            slot,
+            part,
+            needed,
+            [it for it in mounted if it["slot"] == slot],
+            boards,
+            expires,
+        )
+        for slot, part, needed in sheet + off
+    ]
 
 
 def shown_rows(operator, machine):
     """The rows of a machine on the screen Line, over all its columns."""
-    return operator.script("return [...document.querySelectorAll('#main table')].filter((it) => it.dataset.machine === arguments[0]).flatMap((it) => [...it.tBodies[0].rows].map((row) => [...row.cells].map((cell) => cell.textContent)))", machine)
+    return operator.script(
+        "return [...document.querySelectorAll('#main table')].filter((it) => it.dataset.machine === arguments[0]).flatMap((it) => [...it.tBodies[0].rows].map((row) => [...row.cells].map((cell) => cell.textContent)))",
+        machine,
+    )
 
 
 def shown_tiles(operator):
-    return operator.script("return [...document.querySelectorAll('.urgent li:not(.more)')].map((it) => [...it.children].map((part) => part.textContent))")
+    return operator.script(
+        "return [...document.querySelectorAll('.urgent li:not(.more)')].map((it) => [...it.children].map((part) => part.textContent))"
+    )
 
 
 def agreed(what, differs, seconds=25):
@@ -87,38 +167,71 @@ def line_is_as_reported(site, operator, machine="M1", product="CTRL-A", boards=5
     operator.go("line")
 
     def differs():
-        wanted, got = [it.row for it in slots_of(site, machine, product, boards, expires)], shown_rows(operator, machine)
-        return None if wanted == got else next((f"wanted {a}, got {b}" for a, b in zip(wanted, got) if a != b), f"{len(wanted)} rows, and {len(got)}")
+        wanted, got = [
+            it.row for it in slots_of(site, machine, product, boards, expires)
+        ], shown_rows(operator, machine)
+        return (
+            None
+            if wanted == got
+            else next(
+                (f"wanted {a}, got {b}" for a, b in zip(wanted, got) if a != b),
+                f"{len(wanted)} rows, and {len(got)}",
+            )
+        )
+
     agreed(f"Line of {machine}", differs)
 
 
 def tiles_are_as_reported(site, operator, machines, product, boards, expires):
     """Compares what stands on top of the screen Line, and gives how many slots need a person."""
+
     def tiles():
-        found = [tile for machine in machines for it in slots_of(site, machine, product, boards, expires) if (tile := it.tile())]
+        found = [
+            tile
+            for machine in machines
+            for it in slots_of(site, machine, product, boards, expires)
+            if (tile := it.tile())
+        ]
         return [tile for _, tile in sorted(found, key=lambda it: it[0])]
 
     def differs():
         wanted, got = tiles(), shown_tiles(operator)
         more = operator.script("return document.querySelector('.urgent .more')?.textContent ?? ''")
         said = f"and {len(wanted) - len(got)} more" if len(wanted) > len(got) else ""
-        return None if wanted[:len(got)] == got and said in more and bool(said) == bool(more) else f"wanted {wanted}, got {got} {more}"
+        return (
+            None
+            if wanted[: len(got)] == got and said in more and bool(said) == bool(more)
+            else f"wanted {wanted}, got {got} {more}"
+        )
+
     agreed("what needs a person", differs)
     return len(tiles())
 
 
 def real_line(site, boards=60):
     """A desk with the sheets, reels and messages of a shift's line, to the moment at which a reel has expired on its slot; the shift."""
-    told = shift.Shift(boards=boards, day=datetime.datetime.now(datetime.timezone.utc).strftime("%Y-%m-%d"))
+    told = shift.Shift(
+        boards=boards, day=datetime.datetime.now(datetime.timezone.utc).strftime("%Y-%m-%d")
+    )
     site.kill_desk()
     for name in ("desk", "desk-wal", "desk-shm"):
         (site.room / name).unlink(missing_ok=True)
-    site.feed([it.text for it in told.lines[:told.moments["expired"] + 1]])
-    site.set_up({"title": "Line 1", "machines": [{"machine": machine, "product": "CTRL-A"} for machine in told.machines], "boards": 20, "expires": 60})
+    site.feed([it.text for it in told.lines[: told.moments["expired"] + 1]])
+    site.set_up(
+        {
+            "title": "Line 1",
+            "machines": [{"machine": machine, "product": "CTRL-A"} for machine in told.machines],
+            "boards": 20,
+            "expires": 60,
+        }
+    )
     site.start_desk()
     return told
 
 
 def view(operator, width, height):
     """Gives the page a viewport of exactly so many pixels, as a browser in full screen has it."""
-    operator.page.execute_cdp_cmd("Emulation.setDeviceMetricsOverride", {"width": width, "height": height, "deviceScaleFactor": 1, "mobile": False})
+    operator.page.execute_cdp_cmd(
+        "Emulation.setDeviceMetricsOverride",
+        {"width": width, "height": height, "deviceScaleFactor": 1, "mobile": False},
+    )

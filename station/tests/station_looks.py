@@ -11,7 +11,9 @@ from station_site import SETUP, Difference, Operator, Site, wait_for
 
 SCREENS = ("line", "scan", "receive", "changeover", "trace")
 SCREEN, TABLET = (1920, 1080), (800, 1280)
-SEEN_ANEW = 4  # seconds, after which the page looks at a slot again before it takes a scan for a load
+SEEN_ANEW = (
+    4  # seconds, after which the page looks at a slot again before it takes a scan for a load
+)
 
 # Each element with text of its own: its letters against what is behind them, as WCAG 2.1 reckons it.
 CONTRAST = r"""
@@ -42,7 +44,13 @@ def set_up(it):
     """Reels on most slots of both machines, as a line has them in the midst of a shift."""
     it.ready()
     it.scan("B/anna")
-    for slot, reel in (("S/M1/1", "K-1"), ("S/M1/2", "K-2"), ("S/M1/3", "K-4"), ("S/M1/10", "K-5"), ("S/M2/10", "K-8")):
+    for slot, reel in (
+        ("S/M1/1", "K-1"),
+        ("S/M1/2", "K-2"),
+        ("S/M1/3", "K-4"),
+        ("S/M1/10", "K-5"),
+        ("S/M2/10", "K-8"),
+    ):
         it.does(slot, reel)
     time.sleep(SEEN_ANEW)
     it.does("S/M1/1", "K-3", holds=("SPLICED",))
@@ -51,7 +59,9 @@ def set_up(it):
 
 def dark_on_light(it, where, seen):
     texts = it.script(CONTRAST)
-    weak = [f"{text['what']}: {text['ratio']:.2f}" for text in texts if text["ratio"] < text["wanted"]]
+    weak = [
+        f"{text['what']}: {text['ratio']:.2f}" for text in texts if text["ratio"] < text["wanted"]
+    ]
     if weak or not texts:
         raise Difference(f"{where}: {weak or 'no text'}")
     seen.extend(texts)
@@ -65,32 +75,70 @@ def letters_stand_out(site):
         for screen in SCREENS:
             it.go(screen)
             dark_on_light(it, screen, seen)
-        for codes, kind in ((("K-6", "A/OPEN"), "accepted"), (("S/M1/2", "K-7"), "refused"), (("S/M9/2",), "fault")):
+        for codes, kind in (
+            (("K-6", "A/OPEN"), "accepted"),
+            (("S/M1/2", "K-7"), "refused"),
+            (("S/M9/2",), "fault"),
+        ):
             it.does(*codes, kind=kind)
             dark_on_light(it, kind, seen)
         it.go("line")
         site.kill_desk()
-        wait_for("the page says that the desk doesn't answer", lambda: it.script("return document.getElementById('state').className") == "old")
+        wait_for(
+            "the page says that the desk doesn't answer",
+            lambda: it.script("return document.getElementById('state').className") == "old",
+        )
         dark_on_light(it, "without a desk", seen)
     return f"{len(seen)} texts, the weakest {min(text['ratio'] for text in seen):.1f} to 1"
 
 
 def printed_codes_are_read_back(site):
     """The sheet of action codes and of slots with long names, as it is printed, read by zbar."""
-    slots = {f"{name}-LONG-NAME-OF-A-MACHINE-OF-A-PLANT": "SLOT-OF-A-FEEDER-WITH-A-NAME" + more for name, more in (("A", ""), ("B", "-THAT-IS-TOO-LONG-TO-PRINT"))}
+    slots = {
+        f"{name}-LONG-NAME-OF-A-MACHINE-OF-A-PLANT": "SLOT-OF-A-FEEDER-WITH-A-NAME" + more
+        for name, more in (("A", ""), ("B", "-THAT-IS-TOO-LONG-TO-PRINT"))
+    }
     for machine, slot in slots.items():
-        site.say("SheetDefined", {"Product": "CTRL-A", "Machine": machine, "Rows": [{"Slot": slot, "PartNumber": "RES", "Designators": ["R1"]}]})
-    site.set_up({**SETUP, "machines": [*SETUP["machines"], *({"machine": machine, "product": "CTRL-A"} for machine in slots)]})
+        site.say(
+            "SheetDefined",
+            {
+                "Product": "CTRL-A",
+                "Machine": machine,
+                "Rows": [{"Slot": slot, "PartNumber": "RES", "Designators": ["R1"]}],
+            },
+        )
+    site.set_up(
+        {
+            **SETUP,
+            "machines": [
+                *SETUP["machines"],
+                *({"machine": machine, "product": "CTRL-A"} for machine in slots),
+            ],
+        }
+    )
     if not shutil.which("zbarimg"):
         return "SKIPPED: there is no zbarimg here: apt-get install zbar-tools"
     with Operator(site) as it:
         it.page.get(f"{site.url}/station/codes.html?station=W1")
-        wait_for("the codes", lambda: it.script("return document.querySelectorAll('.cards').length > 7"))
-        wanted, longer = it.script("return [':has(svg)', ':has(p)'].map((has) => [...document.querySelectorAll(`figure${has} small`)].map((it) => it.textContent))")
-        printed = base64.b64decode(it.page.execute_cdp_cmd("Page.printToPDF", {"printBackground": True})["data"])
+        wait_for(
+            "the codes", lambda: it.script("return document.querySelectorAll('.cards').length > 7")
+        )
+        wanted, longer = it.script(
+            "return [':has(svg)', ':has(p)'].map((has) => [...document.querySelectorAll(`figure${has} small`)].map((it) => it.textContent))"
+        )
+        printed = base64.b64decode(
+            it.page.execute_cdp_cmd("Page.printToPDF", {"printBackground": True})["data"]
+        )
         (site.room / "codes.pdf").write_bytes(printed)
-        subprocess.run(["pdftoppm", "-r", "300", "-png", site.room / "codes.pdf", site.room / "codes"], check=True)
-        read = subprocess.run(["zbarimg", "--quiet", "--raw", *sorted(site.room.glob("codes-*.png"))], capture_output=True, text=True).stdout.split("\n")
+        subprocess.run(
+            ["pdftoppm", "-r", "300", "-png", site.room / "codes.pdf", site.room / "codes"],
+            check=True,
+        )
+        read = subprocess.run(
+            ["zbarimg", "--quiet", "--raw", *sorted(site.room.glob("codes-*.png"))],
+            capture_output=True,
+            text=True,
+        ).stdout.split("\n")
     if max(map(len, wanted)) < 60 or len(longer) != 1:
         raise Difference(f"long codes: {wanted}; too long: {longer}")
     if sorted(set(wanted)) != sorted({it for it in read if it}):
@@ -107,6 +155,7 @@ FLOWS = [letters_stand_out, printed_codes_are_read_back]
 def taken(it, folder, name):
     """Takes a picture of the screen as it stands."""
     from selenium.common.exceptions import TimeoutException
+
     time.sleep(1.5)
     for _ in range(10):
         with contextlib.suppress(TimeoutException):  # of a machine that has much to do
@@ -120,15 +169,38 @@ def pictures(program, folder):
     folder.mkdir(parents=True, exist_ok=True)
     with Site(program, station_flows.folder()) as site:
         station_flows.plant(site)
-        for reel, part, level, pieces in (("K-11", "CAP", "3", 2500), ("K-12", "CAP", "5a", 1800), ("K-13", "RES", "1", 5000)):
-            site.say("ReelReceived", {"Reel": reel, "PartNumber": part, "Lot": "L-11", "Level": level, "Quantity": pieces}, minutes_ago=3)
+        for reel, part, level, pieces in (
+            ("K-11", "CAP", "3", 2500),
+            ("K-12", "CAP", "5a", 1800),
+            ("K-13", "RES", "1", 5000),
+        ):
+            site.say(
+                "ReelReceived",
+                {
+                    "Reel": reel,
+                    "PartNumber": part,
+                    "Lot": "L-11",
+                    "Level": level,
+                    "Quantity": pieces,
+                },
+                minutes_ago=3,
+            )
         with Operator(site) as it:
             station_line.view(it, *SCREEN)
             set_up(it)
             for number in (1, 2, 3):
                 board = f"SN-{number:04}"
                 site.say("WorkStarted", {"Machine": "M1", "Board": board})
-                site.say("MaterialsInstalled", {"Machine": "M1", "Board": board, "Designators": [name for _, _, names in station_flows.SHEET for name in names]})
+                site.say(
+                    "MaterialsInstalled",
+                    {
+                        "Machine": "M1",
+                        "Board": board,
+                        "Designators": [
+                            name for _, _, names in station_flows.SHEET for name in names
+                        ],
+                    },
+                )
                 site.say("WorkCompleted", {"Machine": "M1", "Board": board})
             it.does("S/M2/1", "K-11")
             taken(it, folder, "accepted")
@@ -150,7 +222,10 @@ def pictures(program, folder):
             station_flows.asks(it, "lot", "L-1", "2")
             taken(it, folder, "trace")
             it.page.get(f"{site.url}/station/codes.html?station=W1")
-            wait_for("the codes", lambda: it.script("return document.querySelectorAll('.cards').length > 3"))
+            wait_for(
+                "the codes",
+                lambda: it.script("return document.querySelectorAll('.cards').length > 3"),
+            )
             taken(it, folder, "codes")
     with Site(program, station_flows.folder()) as site:
         told = station_line.real_line(site)

@@ -17,7 +17,9 @@ BATCH = 20  # sequences at one desk
 MEANT = 5  # a refusal may go by one of so many of the last deeds
 
 # Each state of the verdict that lasts longer than a task of the page, and each deed, in one list that outlives a reload.
-WATCH = DISK + """
+WATCH = (
+    DISK
+    + """
 window.note = (what) => sessionStorage.setItem('log', (sessionStorage.getItem('log') ?? '') + JSON.stringify(what) + '\\n');
 window.note({ load: true });
 document.addEventListener('DOMContentLoaded', () => {
@@ -28,6 +30,7 @@ document.addEventListener('DOMContentLoaded', () => {
   }
 });
 """
+)
 
 
 class Losses(threading.Thread):
@@ -41,7 +44,9 @@ class Losses(threading.Thread):
     def run(self):
         with contextlib.suppress(OSError):
             while True:
-                threading.Thread(target=self.serve, args=(self.listener.accept()[0],), daemon=True).start()
+                threading.Thread(
+                    target=self.serve, args=(self.listener.accept()[0],), daemon=True
+                ).start()
 
     def serve(self, link):
         with link, contextlib.suppress(OSError, ValueError):
@@ -49,10 +54,21 @@ class Losses(threading.Thread):
             while b"\r\n\r\n" not in request:
                 request += link.recv(65536) or exit_of(link)
             head, _, body = request.partition(b"\r\n\r\n")
-            length = next((int(line.split(b":")[1]) for line in head.split(b"\r\n") if line.lower().startswith(b"content-length:")), 0)
+            length = next(
+                (
+                    int(line.split(b":")[1])
+                    for line in head.split(b"\r\n")
+                    if line.lower().startswith(b"content-length:")
+                ),
+                0,
+            )
             while len(body) < length:
                 body += link.recv(65536) or exit_of(link)
-            fate = self.dice.choice(["", "", "request", "answer", "half", "slow"]) if self.isOn and head.startswith(b"POST") else ""
+            fate = (
+                self.dice.choice(["", "", "request", "answer", "half", "slow"])
+                if self.isOn and head.startswith(b"POST")
+                else ""
+            )
             self.lost += fate in ("request", "answer", "half")
             if fate == "request":
                 return
@@ -62,7 +78,7 @@ class Losses(threading.Thread):
             if fate == "slow":
                 time.sleep(self.dice.random())
             if fate != "answer":
-                link.sendall(answer[:len(answer) // 2] if fate == "half" else answer)
+                link.sendall(answer[: len(answer) // 2] if fate == "half" else answer)
 
 
 def exit_of(link):
@@ -73,7 +89,7 @@ class LossySite(Site):
     """A site whose nginx reaches the desk through what loses answers."""
 
     def __init__(self, program, where, dice):
-        self.lossy_port, = free_ports(1)
+        (self.lossy_port,) = free_ports(1)
         super().__init__(program, where)
         self.losses = Losses(self.lossy_port, self.desk_port, dice)
         self.losses.start()
@@ -81,7 +97,9 @@ class LossySite(Site):
     def write_proxy(self):
         super().write_proxy()
         file = self.room / "tracedesk.conf"
-        file.write_text(file.read_text().replace(f"127.0.0.1:{self.desk_port}", f"127.0.0.1:{self.lossy_port}"))
+        file.write_text(
+            file.read_text().replace(f"127.0.0.1:{self.desk_port}", f"127.0.0.1:{self.lossy_port}")
+        )
 
     def __exit__(self, *why):
         super().__exit__(*why)
@@ -103,13 +121,40 @@ class Hands:
             self.it.scan(code)
 
     def deeds(self):
-        dice, slot, reel, number = self.dice, self.dice.choice(SLOTS), self.dice.choice(REELS), str(self.dice.choice([0, 1, 5, 40, 999, 70000, 1000234]))
+        dice, slot, reel, number = (
+            self.dice,
+            self.dice.choice(SLOTS),
+            self.dice.choice(REELS),
+            str(self.dice.choice([0, 1, 5, 40, 999, 70000, 1000234])),
+        )
         return [
-            (8, lambda: self.scan(slot, reel)), (3, lambda: self.scan(slot, "A/UNLOAD")), (2, lambda: self.scan(slot, "A/SCRAP", number)), (3, lambda: self.scan(f"A/{dice.choice(['OPEN', 'SEAL', 'BAKE'])}", reel)),
-            (2, lambda: self.scan(reel, "A/COUNT", number)), (2, lambda: self.scan(reel, "A/COUNT", *(f"A/{digit}" for digit in number), "A/ENTER")), (3, lambda: self.scan(slot)), (3, lambda: self.scan(reel)),
-            (2, lambda: self.scan("A/ENTER")), (2, lambda: self.scan("A/CANCEL")), (1, lambda: self.scan(f"B/{dice.choice(['anna', 'otto'])}")), (1, lambda: self.scan("S/M9/1")), (1, lambda: self.scan(number)),
-            (1, lambda: self.scan(f"A/{dice.choice(['LINE', 'SCAN', 'RECEIVE'])}")), (4, self.touch), (1, self.escape), (4, lambda: time.sleep(dice.random())), (2, self.reload), (2, self.host),
-            (1, lambda: self.it.script("if (window.failing) { window.failing[arguments[0]] = 1; }", dice.choice(["put", "add"])))]
+            (8, lambda: self.scan(slot, reel)),
+            (3, lambda: self.scan(slot, "A/UNLOAD")),
+            (2, lambda: self.scan(slot, "A/SCRAP", number)),
+            (3, lambda: self.scan(f"A/{dice.choice(['OPEN', 'SEAL', 'BAKE'])}", reel)),
+            (2, lambda: self.scan(reel, "A/COUNT", number)),
+            (2, lambda: self.scan(reel, "A/COUNT", *(f"A/{digit}" for digit in number), "A/ENTER")),
+            (3, lambda: self.scan(slot)),
+            (3, lambda: self.scan(reel)),
+            (2, lambda: self.scan("A/ENTER")),
+            (2, lambda: self.scan("A/CANCEL")),
+            (1, lambda: self.scan(f"B/{dice.choice(['anna', 'otto'])}")),
+            (1, lambda: self.scan("S/M9/1")),
+            (1, lambda: self.scan(number)),
+            (1, lambda: self.scan(f"A/{dice.choice(['LINE', 'SCAN', 'RECEIVE'])}")),
+            (4, self.touch),
+            (1, self.escape),
+            (4, lambda: time.sleep(dice.random())),
+            (2, self.reload),
+            (2, self.host),
+            (
+                1,
+                lambda: self.it.script(
+                    "if (window.failing) { window.failing[arguments[0]] = 1; }",
+                    dice.choice(["put", "add"]),
+                ),
+            ),
+        ]
 
     def escape(self):
         self.note("escape")
@@ -118,11 +163,18 @@ class Hands:
     def touch(self):
         """A touch somewhere, or on a button that is seen; at times twice."""
         from selenium.webdriver import ActionChains
+
         self.note("touch")
-        place = self.it.script("""const all = [...document.querySelectorAll('#verdict:not([hidden]) button, .actions button, .pad button, #screens button')].filter((it) => it.checkVisibility()), it = all[Math.floor(arguments[0] * all.length)];
+        place = self.it.script(
+            """const all = [...document.querySelectorAll('#verdict:not([hidden]) button, .actions button, .pad button, #screens button')].filter((it) => it.checkVisibility()), it = all[Math.floor(arguments[0] * all.length)];
             const box = it?.getBoundingClientRect(); return arguments[1] && box ? [Math.floor(box.x + box.width / 2), Math.floor(box.y + box.height / 2)] : [Math.floor(arguments[0] * innerWidth), Math.floor(arguments[2] * innerHeight)]""",
-                               self.dice.random(), self.dice.random() < 0.7, self.dice.random())
-        if self.it.script("return document.elementFromPoint(...arguments)?.closest('a') === null", *place):
+            self.dice.random(),
+            self.dice.random() < 0.7,
+            self.dice.random(),
+        )
+        if self.it.script(
+            "return document.elementFromPoint(...arguments)?.closest('a') === null", *place
+        ):
             chain = ActionChains(self.it.page)
             for _ in range(self.dice.choice([1, 1, 2])):
                 chain.w3c_actions.pointer_action.move_to_location(*place).click()
@@ -134,7 +186,9 @@ class Hands:
 
     def host(self):
         machine, slot = self.dice.choice(SLOTS[:4] + SLOTS[5:9])[2:].split("/")
-        word, body = self.dice.choice([("MaterialsLoaded", {"Reel": self.dice.choice(REELS)}), ("MaterialsUnloaded", {})])
+        word, body = self.dice.choice(
+            [("MaterialsLoaded", {"Reel": self.dice.choice(REELS)}), ("MaterialsUnloaded", {})]
+        )
         self.site.say(word, {"Machine": machine, "Slot": slot, **body})
 
     def sequence(self):
@@ -147,7 +201,10 @@ class Hands:
 
 def may_go(deeds, about):
     """Whether one of the last deeds says that a refusal about this was seen."""
-    return any(deed in ("touch", "escape", "scan A/CANCEL") or deed.removeprefix("scan ") in about for deed in deeds[-MEANT:])
+    return any(
+        deed in ("touch", "escape", "scan A/CANCEL") or deed.removeprefix("scan ") in about
+        for deed in deeds[-MEANT:]
+    )
 
 
 def about_of(scan):
@@ -160,7 +217,13 @@ def about_of(scan):
 
 def judged(log, scans, desk):
     """Compares what the page showed with what the desk has; gives how many greens and reds were seen."""
-    by_uid, deeds, red, unseen, greens = {scan["uid"]: scan for scan in scans}, [], set(), set(), set()
+    by_uid, deeds, red, unseen, greens = (
+        {scan["uid"]: scan for scan in scans},
+        [],
+        set(),
+        set(),
+        set(),
+    )
     for entry in log:
         if "deed" in entry:
             deeds.append(entry["deed"])
@@ -179,14 +242,23 @@ def judged(log, scans, desk):
             unseen.discard(uid)
         red = now
         unseen |= now - {"more"}
-    wrong = [uid for uid in greens if desk[uid] != 1 or by_uid.get(uid, {"answer": {"Answer": "Accepted"}})["answer"]["Answer"] != "Accepted"]
+    wrong = [
+        uid
+        for uid in greens
+        if desk[uid] != 1
+        or by_uid.get(uid, {"answer": {"Answer": "Accepted"}})["answer"]["Answer"] != "Accepted"
+    ]
     refused = {uid for uid, scan in by_uid.items() if scan["answer"]["Answer"] != "Accepted"}
     shown = {uid for entry in log for uid in entry.get("red", [])}
     if wrong or refused - shown and not any("more" in entry.get("red", []) for entry in log):
-        raise Difference(f"green and not at the desk: {wrong}; refused and never shown: {[by_uid[uid] for uid in refused - shown]}")
+        raise Difference(
+            f"green and not at the desk: {wrong}; refused and never shown: {[by_uid[uid] for uid in refused - shown]}"
+        )
     hidden = {uid for uid in unseen & refused if uid not in red and "more" not in red}
     if hidden:
-        raise Difference(f"refusals that no one has seen are not shown: {[by_uid[uid] for uid in hidden]} after {deeds[-8:]}")
+        raise Difference(
+            f"refusals that no one has seen are not shown: {[by_uid[uid] for uid in hidden]} after {deeds[-8:]}"
+        )
     return len(greens), len(shown)
 
 
@@ -197,10 +269,21 @@ def tried(site, it, dice):
     it.script("sessionStorage.setItem('log', ''); window.note({ load: true })")
     hands = Hands(site, it, dice)
     hands.sequence()
-    wait_for("each scan is taken", lambda: it.script("return !Number(document.body.dataset.untaken)"))
-    scans = wait_for("all scans are answered", lambda: (told := it.scans()) is not None and all(scan["state"] == "answered" for scan in told) and [told])[0]
+    wait_for(
+        "each scan is taken", lambda: it.script("return !Number(document.body.dataset.untaken)")
+    )
+    scans = wait_for(
+        "all scans are answered",
+        lambda: (told := it.scans()) is not None
+        and all(scan["state"] == "answered" for scan in told)
+        and [told],
+    )[0]
     time.sleep(0.3)  # the page shows the last answer
-    desk, log = accepted(site), [json.loads(line) for line in it.script("return sessionStorage.getItem('log')").split("\n") if line]
+    desk, log = accepted(site), [
+        json.loads(line)
+        for line in it.script("return sessionStorage.getItem('log')").split("\n")
+        if line
+    ]
     new = [scan for scan in scans if scan["uid"] not in before]
     wrong = [scan for scan in new if desk[scan["uid"]] != (scan["answer"]["Answer"] == "Accepted")]
     if wrong or any(count > 1 for count in desk.values()):
@@ -215,7 +298,11 @@ def batch(program, seed, count, seconds=None):
         plant(site)
         if not seconds:
             site.last_look = agrees
-        site.say("ReelReceived", {"Reel": "1000234", "PartNumber": "CAP", "Lot": "L-9", "Level": "1", "Quantity": 500}, minutes_ago=1)
+        site.say(
+            "ReelReceived",
+            {"Reel": "1000234", "PartNumber": "CAP", "Lot": "L-9", "Level": "1", "Quantity": 500},
+            minutes_ago=1,
+        )
         with Operator(site, begin=False) as it:
             it.open(before=WATCH)
             it.ready()
@@ -243,14 +330,20 @@ def run(program, count, jobs, seed):
     """The long form: the exit status."""
     sums, failed, begun = [0] * 5, 0, time.monotonic()
     with concurrent.futures.ThreadPoolExecutor(jobs) as threads:
-        asked = {threads.submit(batch, program, seed + at, min(BATCH, count - at)): seed + at for at in range(0, count, BATCH)}
+        asked = {
+            threads.submit(batch, program, seed + at, min(BATCH, count - at)): seed + at
+            for at in range(0, count, BATCH)
+        }
         for one in concurrent.futures.as_completed(asked):
             try:
                 sums = [a + b for a, b in zip(sums, one.result())]
                 print(f"{words(sums)} ({time.monotonic() - begun:.0f} s)", flush=True)
             except Exception as fault:  # whatever it is, the other batches go on
                 failed += 1
-                print(f"FAILED  the {BATCH} of seed {asked[one]}: {type(fault).__name__} {str(fault)[:1500]}", flush=True)
+                print(
+                    f"FAILED  the {BATCH} of seed {asked[one]}: {type(fault).__name__} {str(fault)[:1500]}",
+                    flush=True,
+                )
     print(f"{sums[3]} passed, {failed} failed")
     return 1 if failed else 0
 

@@ -20,7 +20,12 @@ from tracedesk_dev.trial import Difference, wanting
 ROOT = pathlib.Path(__file__).resolve().parents[2]
 PEOPLE = {"op": "senders", "office": "readers"}  # their passwords are their names
 CERTIFICATES = {"m2": "sender", "auditor": "reader"}
-SETUP = {"title": "Line 1", "machines": [{"machine": "M1", "product": "CTRL-A"}, {"machine": "M2", "product": "CTRL-A"}], "boards": 50, "expires": 60}
+SETUP = {
+    "title": "Line 1",
+    "machines": [{"machine": "M1", "product": "CTRL-A"}, {"machine": "M2", "product": "CTRL-A"}],
+    "boards": 50,
+    "expires": 60,
+}
 PATIENCE = 90  # seconds: of a machine that has much to do
 BOUNCE = 1.2  # seconds: the same action code within one is taken for one that was read twice
 slower = 1  # each wait takes so many times as long: station-test --slower
@@ -28,7 +33,14 @@ slower = 1  # each wait takes so many times as long: station-test --slower
 
 def missing():
     """The packages of Debian that are wanting here, or none."""
-    found = wanting({"chromium": "chromium", "chromedriver": "chromium-driver", "nginx": "nginx-light", "openssl": "openssl"})
+    found = wanting(
+        {
+            "chromium": "chromium",
+            "chromedriver": "chromium-driver",
+            "nginx": "nginx-light",
+            "openssl": "openssl",
+        }
+    )
     try:
         import selenium  # noqa: F401
     except ImportError:
@@ -61,7 +73,20 @@ def certificate(folder, name, subject, by=None):
     """A key and a certificate for localhost; one that signs itself, or by another's key."""
     words = "openssl req -x509 -newkey ec -pkeyopt ec_paramgen_curve:P-256 -nodes -days 9 -addext subjectAltName=DNS:localhost"
     signed = ["-CA", folder / f"{by}.crt", "-CAkey", folder / f"{by}.key"] if by else []
-    subprocess.run([*words.split(), *signed, "-subj", f"/CN={subject}", "-keyout", folder / f"{name}.key", "-out", folder / f"{name}.crt"], check=True, capture_output=True)
+    subprocess.run(
+        [
+            *words.split(),
+            *signed,
+            "-subj",
+            f"/CN={subject}",
+            "-keyout",
+            folder / f"{name}.key",
+            "-out",
+            folder / f"{name}.crt",
+        ],
+        check=True,
+        capture_output=True,
+    )
 
 
 class Site:
@@ -72,7 +97,9 @@ class Site:
         self.room = pathlib.Path(tempfile.mkdtemp(prefix="station-", dir=folder))
         self.port, self.desk_port, self.inner_port = free_ports(3)
         self.desk = self.nginx = None
-        self.last_look = lambda operator: None  # what an operator looks at before the browser is closed
+        self.last_look = (
+            lambda operator: None
+        )  # what an operator looks at before the browser is closed
         self.agreed = 0
         self.drained = self.room / "drained"
         for it in ("etc/station", "share", "log", "temporary", "line/untraced", "line/status"):
@@ -106,10 +133,19 @@ class Site:
         certificate(at, "clients", "trace desk clients")
         for name in CERTIFICATES:
             self.sign(name, name, "clients")
-        (at / "certificates.conf").write_text("".join(f'"~^CN={name}$" sender;\n' for name, may in CERTIFICATES.items() if may == "sender"))
-        lines = {name: f"{name}:{subprocess.run(['openssl', 'passwd', '-6', name], check=True, capture_output=True, text=True).stdout}" for name in PEOPLE}
+        (at / "certificates.conf").write_text(
+            "".join(
+                f'"~^CN={name}$" sender;\n' for name, may in CERTIFICATES.items() if may == "sender"
+            )
+        )
+        lines = {
+            name: f"{name}:{subprocess.run(['openssl', 'passwd', '-6', name], check=True, capture_output=True, text=True).stdout}"
+            for name in PEOPLE
+        }
         (at / "readers").write_text("".join(lines.values()))
-        (at / "senders").write_text("".join(line for name, line in lines.items() if PEOPLE[name] == "senders"))
+        (at / "senders").write_text(
+            "".join(line for name, line in lines.items() if PEOPLE[name] == "senders")
+        )
 
     def sign(self, *how):
         certificate(self.room / "etc", *how)
@@ -117,25 +153,51 @@ class Site:
     def write_proxy(self):
         """The packaged configuration, with the paths and the ports of this folder."""
         text = (ROOT / "packaging/nginx.conf").read_text(encoding="utf-8")
-        for old, new in (("/etc/tracedesk", self.room / "etc"), ("/usr/share/tracedesk", self.room / "share"), ("/var/lib/nginx/tracedesk-station", self.room / "cache"), ("/var/lib/tracedesk", self.room / "line"),
-                         ("/run/tracedesk-drained", self.drained), ("/var/log/nginx", self.room / "log"),
-                         ("listen 443 ssl", f"listen 127.0.0.1:{self.port} ssl"), ("127.0.0.1:8080", f"127.0.0.1:{self.desk_port}"), ("127.0.0.1:8081", f"127.0.0.1:{self.inner_port}")):
+        for old, new in (
+            ("/etc/tracedesk", self.room / "etc"),
+            ("/usr/share/tracedesk", self.room / "share"),
+            ("/var/lib/nginx/tracedesk-station", self.room / "cache"),
+            ("/var/lib/tracedesk", self.room / "line"),
+            ("/run/tracedesk-drained", self.drained),
+            ("/var/log/nginx", self.room / "log"),
+            ("listen 443 ssl", f"listen 127.0.0.1:{self.port} ssl"),
+            ("127.0.0.1:8080", f"127.0.0.1:{self.desk_port}"),
+            ("127.0.0.1:8081", f"127.0.0.1:{self.inner_port}"),
+        ):
             if old not in text:
                 raise Difference(f"packaging/nginx.conf has no {old}")
             text = text.replace(old, str(new))
         clock = f"map $msec $station_msec {{ default $msec; include {self.room}/clock.con[f]; }}\n"
-        (self.room / "tracedesk.conf").write_text(clock + text.replace("X-Station-Now $msec", "X-Station-Now $station_msec"), encoding="utf-8")
-        temporary = "".join(f"{name}_temp_path {self.room}/temporary/{name};" for name in ("client_body", "proxy", "fastcgi", "uwsgi", "scgi"))
+        (self.room / "tracedesk.conf").write_text(
+            clock + text.replace("X-Station-Now $msec", "X-Station-Now $station_msec"),
+            encoding="utf-8",
+        )
+        temporary = "".join(
+            f"{name}_temp_path {self.room}/temporary/{name};"
+            for name in ("client_body", "proxy", "fastcgi", "uwsgi", "scgi")
+        )
         user = "user root;" if os.geteuid() == 0 else ""
-        (self.room / "nginx.conf").write_text(f"{user} daemon off; pid {self.room}/nginx.pid; error_log {self.room}/log/error.log; events {{}}\n"
-                                              f"http {{ include /etc/nginx/mime.types; default_type application/octet-stream; {temporary} include {self.room}/tracedesk.conf; }}\n")
+        (self.room / "nginx.conf").write_text(
+            f"{user} daemon off; pid {self.room}/nginx.pid; error_log {self.room}/log/error.log; events {{}}\n"
+            f"http {{ include /etc/nginx/mime.types; default_type application/octet-stream; {temporary} include {self.room}/tracedesk.conf; }}\n"
+        )
 
     def proxy_words(self):
-        return [shutil.which("nginx", path=os.environ["PATH"] + ":/usr/sbin"), "-c", self.room / "nginx.conf", "-e", self.room / "log/start.log"]
+        return [
+            shutil.which("nginx", path=os.environ["PATH"] + ":/usr/sbin"),
+            "-c",
+            self.room / "nginx.conf",
+            "-e",
+            self.room / "log/start.log",
+        ]
 
     def start_nginx(self):
         self.nginx = subprocess.Popen(self.proxy_words(), process_group=0)
-        wait_for("nginx listens", lambda: self.nginx.poll() is None and socket.create_connection(("127.0.0.1", self.port), 1).close() is None)
+        wait_for(
+            "nginx listens",
+            lambda: self.nginx.poll() is None
+            and socket.create_connection(("127.0.0.1", self.port), 1).close() is None,
+        )
 
     def stop_nginx(self):
         if self.nginx:
@@ -146,9 +208,19 @@ class Site:
     def shift_clock(self, millions):
         """Puts the clock of the station's server so many million seconds ahead."""
         begins = [int(time.time()) // 10**6 + more for more in (0, 1)]
-        (self.room / "clock.conf").write_text("".join(f'"~^{it}(?<below>.*)$" "{it + millions}$below";\n' for it in begins))
+        (self.room / "clock.conf").write_text(
+            "".join(f'"~^{it}(?<below>.*)$" "{it + millions}$below";\n' for it in begins)
+        )
         self.nginx.send_signal(signal.SIGHUP)
-        wait_for("the clock is shifted", lambda: abs(float(self.asked("GET", "/station/", "op")[1]["X-Station-Now"]) - time.time() - millions * 10**6) < 60)
+        wait_for(
+            "the clock is shifted",
+            lambda: abs(
+                float(self.asked("GET", "/station/", "op")[1]["X-Station-Now"])
+                - time.time()
+                - millions * 10**6
+            )
+            < 60,
+        )
         time.sleep(0.5)
 
     def kill_nginx(self):
@@ -159,7 +231,19 @@ class Site:
 
     def start_desk(self, connections=1_000_000):
         with open(self.room / "served.txt", "ab") as served:
-            self.desk = subprocess.Popen([self.program, "serve", "--db", self.room / "desk", "--port", str(self.desk_port), "--connections", str(connections)], stdout=served)
+            self.desk = subprocess.Popen(
+                [
+                    self.program,
+                    "serve",
+                    "--db",
+                    self.room / "desk",
+                    "--port",
+                    str(self.desk_port),
+                    "--connections",
+                    str(connections),
+                ],
+                stdout=served,
+            )
         wait_for("the desk answers", lambda: self.get("/overdue"))
 
     def kill_desk(self):
@@ -171,7 +255,10 @@ class Site:
     def pause_desk(self):
         """Stops the desk where it is; it may be in the midst of a checkpoint until the kernel says that it is stopped."""
         self.desk.send_signal(signal.SIGSTOP)
-        wait_for("the desk is stopped", lambda: "\nState:\tT" in pathlib.Path(f"/proc/{self.desk.pid}/status").read_text())
+        wait_for(
+            "the desk is stopped",
+            lambda: "\nState:\tT" in pathlib.Path(f"/proc/{self.desk.pid}/status").read_text(),
+        )
 
     def resume_desk(self):
         self.desk.send_signal(signal.SIGCONT)
@@ -193,13 +280,19 @@ class Site:
         """The status, the headers and the body of a request to nginx. A header is named with _ in place of -; one that is None isn't sent."""
         trust = ssl.create_default_context(cafile=self.room / "etc/server.crt")
         if certificate:
-            trust.load_cert_chain(self.room / f"etc/{certificate}.crt", self.room / f"etc/{certificate}.key")
+            trust.load_cert_chain(
+                self.room / f"etc/{certificate}.crt", self.room / f"etc/{certificate}.key"
+            )
         link = http.client.HTTPSConnection("localhost", self.port, timeout=30, context=trust)
         if method == "POST":
             headers = {"Content_Type": "application/json", **headers}
-        headers = {name.replace("_", "-"): value for name, value in headers.items() if value is not None}
+        headers = {
+            name.replace("_", "-"): value for name, value in headers.items() if value is not None
+        }
         if user:
-            headers["Authorization"] = "Basic " + base64.b64encode(f"{user}:{user}".encode()).decode()
+            headers["Authorization"] = (
+                "Basic " + base64.b64encode(f"{user}:{user}".encode()).decode()
+            )
         try:
             link.request(method, path, body, headers)
             answer = link.getresponse()
@@ -210,7 +303,13 @@ class Site:
     def say(self, word, body, minutes_ago=0, source="host", uid=None):
         """Has the desk take a message, and gives its answer."""
         at = datetime.datetime.now(datetime.timezone.utc) - datetime.timedelta(minutes=minutes_ago)
-        told = {"MessageName": f"TraceDesk.{word}", "UniqueID": uid or str(uuid.uuid4()), "Source": source, "TimeStamp": at.strftime("%Y-%m-%dT%H:%M:%SZ"), "MessageBody": body}
+        told = {
+            "MessageName": f"TraceDesk.{word}",
+            "UniqueID": uid or str(uuid.uuid4()),
+            "Source": source,
+            "TimeStamp": at.strftime("%Y-%m-%dT%H:%M:%SZ"),
+            "MessageBody": body,
+        }
         link = http.client.HTTPConnection("127.0.0.1", self.desk_port, timeout=30)
         try:
             link.request("POST", "/messages", json.dumps(told), {"Connection": "close"})
@@ -220,7 +319,12 @@ class Site:
 
     def feed(self, lines):
         """Gives a desk that doesn't run these lines."""
-        return subprocess.run([self.program, "feed", "--db", self.room / "desk"], input=b"\n".join(lines), capture_output=True, check=False).stdout
+        return subprocess.run(
+            [self.program, "feed", "--db", self.room / "desk"],
+            input=b"\n".join(lines),
+            capture_output=True,
+            check=False,
+        ).stdout
 
     def report(self, target):
         """What the program's `report` says of a copy of the file and its log, while the desk is stopped for that moment."""
@@ -230,7 +334,11 @@ class Site:
                 shutil.copy(self.room / name, self.room / name.replace("desk", "copy"))
         finally:
             self.resume_desk()
-        done = subprocess.run([self.program, "report", "--db", self.room / "copy", "--get", target], capture_output=True, text=True)
+        done = subprocess.run(
+            [self.program, "report", "--db", self.room / "copy", "--get", target],
+            capture_output=True,
+            text=True,
+        )
         return done.stdout
 
 
@@ -239,16 +347,31 @@ def browser(room, name, size=(1920, 1080)):
     from selenium import webdriver
     from selenium.common.exceptions import SessionNotCreatedException
     from selenium.webdriver.chrome.service import Service
+
     options = webdriver.ChromeOptions()
     options.binary_location = shutil.which("chromium")
-    for it in ("--headless=new", "--no-sandbox", "--disable-gpu", "--ignore-certificate-errors", "--disable-dev-shm-usage", "--enable-precise-memory-info", "--js-flags=--expose-gc",
-               f"--user-data-dir={room}/{name}", f"--window-size={size[0]},{size[1]}", "--autoplay-policy=no-user-gesture-required"):
+    for it in (
+        "--headless=new",
+        "--no-sandbox",
+        "--disable-gpu",
+        "--ignore-certificate-errors",
+        "--disable-dev-shm-usage",
+        "--enable-precise-memory-info",
+        "--js-flags=--expose-gc",
+        f"--user-data-dir={room}/{name}",
+        f"--window-size={size[0]},{size[1]}",
+        "--autoplay-policy=no-user-gesture-required",
+    ):
         options.add_argument(it)
     options.set_capability("goog:loggingPrefs", {"browser": "ALL"})
     options.accept_insecure_certs = True
-    for tries_left in range(4, -1, -1):  # a machine that has much to do may not begin it within the driver's minute
+    for tries_left in range(
+        4, -1, -1
+    ):  # a machine that has much to do may not begin it within the driver's minute
         try:
-            page = webdriver.Chrome(service=Service(shutil.which("chromedriver"), log_path=os.devnull), options=options)
+            page = webdriver.Chrome(
+                service=Service(shutil.which("chromedriver"), log_path=os.devnull), options=options
+            )
             break
         except SessionNotCreatedException:
             if not tries_left:
@@ -260,6 +383,7 @@ def browser(room, name, size=(1920, 1080)):
 def why_no_browser():
     """Why no browser begins here, or nothing where one does."""
     from selenium.common.exceptions import WebDriverException
+
     with tempfile.TemporaryDirectory() as room:
         try:
             browser(room, "profile").quit()
@@ -313,11 +437,21 @@ class Operator:
         self.page.get(f"{log_in}/station/icon.svg")
         self.page.get(f"{self.site.url}/station/?station={self.name}{where}")
         if not self.setup:
-            wait_for("the page is there", lambda: self.script("return document.querySelectorAll('#screens button').length === 5 && document.getElementById('state').textContent !== ''"))
+            wait_for(
+                "the page is there",
+                lambda: self.script(
+                    "return document.querySelectorAll('#screens button').length === 5 && document.getElementById('state').textContent !== ''"
+                ),
+            )
 
     def ready(self):
         """Waits until the Line's reports are there."""
-        wait_for("the page has the desk's answers", lambda: self.script("return document.body.dataset.asked === 'all' && document.getElementById('state').className === 'fresh'"))
+        wait_for(
+            "the page has the desk's answers",
+            lambda: self.script(
+                "return document.body.dataset.asked === 'all' && document.getElementById('state').className === 'fresh'"
+            ),
+        )
         return self
 
     def close(self):
@@ -329,7 +463,9 @@ class Operator:
     def kill(self):
         """Ends the browser as a power cut does."""
         driver = self.page.service.process.pid
-        processes = subprocess.run(["ps", "-eo", "pid,ppid"], capture_output=True, text=True).stdout.split("\n")[1:]
+        processes = subprocess.run(
+            ["ps", "-eo", "pid,ppid"], capture_output=True, text=True
+        ).stdout.split("\n")[1:]
         below, pairs = {driver}, [tuple(map(int, it.split())) for it in processes if it.strip()]
         for _ in range(6):
             below |= {pid for pid, parent in pairs if parent in below}
@@ -347,11 +483,13 @@ class Operator:
     def keys(self, *keys):
         """What is typed, wherever the focus is."""
         from selenium.webdriver import ActionChains
+
         ActionChains(self.page).send_keys(*keys).perform()
 
     def scan(self, *codes):
         """Scans codes as a wedge does: letters and Enter; the same one not sooner than a hand does."""
         from selenium.webdriver.common.keys import Keys
+
         for code in codes:
             if code == self.last[0]:
                 time.sleep(max(0, self.last[1] + BOUNCE - time.monotonic()))
@@ -367,36 +505,55 @@ class Operator:
 
     def verdict(self, kinds=("accepted", "refused", "fault"), seconds=PATIENCE, after=0):
         """The kind and the text of the verdict, once there is one of these kinds; `after` is the turn of what was there before."""
+
         def shown():
-            kind, text, turn = self.script("const v = document.getElementById('verdict'); return v.hidden ? ['', '', 0] : [v.className, v.innerText, Number(v.dataset.turn)]")
+            kind, text, turn = self.script(
+                "const v = document.getElementById('verdict'); return v.hidden ? ['', '', 0] : [v.className, v.innerText, Number(v.dataset.turn)]"
+            )
             return (kind, text) if kind in kinds and turn > after else None
+
         return wait_for(f"a verdict of {kinds}: {self.text('verdict')!r}", shown, seconds)
 
     def seen(self):
         """Cancels until nothing is shown over the screens."""
         from selenium.webdriver.common.keys import Keys
+
         def hidden():
             self.keys(Keys.ESCAPE)
             return self.script("return document.getElementById('verdict').hidden")
+
         wait_for("nothing is shown", hidden)
 
     def does(self, *codes, kind="accepted", holds=()):
         """Scans, and looks whether the verdict is of this kind and has these texts."""
         after = self.turn() if codes else 0
         self.scan(*codes)
-        got, text = self.verdict(kinds=("accepted", "refused", "fault") if kind in ("accepted", "refused", "fault") else (kind,), after=after)
+        got, text = self.verdict(
+            kinds=("accepted", "refused", "fault")
+            if kind in ("accepted", "refused", "fault")
+            else (kind,),
+            after=after,
+        )
         lacking = [it for it in holds if it not in text]
         if got != kind or lacking:
-            raise Difference(f"{codes}: wanted {kind} with {lacking or 'no more'}, got {got}: {text!r}")
+            raise Difference(
+                f"{codes}: wanted {kind} with {lacking or 'no more'}, got {got}: {text!r}"
+            )
         return text
 
     def go(self, screen):
         self.script("location.hash = arguments[0]", screen)
-        wait_for(screen, lambda: self.script("return document.getElementById('main').className") == screen)
+        wait_for(
+            screen,
+            lambda: self.script("return document.getElementById('main').className") == screen,
+        )
 
     def rows(self, table=0):
         """The rows of a table of the page, as texts."""
-        return self.script("return [...(document.querySelectorAll('#main table')[arguments[0]]?.querySelectorAll('tbody tr') ?? [])].map((row) => [...row.cells].map((it) => it.textContent))", table)
+        return self.script(
+            "return [...(document.querySelectorAll('#main table')[arguments[0]]?.querySelectorAll('tbody tr') ?? [])].map((row) => [...row.cells].map((it) => it.textContent))",
+            table,
+        )
 
     def scans(self):
         """What the browser keeps of its scans."""

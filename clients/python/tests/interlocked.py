@@ -43,7 +43,11 @@ class Desk(http.server.BaseHTTPRequestHandler):
 
     def do_POST(self):
         uid = json.loads(self.rfile.read(int(self.headers["Content-Length"])))["UniqueID"]
-        told = {"Answer": "Refused", "At": "C1", "Refusal": "ReelShort", "UniqueID": uid} if uid.startswith("bad") else {"Answer": "Accepted", "Number": 1, "UniqueID": uid}
+        told = (
+            {"Answer": "Refused", "At": "C1", "Refusal": "ReelShort", "UniqueID": uid}
+            if uid.startswith("bad")
+            else {"Answer": "Accepted", "Number": 1, "UniqueID": uid}
+        )
         self.server.answered[uid] = time.time()
         self.reply(409 if "At" in told else 200, json.dumps(told, separators=(",", ":")).encode())
 
@@ -72,11 +76,31 @@ class Plant:
         self.server = Server(("127.0.0.1", 0), Desk)
         self.server.answered = {}
         threading.Thread(target=self.server.serve_forever, daemon=True).start()
-        self.words = [sys.executable, str(SENDER), "--url", f"http://127.0.0.1:{self.server.server_address[1]}", "--spool", str(room / "spool"), "--rate", "0",
-                      "--follow", str(self.out), "--interlock", str(command), "--machine", "M1", "--every", "0.1", "--silence", "3"]
+        self.words = [
+            sys.executable,
+            str(SENDER),
+            "--url",
+            f"http://127.0.0.1:{self.server.server_address[1]}",
+            "--spool",
+            str(room / "spool"),
+            "--rate",
+            "0",
+            "--follow",
+            str(self.out),
+            "--interlock",
+            str(command),
+            "--machine",
+            "M1",
+            "--every",
+            "0.1",
+            "--silence",
+            "3",
+        ]
 
     def start(self):
-        self.sender = subprocess.Popen(self.words, stderr=subprocess.DEVNULL, start_new_session=True)
+        self.sender = subprocess.Popen(
+            self.words, stderr=subprocess.DEVNULL, start_new_session=True
+        )
 
     def kill(self):
         """Kills the sender, and waits for a call of its command that goes on."""
@@ -92,7 +116,13 @@ class Plant:
         self.number += 1
         uid = f"{kind}-{self.number}"
         body = {"Machine": "M1", "Board": f"B{self.number}"}
-        told = {"MessageName": f"TraceDesk.{word}", "UniqueID": uid, "Source": "M1", "TimeStamp": "2026-03-02T06:00:00Z", "MessageBody": body}
+        told = {
+            "MessageName": f"TraceDesk.{word}",
+            "UniqueID": uid,
+            "Source": "M1",
+            "TimeStamp": "2026-03-02T06:00:00Z",
+            "MessageBody": body,
+        }
         (self.out / "x.tmp").write_text(json.dumps(told))
         (self.out / "x.tmp").rename(self.out / f"{self.number:09}.json")
         return uid
@@ -123,7 +153,16 @@ class Plant:
         uid = self.say("MaterialsInstalled", "bad")
         self.wait_for(lambda: uid in self.server.answered)
         answered = self.server.answered[uid]
-        return self.wait_for(lambda: next((at - answered for at, state, reason in self.calls() if state == "stop" and f"B{self.number} refused: ReelShort" in reason), None))
+        return self.wait_for(
+            lambda: next(
+                (
+                    at - answered
+                    for at, state, reason in self.calls()
+                    if state == "stop" and f"B{self.number} refused: ReelShort" in reason
+                ),
+                None,
+            )
+        )
 
     def killed(self, chance):
         """Kills the sender around a start; whether the machine stops, and stays so until a start is accepted anew."""
@@ -148,16 +187,30 @@ class Plant:
         self.start()
         self.wait_for(lambda: any(at > end + YOUNG for at, _, _ in self.calls()))
         time.sleep(0.15)
-        return bool(waits) or not any(state == "go" for at, state, _ in self.calls() if at > end + YOUNG)
+        return bool(waits) or not any(
+            state == "go" for at, state, _ in self.calls() if at > end + YOUNG
+        )
 
 
 def figures(kills, stopped, took):
     took = sorted(took)
-    return {"kills": kills, "stopped": stopped, "refused": len(took), **({"median": took[len(took) // 2], "99th": took[len(took) * 99 // 100], "most": took[-1]} if took else {})}
+    return {
+        "kills": kills,
+        "stopped": stopped,
+        "refused": len(took),
+        **(
+            {"median": took[len(took) // 2], "99th": took[len(took) * 99 // 100], "most": took[-1]}
+            if took
+            else {}
+        ),
+    }
 
 
 def shown(told):
-    return ", ".join(f"{name} {it:.3f} s" if isinstance(it, float) else f"{name} {it}" for name, it in told.items())
+    return ", ".join(
+        f"{name} {it:.3f} s" if isinstance(it, float) else f"{name} {it}"
+        for name, it in told.items()
+    )
 
 
 def run(kills, refusals, seed, say=lambda line: None):
@@ -190,7 +243,11 @@ def run(kills, refusals, seed, say=lambda line: None):
 
 
 def main():
-    reader = argparse.ArgumentParser(description=__doc__, formatter_class=argparse.RawDescriptionHelpFormatter, usage=argparse.SUPPRESS)
+    reader = argparse.ArgumentParser(
+        description=__doc__,
+        formatter_class=argparse.RawDescriptionHelpFormatter,
+        usage=argparse.SUPPRESS,
+    )
     for name, default in (("kills", 20), ("refusals", 50), ("seed", 1)):
         reader.add_argument(f"--{name}", type=int, default=default, help=argparse.SUPPRESS)
     asked = reader.parse_args()

@@ -20,7 +20,11 @@ def from_body(kind, body):
     given = {}
     for name, attribute, _ in kind.MEMBERS:
         if name in body:
-            given[attribute] = [from_body(rows[attribute], it) for it in body[name]] if attribute in rows else body[name]
+            given[attribute] = (
+                [from_body(rows[attribute], it) for it in body[name]]
+                if attribute in rows
+                else body[name]
+            )
     return kind(**given)
 
 
@@ -30,13 +34,17 @@ class Messages(unittest.TestCase):
         return [(kind, document[kind.WORD]["examples"][0]) for kind in words.MESSAGES]
 
     def test_seventeen_in_the_order_of_the_table(self):
-        self.assertEqual([it.WORD for it in words.MESSAGES], [it["word"] for it in TABLE["messages"]])
+        self.assertEqual(
+            [it.WORD for it in words.MESSAGES], [it["word"] for it in TABLE["messages"]]
+        )
         self.assertEqual(len(words.MESSAGES), 17)
 
     def test_each_example_is_made(self):
         for kind, example in self.examples():
             at = datetime.datetime.fromisoformat(example["TimeStamp"].replace("Z", "+00:00"))
-            made = from_body(kind, example["MessageBody"]).message(example["Source"], unique_id=example["UniqueID"], at=at)
+            made = from_body(kind, example["MessageBody"]).message(
+                example["Source"], unique_id=example["UniqueID"], at=at
+            )
             self.assertEqual(json.loads(made.text), example)
             self.assertIsNone(SCHEMA.fault(json.loads(made.text)))
 
@@ -44,9 +52,30 @@ class Messages(unittest.TestCase):
         tried = 0
         for kind, example in self.examples():
             for name, attribute, form in kind.MEMBERS:
-                for value in (None, True, "", " x", "x" * 65, "x\n", -1, 0, 10_000_001, 1.0, 2.5, [], {}, "C1", ["C 1"], ["C1"] * 5001):
+                for value in (
+                    None,
+                    True,
+                    "",
+                    " x",
+                    "x" * 65,
+                    "x\n",
+                    -1,
+                    0,
+                    10_000_001,
+                    1.0,
+                    2.5,
+                    [],
+                    {},
+                    "C1",
+                    ["C 1"],
+                    ["C1"] * 5001,
+                ):
                     body = {**example["MessageBody"], name: value}
-                    if isinstance(form, forms.Where) and body["Level"] != "6" or name in ("Rows", "Counts"):
+                    if (
+                        isinstance(form, forms.Where)
+                        and body["Level"] != "6"
+                        or name in ("Rows", "Counts")
+                    ):
                         continue
                     is_good = SCHEMA.fault({**example, "MessageBody": body}) is None
                     if value == 1.0 and isinstance(value, float):
@@ -55,7 +84,9 @@ class Messages(unittest.TestCase):
                         from_body(kind, body).message("S")
                         self.assertTrue(is_good, f"{kind.WORD} was made with {name} {value!r:.50}")
                     except forms.OutOfRange as fault:
-                        self.assertFalse(is_good, f"{kind.WORD} was not made with {name} {value!r:.50}: {fault}")
+                        self.assertFalse(
+                            is_good, f"{kind.WORD} was not made with {name} {value!r:.50}: {fault}"
+                        )
                         self.assertEqual(fault.member, name)
                     tried += 1
         self.assertGreater(tried, 400)
@@ -65,7 +96,10 @@ class Messages(unittest.TestCase):
             with self.assertRaises(forms.OutOfRange) as caught:
                 words.CountsTaken(given)
             self.assertEqual(caught.exception.member, "Counts")
-        self.assertEqual(words.CountsTaken([words.CountRow("K", 0)]).body(), {"Counts": [{"Reel": "K", "Quantity": 0}]})
+        self.assertEqual(
+            words.CountsTaken([words.CountRow("K", 0)]).body(),
+            {"Counts": [{"Reel": "K", "Quantity": 0}]},
+        )
 
     def test_label_minutes_stand_at_level_6_alone(self):
         self.assertNotIn("LabelMinutes", words.ReelReceived("K", "P", "L", "3", 5, 60).body())
@@ -77,7 +111,11 @@ class Messages(unittest.TestCase):
         berlin = datetime.timezone(datetime.timedelta(hours=1))
         made = words.ClockSet().message("S", at=datetime.datetime(2026, 3, 2, 7, 0, tzinfo=berlin))
         self.assertIn(b'"TimeStamp":"2026-03-02T06:00:00Z"', made.text)
-        for at in (datetime.datetime(2026, 3, 2), datetime.datetime(1969, 12, 31, tzinfo=berlin), datetime.datetime(9999, 12, 31, tzinfo=berlin)):
+        for at in (
+            datetime.datetime(2026, 3, 2),
+            datetime.datetime(1969, 12, 31, tzinfo=berlin),
+            datetime.datetime(9999, 12, 31, tzinfo=berlin),
+        ):
             with self.assertRaises(forms.OutOfRange):
                 words.ClockSet().message("S", at=at)
 

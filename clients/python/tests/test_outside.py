@@ -26,7 +26,11 @@ class Outside(unittest.TestCase):
                         raise AssertionError(f"seed {seed}: {fault}") from fault
                 done = seed - FIRST + 1
                 if done % NEWS == 0 or done == RUNS > NEWS:
-                    said = f"{done} runs, " + ", ".join(f"{count} {name}" for name, count in counts.items()) + f"; {time.monotonic() - begun:.0f} s"
+                    said = (
+                        f"{done} runs, "
+                        + ", ".join(f"{count} {name}" for name, count in counts.items())
+                        + f"; {time.monotonic() - begun:.0f} s"
+                    )
                     print(said, file=sys.__stdout__, flush=True)
 
 

@@ -26,12 +26,15 @@ def ends_at(number):
             if count == number:
                 raise Ended
             return call(*given, **how)
+
         return inner
 
     with contextlib.ExitStack() as patched:
         for name in ("pwrite", "fsync", "rename", "write"):
             patched.enter_context(mock.patch.object(os, name, counted(getattr(os, name))))
-        patched.enter_context(mock.patch.object(pathlib.Path, "unlink", counted(pathlib.Path.unlink)))
+        patched.enter_context(
+            mock.patch.object(pathlib.Path, "unlink", counted(pathlib.Path.unlink))
+        )
         yield
 
 
@@ -47,7 +50,9 @@ class Spools(unittest.TestCase):
     def setUp(self):
         self.room = tempfile.TemporaryDirectory()
         self.addCleanup(self.room.cleanup)
-        self.folder, self.out = pathlib.Path(self.room.name, "spool"), pathlib.Path(self.room.name, "out")
+        self.folder, self.out = pathlib.Path(self.room.name, "spool"), pathlib.Path(
+            self.room.name, "out"
+        )
         self.out.mkdir()
 
     def texts(self):
@@ -66,7 +71,15 @@ class Spools(unittest.TestCase):
         self.assertEqual(self.texts(), [b"5", b"6"])
 
     def test_damaged_files_of_its_own_hold_no_message_up(self):
-        for number, (name, text) in enumerate(((".lock", "999999999999 free\n"), (".sender", "[]"), (".sender", '{"Tried":null,"Again":[1]}'), (".intake", '{"File":3,"First":"x","Before":null}')), 1):
+        for number, (name, text) in enumerate(
+            (
+                (".lock", "999999999999 free\n"),
+                (".sender", "[]"),
+                (".sender", '{"Tried":null,"Again":[1]}'),
+                (".intake", '{"File":3,"First":"x","Before":null}'),
+            ),
+            1,
+        ):
             spool.Spool(self.folder).put(b"a")
             (self.folder / name).write_text(text)
             it = spool.Spool(self.folder)
@@ -84,6 +97,7 @@ class Spools(unittest.TestCase):
     def test_a_run_leaves_no_file_open(self):
         def files():
             return len(os.listdir("/proc/self/fd"))
+
         its, before = spool.Spool(self.folder / "m1"), files()
         with its.sending():
             its.done(its.put(b"{}"), accepted(1))
@@ -119,11 +133,17 @@ class Spools(unittest.TestCase):
                             it.done(name, answer)
                     after = spool.Spool(self.folder)
                     with after.sending():
-                        if after.names()[0] == name:  # the answer is not on disk: it is asked for again
-                            self.assertFalse(any(it.read_bytes() for it in after.answered.iterdir()))
+                        if (
+                            after.names()[0] == name
+                        ):  # the answer is not on disk: it is asked for again
+                            self.assertFalse(
+                                any(it.read_bytes() for it in after.answered.iterdir())
+                            )
                             self.assertTrue(after.is_tried(name) or number < 4)
                             after.done(name, answer)
-                    lines = b"".join(it.read_bytes() for it in after.answered.iterdir()).splitlines()
+                    lines = b"".join(
+                        it.read_bytes() for it in after.answered.iterdir()
+                    ).splitlines()
                     self.assertEqual(len(lines), 1)
                     self.assertEqual(self.texts(), [b"b"])
                     self.assertEqual(after.set_aside(), [] if answers.is_taken(answer) else [name])
@@ -148,10 +168,14 @@ class Spools(unittest.TestCase):
                 it = sender.Folder(spool.Spool(self.folder), self.out)
                 it.news = threading.Event()
                 it.look()
-                self.assertEqual([line for line in self.texts() if line != b"x"], [b"a", b"b", b"c"], number)
+                self.assertEqual(
+                    [line for line in self.texts() if line != b"x"], [b"a", b"b", b"c"], number
+                )
                 file.write_bytes(b"a\n\nb\r\nc")  # the same once more is another one
                 it.look()
-                self.assertEqual([line for line in self.texts() if line != b"x"], [b"a", b"b", b"c"] * 2, number)
+                self.assertEqual(
+                    [line for line in self.texts() if line != b"x"], [b"a", b"b", b"c"] * 2, number
+                )
                 self.assertEqual(list(self.out.iterdir()), [])
         self.assertGreater(ended, 15)
 
@@ -167,14 +191,18 @@ class Spools(unittest.TestCase):
             it.again(["../x"])
 
     def test_two_senders_of_one_folder(self):
-        one, two = (sender.Folder(spool.Spool(pathlib.Path(self.room.name, it)), self.out) for it in "ab")
+        one, two = (
+            sender.Folder(spool.Spool(pathlib.Path(self.room.name, it)), self.out) for it in "ab"
+        )
         with one.held(), self.assertRaises(spool.SpoolError), two.held():
             pass
 
     def test_a_look_that_fails_ends_no_follower(self):
         told, looks = [], [MemoryError("no memory"), None, OSError("no disk"), None, Ended]
         follower = sender.Folder(spool.Spool(self.folder), self.out, told.append)
-        with mock.patch.object(follower, "look", side_effect=looks), mock.patch("time.sleep"), self.assertRaises(Ended):
+        with mock.patch.object(follower, "look", side_effect=looks), mock.patch(
+            "time.sleep"
+        ), self.assertRaises(Ended):
             follower.run()
         self.assertEqual([it.split(".")[0] for it in told], ["no memory", "no disk"])
 
@@ -183,9 +211,18 @@ class Spools(unittest.TestCase):
         place.write_bytes(b"a\n" + b"x" * size + b"\nb\n \n" + b"y" * size)
         it = spool.Spool(self.folder)
         with open(place, "rb") as file:
-            self.assertEqual([b"a", b"x" * size, b"b", b"y" * size], [line if isinstance(line, bytes) else b"".join(line) for line in spool.lines_of(file)])
+            self.assertEqual(
+                [b"a", b"x" * size, b"b", b"y" * size],
+                [
+                    line if isinstance(line, bytes) else b"".join(line)
+                    for line in spool.lines_of(file)
+                ],
+            )
         with open(place, "rb") as file:
-            self.assertEqual([bytes, None, bytes, None], [bytes if isinstance(line, bytes) else None for line in spool.lines_of(file)])
+            self.assertEqual(
+                [bytes, None, bytes, None],
+                [bytes if isinstance(line, bytes) else None for line in spool.lines_of(file)],
+            )
         self.assertEqual(it.take_file(place), 4)
         self.assertEqual([len(text) for text in self.texts()], [1, size, 1, size])
 
@@ -202,8 +239,16 @@ class Spools(unittest.TestCase):
                 it.keep_answer(name, accepted(1))  # it ends here
             it = spool.Spool(self.folder)
         with it.sending():
-            self.assertEqual((it.names(), (it.answered / "zzz.jsonl").read_bytes()), ([], b"no answer\n"))
-        self.assertEqual([(it.answered / f"{day}.jsonl").read_bytes().count(b"\n") for day in ("2026-03-02", "2099-03-02", "2026-03-03")], [1, 1, 1])
+            self.assertEqual(
+                (it.names(), (it.answered / "zzz.jsonl").read_bytes()), ([], b"no answer\n")
+            )
+        self.assertEqual(
+            [
+                (it.answered / f"{day}.jsonl").read_bytes().count(b"\n")
+                for day in ("2026-03-02", "2099-03-02", "2026-03-03")
+            ],
+            [1, 1, 1],
+        )
 
     def sent(self, texts, answer=None):
         it = spool.Spool(self.folder)
@@ -236,8 +281,16 @@ class Spools(unittest.TestCase):
             spool.Spool(self.folder).again_since(0)
 
     def test_sent_messages_are_kept_by_age_and_size(self):
-        for days, most, always, wanted in ((9, 1 << 20, 0, 5), (9, 2 * spool.BLOCK, 0, 2), (0, 1 << 20, 0, 1), (0, 1 << 20, 1 << 20, 5), (9, 0, 0, 1)):
-            with mock.patch.multiple(spool, ALWAYS_KEPT=always, KEPT_DAYS=days), tempfile.TemporaryDirectory() as room:
+        for days, most, always, wanted in (
+            (9, 1 << 20, 0, 5),
+            (9, 2 * spool.BLOCK, 0, 2),
+            (0, 1 << 20, 0, 1),
+            (0, 1 << 20, 1 << 20, 5),
+            (9, 0, 0, 1),
+        ):
+            with mock.patch.multiple(
+                spool, ALWAYS_KEPT=always, KEPT_DAYS=days
+            ), tempfile.TemporaryDirectory() as room:
                 it = spool.Spool(pathlib.Path(room, "spool"), days, most)
                 for number in range(5):
                     name = it.put(b"%d" % number)

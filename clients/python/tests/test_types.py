@@ -13,7 +13,11 @@ class Types(unittest.TestCase):
     @unittest.skipUnless(PACKAGE.is_dir(), "the package is one file here")
     @unittest.skipUnless(shutil.which("mypy"), "there is no mypy of Debian")
     def test_mypy_has_nothing_to_say(self):
-        done = subprocess.run(["mypy", "--strict", "--python-version", OLDEST, "--cache-dir", os.devnull, PACKAGE], capture_output=True, text=True)
+        done = subprocess.run(
+            ["mypy", "--strict", "--python-version", OLDEST, "--cache-dir", os.devnull, PACKAGE],
+            capture_output=True,
+            text=True,
+        )
         self.assertEqual(done.returncode, 0, done.stdout + done.stderr)
 
 

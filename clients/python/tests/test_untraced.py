@@ -17,7 +17,15 @@ from tracedesk import answers, interlock, spool
 
 def work(uid, word="WorkStarted", **body):
     told = {"Machine": "M1", "Board": "B1", **body}
-    return json.dumps({"MessageName": f"TraceDesk.{word}", "UniqueID": uid, "Source": "M1", "TimeStamp": "2026-03-02T06:00:00Z", "MessageBody": told}).encode()
+    return json.dumps(
+        {
+            "MessageName": f"TraceDesk.{word}",
+            "UniqueID": uid,
+            "Source": "M1",
+            "TimeStamp": "2026-03-02T06:00:00Z",
+            "MessageBody": told,
+        }
+    ).encode()
 
 
 SLOTS = "slot,position,reel,part,lot,remaining,minutes_left\n1,1,NEW,P,L-2,500,unlimited\n"
@@ -56,27 +64,56 @@ class Untraced(test_send.Sending):
 
     def refuse(self, *more):
         """Two boards are worked although the reel has expired, and then a part is defined twice."""
-        given = [work("bad1"), work("bad2", "MaterialsInstalled", Designators=["C1"]), work("bad3", Board="B2"), work("bad4", "MaterialsInstalled", Board="B2", Designators=["C1"]), test_send.line("bad5")]
+        given = [
+            work("bad1"),
+            work("bad2", "MaterialsInstalled", Designators=["C1"]),
+            work("bad3", Board="B2"),
+            work("bad4", "MaterialsInstalled", Board="B2", Designators=["C1"]),
+            test_send.line("bad5"),
+        ]
         return self.send("--follow", "-", *more, given=b"\n".join(given))
 
     def test_reports_of_work_are_recorded_and_stay(self):
         done = self.refuse("--untraced", self.inbox, "--status", self.status, "--name", "m1")
         self.assertEqual(done.returncode, 1, done.stderr)
         told = self.records()
-        self.assertEqual([(it["Kind"], it["By"], it["Answer"]["Answer"], it["Version"]) for it in told], [("refused", "tracedesk-send m1", "Refused", 1)] * 4)
+        self.assertEqual(
+            [(it["Kind"], it["By"], it["Answer"]["Answer"], it["Version"]) for it in told],
+            [("refused", "tracedesk-send m1", "Refused", 1)] * 4,
+        )
         self.assertEqual({it["Message"]["MessageBody"]["Board"] for it in told}, {"B1", "B2"})
         for path in self.inbox.iterdir():
             text = path.read_bytes()
-            self.assertEqual((path.name, text), (hashlib.sha256(text).hexdigest()[:32] + ".json", json.dumps(json.loads(text), sort_keys=True, separators=(",", ":")).encode() + b"\n"))
+            self.assertEqual(
+                (path.name, text),
+                (
+                    hashlib.sha256(text).hexdigest()[:32] + ".json",
+                    json.dumps(json.loads(text), sort_keys=True, separators=(",", ":")).encode()
+                    + b"\n",
+                ),
+            )
             self.assertEqual(path.stat().st_mode & 0o777, 0o644)
         status = json.loads((self.status / "m1.json").read_text())
-        self.assertEqual((status["Aside"], status["Waiting"], status["OldestWaiting"], status["Sender"], status["Fault"]), (5, 0, None, "m1", None))
+        self.assertEqual(
+            (
+                status["Aside"],
+                status["Waiting"],
+                status["OldestWaiting"],
+                status["Sender"],
+                status["Fault"],
+            ),
+            (5, 0, None, "m1", None),
+        )
         machine = status["Machines"]["M1"]
-        self.assertEqual((machine["State"], machine["LastRefused"]["Message"]["UniqueID"]), ("stop", "bad4"))
+        self.assertEqual(
+            (machine["State"], machine["LastRefused"]["Message"]["UniqueID"]), ("stop", "bad4")
+        )
         self.assertTrue((self.inbox / f"{machine['LastRefused']['Id']}.json").exists())
         # the page's own command: the request waits again, the reports do not
         done = self.send("--again", "all")
-        self.assertEqual((done.returncode, done.stdout), (6, b"1 wait again, as 000000000006\n"), done.stderr)
+        self.assertEqual(
+            (done.returncode, done.stdout), (6, b"1 wait again, as 000000000006\n"), done.stderr
+        )
         self.assertEqual(done.stderr.count(b"is a report of work, and is not sent again"), 4)
         self.assertEqual(self.send("--again", "000000000001").returncode, 6)
         self.server.came.clear()
@@ -84,10 +121,26 @@ class Untraced(test_send.Sending):
         self.assertEqual((self.uids(), len(self.records())), (["bad5"], 4))
 
     def test_a_refused_reel_is_recorded_and_may_be_sent_again(self):
-        given = [work("bad1", "MaterialsSpliced", Slot="1", Reel="K"), work("bad2", "MaterialsUnloaded", Slot="1"), test_send.line("bad3")]
-        self.send("--follow", "-", "--untraced", self.inbox, "--status", self.status, "--name", "m1", given=b"\n".join(given))
+        given = [
+            work("bad1", "MaterialsSpliced", Slot="1", Reel="K"),
+            work("bad2", "MaterialsUnloaded", Slot="1"),
+            test_send.line("bad3"),
+        ]
+        self.send(
+            "--follow",
+            "-",
+            "--untraced",
+            self.inbox,
+            "--status",
+            self.status,
+            "--name",
+            "m1",
+            given=b"\n".join(given),
+        )
         self.assertEqual({it["Message"]["UniqueID"] for it in self.records()}, {"bad1", "bad2"})
-        self.assertEqual(json.loads((self.status / "m1.json").read_text())["Machines"]["M1"]["LastRefused"], None)
+        self.assertEqual(
+            json.loads((self.status / "m1.json").read_text())["Machines"]["M1"]["LastRefused"], None
+        )
         self.assertEqual(self.send("--again", "all").returncode, 0)
         self.assertEqual(len(self.waits()), 3)
 
@@ -96,15 +149,30 @@ class Untraced(test_send.Sending):
         self.assertEqual(len(self.records(self.spool / "untraced")), 4)
         for words in (["--by", "A"], ["--reason", "x"], ["--by", " ", "--reason", "x"]):
             self.assertEqual(self.send("--again", "000000000001", *words).returncode, 2)
-        decide = ["--again", "000000000001", "--by", "A. Person", "--reason", "the splice was late", "--name", "m1"]
+        decide = [
+            "--again",
+            "000000000001",
+            "--by",
+            "A. Person",
+            "--reason",
+            "the splice was late",
+            "--name",
+            "m1",
+        ]
         done = self.send(*decide)
         self.assertEqual(done.returncode, 6, done)
-        for it in (b"WorkStarted", b"accepted for M1 from this sender since then:\n  nothing", b"reel NEW, lot L-2"):
+        for it in (
+            b"WorkStarted",
+            b"accepted for M1 from this sender since then:\n  nothing",
+            b"reel NEW, lot L-2",
+        ):
             self.assertIn(it, done.stdout)
         code = done.stderr.split(b"--seen ")[1].split()[0].decode()
         self.server.slots = SLOTS.replace("500", "499")
         done = self.send(*decide, "--seen", code)
-        self.assertEqual((done.returncode, b"has changed" in done.stderr, self.waits()), (6, True, []))
+        self.assertEqual(
+            (done.returncode, b"has changed" in done.stderr, self.waits()), (6, True, [])
+        )
         code = done.stderr.split(b"--seen ")[1].split()[0].decode()
         self.server.came.clear()
         done = self.send(*decide, "--seen", code)
@@ -112,7 +180,10 @@ class Untraced(test_send.Sending):
         self.send("--untraced", self.inbox)
         self.assertEqual((self.uids(), list((self.spool / "untraced").iterdir())), (["bad1"], []))
         decided = [it for it in self.records() if it["Kind"] == "decided"]
-        self.assertEqual([(it["Became"], it["By"], it["Reason"]) for it in decided], [("sent again", "A. Person", "the splice was late")])
+        self.assertEqual(
+            [(it["Became"], it["By"], it["Reason"]) for it in decided],
+            [("sent again", "A. Person", "the splice was late")],
+        )
         self.assertTrue((self.inbox / f"{decided[0]['Of']}.json").exists())
 
     def test_what_an_older_version_set_aside_is_recorded(self):
@@ -128,24 +199,50 @@ class Untraced(test_send.Sending):
     def test_records_go_to_the_proxy(self):
         url = f"http://127.0.0.1:{self.server.server_address[1]}/line/"
         self.refuse("--untraced", url + "untraced", "--status", url + "status/", "--name", "m1")
-        self.assertEqual((sorted(it.split("/")[2] for it in self.server.put), list((self.spool / "untraced").iterdir())), (["status"] + ["untraced"] * 4, []))
+        self.assertEqual(
+            (
+                sorted(it.split("/")[2] for it in self.server.put),
+                list((self.spool / "untraced").iterdir()),
+            ),
+            (["status"] + ["untraced"] * 4, []),
+        )
 
     def test_a_run_that_stops_sends_no_report_again(self):
         self.send("--put", "-", given=work("bad1") + b"\n" + test_send.line("u2"))
-        self.assertEqual((self.send("--stop-at-refusal").returncode, self.waits()), (1, ["000000000002.json"]))
-        self.assertEqual((self.send("--stop-at-refusal").returncode, self.uids()), (0, ["bad1", "u2"]))
+        self.assertEqual(
+            (self.send("--stop-at-refusal").returncode, self.waits()), (1, ["000000000002.json"])
+        )
+        self.assertEqual(
+            (self.send("--stop-at-refusal").returncode, self.uids()), (0, ["bad1", "u2"])
+        )
         messages, known = self.room / "messages", self.room / "answers"
         messages.write_bytes(work("bad3") + b"\n" + test_send.line("u4"))
-        self.assertEqual([self.two_files("--stop-at-refusal", messages, known).returncode for _ in range(2)], [1, 0])
+        self.assertEqual(
+            [self.two_files("--stop-at-refusal", messages, known).returncode for _ in range(2)],
+            [1, 0],
+        )
         self.assertEqual(self.uids()[2:], ["bad3", "u4"])
 
     def test_after_a_restore_nothing_that_was_refused_is_sent(self):
-        self.send("--follow", "-", given=b"\n".join([work("u1"), work("bad2"), work("u3", "WorkCompleted")]))
+        self.send(
+            "--follow",
+            "-",
+            given=b"\n".join([work("u1"), work("bad2"), work("u3", "WorkCompleted")]),
+        )
         self.server.came.clear()
-        self.assertEqual((self.send("--again", "2026-03-02T06:00Z").returncode, self.send().returncode, self.uids()), (0, 0, ["u1", "u3"]))
+        self.assertEqual(
+            (
+                self.send("--again", "2026-03-02T06:00Z").returncode,
+                self.send().returncode,
+                self.uids(),
+            ),
+            (0, 0, ["u1", "u3"]),
+        )
 
     def test_a_kill_at_any_call_leaves_one_record(self):
-        refused = answers.read(b'{"Answer":"Refused","At":"K","Refusal":"Expired","UniqueID":"bad1"}')
+        refused = answers.read(
+            b'{"Answer":"Refused","At":"K","Refusal":"Expired","UniqueID":"bad1"}'
+        )
         for number in range(1, 40):
             with tempfile.TemporaryDirectory() as room:
                 it = spool.Spool(pathlib.Path(room, "spool"), name="m1")
@@ -162,7 +259,9 @@ class Untraced(test_send.Sending):
                     if after.names():  # the answer was not kept: it comes again, at another time
                         self.assertTrue(is_ended)
                         after.done(name, refused, "2026-03-02T06:00:30Z")
-                self.assertEqual((len(self.records(after.untraced)), after.set_aside()), (1, [name]), number)
+                self.assertEqual(
+                    (len(self.records(after.untraced)), after.set_aside()), (1, [name]), number
+                )
                 if not is_ended:
                     return
         self.fail("more calls than expected")
@@ -179,13 +278,24 @@ class Untraced(test_send.Sending):
     def judge(self, it, text, says="Accepted", is_tried=False):
         told = json.loads(text)
         more = {"Number": 1} if says == "Accepted" else {"At": "1", "Refusal": "Expired"}
-        it.judged(told["UniqueID"], told, answers.read(json.dumps({"Answer": says, "UniqueID": told["UniqueID"], **more}).encode()), is_tried)
+        it.judged(
+            told["UniqueID"],
+            told,
+            answers.read(
+                json.dumps({"Answer": says, "UniqueID": told["UniqueID"], **more}).encode()
+            ),
+            is_tried,
+        )
         return it.look()["M1"][0]
 
     def test_states_follow_the_answers(self):
         it = self.states()
-        self.assertEqual(self.judge(it, work("u2", "MaterialsInstalled", Designators=["C1"]), "Refused"), "stop")
-        self.assertEqual(self.judge(it, work("u3", "MaterialsInstalled", Designators=["C2"])), "stop")
+        self.assertEqual(
+            self.judge(it, work("u2", "MaterialsInstalled", Designators=["C1"]), "Refused"), "stop"
+        )
+        self.assertEqual(
+            self.judge(it, work("u3", "MaterialsInstalled", Designators=["C2"])), "stop"
+        )
         self.assertEqual(self.judge(it, work("u2", "MaterialsInstalled", Designators=["C1"])), "go")
         self.assertEqual(self.judge(it, work("u4", "MaterialsLoaded", Slot="1"), "Refused"), "stop")
         self.assertEqual(self.judge(it, work("u5", "MaterialsLoaded", Slot="1")), "go")
@@ -197,9 +307,13 @@ class Untraced(test_send.Sending):
             it.spool.put(work(f"w{number}", Board=f"W{number}"))
         it.look_ahead(it.spool.names())
         self.assertEqual(it.look()["M1"][0], "stop")
-        it.judged("000000000001", json.loads(work("w1", Board="W1")), answers.Accepted(1, "w1"), False)
+        it.judged(
+            "000000000001", json.loads(work("w1", Board="W1")), answers.Accepted(1, "w1"), False
+        )
         self.assertEqual(it.look()["M1"][0], "stop")
-        it.judged("000000000002", json.loads(work("w2", Board="W2")), answers.Accepted(1, "w2"), False)
+        it.judged(
+            "000000000002", json.loads(work("w2", Board="W2")), answers.Accepted(1, "w2"), False
+        )
         self.assertEqual(it.look()["M1"], ("go", "board W2 was started"))
         # what nobody can read may be of any machine
         it.judged("3", {}, answers.Faulty("NotJson"), False)
@@ -207,14 +321,20 @@ class Untraced(test_send.Sending):
 
     def test_silence_a_full_disk_and_a_clock_that_is_set_back_stop(self):
         it, real = self.states(silence=5.0), (time.time, time.monotonic)
-        with mock.patch.object(interlock.time, "monotonic", lambda: real[1]() + 6), mock.patch.object(interlock.time, "time", lambda: real[0]() + 6):
+        with mock.patch.object(
+            interlock.time, "monotonic", lambda: real[1]() + 6
+        ), mock.patch.object(interlock.time, "time", lambda: real[0]() + 6):
             self.assertEqual(it.look()["M1"], ("stop", "no answer for 5 seconds"))
             it.heard()
             self.assertEqual(it.look()["M1"][0], "go")
         it = self.states()
-        with mock.patch.object(interlock, "write_synced", side_effect=OSError(28, "No space left on device")):
+        with mock.patch.object(
+            interlock, "write_synced", side_effect=OSError(28, "No space left on device")
+        ):
             it.look_at_disk()
-        self.assertEqual(it.look()["M1"], ("stop", "the spool can't be written: No space left on device"))
+        self.assertEqual(
+            it.look()["M1"], ("stop", "the spool can't be written: No space left on device")
+        )
         it.look_at_disk()
         self.assertEqual(it.look()["M1"][0], "go")
         it.is_stuck = True
@@ -231,14 +351,29 @@ class Untraced(test_send.Sending):
         command.write_text(f'#!/bin/sh\necho "$2 $3" >> {log}\n')
         command.chmod(0o755)
         self.send("--put", "-", given=work("u1"))
-        running = subprocess.Popen(self.words("--stay", "--interlock", command, "--machine", "M1", "--every", "0.2", "--silence", "1.5"), stderr=subprocess.DEVNULL)
+        running = subprocess.Popen(
+            self.words(
+                "--stay",
+                "--interlock",
+                command,
+                "--machine",
+                "M1",
+                "--every",
+                "0.2",
+                "--silence",
+                "1.5",
+            ),
+            stderr=subprocess.DEVNULL,
+        )
         try:
             self.wait_for(lambda: log.exists() and "go" in log.read_text())
             time.sleep(3)
             self.assertTrue(log.read_text().splitlines()[-1].startswith("go"))
             self.server.shutdown()
             self.server.server_close()
-            self.wait_for(lambda: log.read_text().splitlines()[-1] == "stop no answer for 1.5 seconds")
+            self.wait_for(
+                lambda: log.read_text().splitlines()[-1] == "stop no answer for 1.5 seconds"
+            )
         finally:
             running.kill()
             running.wait()

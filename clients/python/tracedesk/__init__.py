@@ -12,7 +12,20 @@
 A machine that may be switched off between making a message and its answer puts it into a Spool first, and tracedesk-send
 sends it from there: `Spool("/var/spool/m1").put(message)`.
 """
-from .answers import Accepted, Answer, Faulty, Ignored, Meaning, NotFound, Refused, Unavailable, Verdict, is_taken, verdict, why
+from .answers import (
+    Accepted,
+    Answer,
+    Faulty,
+    Ignored,
+    Meaning,
+    NotFound,
+    Refused,
+    Unavailable,
+    Verdict,
+    is_taken,
+    verdict,
+    why,
+)
 from .desk import Desk, GivenUp, NotTaken, NotThere, trust_of
 from .forms import Command, Message, OutOfRange
 from .sender import Folder, Lines, Sender, Stopped
@@ -21,5 +34,34 @@ from .words import *  # noqa: F401,F403
 from .words import MESSAGES
 
 __version__ = "0.3.0"
-__all__ = ["Accepted", "Answer", "Command", "Desk", "Faulty", "Folder", "GivenUp", "Ignored", "Lines", "Meaning", "Message", "NotFound", "NotTaken", "NotThere", "OutOfRange", "Refused", "Sender",
-           "Spool", "SpoolError", "Stopped", "Unavailable", "Verdict", "is_taken", "trust_of", "verdict", "why", "CountRow", "SheetRow", *(it.__name__ for it in MESSAGES)]
+__all__ = [
+    "Accepted",
+    "Answer",
+    "Command",
+    "Desk",
+    "Faulty",
+    "Folder",
+    "GivenUp",
+    "Ignored",
+    "Lines",
+    "Meaning",
+    "Message",
+    "NotFound",
+    "NotTaken",
+    "NotThere",
+    "OutOfRange",
+    "Refused",
+    "Sender",
+    "Spool",
+    "SpoolError",
+    "Stopped",
+    "Unavailable",
+    "Verdict",
+    "is_taken",
+    "trust_of",
+    "verdict",
+    "why",
+    "CountRow",
+    "SheetRow",
+    *(it.__name__ for it in MESSAGES),
+]

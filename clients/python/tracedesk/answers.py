@@ -79,9 +79,24 @@ class Unavailable:
 
 
 Answer = Union[Accepted, Refused, Ignored, Faulty, NotFound, Unavailable]
-KINDS: Dict[str, Any] = {it.__name__: it for it in (Accepted, Refused, Ignored, Faulty, NotFound, Unavailable)}
-MEMBERS = {"Number": "number", "UniqueID": "unique_id", "MinutesLeft": "minutes_left", "Reels": "reels", "Taken": "taken", "Refusal": "refusal", "At": "at",
-           "MessageName": "message_name", "Fault": "fault", "Member": "member", "Line": "line", "Column": "column", "Kind": "kind"}
+KINDS: Dict[str, Any] = {
+    it.__name__: it for it in (Accepted, Refused, Ignored, Faulty, NotFound, Unavailable)
+}
+MEMBERS = {
+    "Number": "number",
+    "UniqueID": "unique_id",
+    "MinutesLeft": "minutes_left",
+    "Reels": "reels",
+    "Taken": "taken",
+    "Refusal": "refusal",
+    "At": "at",
+    "MessageName": "message_name",
+    "Fault": "fault",
+    "Member": "member",
+    "Line": "line",
+    "Column": "column",
+    "Kind": "kind",
+}
 
 
 def read_object(text: bytes) -> Dict[str, Any]:
@@ -99,7 +114,11 @@ def read(text: bytes, archived: bool = False) -> Optional[Answer]:
     kind = KINDS.get(told.get("Answer", "")) if isinstance(told.get("Answer", ""), str) else None
     if kind is None or b"\n" in text:
         return None
-    found = {MEMBERS[name]: tuple(it) if isinstance(it, list) else it for name, it in told.items() if name in MEMBERS}
+    found = {
+        MEMBERS[name]: tuple(it) if isinstance(it, list) else it
+        for name, it in told.items()
+        if name in MEMBERS
+    }
     if archived:
         found["archived"] = True
     try:
@@ -125,7 +144,12 @@ def is_archived(answer: Answer) -> bool:
 
 def is_taken(answer: Answer) -> bool:
     """Whether nothing is left to do: it is accepted, now or before a roll-over, or of a vocabulary that is not the desk's."""
-    return isinstance(answer, Accepted) or is_archived(answer) or isinstance(answer, Ignored) and not answer.is_mistyped
+    return (
+        isinstance(answer, Accepted)
+        or is_archived(answer)
+        or isinstance(answer, Ignored)
+        and not answer.is_mistyped
+    )
 
 
 def is_of(answer: Answer, message: bytes) -> bool:
@@ -139,7 +163,13 @@ def is_of(answer: Answer, message: bytes) -> bool:
 def question(message: bytes) -> bytes:
     """A message that a desk accepts if it has accepted this one, or the one of its archive with the same UniqueID: after IdReused alone."""
     told = read_object(message)
-    return json.dumps({"MessageName": words.PREFIX + words.ClockSet.WORD, **{name: told.get(name) for name in ("UniqueID", "Source", "TimeStamp")}, "MessageBody": {}}).encode()
+    return json.dumps(
+        {
+            "MessageName": words.PREFIX + words.ClockSet.WORD,
+            **{name: told.get(name) for name in ("UniqueID", "Source", "TimeStamp")},
+            "MessageBody": {},
+        }
+    ).encode()
 
 
 LINE_TOO_LONG = Faulty("LineTooLong", text=b'{"Answer":"Faulty","Fault":"LineTooLong"}')
@@ -157,7 +187,9 @@ def short(answer: Answer) -> str:
 def why(answer: Answer) -> str:
     """What is wrong with a message that was not taken, and what to do."""
     if isinstance(answer, Refused):
-        return f"{short(answer)}. To do: {words.REFUSALS.get(answer.refusal, 'see docs/messages.md')}"
+        return (
+            f"{short(answer)}. To do: {words.REFUSALS.get(answer.refusal, 'see docs/messages.md')}"
+        )
     if isinstance(answer, Faulty):
         return f"{short(answer)}. To do: {words.FAULTS.get(answer.fault, 'see docs/messages.md')}"
     if isinstance(answer, Ignored):
@@ -197,7 +229,11 @@ def seconds_of(retry_after: Optional[str]) -> float:
     if retry_after is None:
         return 0.0
     try:
-        seconds = float(retry_after) if retry_after.strip().isdecimal() else email.utils.parsedate_to_datetime(retry_after).timestamp() - time.time()
+        seconds = (
+            float(retry_after)
+            if retry_after.strip().isdecimal()
+            else email.utils.parsedate_to_datetime(retry_after).timestamp() - time.time()
+        )
     except (TypeError, ValueError, OverflowError, IndexError):
         return 0.0
     return min(max(0.0, seconds), LONGEST_WAIT)
@@ -211,12 +247,25 @@ def is_cut(body: bytes) -> bool:
 def verdict(status: int, body: bytes, retry_after: Optional[str] = None) -> Verdict:
     """What a status and a body ask of the sender of a message."""
     answer = read(body)
-    if answer is not None and words.ANSWERS.get(status) == type(answer).__name__ and not (isinstance(answer, Faulty) and answer.fault in words.FAULTS_OF_A_REQUEST):
+    if (
+        answer is not None
+        and words.ANSWERS.get(status) == type(answer).__name__
+        and not (isinstance(answer, Faulty) and answer.fault in words.FAULTS_OF_A_REQUEST)
+    ):
         return Verdict(Meaning.ANSWER, answer)
     if status in words.AGAIN or status >= 500:
         wait = seconds_of(retry_after)
-        return Verdict(Meaning.AGAIN, None, f"status {status}" + (f", to be asked again in {wait:.0f} seconds" if wait else ""), wait)
+        return Verdict(
+            Meaning.AGAIN,
+            None,
+            f"status {status}" + (f", to be asked again in {wait:.0f} seconds" if wait else ""),
+            wait,
+        )
     if status in words.ANSWERS and is_cut(body):
         return Verdict(Meaning.AGAIN, None, f"status {status}, and the answer was cut")
-    told = words.STOPS.get(status, "that is no answer of a desk to a message; look at --url, and at --cert")
-    return Verdict(Meaning.STOP, None, f"status {status}: {told}: {body[:200].decode(errors='replace')}")
+    told = words.STOPS.get(
+        status, "that is no answer of a desk to a message; look at --url, and at --cert"
+    )
+    return Verdict(
+        Meaning.STOP, None, f"status {status}: {told}: {body[:200].decode(errors='replace')}"
+    )

@@ -9,7 +9,10 @@ import traceback
 from typing import Callable, Mapping, Type, TypeVar
 
 NAME = pathlib.Path(sys.argv[0]).name
-PAUSE_OF_A_FAULT, NEWS_OF_A_FAULT = 5.0, 60.0  # seconds between two tries, and between two reports of them
+PAUSE_OF_A_FAULT, NEWS_OF_A_FAULT = (
+    5.0,
+    60.0,
+)  # seconds between two tries, and between two reports of them
 Found = TypeVar("Found")
 
 
@@ -58,5 +61,7 @@ def patiently(call: Callable[[], Found], news: Callable[[str], None] = tell) -> 
         except Exception as fault:
             if since is None or time.monotonic() - since >= NEWS_OF_A_FAULT:
                 since = time.monotonic()
-                news(f"{fault or repr(fault)}. It is tried again every {PAUSE_OF_A_FAULT:.0f} seconds until that is mended")
+                news(
+                    f"{fault or repr(fault)}. It is tried again every {PAUSE_OF_A_FAULT:.0f} seconds until that is mended"
+                )
             time.sleep(PAUSE_OF_A_FAULT)

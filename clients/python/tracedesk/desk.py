@@ -21,9 +21,15 @@ from . import answers, forms, records, words
 FIRST_PAUSE, LONGEST_PAUSE = 0.05, 5.0  # seconds
 PATIENCE = 600.0  # seconds for one message: a desk of a month starts in two minutes
 TIMEOUT = 150.0  # seconds for one answer: longer than the proxy waits for the desk
-FIRST_NEWS, NEWS = 10.0, 60.0  # seconds without an answer, after which that is reported, and reported again
+FIRST_NEWS, NEWS = (
+    10.0,
+    60.0,
+)  # seconds without an answer, after which that is reported, and reported again
 SELDOM = 30.0  # seconds to the next try after a log-in was refused, doubled each time: nobody's password is tried fast
-NOT_VALID_NOW = (9, 10)  # OpenSSL: a certificate that isn't valid yet, or any more. Its renewal, or a clock that is set, mends that
+NOT_VALID_NOW = (
+    9,
+    10,
+)  # OpenSSL: a certificate that isn't valid yet, or any more. Its renewal, or a clock that is set, mends that
 
 
 class GivenUp(Exception):
@@ -45,8 +51,16 @@ class NotThere(Exception):
 def checked_url(text: str) -> urllib.parse.SplitResult:
     """The parts of a URL, if it names a machine and nobody's password; else ValueError with what is wrong."""
     parts = urllib.parse.urlsplit(text)
-    if parts.scheme not in ("http", "https") or not parts.hostname or parts.port == 0 or parts.query or parts.fragment:
-        raise ValueError("a URL is http://HOST:PORT or https://HOST:PORT, with a path if the desk has one there")
+    if (
+        parts.scheme not in ("http", "https")
+        or not parts.hostname
+        or parts.port == 0
+        or parts.query
+        or parts.fragment
+    ):
+        raise ValueError(
+            "a URL is http://HOST:PORT or https://HOST:PORT, with a path if the desk has one there"
+        )
     if parts.username is not None:
         raise ValueError("a URL names no user: --user and --password-file do")
     if not text.isascii() or any(it.isspace() or not it.isprintable() for it in text):
@@ -63,16 +77,34 @@ class Desk:
     to mend, as a log-in that is refused, is reported and tried again, but seldom. A URL that names none is a ValueError.
     """
 
-    def __init__(self, url: str = "http://127.0.0.1:8080", trust: Optional[ssl.SSLContext] = None, log_in: Optional[Tuple[str, str]] = None, *,
-                 patience: Optional[float] = PATIENCE, timeout: float = TIMEOUT, rate: float = 0.0, waits: bool = False, tell: Callable[[str], None] = lambda line: None) -> None:
-        self.url, self.trust, self.patience, self.timeout, self.tell = checked_url(url), trust, patience, timeout, tell
+    def __init__(
+        self,
+        url: str = "http://127.0.0.1:8080",
+        trust: Optional[ssl.SSLContext] = None,
+        log_in: Optional[Tuple[str, str]] = None,
+        *,
+        patience: Optional[float] = PATIENCE,
+        timeout: float = TIMEOUT,
+        rate: float = 0.0,
+        waits: bool = False,
+        tell: Callable[[str], None] = lambda line: None,
+    ) -> None:
+        self.url, self.trust, self.patience, self.timeout, self.tell = (
+            checked_url(url),
+            trust,
+            patience,
+            timeout,
+            tell,
+        )
         self.place = f"{self.url.hostname}:{self.url.port or self.url.scheme}"
         self.path = self.url.path.rstrip("/")
         self.headers: Dict[str, str] = {}
         if log_in:
             if self.url.scheme != "https":
                 raise ValueError("a log-in wants an https URL: a password is not sent in the clear")
-            self.headers["Authorization"] = "Basic " + base64.b64encode(":".join(log_in).encode()).decode()
+            self.headers["Authorization"] = (
+                "Basic " + base64.b64encode(":".join(log_in).encode()).decode()
+            )
         self.connection: Optional[http.client.HTTPConnection] = None
         self.socket: Optional[socket.socket] = None
         self.waits, self.fault = waits, None  # type: bool, Optional[Dict[str, str]]
@@ -94,10 +126,17 @@ class Desk:
     def connect(self) -> http.client.HTTPConnection:
         host = str(self.url.hostname)
         if self.url.scheme == "https":
-            return http.client.HTTPSConnection(host, self.url.port, timeout=self.timeout, context=self.trust or ssl.create_default_context())
+            return http.client.HTTPSConnection(
+                host,
+                self.url.port,
+                timeout=self.timeout,
+                context=self.trust or ssl.create_default_context(),
+            )
         return http.client.HTTPConnection(host, self.url.port, timeout=self.timeout)
 
-    def once(self, method: str, target: str, body: Optional[bytes], headers: Mapping[str, str]) -> Tuple[int, bytes, Optional[str]]:
+    def once(
+        self, method: str, target: str, body: Optional[bytes], headers: Mapping[str, str]
+    ) -> Tuple[int, bytes, Optional[str]]:
         """One request: the status, the body, and what Retry-After says."""
         if self.connection is None:
             self.connection = self.connect()
@@ -111,7 +150,9 @@ class Desk:
             is_sent = False  # who takes no more of the message may have said why
         try:
             answer = self.connection.getresponse()
-            got = answer.read()  # all of it, or an error: http.client counts the bytes of Content-Length
+            got = (
+                answer.read()
+            )  # all of it, or an error: http.client counts the bytes of Content-Length
         except ValueError as odd:
             raise http.client.HTTPException(f"no HTTP: {odd}") from None
         if not is_sent:
@@ -173,7 +214,10 @@ class Desk:
                 with self.within(end, news):
                     found, why, wait = call()
             except ssl.SSLCertVerificationError as fault:
-                why, wait = f"the certificate of {self.place} is not to be trusted: {fault.verify_message}", 0.0
+                why, wait = (
+                    f"the certificate of {self.place} is not to be trusted: {fault.verify_message}",
+                    0.0,
+                )
                 self.close()
                 if fault.verify_code not in NOT_VALID_NOW:
                     stop = NotTaken(f"{why}. Look at --ca")
@@ -186,7 +230,11 @@ class Desk:
             if stop:
                 if not self.waits:
                     raise stop
-                why, wait, seldom = f"{stop}. A person has to mend that; the next try is in {seldom:.0f} seconds", seldom, min(2 * seldom, answers.LONGEST_WAIT)
+                why, wait, seldom = (
+                    f"{stop}. A person has to mend that; the next try is in {seldom:.0f} seconds",
+                    seldom,
+                    min(2 * seldom, answers.LONGEST_WAIT),
+                )
                 self.fault = self.fault or {"Since": records.utc(), "Why": str(stop)}
             if found is not None:
                 self.fault = None
@@ -196,15 +244,22 @@ class Desk:
             pause = min(2 * pause, LONGEST_PAUSE)
             while (now := time.monotonic()) < until:
                 if end is not None and now >= end:
-                    raise stop or GivenUp(f"given up: no answer for {self.patience:.0f} seconds, the last time: {why}")
+                    raise stop or GivenUp(
+                        f"given up: no answer for {self.patience:.0f} seconds, the last time: {why}"
+                    )
                 news()
-                time.sleep(min([until, next_news] if end is None else [until, next_news, end]) - now)
+                time.sleep(
+                    min([until, next_news] if end is None else [until, next_news, end]) - now
+                )
 
     def ask(self, text: bytes) -> answers.Answer:
         """Sends the same bytes until they are answered. An answer that names another message is none."""
+
         def call() -> Tuple[Optional[answers.Answer], str, float]:
             was, self.is_unanswered = self.is_unanswered, True
-            told = answers.verdict(*self.once("POST", "/messages", text, {"Content-Type": "application/json"}))
+            told = answers.verdict(
+                *self.once("POST", "/messages", text, {"Content-Type": "application/json"})
+            )
             if told.meaning is answers.Meaning.STOP:
                 self.is_unanswered = was
                 raise NotTaken(told.why)
@@ -212,11 +267,21 @@ class Desk:
                 self.is_unanswered = was or told.answer is None
                 return told.answer, told.why, told.wait
             self.close()
-            return None, f"what came is the answer to another message: {told.answer.text[:200].decode(errors='replace')}", 0.0
+            return (
+                None,
+                f"what came is the answer to another message: {told.answer.text[:200].decode(errors='replace')}",
+                0.0,
+            )
+
         answer: answers.Answer = self.until(call)
         return answer
 
-    def send(self, message: Union[forms.Message, bytes], is_tried: bool = False, is_others: Callable[[], bool] = lambda: False) -> answers.Answer:
+    def send(
+        self,
+        message: Union[forms.Message, bytes],
+        is_tried: bool = False,
+        is_others: Callable[[], bool] = lambda: False,
+    ) -> answers.Answer:
         """Sends the same bytes until they are answered, and returns the answer. `is_tried` is whether a run before may have sent them,
         `is_others` whether another message of the sender is known to have been accepted under their UniqueID.
 
@@ -228,8 +293,16 @@ class Desk:
             raise NotTaken(words.STOPS[413])
         self.is_unanswered = is_tried
         answer = self.ask(text)
-        if isinstance(answer, answers.Refused) and answer.refusal == "IdReused" and self.is_unanswered and not is_others() and isinstance(self.ask(answers.question(text)), answers.Accepted):
-            self.tell(f"{answer.unique_id} was accepted before the desk was begun anew: its first answer is in the archive")
+        if (
+            isinstance(answer, answers.Refused)
+            and answer.refusal == "IdReused"
+            and self.is_unanswered
+            and not is_others()
+            and isinstance(self.ask(answers.question(text)), answers.Accepted)
+        ):
+            self.tell(
+                f"{answer.unique_id} was accepted before the desk was begun anew: its first answer is in the archive"
+            )
             answer = dataclasses.replace(answer, archived=True)
         self.is_unanswered = False
         return answer
@@ -244,25 +317,42 @@ class Desk:
             connection.connect()
             told.append(f"desk: {self.place} listens")
             if isinstance(connection.sock, ssl.SSLSocket):
-                told.append(f"certificate: trusted, until {dict(connection.sock.getpeercert() or {}).get('notAfter')}")
+                told.append(
+                    f"certificate: trusted, until {dict(connection.sock.getpeercert() or {}).get('notAfter')}"
+                )
             connection.request("GET", self.path + "/overdue", None, self.headers)
             answer = connection.getresponse()
             body, date = answer.read(), answer.getheader("Date")
         except ssl.SSLCertVerificationError as fault:
-            return [*told, f"certificate: NOT trusted: {fault.verify_message}. Look at --ca, and at the clock"], False
+            return [
+                *told,
+                f"certificate: NOT trusted: {fault.verify_message}. Look at --ca, and at the clock",
+            ], False
         except (OSError, http.client.HTTPException) as fault:
             return [*told, f"desk: NO answer of {self.place}: {fault or repr(fault)}"], False
         finally:
             connection.close()
-        ahead = 0.0 if date is None else time.time() - email.utils.parsedate_to_datetime(date).timestamp()
-        told.append("clock: not compared, since the answer has no date" if date is None else f"clock: {'right' if abs(ahead) < 60 else 'WRONG'}, {abs(ahead):.0f} seconds {'ahead of' if ahead > 0 else 'behind'} the other's")
+        ahead = (
+            0.0
+            if date is None
+            else time.time() - email.utils.parsedate_to_datetime(date).timestamp()
+        )
+        told.append(
+            "clock: not compared, since the answer has no date"
+            if date is None
+            else f"clock: {'right' if abs(ahead) < 60 else 'WRONG'}, {abs(ahead):.0f} seconds {'ahead of' if ahead > 0 else 'behind'} the other's"
+        )
         is_desk = answer.status == 200 and body.startswith(b"board,")
         if answer.status in (401, 403):
             told.append(f"log-in: REFUSED: {words.STOPS[answer.status]}")
         elif is_desk:
-            told.append("log-in: accepted" if self.headers or self.trust else "log-in: none is wanted")
+            told.append(
+                "log-in: accepted" if self.headers or self.trust else "log-in: none is wanted"
+            )
         else:
-            told.append(f"desk: status {answer.status}, which is no answer of a desk: {body[:100].decode(errors='replace')}")
+            told.append(
+                f"desk: status {answer.status}, which is no answer of a desk: {body[:100].decode(errors='replace')}"
+            )
         return told, is_desk and abs(ahead) < 60
 
     def hasty(self, seconds: float = 2.0) -> "Desk":
@@ -275,7 +365,9 @@ class Desk:
 
     def report(self, path: str, detail: Optional[int] = None, **asked: Any) -> List[Any]:
         """The rows of a report."""
-        target = path + "?" + urllib.parse.urlencode({**asked, **({"detail": detail} if detail else {})})
+        target = (
+            path + "?" + urllib.parse.urlencode({**asked, **({"detail": detail} if detail else {})})
+        )
 
         def call() -> Tuple[Optional[List[Any]], str, float]:
             status, body, retry_after = self.once("GET", target, None, {})
@@ -286,7 +378,10 @@ class Desk:
                 raise NotThere(told.kind)
             if status in words.AGAIN or status >= 500:
                 return None, f"status {status}", answers.seconds_of(retry_after)
-            raise NotTaken(f"status {status}: {words.STOPS.get(status, 'look at what was asked')}: {body[:200].decode(errors='replace')}")
+            raise NotTaken(
+                f"status {status}: {words.STOPS.get(status, 'look at what was asked')}: {body[:200].decode(errors='replace')}"
+            )
+
         rows: List[Any] = self.until(call)
         return rows
 
@@ -320,7 +415,12 @@ def minutes(text: str) -> words.Minutes:
     return None if text == "unlimited" else int(text) if text.isdecimal() else text
 
 
-READERS: Dict[Any, Callable[[str], Any]] = {"str": str, "int": int, "bool": lambda text: text == "yes", "Minutes": minutes}
+READERS: Dict[Any, Callable[[str], Any]] = {
+    "str": str,
+    "int": int,
+    "bool": lambda text: text == "yes",
+    "Minutes": minutes,
+}
 
 
 def rows_of(kind: Any, body: bytes) -> List[Any]:
@@ -328,12 +428,23 @@ def rows_of(kind: Any, body: bytes) -> List[Any]:
     lines = csv.reader(io.StringIO(body.decode(), newline=""), strict=True)
     header: List[str] = next(lines, [])
     if header != list(kind._fields):
-        raise NotTaken(f"a report with the columns {','.join(kind._fields)} is wanted, and {','.join(header)[:200]} came: the desk is of another version, or --url leads elsewhere")
-    readers = [READERS[kind.__annotations__[name] if isinstance(kind.__annotations__[name], str) else kind.__annotations__[name].__forward_arg__] for name in kind._fields]
+        raise NotTaken(
+            f"a report with the columns {','.join(kind._fields)} is wanted, and {','.join(header)[:200]} came: the desk is of another version, or --url leads elsewhere"
+        )
+    readers = [
+        READERS[
+            kind.__annotations__[name]
+            if isinstance(kind.__annotations__[name], str)
+            else kind.__annotations__[name].__forward_arg__
+        ]
+        for name in kind._fields
+    ]
     return [kind(*(read(it) for read, it in zip(readers, line))) for line in lines]
 
 
-def trust_of(ca: Optional[str] = None, cert: Optional[str] = None, key: Optional[str] = None) -> ssl.SSLContext:
+def trust_of(
+    ca: Optional[str] = None, cert: Optional[str] = None, key: Optional[str] = None
+) -> ssl.SSLContext:
     """Whom to trust: who signed the desk's certificate, or whom this machine trusts; with a certificate of one's own."""
     trust = ssl.create_default_context(cafile=ca)
     if cert:

@@ -37,7 +37,11 @@ class Text:
     said: str
 
     def checked(self, member: str, value: Any) -> Any:
-        if not isinstance(value, str) or len(value) > self.longest or not re.fullmatch(self.pattern.strip("^$"), value):
+        if (
+            not isinstance(value, str)
+            or len(value) > self.longest
+            or not re.fullmatch(self.pattern.strip("^$"), value)
+        ):
             raise OutOfRange(member, f"{value!r:.100} is not {self.said}")
         return value
 
@@ -50,8 +54,15 @@ class Whole:
     greatest: int
 
     def checked(self, member: str, value: Any) -> Any:
-        if not isinstance(value, int) or isinstance(value, bool) or not self.least <= value <= self.greatest:
-            raise OutOfRange(member, f"{value!r:.100} is not a whole number from {self.least:,} to {self.greatest:,}")
+        if (
+            not isinstance(value, int)
+            or isinstance(value, bool)
+            or not self.least <= value <= self.greatest
+        ):
+            raise OutOfRange(
+                member,
+                f"{value!r:.100} is not a whole number from {self.least:,} to {self.greatest:,}",
+            )
         return int(value)
 
 
@@ -75,8 +86,14 @@ class ListOf:
     most: int
 
     def checked(self, member: str, value: Any) -> Any:
-        if isinstance(value, (str, bytes, dict)) or not isinstance(value, Sequence) or not 1 <= len(value) <= self.most:
-            raise OutOfRange(member, f"it is not a list of 1 to {self.most:,}: tell of more in several messages")
+        if (
+            isinstance(value, (str, bytes, dict))
+            or not isinstance(value, Sequence)
+            or not 1 <= len(value) <= self.most
+        ):
+            raise OutOfRange(
+                member, f"it is not a list of 1 to {self.most:,}: tell of more in several messages"
+            )
         return tuple(self.form.checked(member, it) for it in value)
 
 
@@ -142,9 +159,13 @@ def stamp(at: Optional[datetime.datetime]) -> str:
     """A time as a message has it: now, or a moment that knows its offset."""
     moment = at or datetime.datetime.now(datetime.timezone.utc)
     if moment.tzinfo is None:
-        raise OutOfRange("TimeStamp", "a time without an offset is another minute elsewhere: give it tzinfo")
+        raise OutOfRange(
+            "TimeStamp", "a time without an offset is another minute elsewhere: give it tzinfo"
+        )
     if not EARLIEST <= moment <= LATEST:
-        raise OutOfRange("TimeStamp", f"{moment} is not from {EARLIEST:%Y-%m-%d} to {LATEST:%Y-%m-%d %H:%M}")
+        raise OutOfRange(
+            "TimeStamp", f"{moment} is not from {EARLIEST:%Y-%m-%d} to {LATEST:%Y-%m-%d %H:%M}"
+        )
     return moment.astimezone(datetime.timezone.utc).strftime("%Y-%m-%dT%H:%M:%SZ")
 
 
@@ -162,12 +183,28 @@ class Command(Part):
 
     WORD: ClassVar[str] = ""
 
-    def message(self, source: str, *, unique_id: Optional[str] = None, at: Optional[datetime.datetime] = None) -> Message:
+    def message(
+        self,
+        source: str,
+        *,
+        unique_id: Optional[str] = None,
+        at: Optional[datetime.datetime] = None,
+    ) -> Message:
         """The message of this sender, of now and with a UniqueID of its own where none are given."""
         from . import words
+
         uid = words.NAME.checked("UniqueID", str(uuid.uuid4()) if unique_id is None else unique_id)
-        envelope = {"MessageName": words.PREFIX + self.WORD, "UniqueID": uid, "Source": words.NAME.checked("Source", source), "TimeStamp": stamp(at), "MessageBody": self.body()}
+        envelope = {
+            "MessageName": words.PREFIX + self.WORD,
+            "UniqueID": uid,
+            "Source": words.NAME.checked("Source", source),
+            "TimeStamp": stamp(at),
+            "MessageBody": self.body(),
+        }
         text = json.dumps(envelope, separators=(",", ":")).encode()
         if len(text) > LONGEST_MESSAGE:
-            raise OutOfRange(self.MEMBERS[-1][0], f"the message has {len(text):,} bytes, and a desk takes {LONGEST_MESSAGE:,}: tell it in several")
+            raise OutOfRange(
+                self.MEMBERS[-1][0],
+                f"the message has {len(text):,} bytes, and a desk takes {LONGEST_MESSAGE:,}: tell it in several",
+            )
         return Message(self.WORD, uid, text)

@@ -38,8 +38,21 @@ class Machine:
 class Interlock:
     """The states of machines. With a command, a thread of its own calls it at each change and every few seconds, as COMMAND MACHINE STATE REASON."""
 
-    def __init__(self, spool: Spool, machines: List[str], command: Optional[str] = None, silence: float = SILENCE, every: float = EVERY, tell: Callable[[str], None] = lambda line: None) -> None:
-        self.spool, self.command, self.silence, self.tell = spool, shlex.split(command or ""), silence, tell
+    def __init__(
+        self,
+        spool: Spool,
+        machines: List[str],
+        command: Optional[str] = None,
+        silence: float = SILENCE,
+        every: float = EVERY,
+        tell: Callable[[str], None] = lambda line: None,
+    ) -> None:
+        self.spool, self.command, self.silence, self.tell = (
+            spool,
+            shlex.split(command or ""),
+            silence,
+            tell,
+        )
         self.every = min(every, silence / 2)
         self.machines = {name: Machine() for name in machines}
         self.listed, self.seen, self.answered = list(machines), 0, time.monotonic()
@@ -69,17 +82,34 @@ class Interlock:
                     self.of(str(answers.body_of(told).get("Machine"))).asked = name
                 self.news()
 
-    def judged(self, name: str, told: Dict[str, Any], answer: answers.Answer, is_tried: bool) -> None:
+    def judged(
+        self, name: str, told: Dict[str, Any], answer: answers.Answer, is_tried: bool
+    ) -> None:
         """Follows an answer. A start that a run before may have sent permits nothing: it may be of an earlier board."""
         body, word = answers.body_of(told), answers.word_of(told)
         machine = body.get("Machine")
         with self.lock:
-            for it in [self.of(machine)] if isinstance(machine, str) else [] if told else list(self.machines.values()):
+            for it in (
+                [self.of(machine)]
+                if isinstance(machine, str)
+                else []
+                if told
+                else list(self.machines.values())
+            ):
                 key = str(body.get("Slot") or told.get("UniqueID") or name)
                 is_newest = it.asked in (None, name)
                 if not answers.is_taken(answer):
-                    it.faults[key] = f"{word or 'a message'} {body.get('Board', '')} {answers.short(answer)}".replace("  ", " ")
-                elif word == "WorkStarted" and is_newest and not is_tried and not answers.is_archived(answer):
+                    it.faults[
+                        key
+                    ] = f"{word or 'a message'} {body.get('Board', '')} {answers.short(answer)}".replace(
+                        "  ", " "
+                    )
+                elif (
+                    word == "WorkStarted"
+                    and is_newest
+                    and not is_tried
+                    and not answers.is_archived(answer)
+                ):
                     it.board, it.faults = str(body.get("Board")), {}
                 elif word == "WorkCompleted" and body.get("Board") == it.board:
                     it.board, it.idle = None, f"board {body.get('Board')} is completed"
@@ -123,7 +153,10 @@ class Interlock:
             clock = time.time() - time.monotonic()
             if clock < self.clock - 1:
                 for it in self.machines.values():
-                    it.board, it.idle = None, "the clock was set back: a start of work must be accepted anew"
+                    it.board, it.idle = (
+                        None,
+                        "the clock was set back: a start of work must be accepted anew",
+                    )
             self.clock = clock
             for name, it in self.machines.items():
                 state, reason = found[name] = self.state_of(it)
@@ -135,7 +168,16 @@ class Interlock:
         """The machines, as the status has them."""
         self.look()
         with self.lock:
-            return {name: {"Board": it.board, "LastRefused": it.last_refused, "Reason": it.reason, "Since": it.since, "State": it.state} for name, it in self.machines.items()}
+            return {
+                name: {
+                    "Board": it.board,
+                    "LastRefused": it.last_refused,
+                    "Reason": it.reason,
+                    "Since": it.since,
+                    "State": it.state,
+                }
+                for name, it in self.machines.items()
+            }
 
     # --- The plant's command
 
@@ -147,7 +189,13 @@ class Interlock:
                 if repeats or now != self.called.get(name):
                     self.called[name] = now
                     try:
-                        subprocess.run([*self.command, name, *now], stdin=subprocess.DEVNULL, stdout=subprocess.DEVNULL, timeout=LONGEST_CALL, check=True)
+                        subprocess.run(
+                            [*self.command, name, *now],
+                            stdin=subprocess.DEVNULL,
+                            stdout=subprocess.DEVNULL,
+                            timeout=LONGEST_CALL,
+                            check=True,
+                        )
                     except (OSError, ValueError, subprocess.SubprocessError) as fault:
                         self.tell(f"the interlock's command: {fault}")
 

@@ -19,7 +19,9 @@ def utc(seconds: Optional[float] = None) -> str:
 
 
 def spelled(told: Dict[str, Any]) -> bytes:
-    return json.dumps({**told, "Version": 1}, sort_keys=True, separators=(",", ":")).encode() + b"\n"
+    return (
+        json.dumps({**told, "Version": 1}, sort_keys=True, separators=(",", ":")).encode() + b"\n"
+    )
 
 
 def record(kind: str, by: str, at: str, **more: Any) -> Tuple[str, bytes]:

@@ -111,7 +111,9 @@ class BadFile(Exception):
 def held(path: str) -> Iterator[BinaryIO]:
     """A file of answers, which one sender has at a time; it is made if there is none."""
     with open(path, "a+b") as file:
-        spool.lock_alone(file.fileno(), path, "sender has it: end that one, or name another file for answers")
+        spool.lock_alone(
+            file.fileno(), path, "sender has it: end that one, or name another file for answers"
+        )
         yield file
 
 
@@ -124,21 +126,34 @@ def whole_lines(file: BinaryIO) -> List[bytes]:
 def compare(messages: List[bytes], known: List[bytes]) -> None:
     """Looks whether the answers that are there are a desk's to the first messages: one may name its message by UniqueID."""
     if len(known) > len(messages):
-        raise BadFile(f"it has {len(known)} answers, and there are {len(messages)} messages: name a new file for answers")
+        raise BadFile(
+            f"it has {len(known)} answers, and there are {len(messages)} messages: name a new file for answers"
+        )
     for number, (line, answer) in enumerate(zip(messages, known), 1):
         told = answers.read(answer)
         if told is None or isinstance(told, (answers.NotFound, answers.Unavailable)):
-            raise BadFile(f"its line {number} is no answer of a desk, so that message may not have been taken: cut the file before that line")
+            raise BadFile(
+                f"its line {number} is no answer of a desk, so that message may not have been taken: cut the file before that line"
+            )
         uid = getattr(told, "unique_id", None)
         if uid is not None and uid != answers.read_object(line).get("UniqueID"):
-            raise BadFile(f"its line {number} answers {uid}, which is not the message of that line: name a new file for answers")
+            raise BadFile(
+                f"its line {number} answers {uid}, which is not the message of that line: name a new file for answers"
+            )
 
 
-def send_all(to: desk.Desk, messages: List[bytes], known: List[bytes], file: BinaryIO, is_tried: bool, stops: bool) -> int:
+def send_all(
+    to: desk.Desk,
+    messages: List[bytes],
+    known: List[bytes],
+    file: BinaryIO,
+    is_tried: bool,
+    stops: bool,
+) -> int:
     """Sends what has no answer yet, and adds each answer to the file before the next message goes out; how many were mistyped."""
     mistyped = 0
     file.truncate(sum(len(it) + 1 for it in known))  # a line that was cut goes
-    for line in messages[len(known):]:
+    for line in messages[len(known) :]:
         answer, is_tried = to.send(line, is_tried), False
         is_stopped = stops and not answers.is_taken(answer)
         if not is_stopped and isinstance(answer, answers.Ignored) and answer.is_mistyped:
@@ -176,7 +191,10 @@ def spool_of(asked: argparse.Namespace) -> spool.Spool:
 
 def put(into: spool.Spool, file: str) -> int:
     with open(sys.stdin.fileno() if file == "-" else file, "rb", closefd=file != "-") as stream:
-        count = sum(bool(into.put(it if isinstance(it, bytes) else b"".join(it))) for it in spool.lines_of(stream))
+        count = sum(
+            bool(into.put(it if isinstance(it, bytes) else b"".join(it)))
+            for it in spool.lines_of(stream)
+        )
     say(f"{count} put into {into.folder}, {len(into.names())} wait")
     return 0
 
@@ -188,7 +206,9 @@ def moment(text: str) -> float:
     except ValueError:
         raise spool.SpoolError(f"{text} is no time, as 2026-03-02T06:00Z") from None
     if at.tzinfo is None:
-        raise spool.SpoolError(f"{text} has no offset: a time is spelled as 2026-03-02T06:00Z or 2026-03-02T07:00+01:00")
+        raise spool.SpoolError(
+            f"{text} has no offset: a time is spelled as 2026-03-02T06:00Z or 2026-03-02T07:00+01:00"
+        )
     return at.timestamp()
 
 
@@ -196,7 +216,14 @@ def again(asked: argparse.Namespace, into: spool.Spool) -> int:
     names: List[str] = asked.again
     if len(names) == 1 and TIME.fullmatch(names[0]):
         found = into.again_since(moment(names[0]))
-        say(f"{len(found)} wait again, before those that wait" + (f": {found[0]} to {found[-1]}" if found else f": {into.sent} has none that was sent since then"))
+        say(
+            f"{len(found)} wait again, before those that wait"
+            + (
+                f": {found[0]} to {found[-1]}"
+                if found
+                else f": {into.sent} has none that was sent since then"
+            )
+        )
         return 0
     names = into.set_aside() if names == ["all"] else names
     reports = [it for it in names if into.is_report(it)]
@@ -209,9 +236,13 @@ def again(asked: argparse.Namespace, into: spool.Spool) -> int:
     found = into.again((it for it in names if it not in reports), decided=bool(asked.by))
     say(f"{len(found)} wait again{', as ' + ' '.join(found) if found else ''}")
     for it in reports:
-        tell(f"message {it} is a report of work, and is not sent again: {untraced.brief(into.message(it))} was {answers.short(into.why(it)[1])}")
+        tell(
+            f"message {it} is a report of work, and is not sent again: {untraced.brief(into.message(it))} was {answers.short(into.why(it)[1])}"
+        )
     if reports:
-        tell(f"{len(reports)} reports of work stay in {into.aside}: the boards are untraced work. Decide about each by tracedesk-untraced. To send one again all the same, name it, with --by and --reason")
+        tell(
+            f"{len(reports)} reports of work stay in {into.aside}: the boards are untraced work. Decide about each by tracedesk-untraced. To send one again all the same, name it, with --by and --reason"
+        )
     return 6 if reports else 0
 
 
@@ -222,7 +253,11 @@ def show(asked: argparse.Namespace, into: spool.Spool, names: List[str]) -> str:
     code = hashlib.sha256(shown.encode()).hexdigest()[:8]
     if asked.seen != code:
         say(shown)
-        tell("nothing is sent" + (": what is shown has changed" if asked.seen else "") + f". If the reels are those of the work, decide by the same command with --seen {code}")
+        tell(
+            "nothing is sent"
+            + (": what is shown has changed" if asked.seen else "")
+            + f". If the reels are those of the work, decide by the same command with --seen {code}"
+        )
     return code
 
 
@@ -233,8 +268,13 @@ def run_spool(asked: argparse.Namespace, to: desk.Desk) -> int:
         follower = sender.Lines(into, sys.stdin.buffer, lambda name: say(f"kept {name}"), tell)
     elif asked.follow:
         follower = sender.Folder(into, pathlib.Path(asked.follow), tell)
-    places = [untraced.Place(it, lambda url: desk_of(asked, url, untraced.TIMEOUT)) if it else None for it in (asked.untraced, asked.status)]
-    states = interlock.Interlock(into, asked.machine, asked.interlock, asked.silence, asked.every, tell)
+    places = [
+        untraced.Place(it, lambda url: desk_of(asked, url, untraced.TIMEOUT)) if it else None
+        for it in (asked.untraced, asked.status)
+    ]
+    states = interlock.Interlock(
+        into, asked.machine, asked.interlock, asked.silence, asked.every, tell
+    )
     run = sender.Sender(into, to, asked.stop_at_refusal, tell, states, *places)
     if asked.interlock:
         signal.signal(signal.SIGTERM, lambda *_: terminated(states))
@@ -270,9 +310,23 @@ def url(text: str) -> str:
 
 
 def reader_of_words() -> argparse.ArgumentParser:
-    reader = argparse.ArgumentParser(prog=NAME, description=__doc__, formatter_class=argparse.RawDescriptionHelpFormatter, usage=argparse.SUPPRESS)
-    reader.add_argument("--url", type=url, default="http://127.0.0.1:8080", help="the desk, or the proxy in front of it (http://127.0.0.1:8080)")
-    reader.add_argument("--ca", metavar="FILE", help="who signed the other's certificate; else whom this machine trusts")
+    reader = argparse.ArgumentParser(
+        prog=NAME,
+        description=__doc__,
+        formatter_class=argparse.RawDescriptionHelpFormatter,
+        usage=argparse.SUPPRESS,
+    )
+    reader.add_argument(
+        "--url",
+        type=url,
+        default="http://127.0.0.1:8080",
+        help="the desk, or the proxy in front of it (http://127.0.0.1:8080)",
+    )
+    reader.add_argument(
+        "--ca",
+        metavar="FILE",
+        help="who signed the other's certificate; else whom this machine trusts",
+    )
     reader.add_argument("--user", metavar="NAME")
     reader.add_argument("--password-file", metavar="FILE")
     reader.add_argument("--cert", metavar="FILE", help="a certificate in place of a password")
@@ -280,12 +334,34 @@ def reader_of_words() -> argparse.ArgumentParser:
     reader.add_argument("--stop-at-refusal", action="store_true")
     reader.add_argument("--rate", type=float, metavar="N", help="tries in a second")
     reader.add_argument("--patience", type=float, metavar="SECONDS", help="for one message")
-    reader.add_argument("--timeout", type=float, default=desk.TIMEOUT, metavar="SECONDS", help=f"for one answer ({desk.TIMEOUT:.0f})")
+    reader.add_argument(
+        "--timeout",
+        type=float,
+        default=desk.TIMEOUT,
+        metavar="SECONDS",
+        help=f"for one answer ({desk.TIMEOUT:.0f})",
+    )
     reader.add_argument("--spool", metavar="FOLDER", help="where messages wait")
-    reader.add_argument("--keep-days", type=float, default=spool.KEPT_DAYS, metavar="N", help="how long sent messages are kept")
-    reader.add_argument("--keep-mib", type=float, default=spool.KEPT_BYTES / (1 << 20), metavar="N", help="how much disk they may take")
+    reader.add_argument(
+        "--keep-days",
+        type=float,
+        default=spool.KEPT_DAYS,
+        metavar="N",
+        help="how long sent messages are kept",
+    )
+    reader.add_argument(
+        "--keep-mib",
+        type=float,
+        default=spool.KEPT_BYTES / (1 << 20),
+        metavar="N",
+        help="how much disk they may take",
+    )
     what = reader.add_mutually_exclusive_group()
-    what.add_argument("--follow", metavar="FOLDER", help="the messages for the spool: a folder, or - for standard input")
+    what.add_argument(
+        "--follow",
+        metavar="FOLDER",
+        help="the messages for the spool: a folder, or - for standard input",
+    )
     what.add_argument("--stay", action="store_true")
     what.add_argument("--put", metavar="FILE")
     what.add_argument("--again", nargs="+", metavar="NAME")
@@ -307,9 +383,21 @@ def words() -> argparse.Namespace:
     asked = reader.parse_args()
     if len(asked.files) != (0 if asked.spool or asked.check or asked.validate else 2):
         reader.error("name --spool FOLDER, or two files: MESSAGES and ANSWERS")
-    if not asked.spool and (asked.follow or asked.stay or asked.put or asked.again or asked.untraced or asked.status or asked.interlock):
-        reader.error("--follow, --stay, --put, --again, --untraced, --status and --interlock want --spool FOLDER")
-    if (asked.by or asked.reason or asked.seen) and not (asked.again and asked.by and asked.by.strip() and asked.reason and asked.reason.strip()):
+    if not asked.spool and (
+        asked.follow
+        or asked.stay
+        or asked.put
+        or asked.again
+        or asked.untraced
+        or asked.status
+        or asked.interlock
+    ):
+        reader.error(
+            "--follow, --stay, --put, --again, --untraced, --status and --interlock want --spool FOLDER"
+        )
+    if (asked.by or asked.reason or asked.seen) and not (
+        asked.again and asked.by and asked.by.strip() and asked.reason and asked.reason.strip()
+    ):
         reader.error("--by and --reason go together, with --again NAME")
     if bool(asked.interlock) != bool(asked.machine):
         reader.error("--interlock COMMAND wants --machine NAME, of each machine that it stops")
@@ -320,22 +408,51 @@ def words() -> argparse.Namespace:
     if asked.follow not in (None, "-") and not pathlib.Path(asked.follow).is_dir():
         reader.error(f"--follow: {asked.follow} is no folder: make it, or name another")
     if (asked.user or asked.cert or asked.ca) and not asked.url.startswith("https:"):
-        reader.error("--user, --cert and --ca want an https URL: a password is not sent in the clear")
+        reader.error(
+            "--user, --cert and --ca want an https URL: a password is not sent in the clear"
+        )
     if asked.user and not asked.password_file and "TRACEDESK_PASSWORD" not in os.environ:
-        reader.error("--user wants --password-file FILE, or the password in the environment as TRACEDESK_PASSWORD")
+        reader.error(
+            "--user wants --password-file FILE, or the password in the environment as TRACEDESK_PASSWORD"
+        )
     return asked
 
 
-def desk_of(asked: argparse.Namespace, url: Optional[str] = None, timeout: Optional[float] = None) -> desk.Desk:
+def desk_of(
+    asked: argparse.Namespace, url: Optional[str] = None, timeout: Optional[float] = None
+) -> desk.Desk:
     """The desk that the command line names, or another place behind its log-in."""
-    trust = desk.trust_of(asked.ca, asked.cert, asked.key) if asked.url.startswith("https:") else None
+    trust = (
+        desk.trust_of(asked.ca, asked.cert, asked.key) if asked.url.startswith("https:") else None
+    )
     log_in = None
     if asked.user:
-        password = pathlib.Path(asked.password_file).read_text().rstrip("\r\n") if asked.password_file else os.environ["TRACEDESK_PASSWORD"]
+        password = (
+            pathlib.Path(asked.password_file).read_text().rstrip("\r\n")
+            if asked.password_file
+            else os.environ["TRACEDESK_PASSWORD"]
+        )
         log_in = asked.user, password
-    patience = asked.patience if asked.patience is not None else SHOWING if asked.again else None if asked.spool else desk.PATIENCE
+    patience = (
+        asked.patience
+        if asked.patience is not None
+        else SHOWING
+        if asked.again
+        else None
+        if asked.spool
+        else desk.PATIENCE
+    )
     rate = asked.rate if asked.rate is not None else RATE if asked.spool else 0.0
-    return desk.Desk(url or asked.url, trust, log_in, patience=patience, timeout=timeout or asked.timeout, rate=rate, waits=bool(asked.spool and not asked.again), tell=tell)
+    return desk.Desk(
+        url or asked.url,
+        trust,
+        log_in,
+        patience=patience,
+        timeout=timeout or asked.timeout,
+        rate=rate,
+        waits=bool(asked.spool and not asked.again),
+        tell=tell,
+    )
 
 
 def run(asked: argparse.Namespace) -> int:
@@ -357,7 +474,17 @@ def run(asked: argparse.Namespace) -> int:
 
 def main() -> int:
     asked = words()
-    return ended(lambda: run(asked), {sender.Stopped: 1, spool.SpoolError: 2, OSError: 2, ValueError: 2, desk.GivenUp: 3, desk.NotTaken: 4})
+    return ended(
+        lambda: run(asked),
+        {
+            sender.Stopped: 1,
+            spool.SpoolError: 2,
+            OSError: 2,
+            ValueError: 2,
+            desk.GivenUp: 3,
+            desk.NotTaken: 4,
+        },
+    )
 
 
 if __name__ == "__main__":

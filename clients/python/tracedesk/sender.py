@@ -25,8 +25,16 @@ class Sender:
     """The one sender of a spool. `stops` ends the run at a message that is not taken; else that one is set aside. A report of work is
     always set aside: it isn't sent again unless a person decides so."""
 
-    def __init__(self, spool: Spool, desk: Desk, stops: bool = False, tell: Callable[[str], None] = lambda line: None, interlock: Optional[Interlock] = None,
-                 inbox: Optional[untraced.Place] = None, status: Optional[untraced.Place] = None) -> None:
+    def __init__(
+        self,
+        spool: Spool,
+        desk: Desk,
+        stops: bool = False,
+        tell: Callable[[str], None] = lambda line: None,
+        interlock: Optional[Interlock] = None,
+        inbox: Optional[untraced.Place] = None,
+        status: Optional[untraced.Place] = None,
+    ) -> None:
         self.spool, self.desk, self.stops, self.tell = spool, desk, stops, tell
         self.interlock = interlock or Interlock(spool, [])
         self.interlock.is_needed = bool(self.interlock.command or status)
@@ -45,7 +53,14 @@ class Sender:
         text = patiently(lambda: self.spool.text(name), self.tell)
         told = answers.read_object(text)
         try:
-            return self.desk.send(text, self.spool.is_tried(name), lambda: self.spool.has_accepted(str(told.get("UniqueID")), name)), told
+            return (
+                self.desk.send(
+                    text,
+                    self.spool.is_tried(name),
+                    lambda: self.spool.has_accepted(str(told.get("UniqueID")), name),
+                ),
+                told,
+            )
         finally:
             self.spool.is_unanswered = self.desk.is_unanswered
 
@@ -59,16 +74,27 @@ class Sender:
                 continue
             is_taken, is_report = answers.is_taken(answer), records.is_report(told)
             if not is_taken:
-                self.interlock.judged(name, told, answer, False)  # a machine is stopped before anything is kept
+                self.interlock.judged(
+                    name, told, answer, False
+                )  # a machine is stopped before anything is kept
                 why = f"message {name} is {answers.why(answer)}"
                 if self.stops and not is_report:
                     raise Stopped(f"{why}\n{answer.text.decode(errors='replace')}")
-                self.tell(f"{why}. It is set aside in {self.spool.aside}" + (f". It is a report of work, and isn't sent again: a person decides about it{self.line.where_kept()}" if is_report else ""))
+                self.tell(
+                    f"{why}. It is set aside in {self.spool.aside}"
+                    + (
+                        f". It is a report of work, and isn't sent again: a person decides about it{self.line.where_kept()}"
+                        if is_report
+                        else ""
+                    )
+                )
                 self.aside += 1
             self.keep(name, answer)
             if is_taken:
                 if self.interlock.is_needed and answers.word_of(told) == "WorkStarted":
-                    self.interlock.look_ahead(patiently(self.spool.names, self.tell))  # a later start may wait by now
+                    self.interlock.look_ahead(
+                        patiently(self.spool.names, self.tell)
+                    )  # a later start may wait by now
                 self.interlock.judged(name, told, answer, self.spool.is_tried(name))
             elif is_report:
                 self.tell_line(name, told)
@@ -90,10 +116,15 @@ class Sender:
         machine = str(answers.body_of(told).get("Machine"))
         with contextlib.suppress(OSError, IndexError):
             _, answer, more = self.spool.why(name)
-            self.interlock.refused(machine, {"Answer": answers.read_object(answer.text), "Message": told, **more})
+            self.interlock.refused(
+                machine, {"Answer": answers.read_object(answer.text), "Message": told, **more}
+            )
         with contextlib.suppress(Exception):  # who decides is told that they are not known
             with self.desk.hasty() as desk:
-                write_synced(self.spool.aside / f"{name}.slots", "\n".join(untraced.slots_of(desk, machine)).encode())
+                write_synced(
+                    self.spool.aside / f"{name}.slots",
+                    "\n".join(untraced.slots_of(desk, machine)).encode(),
+                )
         self.interlock.news()
 
     def sign_of_life(self) -> None:
@@ -106,8 +137,13 @@ class Sender:
     def look_at_what_is_kept(self) -> None:
         """Reports, once a minute, sent messages that were deleted before their days were over."""
         if self.spool.dropped_early > self.dropped and time.monotonic() >= self.next_news:
-            self.dropped, self.next_news = self.spool.dropped_early, time.monotonic() + NEWS_OF_A_FAULT
-            self.tell(f"{self.spool.sent} has more than --keep-mib: {self.dropped} messages of less than --keep-days were deleted there, and can't be sent again")
+            self.dropped, self.next_news = (
+                self.spool.dropped_early,
+                time.monotonic() + NEWS_OF_A_FAULT,
+            )
+            self.tell(
+                f"{self.spool.sent} has more than --keep-mib: {self.dropped} messages of less than --keep-days were deleted there, and can't be sent again"
+            )
 
     def run(self, follower: Optional["Follower"] = None, stays: bool = False) -> None:
         """Sends until nothing waits; with a follower until that has ended; or for good."""
@@ -164,7 +200,13 @@ class Follower:
 class Lines(Follower):
     """Follows a stream of lines. Once a line is on disk its name in the spool goes to `acknowledge`."""
 
-    def __init__(self, spool: Spool, stream: BinaryIO, acknowledge: Callable[[str], None] = lambda name: None, tell: Callable[[str], None] = lambda line: None) -> None:
+    def __init__(
+        self,
+        spool: Spool,
+        stream: BinaryIO,
+        acknowledge: Callable[[str], None] = lambda name: None,
+        tell: Callable[[str], None] = lambda line: None,
+    ) -> None:
         super().__init__(spool, tell)
         self.stream, self.acknowledge = stream, acknowledge
 
@@ -186,18 +228,28 @@ class Lines(Follower):
 
 class Folder(Follower):
     """Follows a folder: the files *.json and *.jsonl that are renamed into it, in the order of their names. Each gets a name of
-    its own first, so that a machine may use a name again, and is deleted once its lines are in the spool."""
+    its own first, so that a machine may use a name again, and is deleted once its lines are in the spool.
+    """
 
-    def __init__(self, spool: Spool, folder: pathlib.Path, tell: Callable[[str], None] = lambda line: None) -> None:
+    def __init__(
+        self, spool: Spool, folder: pathlib.Path, tell: Callable[[str], None] = lambda line: None
+    ) -> None:
         super().__init__(spool, tell)
-        self.folder, self.begun = folder, folder / f".tracedesk-send.{spool.identity()}.taking"  # two senders of a folder take what each has got
+        self.folder, self.begun = (
+            folder,
+            folder / f".tracedesk-send.{spool.identity()}.taking",
+        )  # two senders of a folder take what each has got
 
     @contextlib.contextmanager
     def held(self) -> Iterator[None]:
         handle = os.open(self.folder, os.O_RDONLY | os.O_DIRECTORY)
         try:
             with contextlib.suppress(OSError):  # some network folders know no locks
-                lock_alone(handle, self.folder, "sender follows this folder: end that one, or name another folder")
+                lock_alone(
+                    handle,
+                    self.folder,
+                    "sender follows this folder: end that one, or name another folder",
+                )
             yield
         finally:
             os.close(handle)

@@ -22,7 +22,19 @@ import pathlib
 import re
 import time
 import uuid
-from typing import Any, BinaryIO, Callable, Deque, Dict, Iterable, Iterator, List, Optional, Tuple, Union
+from typing import (
+    Any,
+    BinaryIO,
+    Callable,
+    Deque,
+    Dict,
+    Iterable,
+    Iterator,
+    List,
+    Optional,
+    Tuple,
+    Union,
+)
 
 from . import answers, forms, records
 from .console import patiently
@@ -40,7 +52,9 @@ STATE: Dict[str, Callable[[Any], bool]] = {  # what the members of .sender may b
     "Tried": lambda it: type(it) is int,
     "Runs": lambda it: type(it) is bool,
     "Answers": lambda it: it is None or isinstance(it, str),
-    "Again": lambda it: it is None or isinstance(it, list) and [type(one) for one in it] == [int, int],
+    "Again": lambda it: it is None
+    or isinstance(it, list)
+    and [type(one) for one in it] == [int, int],
 }
 
 
@@ -56,7 +70,9 @@ def sync_folder(path: pathlib.Path) -> None:
         os.close(handle)
 
 
-def write_synced(path: pathlib.Path, text: Union[bytes, Iterable[bytes]], mode: Optional[int] = None) -> None:
+def write_synced(
+    path: pathlib.Path, text: Union[bytes, Iterable[bytes]], mode: Optional[int] = None
+) -> None:
     """Puts a file of this text, or of its pieces, at its place, whole; it is on disk once its folder is synced."""
     beside = path.with_name(f".{path.name}.new")
     try:
@@ -115,10 +131,18 @@ def long_line(first: bytes, pieces: Iterator[bytes]) -> Iterator[bytes]:
 class Spool:
     """A spool, which is made if there is none. Sent messages are kept for `days`, and of at most so many bytes. Its name is in records."""
 
-    def __init__(self, folder: Union[str, "os.PathLike[str]"], days: float = KEPT_DAYS, most: int = KEPT_BYTES, name: Optional[str] = None) -> None:
+    def __init__(
+        self,
+        folder: Union[str, "os.PathLike[str]"],
+        days: float = KEPT_DAYS,
+        most: int = KEPT_BYTES,
+        name: Optional[str] = None,
+    ) -> None:
         self.folder, self.days, self.most = pathlib.Path(folder), days, most
         self.name = name or self.folder.absolute().name
-        self.waiting, self.aside, self.answered, self.sent, self.untraced = (self.folder / it for it in ("waiting", "aside", "answers", "sent", "untraced"))
+        self.waiting, self.aside, self.answered, self.sent, self.untraced = (
+            self.folder / it for it in ("waiting", "aside", "answers", "sent", "untraced")
+        )
         for it in (self.folder, self.waiting, self.aside, self.answered, self.sent, self.untraced):
             if not it.is_dir():
                 it.mkdir(mode=0o700, parents=it == self.folder, exist_ok=True)
@@ -127,8 +151,12 @@ class Spool:
         self.state: Dict[str, Any] = {}
         self.kept: Optional[Deque[Tuple[pathlib.Path, int]]] = None
         self.kept_bytes = self.dropped_early = 0
-        self.is_made_good = False  # whether this run set a message aside that one before had an answer to
-        self.is_unanswered = False  # whether the run that ends leaves a message with a try and without an answer
+        self.is_made_good = (
+            False  # whether this run set a message aside that one before had an answer to
+        )
+        self.is_unanswered = (
+            False  # whether the run that ends leaves a message with a try and without an answer
+        )
 
     # --- Numbers. The file .lock has the last one, and the word "busy" while one more message is put in.
 
@@ -144,13 +172,17 @@ class Spool:
     def last(self, lock: int) -> int:
         """The greatest number so far. It is counted anew once, and after a process that ended in the middle of a `put`."""
         told = re.fullmatch(rb"(\d{12}) (busy|free)\n", os.pread(lock, 100, 0))
-        told = None if told and int(told[1]) >= LAST else told  # a file that was damaged: no spool comes that far
+        told = (
+            None if told and int(told[1]) >= LAST else told
+        )  # a file that was damaged: no spool comes that far
         stored = (int(told[1]) - (told[2] == b"busy")) if told else 0
         if told and told[2] == b"free" and self.is_counted:
             return stored
         self.is_counted = True
         names = [int(it[-1]) for it in map(names_in, (self.waiting, self.aside, self.sent)) if it]
-        return max([stored, *names, *([] if told else [self.last_answer(it)[0] for it in self.logs()])])
+        return max(
+            [stored, *names, *([] if told else [self.last_answer(it)[0] for it in self.logs()])]
+        )
 
     def put(self, message: Union[forms.Message, bytes]) -> str:
         """Keeps a message, and returns its name in the spool: it is on disk then, and is sent after those before it."""
@@ -158,15 +190,21 @@ class Spool:
             last = self.last(lock)
             if intake := self.read_intake():
                 self.write_intake(intake[0], last + 2, intake[2] + max(0, last - intake[1] + 1))
-            return self.put_next(lock, last, message if isinstance(message, bytes) else message.text)
+            return self.put_next(
+                lock, last, message if isinstance(message, bytes) else message.text
+            )
 
     def put_next(self, lock: int, last: int, text: Union[bytes, Iterable[bytes]]) -> str:
         name = spelled(last + 1)
         if last >= LAST:
-            raise SpoolError(f"{self.waiting} has a message of the greatest number: move it away, and use another spool")
+            raise SpoolError(
+                f"{self.waiting} has a message of the greatest number: move it away, and use another spool"
+            )
         os.pwrite(lock, f"{name} busy\n".encode(), 0)
         write_synced(self.waiting / f"{name}.json", text)
-        patiently(lambda: sync_folder(self.waiting))  # it is there, and may be sent already: who puts it in must not do so again
+        patiently(
+            lambda: sync_folder(self.waiting)
+        )  # it is there, and may be sent already: who puts it in must not do so again
         with contextlib.suppress(OSError):
             os.pwrite(lock, f"{name} free\n".encode(), 0)
         return name
@@ -182,7 +220,10 @@ class Spool:
         return None
 
     def write_intake(self, file: str, first: int, before: int) -> None:
-        write_synced(self.folder / ".intake", json.dumps({"File": file, "First": first, "Before": before}).encode())
+        write_synced(
+            self.folder / ".intake",
+            json.dumps({"File": file, "First": first, "Before": before}).encode(),
+        )
         sync_folder(self.folder)
 
     def drop_intake(self) -> None:
@@ -222,10 +263,23 @@ class Spool:
     # killed ("Runs"), which file has the last answer ("Answers"), and which sent messages go back to those that wait ("Again").
 
     def read_state(self) -> Dict[str, Any]:
-        state = {"Tried": 0, "Runs": False, "Answers": max(self.logs(), default=None), "Again": None}
+        state = {
+            "Tried": 0,
+            "Runs": False,
+            "Answers": max(self.logs(), default=None),
+            "Again": None,
+        }
         with contextlib.suppress(FileNotFoundError, ValueError):
             told = json.loads((self.folder / ".sender").read_text())
-            state.update({name: told[name] for name, is_it in STATE.items() if name in told and is_it(told[name])} if isinstance(told, dict) else {})
+            state.update(
+                {
+                    name: told[name]
+                    for name, is_it in STATE.items()
+                    if name in told and is_it(told[name])
+                }
+                if isinstance(told, dict)
+                else {}
+            )
         return state
 
     def write_state(self, **changes: Any) -> None:
@@ -239,11 +293,17 @@ class Spool:
         """Held by the one that sends. What a killed run left between an answer and what follows of it is made good first."""
         handle = os.open(self.folder / ".sending", os.O_RDWR | os.O_CREAT, 0o600)
         try:
-            lock_alone(handle, self.folder, "sender has this spool: end that one, or name another spool")
+            lock_alone(
+                handle, self.folder, "sender has this spool: end that one, or name another spool"
+            )
             self.state = self.read_state()
             self.move_back()
             number, answer, at = self.last_answer(self.state["Answers"], mends=True)
-            self.is_made_good = answer is not None and not answers.is_taken(answer) and (self.waiting / f"{spelled(number)}.json").exists()
+            self.is_made_good = (
+                answer is not None
+                and not answers.is_taken(answer)
+                and (self.waiting / f"{spelled(number)}.json").exists()
+            )
             if answer is not None:
                 self.finish(spelled(number), answer, at)
             self.record_old()
@@ -276,7 +336,9 @@ class Spool:
     def logs(self) -> List[str]:
         return [it for it in os.listdir(self.answered) if LOG.fullmatch(it)]
 
-    def last_answer(self, log: Optional[str], mends: bool = False) -> Tuple[int, Optional[answers.Answer], str]:
+    def last_answer(
+        self, log: Optional[str], mends: bool = False
+    ) -> Tuple[int, Optional[answers.Answer], str]:
         """The last answer in a file of answers, the number of its message, and when it came; `mends` cuts a line that was not written whole."""
         with contextlib.suppress(OSError, ValueError, KeyError, TypeError):
             with open(self.answered / str(log), "r+b" if mends else "rb") as file:
@@ -290,7 +352,14 @@ class Spool:
                 if mends and cut:
                     file.truncate(size - len(cut))
                 told = json.loads(whole.rpartition(b"\n")[2])
-                return int(told["Message"]), answers.read(json.dumps(told["Answer"], separators=(",", ":")).encode(), told.get("Archived", False)), str(told.get("At", ""))
+                return (
+                    int(told["Message"]),
+                    answers.read(
+                        json.dumps(told["Answer"], separators=(",", ":")).encode(),
+                        told.get("Archived", False),
+                    ),
+                    str(told.get("At", "")),
+                )
         return 0, None, ""
 
     def done(self, name: str, answer: answers.Answer, at: str = "") -> None:
@@ -303,7 +372,11 @@ class Spool:
         """Whether the desk accepted another message of this spool under this UniqueID."""
         for log in self.logs():
             for line in (self.answered / log).read_bytes().splitlines():
-                if unique_id.encode() in line and name.encode() not in line and answers.read_object(line).get("Answer", {}).get("Answer") == "Accepted":
+                if (
+                    unique_id.encode() in line
+                    and name.encode() not in line
+                    and answers.read_object(line).get("Answer", {}).get("Answer") == "Accepted"
+                ):
                     return True
         return False
 
@@ -312,15 +385,32 @@ class Spool:
         today = f"{datetime.date.today()}.jsonl"
         if self.log is None or self.log[0] != today:
             self.close_log()
-            self.log = today, os.open(self.answered / today, os.O_WRONLY | os.O_CREAT | os.O_APPEND, 0o600)
+            self.log = today, os.open(
+                self.answered / today, os.O_WRONLY | os.O_CREAT | os.O_APPEND, 0o600
+            )
             sync_folder(self.answered)
         if self.state.get("Answers") != today:
             self.write_state(Answers=today)
-        line = b'{"Answer":' + answer.text + (b',"Archived":true' if answers.is_archived(answer) else b"" if answers.is_taken(answer) else b',"At":"' + at.encode() + b'"') + b',"Message":"' + name.encode() + b'"}\n'
+        line = (
+            b'{"Answer":'
+            + answer.text
+            + (
+                b',"Archived":true'
+                if answers.is_archived(answer)
+                else b""
+                if answers.is_taken(answer)
+                else b',"At":"' + at.encode() + b'"'
+            )
+            + b',"Message":"'
+            + name.encode()
+            + b'"}\n'
+        )
         size = os.fstat(self.log[1]).st_size
         try:
             if os.write(self.log[1], line) != len(line):
-                raise OSError(f"{self.answered / today}: the line was not written whole: is the disk full?")
+                raise OSError(
+                    f"{self.answered / today}: the line was not written whole: is the disk full?"
+                )
             os.fsync(self.log[1])
         except OSError:
             with contextlib.suppress(OSError):
@@ -357,7 +447,13 @@ class Spool:
 
     def keep_record(self, told: Dict[str, Any], answer: answers.Answer, at: str) -> str:
         """Keeps a record of a message that was not taken: the line of it for the file .why."""
-        made, text = records.record("refused", f"tracedesk-send {self.name}", at, Answer=answers.read_object(answer.text), Message=told)
+        made, text = records.record(
+            "refused",
+            f"tracedesk-send {self.name}",
+            at,
+            Answer=answers.read_object(answer.text),
+            Message=told,
+        )
         write_synced(self.untraced / f"{made}.json", text)
         sync_folder(self.untraced)
         return json.dumps({"At": at, "Id": made}) + "\n"
@@ -377,8 +473,14 @@ class Spool:
     def drop_old(self, newest: pathlib.Path, size: int) -> None:
         """Counts one more sent message, and deletes the oldest: what is older than `days`, and what is above `most` bytes."""
         if self.kept is None:
-            found = sorted((it.name, it.stat().st_size) for it in os.scandir(self.sent) if re.fullmatch(r"\d{12}\.(json|refused)", it.name))
-            self.kept = collections.deque((self.sent / name, -(-it // BLOCK) * BLOCK) for name, it in found)
+            found = sorted(
+                (it.name, it.stat().st_size)
+                for it in os.scandir(self.sent)
+                if re.fullmatch(r"\d{12}\.(json|refused)", it.name)
+            )
+            self.kept = collections.deque(
+                (self.sent / name, -(-it // BLOCK) * BLOCK) for name, it in found
+            )
             self.kept_bytes = sum(it for _, it in self.kept)
         else:
             self.kept.append((newest, -(-size // BLOCK) * BLOCK))
@@ -398,10 +500,16 @@ class Spool:
         """Puts each message that was sent since this second of the clock before those that wait, under its old name."""
         with self.sending():
             names = names_in(self.sent)
-            first = next((it for it in names if (self.sent / f"{it}.json").stat().st_ctime >= since), None)
+            first = next(
+                (it for it in names if (self.sent / f"{it}.json").stat().st_ctime >= since), None
+            )
             names = [it for it in names if first is not None and it >= first]
             if names:
-                self.write_state(Tried=max(self.state["Tried"], int(names[-1])), Again=[int(names[0]), int(names[-1])], Answers=None)
+                self.write_state(
+                    Tried=max(self.state["Tried"], int(names[-1])),
+                    Again=[int(names[0]), int(names[-1])],
+                    Answers=None,
+                )
                 self.move_back()
         return names
 
@@ -434,7 +542,9 @@ class Spool:
         """Whether a message that was set aside is a report of work: it isn't sent again unless a person decides so."""
         place = self.aside / f"{name}.json"
         if not NAME.fullmatch(place.name) or not place.exists():
-            raise SpoolError(f"{place} is not there: name a message of {self.aside}, or a time, as 2026-03-02T06:00Z")
+            raise SpoolError(
+                f"{place} is not there: name a message of {self.aside}, or a time, as 2026-03-02T06:00Z"
+            )
         return records.is_report(self.message(name))
 
     def why(self, name: str) -> Tuple[str, answers.Answer, Dict[str, Any]]:
@@ -451,13 +561,24 @@ class Spool:
                 _, answer, told = self.why(name)
                 message = self.message(name)
                 if told and records.is_report(message):
-                    found[str(answers.body_of(message).get("Machine"))] = {"Answer": answers.read_object(answer.text), "Message": message, **told}
+                    found[str(answers.body_of(message).get("Machine"))] = {
+                        "Answer": answers.read_object(answer.text),
+                        "Message": message,
+                        **told,
+                    }
         return found
 
     def decide(self, name: str, by: str, reason: str) -> None:
         """Keeps who decided that a report of work is sent again, and why, before it is sent."""
         self.record_old()
-        made, text = records.record("decided", by, records.utc(), Became="sent again", Of=self.why(name)[2].get("Id"), Reason=reason)
+        made, text = records.record(
+            "decided",
+            by,
+            records.utc(),
+            Became="sent again",
+            Of=self.why(name)[2].get("Id"),
+            Reason=reason,
+        )
         write_synced(self.untraced / f"{made}.json", text)
         sync_folder(self.untraced)
 
@@ -467,7 +588,9 @@ class Spool:
         for name in names:
             place = self.aside / f"{name}.json"
             if self.is_report(name) and not decided:
-                raise SpoolError(f"{place} is a report of work: it isn't sent again without a decision")
+                raise SpoolError(
+                    f"{place} is a report of work: it isn't sent again without a decision"
+                )
             found.append(self.put(place.read_bytes()))
             for it in (place, place.with_suffix(".why"), place.with_suffix(".slots")):
                 with contextlib.suppress(FileNotFoundError):
@@ -486,4 +609,8 @@ class Spool:
 
 def files_in(folder: pathlib.Path) -> List[pathlib.Path]:
     """The files of messages in a folder, by their names. What is being written there has another ending, or begins with a dot."""
-    return sorted(it for it in folder.iterdir() if it.suffix in (".json", ".jsonl") and not it.name.startswith(".") and it.is_file())
+    return sorted(
+        it
+        for it in folder.iterdir()
+        if it.suffix in (".json", ".jsonl") and not it.name.startswith(".") and it.is_file()
+    )

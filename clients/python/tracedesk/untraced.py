@@ -36,7 +36,9 @@ class Place:
             sync_folder(pathlib.Path(self.where))
             return
         try:
-            status, body, _ = self.desk.once("PUT", f"/{name}", text, {"Content-Type": "application/json"})
+            status, body, _ = self.desk.once(
+                "PUT", f"/{name}", text, {"Content-Type": "application/json"}
+            )
         except Exception as fault:
             raise OSError(f"{self.where}: {fault or repr(fault)}") from None
         finally:
@@ -49,8 +51,23 @@ class Line:
     """What the line sees of a sender: its records of untraced work, and its status. It has a thread of its own, so that no place
     that is away holds a message up."""
 
-    def __init__(self, spool: Spool, desk: Desk, interlock: Interlock, inbox: Optional[Place], status: Optional[Place], tell: Callable[[str], None]) -> None:
-        self.spool, self.desk, self.interlock, self.inbox, self.status, self.tell = spool, desk, interlock, inbox, status, tell
+    def __init__(
+        self,
+        spool: Spool,
+        desk: Desk,
+        interlock: Interlock,
+        inbox: Optional[Place],
+        status: Optional[Place],
+        tell: Callable[[str], None],
+    ) -> None:
+        self.spool, self.desk, self.interlock, self.inbox, self.status, self.tell = (
+            spool,
+            desk,
+            interlock,
+            inbox,
+            status,
+            tell,
+        )
         self.next_news: Dict[str, float] = {}
         self.one = threading.Lock()
 
@@ -60,11 +77,16 @@ class Line:
                 self.look()
                 self.interlock.changed.wait(PAUSE_OF_A_FAULT)
                 self.interlock.changed.clear()
+
         if self.inbox or self.status:
             threading.Thread(target=run, daemon=True).start()
 
     def where_kept(self) -> str:
-        return "" if self.inbox else f". Its record is kept in {self.spool.untraced} until --untraced names an inbox"
+        return (
+            ""
+            if self.inbox
+            else f". Its record is kept in {self.spool.untraced} until --untraced names an inbox"
+        )
 
     def look(self) -> None:
         """Hands records on, and writes the status."""
@@ -80,7 +102,9 @@ class Line:
         except Exception as fault:
             if time.monotonic() >= self.next_news.get(what, 0.0):
                 self.next_news[what] = time.monotonic() + NEWS_OF_A_FAULT
-                self.tell(f"{what} is not handed on: {fault}. It is tried again every {PAUSE_OF_A_FAULT:.0f} seconds")
+                self.tell(
+                    f"{what} is not handed on: {fault}. It is tried again every {PAUSE_OF_A_FAULT:.0f} seconds"
+                )
 
     def hand_on(self) -> None:
         for path in sorted(self.spool.untraced.glob("*.json")) if self.inbox else []:
@@ -95,17 +119,41 @@ class Line:
                 oldest = utc((self.spool.waiting / f"{names[0]}.json").stat().st_mtime)
             except FileNotFoundError:
                 pass
-        return {"At": utc(), "Sender": self.spool.name, "Waiting": len(names), "OldestWaiting": oldest, "Aside": len(self.spool.set_aside()), "Fault": self.desk.fault, "Machines": self.interlock.told()}
+        return {
+            "At": utc(),
+            "Sender": self.spool.name,
+            "Waiting": len(names),
+            "OldestWaiting": oldest,
+            "Aside": len(self.spool.set_aside()),
+            "Fault": self.desk.fault,
+            "Machines": self.interlock.told(),
+        }
 
 
 def shown(spool: Spool, name: str, desk: Desk) -> str:
     """What a person must see who decides about a report that was refused: what the desk accepted from here since, and the reels then and now."""
     told, why = spool.message(name), spool.why(name)
     machine, then = answers.body_of(told).get("Machine"), spool.aside / f"{name}.slots"
-    lines = [f"message {name}, refused {why[2].get('At', '')}: {brief(told)}", f"  {why[0]}", f"accepted for {machine} from this sender since then:"]
-    later = [(it, answers.read_object((spool.sent / f"{it}.json").read_bytes())) for it in spool.sent_after(name)]
-    lines += [f"  {it}: {brief(one)}" for it, one in later if answers.body_of(one).get("Machine") == machine] or ["  nothing"]
-    lines += [f"on {machine} when it was refused:", *(then.read_text().splitlines() if then.exists() else ["  not known"]), f"on {machine} now:", *slots_of(desk, machine)]
+    lines = [
+        f"message {name}, refused {why[2].get('At', '')}: {brief(told)}",
+        f"  {why[0]}",
+        f"accepted for {machine} from this sender since then:",
+    ]
+    later = [
+        (it, answers.read_object((spool.sent / f"{it}.json").read_bytes()))
+        for it in spool.sent_after(name)
+    ]
+    lines += [
+        f"  {it}: {brief(one)}"
+        for it, one in later
+        if answers.body_of(one).get("Machine") == machine
+    ] or ["  nothing"]
+    lines += [
+        f"on {machine} when it was refused:",
+        *(then.read_text().splitlines() if then.exists() else ["  not known"]),
+        f"on {machine} now:",
+        *slots_of(desk, machine),
+    ]
     return "\n".join(lines)
 
 
@@ -119,4 +167,6 @@ def slots_of(desk: Desk, machine: Any) -> List[str]:
         found = desk.slots(str(machine))
     except NotThere:
         found = []
-    return [f"  slot {it.slot}: reel {it.reel}, lot {it.lot}, {it.remaining} pieces" for it in found] or ["  no reel"]
+    return [
+        f"  slot {it.slot}: reel {it.reel}, lot {it.lot}, {it.remaining} pieces" for it in found
+    ] or ["  no reel"]

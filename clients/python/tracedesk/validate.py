@@ -78,7 +78,11 @@ def wrong_time(text: Any) -> Optional[str]:
 
 def of_body(kind: Type[forms.Part], body: Dict[str, Any]) -> Iterator[str]:
     """What is wrong with a body, or with a row of one."""
-    needed = [(name, attribute, form) for name, attribute, form in kind.MEMBERS if not isinstance(form, forms.Where) or body.get(wire(kind, form.other)) == form.value]
+    needed = [
+        (name, attribute, form)
+        for name, attribute, form in kind.MEMBERS
+        if not isinstance(form, forms.Where) or body.get(wire(kind, form.other)) == form.value
+    ]
     yield from missing(body, [name for name, _, _ in needed])
     for name, _, form in needed:
         if name not in body:
@@ -87,7 +91,11 @@ def of_body(kind: Type[forms.Part], body: Dict[str, Any]) -> Iterator[str]:
             rows = body[name]
             yield from of_form(name, forms.ListOf(Anything(), form.most), rows)
             for number, row in enumerate(rows if isinstance(rows, list) else []):
-                found = of_body(form.form.kind, row) if isinstance(row, dict) else iter(["it is no JSON object"])
+                found = (
+                    of_body(form.form.kind, row)
+                    if isinstance(row, dict)
+                    else iter(["it is no JSON object"])
+                )
                 yield from (f"{name}[{number}]: {it}" for it in found)
         else:
             yield from of_form(name, form, body[name])

@@ -6,11 +6,17 @@ from typing import ClassVar, Dict, NamedTuple, Optional, Sequence, Tuple, Type, 
 
 from . import forms
 
-PREFIX = 'TraceDesk.'
-NAME = forms.Text(64, r'^[!-~]([ -~]*[!-~])?$', 'a text of 1 to 64 bytes of printable ASCII and spaces, with no space at its ends')
-DESIGNATOR = forms.Text(16, r'^[A-Za-z0-9_.-]+$', 'a text of 1 to 16 ASCII letters, digits, _, . and -')
+PREFIX = "TraceDesk."
+NAME = forms.Text(
+    64,
+    r"^[!-~]([ -~]*[!-~])?$",
+    "a text of 1 to 64 bytes of printable ASCII and spaces, with no space at its ends",
+)
+DESIGNATOR = forms.Text(
+    16, r"^[A-Za-z0-9_.-]+$", "a text of 1 to 16 ASCII letters, digits, _, . and -"
+)
 QUANTITY = forms.Whole(1, 10000000)
-LEVEL = forms.OneOf(('1', '2', '2a', '3', '4', '5', '5a', '6'))
+LEVEL = forms.OneOf(("1", "2", "2a", "3", "4", "5", "5a", "6"))
 LABEL = forms.Whole(1, 525600)
 COUNTED = forms.Whole(0, 10000000)
 
@@ -23,9 +29,9 @@ class SheetRow(forms.Part):
     part_number: str
     designators: Sequence[str]
     MEMBERS: ClassVar[forms.Members] = (
-        ('Slot', 'slot', NAME),
-        ('PartNumber', 'part_number', NAME),
-        ('Designators', 'designators', forms.ListOf(DESIGNATOR, 5000)),
+        ("Slot", "slot", NAME),
+        ("PartNumber", "part_number", NAME),
+        ("Designators", "designators", forms.ListOf(DESIGNATOR, 5000)),
     )
 
 
@@ -35,7 +41,7 @@ class CountRow(forms.Part):
 
     reel: str
     quantity: int
-    MEMBERS: ClassVar[forms.Members] = (('Reel', 'reel', NAME), ('Quantity', 'quantity', COUNTED))
+    MEMBERS: ClassVar[forms.Members] = (("Reel", "reel", NAME), ("Quantity", "quantity", COUNTED))
 
 
 @dataclasses.dataclass(frozen=True)
@@ -43,8 +49,8 @@ class PartDefined(forms.Command):
     """PartDefined makes a part number known. Refused for PartExists."""
 
     part_number: str
-    WORD: ClassVar[str] = 'PartDefined'
-    MEMBERS: ClassVar[forms.Members] = (('PartNumber', 'part_number', NAME),)
+    WORD: ClassVar[str] = "PartDefined"
+    MEMBERS: ClassVar[forms.Members] = (("PartNumber", "part_number", NAME),)
 
 
 @dataclasses.dataclass(frozen=True)
@@ -55,20 +61,28 @@ class AlternateAllowed(forms.Command):
 
     part_number: str
     alternate: str
-    WORD: ClassVar[str] = 'AlternateAllowed'
-    MEMBERS: ClassVar[forms.Members] = (('PartNumber', 'part_number', NAME), ('Alternate', 'alternate', NAME))
+    WORD: ClassVar[str] = "AlternateAllowed"
+    MEMBERS: ClassVar[forms.Members] = (
+        ("PartNumber", "part_number", NAME),
+        ("Alternate", "alternate", NAME),
+    )
 
 
 @dataclasses.dataclass(frozen=True)
 class SheetDefined(forms.Command):
     """SheetDefined defines, for a product on a machine, the part that each slot feeds and its designators. A new sheet
-    replaces the old one completely. Refused for MachineBusy, SlotTwice, DesignatorTwice, UnknownPart."""
+    replaces the old one completely. Refused for MachineBusy, SlotTwice, DesignatorTwice, UnknownPart.
+    """
 
     product: str
     machine: str
     rows: Sequence[SheetRow]
-    WORD: ClassVar[str] = 'SheetDefined'
-    MEMBERS: ClassVar[forms.Members] = (('Product', 'product', NAME), ('Machine', 'machine', NAME), ('Rows', 'rows', forms.Rows(SheetRow, 5000)))
+    WORD: ClassVar[str] = "SheetDefined"
+    MEMBERS: ClassVar[forms.Members] = (
+        ("Product", "product", NAME),
+        ("Machine", "machine", NAME),
+        ("Rows", "rows", forms.Rows(SheetRow, 5000)),
+    )
 
 
 @dataclasses.dataclass(frozen=True)
@@ -78,8 +92,8 @@ class ProductSelected(forms.Command):
 
     machine: str
     product: str
-    WORD: ClassVar[str] = 'ProductSelected'
-    MEMBERS: ClassVar[forms.Members] = (('Machine', 'machine', NAME), ('Product', 'product', NAME))
+    WORD: ClassVar[str] = "ProductSelected"
+    MEMBERS: ClassVar[forms.Members] = (("Machine", "machine", NAME), ("Product", "product", NAME))
 
 
 @dataclasses.dataclass(frozen=True)
@@ -93,14 +107,14 @@ class ReelReceived(forms.Command):
     level: str
     quantity: int
     label_minutes: Optional[int] = None
-    WORD: ClassVar[str] = 'ReelReceived'
+    WORD: ClassVar[str] = "ReelReceived"
     MEMBERS: ClassVar[forms.Members] = (
-        ('Reel', 'reel', NAME),
-        ('PartNumber', 'part_number', NAME),
-        ('Lot', 'lot', NAME),
-        ('Level', 'level', LEVEL),
-        ('Quantity', 'quantity', QUANTITY),
-        ('LabelMinutes', 'label_minutes', forms.Where('level', '6', LABEL)),
+        ("Reel", "reel", NAME),
+        ("PartNumber", "part_number", NAME),
+        ("Lot", "lot", NAME),
+        ("Level", "level", LEVEL),
+        ("Quantity", "quantity", QUANTITY),
+        ("LabelMinutes", "label_minutes", forms.Where("level", "6", LABEL)),
     )
 
 
@@ -110,8 +124,8 @@ class ReelOpened(forms.Command):
     floor life goes on. Refused for UnknownReel."""
 
     reel: str
-    WORD: ClassVar[str] = 'ReelOpened'
-    MEMBERS: ClassVar[forms.Members] = (('Reel', 'reel', NAME),)
+    WORD: ClassVar[str] = "ReelOpened"
+    MEMBERS: ClassVar[forms.Members] = (("Reel", "reel", NAME),)
 
 
 @dataclasses.dataclass(frozen=True)
@@ -120,8 +134,8 @@ class ReelSealed(forms.Command):
     UnknownReel, ReelMounted."""
 
     reel: str
-    WORD: ClassVar[str] = 'ReelSealed'
-    MEMBERS: ClassVar[forms.Members] = (('Reel', 'reel', NAME),)
+    WORD: ClassVar[str] = "ReelSealed"
+    MEMBERS: ClassVar[forms.Members] = (("Reel", "reel", NAME),)
 
 
 @dataclasses.dataclass(frozen=True)
@@ -129,8 +143,8 @@ class ReelBaked(forms.Command):
     """ReelBaked gives a reel its whole floor life again, and leaves it sealed. Refused for UnknownReel, ReelMounted."""
 
     reel: str
-    WORD: ClassVar[str] = 'ReelBaked'
-    MEMBERS: ClassVar[forms.Members] = (('Reel', 'reel', NAME),)
+    WORD: ClassVar[str] = "ReelBaked"
+    MEMBERS: ClassVar[forms.Members] = (("Reel", "reel", NAME),)
 
 
 @dataclasses.dataclass(frozen=True)
@@ -142,20 +156,29 @@ class MaterialsLoaded(forms.Command):
     machine: str
     slot: str
     reel: str
-    WORD: ClassVar[str] = 'MaterialsLoaded'
-    MEMBERS: ClassVar[forms.Members] = (('Machine', 'machine', NAME), ('Slot', 'slot', NAME), ('Reel', 'reel', NAME))
+    WORD: ClassVar[str] = "MaterialsLoaded"
+    MEMBERS: ClassVar[forms.Members] = (
+        ("Machine", "machine", NAME),
+        ("Slot", "slot", NAME),
+        ("Reel", "reel", NAME),
+    )
 
 
 @dataclasses.dataclass(frozen=True)
 class MaterialsSpliced(forms.Command):
     """MaterialsSpliced joins a reel to the end of the tape on a slot, and opens it. Accepted tells MinutesLeft. Refused
-    for NoProduct, SlotNotOnSheet, SlotEmpty, UnknownReel, ReelMounted, ReelEmpty, WrongPart, NotBaked, Expired."""
+    for NoProduct, SlotNotOnSheet, SlotEmpty, UnknownReel, ReelMounted, ReelEmpty, WrongPart, NotBaked, Expired.
+    """
 
     machine: str
     slot: str
     reel: str
-    WORD: ClassVar[str] = 'MaterialsSpliced'
-    MEMBERS: ClassVar[forms.Members] = (('Machine', 'machine', NAME), ('Slot', 'slot', NAME), ('Reel', 'reel', NAME))
+    WORD: ClassVar[str] = "MaterialsSpliced"
+    MEMBERS: ClassVar[forms.Members] = (
+        ("Machine", "machine", NAME),
+        ("Slot", "slot", NAME),
+        ("Reel", "reel", NAME),
+    )
 
 
 @dataclasses.dataclass(frozen=True)
@@ -164,8 +187,8 @@ class MaterialsUnloaded(forms.Command):
 
     machine: str
     slot: str
-    WORD: ClassVar[str] = 'MaterialsUnloaded'
-    MEMBERS: ClassVar[forms.Members] = (('Machine', 'machine', NAME), ('Slot', 'slot', NAME))
+    WORD: ClassVar[str] = "MaterialsUnloaded"
+    MEMBERS: ClassVar[forms.Members] = (("Machine", "machine", NAME), ("Slot", "slot", NAME))
 
 
 @dataclasses.dataclass(frozen=True)
@@ -176,8 +199,8 @@ class WorkStarted(forms.Command):
 
     machine: str
     board: str
-    WORD: ClassVar[str] = 'WorkStarted'
-    MEMBERS: ClassVar[forms.Members] = (('Machine', 'machine', NAME), ('Board', 'board', NAME))
+    WORD: ClassVar[str] = "WorkStarted"
+    MEMBERS: ClassVar[forms.Members] = (("Machine", "machine", NAME), ("Board", "board", NAME))
 
 
 @dataclasses.dataclass(frozen=True)
@@ -186,8 +209,8 @@ class WorkCompleted(forms.Command):
 
     machine: str
     board: str
-    WORD: ClassVar[str] = 'WorkCompleted'
-    MEMBERS: ClassVar[forms.Members] = (('Machine', 'machine', NAME), ('Board', 'board', NAME))
+    WORD: ClassVar[str] = "WorkCompleted"
+    MEMBERS: ClassVar[forms.Members] = (("Machine", "machine", NAME), ("Board", "board", NAME))
 
 
 @dataclasses.dataclass(frozen=True)
@@ -200,11 +223,11 @@ class MaterialsInstalled(forms.Command):
     machine: str
     board: str
     designators: Sequence[str]
-    WORD: ClassVar[str] = 'MaterialsInstalled'
+    WORD: ClassVar[str] = "MaterialsInstalled"
     MEMBERS: ClassVar[forms.Members] = (
-        ('Machine', 'machine', NAME),
-        ('Board', 'board', NAME),
-        ('Designators', 'designators', forms.ListOf(DESIGNATOR, 5000)),
+        ("Machine", "machine", NAME),
+        ("Board", "board", NAME),
+        ("Designators", "designators", forms.ListOf(DESIGNATOR, 5000)),
     )
 
 
@@ -216,26 +239,31 @@ class MaterialsScrapped(forms.Command):
     machine: str
     slot: str
     quantity: int
-    WORD: ClassVar[str] = 'MaterialsScrapped'
-    MEMBERS: ClassVar[forms.Members] = (('Machine', 'machine', NAME), ('Slot', 'slot', NAME), ('Quantity', 'quantity', QUANTITY))
+    WORD: ClassVar[str] = "MaterialsScrapped"
+    MEMBERS: ClassVar[forms.Members] = (
+        ("Machine", "machine", NAME),
+        ("Slot", "slot", NAME),
+        ("Quantity", "quantity", QUANTITY),
+    )
 
 
 @dataclasses.dataclass(frozen=True)
 class CountsTaken(forms.Command):
     """CountsTaken reports counted pieces of reels that are on no slot. Missing pieces are taken off as scrapped, and
     Taken is their sum. Extra pieces count as received, and add nothing to Taken. A reel without pieces stays spent, and
-    may only be counted as 0. Accepted tells Taken. Refused for UnknownReel, ReelTwice, ReelMounted, CountAbove."""
+    may only be counted as 0. Accepted tells Taken. Refused for UnknownReel, ReelTwice, ReelMounted, CountAbove.
+    """
 
     counts: Sequence[CountRow]
-    WORD: ClassVar[str] = 'CountsTaken'
-    MEMBERS: ClassVar[forms.Members] = (('Counts', 'counts', forms.Rows(CountRow, 5000)),)
+    WORD: ClassVar[str] = "CountsTaken"
+    MEMBERS: ClassVar[forms.Members] = (("Counts", "counts", forms.Rows(CountRow, 5000)),)
 
 
 @dataclasses.dataclass(frozen=True)
 class ClockSet(forms.Command):
     """ClockSet moves the desk's time forward to its time stamp."""
 
-    WORD: ClassVar[str] = 'ClockSet'
+    WORD: ClassVar[str] = "ClockSet"
     MEMBERS: ClassVar[forms.Members] = ()
 
 
@@ -260,70 +288,91 @@ MESSAGES: Tuple[Type[forms.Command], ...] = (
 )
 
 # Messages about what was done: after a refusal they are not sent again.
-REPORTS_OF_WORK: Tuple[str, ...] = ('TraceDesk.WorkStarted', 'TraceDesk.WorkCompleted', 'TraceDesk.MaterialsInstalled', 'TraceDesk.MaterialsScrapped')
+REPORTS_OF_WORK: Tuple[str, ...] = (
+    "TraceDesk.WorkStarted",
+    "TraceDesk.WorkCompleted",
+    "TraceDesk.MaterialsInstalled",
+    "TraceDesk.MaterialsScrapped",
+)
 # These, and messages that handle reels: their refusals are recorded.
-RECORDED: Tuple[str, ...] = ('TraceDesk.MaterialsLoaded', 'TraceDesk.MaterialsSpliced', 'TraceDesk.MaterialsUnloaded', 'TraceDesk.WorkStarted', 'TraceDesk.WorkCompleted', 'TraceDesk.MaterialsInstalled', 'TraceDesk.MaterialsScrapped')
+RECORDED: Tuple[str, ...] = (
+    "TraceDesk.MaterialsLoaded",
+    "TraceDesk.MaterialsSpliced",
+    "TraceDesk.MaterialsUnloaded",
+    "TraceDesk.WorkStarted",
+    "TraceDesk.WorkCompleted",
+    "TraceDesk.MaterialsInstalled",
+    "TraceDesk.MaterialsScrapped",
+)
 
 # What to do about a refusal, and about a fault.
 REFUSALS: Dict[str, str] = {
-    'IdReused': 'programmer: give each message a UniqueID of its own. If the message was sent before a roll-over and got no answer, send one ClockSet with its UniqueID, Source and TimeStamp: Accepted means that the archive has the message',
-    'DeskFull': 'begin with a new desk (operations.md)',
-    'TooFarAhead': "set the sender's clock right; if it is right and the line was idle, send ClockSet first",
-    'PartExists': 'nothing',
-    'UnknownPart': 'correct the part number, or define the part',
-    'ReelExists': 'check whether its label was scanned twice; each reel needs a name of its own',
-    'UnknownReel': 'scan it again, or receive it',
-    'UnknownSheet': 'select another product, or define the sheet',
-    'MachineBusy': 'complete that board',
-    'SlotTwice': 'correct the sheet',
-    'DesignatorTwice': 'correct the sheet or the install',
-    'NoProduct': 'select one',
-    'SlotNotOnSheet': 'check which slot was meant, and which product is selected',
-    'SlotTaken': 'splice the reel, or unload the slot first',
-    'SlotEmpty': 'load one',
-    'ReelMounted': 'unload that slot first',
-    'ReelEmpty': 'take another reel',
-    'WrongPart': 'take a reel of the right part, or allow the alternate',
-    'NotBaked': 'bake it',
-    'Expired': 'take another reel; bake this one, off the machine',
-    'BoardBusy': 'complete it there',
-    'OtherProduct': 'check its serial number, or select its product',
-    'NotInWork': 'start it, or check its serial number',
-    'DesignatorNotOnSheet': 'correct the sheet or the placement program',
-    'AlreadyPlaced': 'nothing, if the sender reported one placement in two messages. Its programmer has to correct that: a message sent again keeps its UniqueID',
-    'ReelShort': "for an install: report the load or the splice that the desk doesn't know of, and send the message again. For a scrap: correct its number",
-    'ReelTwice': 'correct the counts',
-    'CountAbove': 'check whether it is the right reel; if it is, receive the pieces as a new reel',
+    "IdReused": "programmer: give each message a UniqueID of its own. If the message was sent before a roll-over and got no answer, send one ClockSet with its UniqueID, Source and TimeStamp: Accepted means that the archive has the message",
+    "DeskFull": "begin with a new desk (operations.md)",
+    "TooFarAhead": "set the sender's clock right; if it is right and the line was idle, send ClockSet first",
+    "PartExists": "nothing",
+    "UnknownPart": "correct the part number, or define the part",
+    "ReelExists": "check whether its label was scanned twice; each reel needs a name of its own",
+    "UnknownReel": "scan it again, or receive it",
+    "UnknownSheet": "select another product, or define the sheet",
+    "MachineBusy": "complete that board",
+    "SlotTwice": "correct the sheet",
+    "DesignatorTwice": "correct the sheet or the install",
+    "NoProduct": "select one",
+    "SlotNotOnSheet": "check which slot was meant, and which product is selected",
+    "SlotTaken": "splice the reel, or unload the slot first",
+    "SlotEmpty": "load one",
+    "ReelMounted": "unload that slot first",
+    "ReelEmpty": "take another reel",
+    "WrongPart": "take a reel of the right part, or allow the alternate",
+    "NotBaked": "bake it",
+    "Expired": "take another reel; bake this one, off the machine",
+    "BoardBusy": "complete it there",
+    "OtherProduct": "check its serial number, or select its product",
+    "NotInWork": "start it, or check its serial number",
+    "DesignatorNotOnSheet": "correct the sheet or the placement program",
+    "AlreadyPlaced": "nothing, if the sender reported one placement in two messages. Its programmer has to correct that: a message sent again keeps its UniqueID",
+    "ReelShort": "for an install: report the load or the splice that the desk doesn't know of, and send the message again. For a scrap: correct its number",
+    "ReelTwice": "correct the counts",
+    "CountAbove": "check whether it is the right reel; if it is, receive the pieces as a new reel",
 }
 FAULTS: Dict[str, str] = {
-    'LineTooLong': 'leave out the spaces; split the installs or the counts into several messages',
-    'NotJson': 'send one whole JSON object per line',
-    'NotObject': 'the same',
-    'EnvelopeMember': 'add or correct it',
-    'BadTime': 'write it as 2026-03-02T06:00:00Z',
-    'BodyMember': 'add or correct it; numbers are whole, and not texts',
-    'OverLimit': 'correct the number; split the installs or the counts into several messages',
+    "LineTooLong": "leave out the spaces; split the installs or the counts into several messages",
+    "NotJson": "send one whole JSON object per line",
+    "NotObject": "the same",
+    "EnvelopeMember": "add or correct it",
+    "BadTime": "write it as 2026-03-02T06:00:00Z",
+    "BodyMember": "add or correct it; numbers are whole, and not texts",
+    "OverLimit": "correct the number; split the installs or the counts into several messages",
 }
 
 # What a status says to a sender: an answer of this kind, once more, or stop and tell a person why.
 ANSWERS: Dict[int, str] = {
-    200: 'Accepted',
-    202: 'Ignored',
-    400: 'Faulty',
-    409: 'Refused',
-    422: 'Faulty',
+    200: "Accepted",
+    202: "Ignored",
+    400: "Faulty",
+    409: "Refused",
+    422: "Faulty",
 }
 STOPS: Dict[int, str] = {
-    401: 'the log-in is refused: look at the user and the password',
-    403: 'this user or address may not send here',
-    404: 'no path of a desk: look at --url',
-    405: 'no path of a desk that takes messages: look at --url',
-    411: 'the request has no length: something between takes it away',
-    413: 'the message is too long: a desk takes at most 1,048,576 bytes. Split it',
-    415: 'the proxy takes messages as application/json and files as text/csv: send that Content-Type',
+    401: "the log-in is refused: look at the user and the password",
+    403: "this user or address may not send here",
+    404: "no path of a desk: look at --url",
+    405: "no path of a desk that takes messages: look at --url",
+    411: "the request has no length: something between takes it away",
+    413: "the message is too long: a desk takes at most 1,048,576 bytes. Split it",
+    415: "the proxy takes messages as application/json and files as text/csv: send that Content-Type",
 }
 AGAIN: Tuple[int, ...] = (408, 429, 500, 502, 503, 504)
-FAULTS_OF_A_REQUEST: Tuple[str, ...] = ('BadQuery', 'BadMethod', 'BadHead', 'HeadTooLarge', 'LengthRequired', 'BadLength', 'BodyTooLarge')
+FAULTS_OF_A_REQUEST: Tuple[str, ...] = (
+    "BadQuery",
+    "BadMethod",
+    "BadHead",
+    "HeadTooLarge",
+    "LengthRequired",
+    "BadLength",
+    "BodyTooLarge",
+)
 
 # Minutes of floor life left: a number; none at level 1, where there is no limit; or unbaked, or short in a kit.
 Minutes = Union[int, str, None]
@@ -443,16 +492,16 @@ class OverduePiece(NamedTuple):
 
 
 REPORTS: Dict[Tuple[str, Optional[int]], Type[NamedTuple]] = {
-    ('/trace/board', 1): BoardPart,
-    ('/trace/board', 2): BoardLot,
-    ('/trace/board', 3): BoardReel,
-    ('/trace/board', 4): BoardPiece,
-    ('/trace/lot', 1): LotBoard,
-    ('/trace/lot', 2): LotPart,
-    ('/trace/lot', 3): LotReel,
-    ('/trace/lot', 4): LotPiece,
-    ('/reel', None): ReelCard,
-    ('/slots', None): SlotRow,
-    ('/kit', None): KitRow,
-    ('/overdue', None): OverduePiece,
+    ("/trace/board", 1): BoardPart,
+    ("/trace/board", 2): BoardLot,
+    ("/trace/board", 3): BoardReel,
+    ("/trace/board", 4): BoardPiece,
+    ("/trace/lot", 1): LotBoard,
+    ("/trace/lot", 2): LotPart,
+    ("/trace/lot", 3): LotReel,
+    ("/trace/lot", 4): LotPiece,
+    ("/reel", None): ReelCard,
+    ("/slots", None): SlotRow,
+    ("/kit", None): KitRow,
+    ("/overdue", None): OverduePiece,
 }

@@ -10,7 +10,9 @@ import subprocess
 from typing import NamedTuple
 
 LISTS = {"commands:": "commands", "options:": "options", "positional arguments:": "arguments"}
-TOLD = re.compile(r"(--?[a-z-]+|[A-Z]{3,}|name)((?: \S+)*?) {2,}(\S.*)")  # a line of columns: a name, its value, and what it is
+TOLD = re.compile(
+    r"(--?[a-z-]+|[A-Z]{3,}|name)((?: \S+)*?) {2,}(\S.*)"
+)  # a line of columns: a name, its value, and what it is
 
 
 class Unreadable(Exception):
@@ -26,12 +28,18 @@ class Entry(NamedTuple):
     @property
     def names(self):
         """The words by which it is called: of `-h, --help` both, of `--db FILE` the first."""
-        return [it.split()[0] for it in self.head.split(", ")] if self.head.startswith("-") else [self.head]
+        return (
+            [it.split()[0] for it in self.head.split(", ")]
+            if self.head.startswith("-")
+            else [self.head]
+        )
 
     @property
     def value(self):
         """What stands behind it, or nothing."""
-        return self.head.split(", ")[-1].partition(" ")[2] if self.head.startswith("-") else self.head
+        return (
+            self.head.split(", ")[-1].partition(" ")[2] if self.head.startswith("-") else self.head
+        )
 
 
 class Help(NamedTuple):
@@ -50,7 +58,14 @@ class Help(NamedTuple):
 def printed(words):
     """What the command prints for --help; so wide that argparse breaks no line of its lists."""
     environment = {**os.environ, "COLUMNS": "400", "LC_ALL": "C.UTF-8"}
-    return subprocess.run([*words, "--help"], check=True, stdin=subprocess.DEVNULL, stdout=subprocess.PIPE, text=True, env=environment).stdout
+    return subprocess.run(
+        [*words, "--help"],
+        check=True,
+        stdin=subprocess.DEVNULL,
+        stdout=subprocess.PIPE,
+        text=True,
+        env=environment,
+    ).stdout
 
 
 def entries(lines):
@@ -94,13 +109,15 @@ def read(words, name):
         elif head in ("example:", "examples:"):
             got["examples"] = [it.strip() for it in lines[1:]]
         elif found := re.match(r"exit status(?:es)?: *", head):
-            got["statuses"] = statuses([it for it in (lines[0][found.end():], *lines[1:]) if it])
+            got["statuses"] = statuses([it for it in (lines[0][found.end() :], *lines[1:]) if it])
         else:
             body.append(lines)
     if not got["usage"] or not got["statuses"]:
         raise Unreadable(f"{name} --help has no usage, or no exit status")
     below = [read([*words, it.head], f"{name} {it.head}") for it in got["commands"]]
-    return with_what_is_told(Help(**{**got, "name": name, "summary": " ".join(summary), "body": body, "below": below}))
+    return with_what_is_told(
+        Help(**{**got, "name": name, "summary": " ".join(summary), "body": body, "below": below})
+    )
 
 
 def with_what_is_told(page):
@@ -123,5 +140,8 @@ def with_what_is_told(page):
             else:
                 told[of][-1] += f" {line.strip()}"
         body += [left] if left else []
-    both = [[it._replace(text="\n".join(told.get(it, [it.text]))) for it in some] for some in (page.arguments, page.options)]
+    both = [
+        [it._replace(text="\n".join(told.get(it, [it.text]))) for it in some]
+        for some in (page.arguments, page.options)
+    ]
     return page._replace(arguments=both[0], options=both[1], body=body)

@@ -14,9 +14,13 @@ import shutil
 import subprocess
 
 ROOT = pathlib.Path(__file__).resolve().parents[3]
-OURS = re.compile(rb"/usr/(?:local/)?(?=(?:bin|lib|lib/systemd/system|lib/sysusers\.d|lib/tmpfiles\.d|share|share/doc)/tracedesk)")
+OURS = re.compile(
+    rb"/usr/(?:local/)?(?=(?:bin|lib|lib/systemd/system|lib/sysusers\.d|lib/tmpfiles\.d|share|share/doc)/tracedesk)"
+)
 AS_THEY_ARE = {".png", ".gz"}  # and what is in bin
-LINK = re.compile(r'<a href="(?:\.\./)?[A-Za-z_-]+(?:/[^"]*)?">([^<]*(?:<code>[^<]*</code>)?[^<]*)</a>')
+LINK = re.compile(
+    r'<a href="(?:\.\./)?[A-Za-z_-]+(?:/[^"]*)?">([^<]*(?:<code>[^<]*</code>)?[^<]*)</a>'
+)
 
 
 class NotWhole(Exception):
@@ -30,10 +34,16 @@ def tools():
 
 def files():
     """Of each folder below the prefix: what goes there. What can be run here can be run there."""
+
     def these(*patterns):
         found = [it for pattern in patterns for it in sorted(ROOT.glob(pattern)) if it.is_file()]
         return found or stop(f"there is no {patterns[0]}")
-    own = [it.name for it in sorted((ROOT / "packaging").iterdir()) if it.is_dir() and it.name != "debian"]
+
+    own = [
+        it.name
+        for it in sorted((ROOT / "packaging").iterdir())
+        if it.is_dir() and it.name != "debian"
+    ]
     return [
         *((f"share/tracedesk/{name}", these(f"packaging/{name}/*")) for name in own),
         ("lib/tracedesk", tools()),
@@ -69,21 +79,38 @@ def lay(base, programs, date, version):
     for it in tools():
         (below / f"bin/tracedesk-{it.name}").symlink_to(f"../lib/tracedesk/{it.name}")
     (below / "bin/tracedesk-bridge").symlink_to("../lib/tracedesk/bridge/tracedesk-bridge")
-    subprocess.run([ROOT / "dev/api", "--vectors", below / "share/doc/tracedesk/api/vectors.jsonl.gz"], check=True, stdout=subprocess.DEVNULL)
+    subprocess.run(
+        [ROOT / "dev/api", "--vectors", below / "share/doc/tracedesk/api/vectors.jsonl.gz"],
+        check=True,
+        stdout=subprocess.DEVNULL,
+    )
     for kind in ("sysusers", "tmpfiles"):
         for it in sorted((ROOT / "packaging").glob(f"*.{kind}")):
             put(it, below / f"lib/{kind}.d/{it.stem}.conf")
     put(ROOT / "packaging/nginx.conf", base / "etc/nginx/sites-available/tracedesk")
     put(ROOT / "packaging/setup.json", base / "etc/tracedesk/station/setup.json")
     (below / "lib/python3/dist-packages").mkdir(parents=True)
-    (below / "lib/python3/dist-packages/tracedesk.pth").write_text("/usr/bin/tracedesk-send\n")  # the package tracedesk is in that file
+    (below / "lib/python3/dist-packages/tracedesk.pth").write_text(
+        "/usr/bin/tracedesk-send\n"
+    )  # the package tracedesk is in that file
     documents(below / "share/doc/tracedesk")
     manual(below, date, version)
 
 
 def manual(below, date, version):
     """Man pages and completions, made by the commands' own help."""
-    subprocess.run([ROOT / "dev/manual", below / "share", *sorted((below / "bin").iterdir()), "--date", date, "--version", version], check=True)
+    subprocess.run(
+        [
+            ROOT / "dev/manual",
+            below / "share",
+            *sorted((below / "bin").iterdir()),
+            "--date",
+            date,
+            "--version",
+            version,
+        ],
+        check=True,
+    )
     for it in sorted((below / "share/man/man1").iterdir()):
         it.with_name(f"{it.name}.gz").write_bytes(gzip.compress(it.read_bytes(), 9, mtime=0))
         it.unlink()
@@ -91,7 +118,9 @@ def manual(below, date, version):
 
 def documents(folder):
     """The pages as HTML, in one folder; a link that leads out of it is left as its text."""
-    pages = [ROOT / it for it in ("README.md", "CONTRIBUTING.md", "CHANGELOG.md")] + sorted((ROOT / "docs").glob("*.md"))
+    pages = [ROOT / it for it in ("README.md", "CONTRIBUTING.md", "CHANGELOG.md")] + sorted(
+        (ROOT / "docs").glob("*.md")
+    )
     folder.mkdir(parents=True, exist_ok=True)
     with concurrent.futures.ThreadPoolExecutor() as threads:
         texts = list(threads.map(html, pages))
@@ -104,11 +133,30 @@ def documents(folder):
 
 
 def html(page):
-    title = next(line[2:] for line in page.read_text(encoding="utf-8").splitlines() if line.startswith("# "))
-    words = ["pandoc", "--from", "gfm", "--to", "html5", "--no-highlight", "--standalone", "--self-contained", f"--resource-path={page.parent}",
-             "--metadata", f"pagetitle={title}", "--include-in-header", ROOT / "packaging/style.html", page]
+    title = next(
+        line[2:] for line in page.read_text(encoding="utf-8").splitlines() if line.startswith("# ")
+    )
+    words = [
+        "pandoc",
+        "--from",
+        "gfm",
+        "--to",
+        "html5",
+        "--no-highlight",
+        "--standalone",
+        "--self-contained",
+        f"--resource-path={page.parent}",
+        "--metadata",
+        f"pagetitle={title}",
+        "--include-in-header",
+        ROOT / "packaging/style.html",
+        page,
+    ]
     made = subprocess.run(words, check=True, stdout=subprocess.PIPE, text=True).stdout
-    return LINK.sub(r"\1", re.sub(r'href="(?:\.\./)?(?:docs/)?([A-Za-z-]+)\.md(#[^"]*)?"', r'href="\1.html\2"', made))
+    return LINK.sub(
+        r"\1",
+        re.sub(r'href="(?:\.\./)?(?:docs/)?([A-Za-z-]+)\.md(#[^"]*)?"', r'href="\1.html\2"', made),
+    )
 
 
 def place(base, tree, prefix):
@@ -116,7 +164,12 @@ def place(base, tree, prefix):
     shutil.copytree(base / "prefix", tree / prefix.lstrip("/"), symlinks=True, dirs_exist_ok=True)
     shutil.copytree(base / "etc", tree / "etc", symlinks=True, dirs_exist_ok=True)
     for it in sorted(tree.rglob("*")):
-        if it.is_symlink() or not it.is_file() or it.parent.name == "bin" or it.suffix in AS_THEY_ARE:
+        if (
+            it.is_symlink()
+            or not it.is_file()
+            or it.parent.name == "bin"
+            or it.suffix in AS_THEY_ARE
+        ):
             continue
         text = it.read_bytes()
         if (new := OURS.sub(f"{prefix}/".encode(), text)) != text:

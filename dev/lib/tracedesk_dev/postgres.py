@@ -40,20 +40,41 @@ class Server:
         folder.chmod(0o755)
         if self.user:
             shutil.chown(folder, "postgres")
-        self.options = {"listen_addresses": "''", "unix_socket_directories": f"'{folder}'", "fsync": "off", **options}
-        os.environ.update(PGHOST=str(folder), PGDATABASE="postgres", PGUSER="plant", PGCLIENTENCODING="UTF8")
+        self.options = {
+            "listen_addresses": "''",
+            "unix_socket_directories": f"'{folder}'",
+            "fsync": "off",
+            **options,
+        }
+        os.environ.update(
+            PGHOST=str(folder), PGDATABASE="postgres", PGUSER="plant", PGCLIENTENCODING="UTF8"
+        )
 
     def run(self, name, *words):
         command = found(name)
         if command is None:
             program.stop(f"there is no {name}: apt-get install postgresql")
-        done = subprocess.run([*self.user, command, *words], cwd=self.folder, capture_output=True, text=True)
+        done = subprocess.run(
+            [*self.user, command, *words], cwd=self.folder, capture_output=True, text=True
+        )
         if done.returncode:
             raise Fault(f"{name}: {done.stdout}{done.stderr}")
 
     def start(self):
         options = " ".join(f"-c {name}={value}" for name, value in self.options.items())
-        self.run("pg_ctl", "-D", str(self.data), "-l", str(self.folder / "log"), "-w", "-t", PATIENCE, "-o", options, "start")
+        self.run(
+            "pg_ctl",
+            "-D",
+            str(self.data),
+            "-l",
+            str(self.folder / "log"),
+            "-w",
+            "-t",
+            PATIENCE,
+            "-o",
+            options,
+            "start",
+        )
 
     def stop(self):
         self.run("pg_ctl", "-D", str(self.data), "-m", "fast", "-w", "-t", PATIENCE, "stop")
@@ -70,7 +91,9 @@ class Server:
         return (int(fields[13]) + int(fields[14])) / os.sysconf("SC_CLK_TCK")
 
     def __enter__(self):
-        self.run("initdb", "-D", str(self.data), "-U", "plant", "-A", "trust", "-E", "UTF8", "--locale=C")
+        self.run(
+            "initdb", "-D", str(self.data), "-U", "plant", "-A", "trust", "-E", "UTF8", "--locale=C"
+        )
         self.start()
         return self
 
@@ -80,7 +103,13 @@ class Server:
 
 def asked(*words, status=0):
     """What psql prints, on standard output and on standard error; it has to end with this status."""
-    done = subprocess.run(["psql", "-X", "-q", "-v", "ON_ERROR_STOP=1", *map(str, words)], capture_output=True, text=True)
+    done = subprocess.run(
+        ["psql", "-X", "-q", "-v", "ON_ERROR_STOP=1", *map(str, words)],
+        capture_output=True,
+        text=True,
+    )
     if done.returncode != status:
-        raise Fault(f"psql {' '.join(map(str, words))} ended with status {done.returncode}: {done.stderr}")
+        raise Fault(
+            f"psql {' '.join(map(str, words))} ended with status {done.returncode}: {done.stderr}"
+        )
     return done.stdout if status == 0 else (done.stdout, done.stderr)

@@ -16,10 +16,14 @@ BUILT = CRATES / CRATE / "out" / CRATE
 # The second program, over the desk files of a line.
 CHAIN = "tracedesk_chain"
 NAME = os.path.relpath(os.path.realpath(sys.argv[0]), ROOT)
-NONE = ("{}. `make build` proves and builds it, in some 35 minutes on four cores. To prove nothing, name a program that is there, as that of a "
-        "package: PROGRAM=/usr/bin/tracedesk; or call `make demo`, which runs it before its proof")
-NO_KIT = ("there is no rt, the command of Rattle's kit, which proves and builds. All but make build, test and wrong-bodies "
-          "work without it on a program that is built: make day PROGRAM=FILE")
+NONE = (
+    "{}. `make build` proves and builds it, in some 35 minutes on four cores. To prove nothing, name a program that is there, as that of a "
+    "package: PROGRAM=/usr/bin/tracedesk; or call `make demo`, which runs it before its proof"
+)
+NO_KIT = (
+    "there is no rt, the command of Rattle's kit, which proves and builds. All but make build, test and wrong-bodies "
+    "work without it on a program that is built: make day PROGRAM=FILE"
+)
 # How long a line of code takes to be proved, on four cores: until this build has shown its own pace.
 SECONDS_A_LINE = 0.09
 LINES_THAT_SHOW = 1000
@@ -41,7 +45,12 @@ def can_compile():
     """Whether there is a C compiler, with the C library's headers."""
     if shutil.which("cc") is None:
         return False
-    return subprocess.run(["cc", "-E", "-x", "c", "-"], input=b"#include <stdio.h>", capture_output=True).returncode == 0
+    return (
+        subprocess.run(
+            ["cc", "-E", "-x", "c", "-"], input=b"#include <stdio.h>", capture_output=True
+        ).returncode
+        == 0
+    )
 
 
 def seed_of_commit():
@@ -52,7 +61,11 @@ def seed_of_commit():
 
 def want_kit():
     if shutil.which("rt") is None:
-        older = f"{BUILT.relative_to(ROOT)} is older than {newest().relative_to(ROOT)}, and " if can_run(BUILT) else ""
+        older = (
+            f"{BUILT.relative_to(ROOT)} is older than {newest().relative_to(ROOT)}, and "
+            if can_run(BUILT)
+            else ""
+        )
         stop(older + NO_KIT)
 
 
@@ -66,7 +79,10 @@ def built(crate):
 
 def proved_in_turn(crate=CRATE):
     """The crates at and below the program, in the order in which rt proves them."""
-    rows = [line.partition("#")[0].partition(":") for line in CRATES.with_suffix(".txt").read_text(encoding="utf-8").splitlines()]
+    rows = [
+        line.partition("#")[0].partition(":")
+        for line in CRATES.with_suffix(".txt").read_text(encoding="utf-8").splitlines()
+    ]
     named = {name.split()[0]: deps.split() for name, _, deps in rows if name.strip()}
     found = []
 
@@ -86,7 +102,11 @@ def sources(program=CRATE):
     yield ROOT / "HANDLES"
     for crate in proved_in_turn(program):
         for part in ("src", "specs", "proofs"):
-            yield from (it for it in (CRATES / crate / part, *(CRATES / crate / part).rglob("*")) if it.exists())
+            yield from (
+                it
+                for it in (CRATES / crate / part, *(CRATES / crate / part).rglob("*"))
+                if it.exists()
+            )
 
 
 def newest(crate=CRATE):
@@ -96,7 +116,10 @@ def newest(crate=CRATE):
 
 def is_built(crate=CRATE):
     """Whether a program is there that no source is newer than."""
-    return can_run(built(crate)) and built(crate).stat().st_mtime_ns >= newest(crate).stat().st_mtime_ns
+    return (
+        can_run(built(crate))
+        and built(crate).stat().st_mtime_ns >= newest(crate).stat().st_mtime_ns
+    )
 
 
 def can_run(file):
@@ -108,7 +131,11 @@ def can_run(file):
 
 def lines_of(crate):
     """How many lines of code a crate has without its tests, which stand for the work of its proof."""
-    files = [it for it in (CRATES / crate / "src").rglob("*.rt") if it.name != "tests.rt" and "tests" not in it.parts]
+    files = [
+        it
+        for it in (CRATES / crate / "src").rglob("*.rt")
+        if it.name != "tests.rt" and "tests" not in it.parts
+    ]
     return sum(it.read_bytes().count(b"\n") for it in files)
 
 
@@ -133,7 +160,9 @@ class Progress:
             self.done += self.lines.get(self.crate, 0)
             self.crate = chosen[1]
             at = self.crates.index(self.crate)
-            tell(f"proving {self.crate} ({at + 1} of {len(self.crates)}), about {self.minutes_left(at)} min to go")
+            tell(
+                f"proving {self.crate} ({at + 1} of {len(self.crates)}), about {self.minutes_left(at)} min to go"
+            )
         elif line.startswith("so far:"):
             tell(f"  {line.strip()}")
 
@@ -144,11 +173,20 @@ def tell(text):
 
 def build(crate):
     """Proves and builds the program; where that fails, all that rt said is told, and the tool ends with its status."""
-    tell(f"{NAME}: proving and building the program, some 40 minutes on four cores; `make demo` shows it at work before that")
+    tell(
+        f"{NAME}: proving and building the program, some 40 minutes on four cores; `make demo` shows it at work before that"
+    )
     progress, said, began = Progress(crate), [], time.time_ns()
     # rt runs what it built: once, for its help
     words = ["rt", "run", "--", "--help"]
-    with subprocess.Popen(words, cwd=CRATES / crate, stdin=subprocess.DEVNULL, stdout=subprocess.DEVNULL, stderr=subprocess.PIPE, errors="replace") as building:
+    with subprocess.Popen(
+        words,
+        cwd=CRATES / crate,
+        stdin=subprocess.DEVNULL,
+        stdout=subprocess.DEVNULL,
+        stderr=subprocess.PIPE,
+        errors="replace",
+    ) as building:
         for line in building.stderr or ():
             said.append(line)
             progress.hear(line)
@@ -178,20 +216,33 @@ def to_use(named=None):
     if not named:
         if not is_built():
             there = BUILT.relative_to(ROOT)
-            stop(NONE.format(f"{there} is older than {newest().relative_to(ROOT)}" if can_run(BUILT) else f"there is no {there}"))
+            stop(
+                NONE.format(
+                    f"{there} is older than {newest().relative_to(ROOT)}"
+                    if can_run(BUILT)
+                    else f"there is no {there}"
+                )
+            )
         return own()
     if not can_run(named):
-        stop(f"{named} is {'not executable' if os.path.isfile(named) else 'not there'}: PROGRAM and --program name a program that is built")
+        stop(
+            f"{named} is {'not executable' if os.path.isfile(named) else 'not there'}: PROGRAM and --program name a program that is built"
+        )
     return os.path.abspath(named)
 
 
 def offer(reader):
     """Adds --program to a tool's words; what is then asked for goes to `to_use`."""
-    reader.add_argument("--program", metavar="FILE", help="the program; else PROGRAM in the environment, else the repository's own, which make build proves and builds")
+    reader.add_argument(
+        "--program",
+        metavar="FILE",
+        help="the program; else PROGRAM in the environment, else the repository's own, which make build proves and builds",
+    )
 
 
 class Ticks:
     """Tells on standard error how far a long step is, each 20 seconds."""
+
     SECONDS = 20
 
     def __init__(self):

@@ -7,20 +7,35 @@ import re
 
 HABITS = {  # what is found: what to write in its place
     "tell, told": ("report, return, print, name", r"\b(?:tells?|told|telling)\b"),
-    "stand, stood": ("is, appears, holds, is stored", r"\b(?:stands?|stood|standing)\b(?! for\b| in for\b)"),
+    "stand, stood": (
+        "is, appears, holds, is stored",
+        r"\b(?:stands?|stood|standing)\b(?! for\b| in for\b)",
+    ),
     "beside": ("next to, besides, alongside, as well as", r"\bbeside\b"),
     "of which, by which": ("two sentences", r"\b(?:of|by|in|to|from|on) which\b"),
-    "Of the, By these at the start": ("the subject first", r"(?:^|[.:] )(?:Of|From|By|To) (?:a|an|the|each|these|those|them|what|which|it|this)\b"),
+    "Of the, By these at the start": (
+        "the subject first",
+        r"(?:^|[.:] )(?:Of|From|By|To) (?:a|an|the|each|these|those|them|what|which|it|this)\b",
+    ),
     "is to be, has to be": ("who does it, and a verb", r"\b(?:is|are|was|were|has|have) to be\b"),
-    "as it is, as they stand": ("unchanged, or the state by name", r"\bas (?:it|they) (?:is|are|was|were|stands?|stood)\b"),
-    "such a one": ("one, or the thing by name", r"\bsuch an? one\b|\bsuch as (?:the|a|it) \w+ has\b"),
+    "as it is, as they stand": (
+        "unchanged, or the state by name",
+        r"\bas (?:it|they) (?:is|are|was|were|stands?|stood)\b",
+    ),
+    "such a one": (
+        "one, or the thing by name",
+        r"\bsuch an? one\b|\bsuch as (?:the|a|it) \w+ has\b",
+    ),
     "want of, wants": ("lack, needs", r"\bwant of\b|\bwants\b|\bis wanting\b"),
     "at hand, let be": ("loaded, current, left alone", r"\bat hand\b|\blet be\b|\blets? \w+ be\b"),
     "but for, but that": ("except", r"\bbut (?:for|that)\b|; and so\b"),
     "what it keeps": ("a noun", r"\b[Ww]hat (?:it|they|a|an|the|each|was|is|stands|comes|goes)\b"),
     "also where, also by": ("even if, including", r"\balso (?:where|of|by|in|at)\b"),
     "has none": ("has no, with a noun", r"\b(?:has|have|is|are) none\b"),
-    "that is there": ("exists, or its place", r"\b(?:is|are|was|were) there\b(?! (?:a|an|any|no)\b)"),
+    "that is there": (
+        "exists, or its place",
+        r"\b(?:is|are|was|were) there\b(?! (?:a|an|any|no)\b)",
+    ),
 }
 
 
@@ -43,4 +58,4 @@ def findings(page):
     for number, text in running_text(page):
         for better, pattern in HABITS.values():
             for found in re.finditer(pattern, text):
-                yield number, text[max(0, found.start() - 30):found.end() + 30].strip(), better
+                yield number, text[max(0, found.start() - 30) : found.end() + 30].strip(), better

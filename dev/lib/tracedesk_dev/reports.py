@@ -14,7 +14,12 @@ LIMITS = {"1": None, "2": 525_600, "2a": 40_320, "3": 10_080, "4": 4_320, "5": 2
 PLACED = "SELECT {} FROM placement JOIN reel USING (reel) WHERE {}"
 DETAILS = {  # columns of a trace by what is asked and the detail
     "board": ("part", "part,lot", "part,lot,reel", "designator,part,lot,reel,machine,slot,overdue"),
-    "lot": ("board", "board,part", "board,part,reel", "board,designator,part,reel,machine,slot,overdue"),
+    "lot": (
+        "board",
+        "board,part",
+        "board,part,reel",
+        "board,designator,part,reel,machine,slot,overdue",
+    ),
 }
 
 
@@ -34,7 +39,9 @@ def desk_minute(database):
 
 def minutes_left(database, reel):
     """What is left of a reel's floor life at the desk minute: a number, or a word."""
-    level, label, used, since, baked = database.execute("SELECT level, label, used, open_since, baked FROM reel WHERE reel = ?", [reel]).fetchone()
+    level, label, used, since, baked = database.execute(
+        "SELECT level, label, used, open_since, baked FROM reel WHERE reel = ?", [reel]
+    ).fetchone()
     if level == "6" and not baked:
         return "unbaked"
     limit = label if level == "6" else LIMITS[level]
@@ -45,7 +52,9 @@ def minutes_left(database, reel):
 
 def exists(database, kind, table, **wanted):
     where = " AND ".join(f"{name} = ?" for name in wanted)
-    if not database.execute(f"SELECT 1 FROM {table} WHERE {where} LIMIT 1", list(wanted.values())).fetchone():
+    if not database.execute(
+        f"SELECT 1 FROM {table} WHERE {where} LIMIT 1", list(wanted.values())
+    ).fetchone():
         raise NotFound(kind)
 
 
@@ -55,7 +64,9 @@ def trace(database, by, name, detail):
         raise ValueError(detail)
     columns = DETAILS[by][int(detail) - 1]
     shown = columns.replace("overdue", "CASE overdue WHEN 1 THEN 'yes' ELSE 'no' END")
-    return csv_text(columns, sorted(set(database.execute(PLACED.format(shown, f"{by} = ?"), [name]))))
+    return csv_text(
+        columns, sorted(set(database.execute(PLACED.format(shown, f"{by} = ?"), [name])))
+    )
 
 
 def reel_card(database, reel):
@@ -64,21 +75,39 @@ def reel_card(database, reel):
     row = database.execute(f"SELECT {columns} FROM reel WHERE reel = ?", [reel]).fetchone()
     mounted = database.execute("SELECT 1 FROM mount WHERE reel = ?", [reel]).fetchone()
     out = database.execute("SELECT open_since >= 0 FROM reel WHERE reel = ?", [reel]).fetchone()[0]
-    return csv_text(columns + ",minutes_left,state", [(*row, minutes_left(database, reel), "mounted" if mounted else "open" if out else "sealed")])
+    return csv_text(
+        columns + ",minutes_left,state",
+        [
+            (
+                *row,
+                minutes_left(database, reel),
+                "mounted" if mounted else "open" if out else "sealed",
+            )
+        ],
+    )
 
 
 def slot_list(database, machine):
     exists(database, "Machine", "sheet_row", machine=machine)
     query = "SELECT slot, row_number() OVER (PARTITION BY slot ORDER BY since), reel, part, lot, remaining FROM mount JOIN reel USING (reel) WHERE machine = ? ORDER BY slot, since"
-    return csv_text("slot,position,reel,part,lot,remaining,minutes_left", [(*row, minutes_left(database, row[2])) for row in database.execute(query, [machine])])
+    return csv_text(
+        "slot,position,reel,part,lot,remaining,minutes_left",
+        [(*row, minutes_left(database, row[2])) for row in database.execute(query, [machine])],
+    )
 
 
 def free_reels(database, part):
     """Reels that may stand where a sheet says this part, in the order in which a kit gives them: name, pieces, minutes left."""
     query = """SELECT reel, remaining FROM reel WHERE remaining > 0 AND reel NOT IN (SELECT reel FROM mount)
                AND (part = ?1 OR part IN (SELECT alternate FROM alternate WHERE part = ?1)) ORDER BY reel"""
-    told = [(reel, pieces, minutes_left(database, reel)) for reel, pieces in database.execute(query, [part]).fetchall()]
-    return sorted((it for it in told if it[2] not in ("unbaked", 0)), key=lambda it: (it[2] == "unlimited", it[2] if it[2] != "unlimited" else 0))
+    told = [
+        (reel, pieces, minutes_left(database, reel))
+        for reel, pieces in database.execute(query, [part]).fetchall()
+    ]
+    return sorted(
+        (it for it in told if it[2] not in ("unbaked", 0)),
+        key=lambda it: (it[2] == "unlimited", it[2] if it[2] != "unlimited" else 0),
+    )
 
 
 def kit_list(database, product, machine, boards):

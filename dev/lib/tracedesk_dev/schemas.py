@@ -10,10 +10,21 @@ TOLD = {"$schema", "$id", "$defs", "title", "description", "examples"}
 
 
 def is_whole(value):
-    return isinstance(value, int) and not isinstance(value, bool) or isinstance(value, float) and value.is_integer()
+    return (
+        isinstance(value, int)
+        and not isinstance(value, bool)
+        or isinstance(value, float)
+        and value.is_integer()
+    )
 
 
-KINDS = {"object": lambda it: isinstance(it, dict), "array": lambda it: isinstance(it, list), "string": lambda it: isinstance(it, str), "integer": is_whole, "null": lambda it: it is None}
+KINDS = {
+    "object": lambda it: isinstance(it, dict),
+    "array": lambda it: isinstance(it, list),
+    "string": lambda it: isinstance(it, str),
+    "integer": is_whole,
+    "null": lambda it: it is None,
+}
 
 
 def same(left, right):
@@ -41,8 +52,16 @@ class Schema:
     def call_of(self, schema):
         """The call of a schema; one that stands in more places is made once."""
         if id(schema) not in self.made:
-            calls = [getattr(self, "of_" + word.strip("$").replace("if", "condition"))(wanted, schema) for word, wanted in schema.items() if word not in TOLD and word != "then"]
-            self.made[id(schema)] = calls[0] if len(calls) == 1 else lambda value: next(filter(None, (it(value) for it in calls)), None)
+            calls = [
+                getattr(self, "of_" + word.strip("$").replace("if", "condition"))(wanted, schema)
+                for word, wanted in schema.items()
+                if word not in TOLD and word != "then"
+            ]
+            self.made[id(schema)] = (
+                calls[0]
+                if len(calls) == 1
+                else lambda value: next(filter(None, (it(value) for it in calls)), None)
+            )
         return self.made[id(schema)]
 
     def of_ref(self, wanted, _):
@@ -50,16 +69,28 @@ class Schema:
 
     def of_type(self, wanted, _):
         kinds = [KINDS[it] for it in ([wanted] if isinstance(wanted, str) else wanted)]
-        return lambda value: None if any(it(value) for it in kinds) else f": it is not of type {wanted}"
+        return (
+            lambda value: None
+            if any(it(value) for it in kinds)
+            else f": it is not of type {wanted}"
+        )
 
     def of_const(self, wanted, _):
         return lambda value: None if same(wanted, value) else f": it is not {wanted!r}"
 
     def of_enum(self, wanted, _):
-        return lambda value: None if any(same(it, value) for it in wanted) else f": it is none of {', '.join(map(repr, wanted[:20]))}"
+        return (
+            lambda value: None
+            if any(same(it, value) for it in wanted)
+            else f": it is none of {', '.join(map(repr, wanted[:20]))}"
+        )
 
     def of_required(self, wanted, _):
-        return lambda value: next((f"/{it}: it is missing" for it in wanted if it not in value), None) if isinstance(value, dict) else None
+        return (
+            lambda value: next((f"/{it}: it is missing" for it in wanted if it not in value), None)
+            if isinstance(value, dict)
+            else None
+        )
 
     def of_properties(self, wanted, _):
         calls = {name: self.call_of(it) for name, it in wanted.items()}
@@ -69,32 +100,56 @@ class Schema:
                 if name in value and (told := call(value[name])):
                     return f"/{name}{told}"
             return None
+
         return look
 
     def of_additionalProperties(self, wanted, schema):
         if wanted is not False:
             raise ValueError("additionalProperties is false or left out")
         known = set(schema["properties"])
-        return lambda value: next((f"/{it}: no such member" for it in value if it not in known), None) if isinstance(value, dict) else None
+        return (
+            lambda value: next((f"/{it}: no such member" for it in value if it not in known), None)
+            if isinstance(value, dict)
+            else None
+        )
 
     def of_items(self, wanted, _):
         call = self.call_of(wanted)
-        return lambda value: next((f"/{number}{told}" for number, it in enumerate(value) if (told := call(it))), None) if isinstance(value, list) else None
+        return (
+            lambda value: next(
+                (f"/{number}{told}" for number, it in enumerate(value) if (told := call(it))), None
+            )
+            if isinstance(value, list)
+            else None
+        )
 
     def of_anyOf(self, wanted, _):
         """A shape that wants other constants of the members that are there can't be meant."""
         shapes = [self.meant(it["$ref"]) if set(it) == {"$ref"} else it for it in wanted]
-        pairs = [([(name, it["const"]) for name, it in one.get("properties", {}).items() if "const" in it], self.call_of(one)) for one in shapes]
+        pairs = [
+            (
+                [
+                    (name, it["const"])
+                    for name, it in one.get("properties", {}).items()
+                    if "const" in it
+                ],
+                self.call_of(one),
+            )
+            for one in shapes
+        ]
 
         def look(value):
             told = ": it is none of the shapes that it may have"
             for constants, call in pairs:
-                if isinstance(value, dict) and any(name in value and not same(it, value[name]) for name, it in constants):
+                if isinstance(value, dict) and any(
+                    name in value and not same(it, value[name]) for name, it in constants
+                ):
                     continue
                 told = call(value)
                 if told is None:
                     return None
             return told
+
         return look
 
     def of_condition(self, wanted, schema):
@@ -103,22 +158,46 @@ class Schema:
 
     def of_pattern(self, wanted, _):
         pattern = re.compile(re.sub(r"(?<!\\)\$", r"\\Z", wanted))
-        return lambda value: f": it is not of the form {wanted}" if isinstance(value, str) and not pattern.search(value) else None
+        return (
+            lambda value: f": it is not of the form {wanted}"
+            if isinstance(value, str) and not pattern.search(value)
+            else None
+        )
 
     def of_minLength(self, wanted, _):
-        return lambda value: f": it has fewer than {wanted} characters" if isinstance(value, str) and len(value) < wanted else None
+        return (
+            lambda value: f": it has fewer than {wanted} characters"
+            if isinstance(value, str) and len(value) < wanted
+            else None
+        )
 
     def of_maxLength(self, wanted, _):
-        return lambda value: f": it has more than {wanted} characters" if isinstance(value, str) and len(value) > wanted else None
+        return (
+            lambda value: f": it has more than {wanted} characters"
+            if isinstance(value, str) and len(value) > wanted
+            else None
+        )
 
     def of_minItems(self, wanted, _):
-        return lambda value: f": it has fewer than {wanted} items" if isinstance(value, list) and len(value) < wanted else None
+        return (
+            lambda value: f": it has fewer than {wanted} items"
+            if isinstance(value, list) and len(value) < wanted
+            else None
+        )
 
     def of_maxItems(self, wanted, _):
-        return lambda value: f": it has more than {wanted} items" if isinstance(value, list) and len(value) > wanted else None
+        return (
+            lambda value: f": it has more than {wanted} items"
+            if isinstance(value, list) and len(value) > wanted
+            else None
+        )
 
     def of_minimum(self, wanted, _):
-        return lambda value: f": it is below {wanted}" if is_whole(value) and value < wanted else None
+        return (
+            lambda value: f": it is below {wanted}" if is_whole(value) and value < wanted else None
+        )
 
     def of_maximum(self, wanted, _):
-        return lambda value: f": it is above {wanted}" if is_whole(value) and value > wanted else None
+        return (
+            lambda value: f": it is above {wanted}" if is_whole(value) and value > wanted else None
+        )

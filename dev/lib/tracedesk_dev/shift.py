@@ -21,11 +21,25 @@ import uuid
 Said = collections.namedtuple("Said", "text wanted answer")
 
 MINUTES = {"1": None, "2a": 40_320, "3": 10_080, "5a": 1_440, "6": 2_880}
-PASSIVES = [f"{kind}-{value}-{size}" for kind, values in (
-    ("CAP", "100N 10N 1N 1U 4U7 10U 22P 100P 220P 2N2 47N 470P".split()),
-    ("RES", "10K 1K 4K7 100R 22R 0R 47K 100K 2K2 330R 1M 56R".split())) for value in values for size in ("0402", "0603")]
-ACTIVES = [f"{kind}-{number}" for kind, numbers in (
-    ("IC", range(101, 119)), ("DIO", range(201, 211)), ("IND", range(301, 309)), ("CON", range(401, 413))) for number in numbers]
+PASSIVES = [
+    f"{kind}-{value}-{size}"
+    for kind, values in (
+        ("CAP", "100N 10N 1N 1U 4U7 10U 22P 100P 220P 2N2 47N 470P".split()),
+        ("RES", "10K 1K 4K7 100R 22R 0R 47K 100K 2K2 330R 1M 56R".split()),
+    )
+    for value in values
+    for size in ("0402", "0603")
+]
+ACTIVES = [
+    f"{kind}-{number}"
+    for kind, numbers in (
+        ("IC", range(101, 119)),
+        ("DIO", range(201, 211)),
+        ("IND", range(301, 309)),
+        ("CON", range(401, 413)),
+    )
+    for number in numbers
+]
 EXPIRING, BAKED = "IC-104", "IC-107"  # the part whose reel expires on its slot, and that of level 6
 RECALLED = "LOT-C7731"
 
@@ -33,7 +47,10 @@ RECALLED = "LOT-C7731"
 class Reel:
     def __init__(self, name, part, lot, level, quantity):
         self.name, self.part, self.lot, self.level, self.left = name, part, lot, level, quantity
-        self.used, self.since = 0, None  # minutes out of the bag before it was last put back, and since when it is out
+        self.used, self.since = (
+            0,
+            None,
+        )  # minutes out of the bag before it was last put back, and since when it is out
 
     def exposure(self, minute):
         return self.used + (minute - self.since if self.since is not None else 0)
@@ -73,7 +90,10 @@ class Shift:
     def at(self, clock):
         """Goes on to a time of this day, where it is not past."""
         hours, minutes, *seconds = map(int, clock.split(":"))
-        self.now = max(self.now, self.day + datetime.timedelta(hours=hours, minutes=minutes, seconds=sum(seconds)))
+        self.now = max(
+            self.now,
+            self.day + datetime.timedelta(hours=hours, minutes=minutes, seconds=sum(seconds)),
+        )
 
     def later(self, seconds):
         self.now += datetime.timedelta(seconds=seconds)
@@ -82,14 +102,30 @@ class Shift:
         """Says a message, which is accepted, or refused at a name; `more` is what an accepted one's answer tells besides."""
         unique = str(uuid.UUID(int=self.random.getrandbits(128), version=4))
         when = (when or self.now).replace(microsecond=0)
-        message = {"MessageName": "TraceDesk." + word, "UniqueID": unique, "Source": source, "TimeStamp": when.isoformat() + "Z", "MessageBody": body}
+        message = {
+            "MessageName": "TraceDesk." + word,
+            "UniqueID": unique,
+            "Source": source,
+            "TimeStamp": when.isoformat() + "Z",
+            "MessageBody": body,
+        }
         self.add(json.dumps(message, separators=(",", ":")).encode(), unique, when, refusal, more)
         return len(self.lines) - 1
 
     def add(self, text, unique, when, refusal, more):
-        wanted, answer = "Accepted", {"Answer": "Accepted", "Number": self.accepted + 1, "UniqueID": unique, **more}
+        wanted, answer = "Accepted", {
+            "Answer": "Accepted",
+            "Number": self.accepted + 1,
+            "UniqueID": unique,
+            **more,
+        }
         if refusal:
-            wanted, answer = "Refused", {"Answer": "Refused", "At": refusal[1], "Refusal": refusal[0], "UniqueID": unique}
+            wanted, answer = "Refused", {
+                "Answer": "Refused",
+                "At": refusal[1],
+                "Refusal": refusal[0],
+                "UniqueID": unique,
+            }
         else:
             self.accepted += 1
             self.minute = self.effective(when)
@@ -97,12 +133,27 @@ class Shift:
 
     def ignored(self, word, body, source):
         """Says a message that is none of the desk's."""
-        text = {"MessageName": word, "UniqueID": f"{source}-{len(self.lines)}", "Source": source, "TimeStamp": self.now.replace(microsecond=0).isoformat() + "Z", "MessageBody": body}
-        self.lines.append(Said(json.dumps(text, separators=(",", ":")).encode(), "Ignored", compact({"Answer": "Ignored", "MessageName": word})))
+        text = {
+            "MessageName": word,
+            "UniqueID": f"{source}-{len(self.lines)}",
+            "Source": source,
+            "TimeStamp": self.now.replace(microsecond=0).isoformat() + "Z",
+            "MessageBody": body,
+        }
+        self.lines.append(
+            Said(
+                json.dumps(text, separators=(",", ":")).encode(),
+                "Ignored",
+                compact({"Answer": "Ignored", "MessageName": word}),
+            )
+        )
 
     def effective(self, when=None):
         """The minute at which an accepted command takes effect."""
-        return max(self.minute, int((when or self.now).replace(tzinfo=datetime.timezone.utc).timestamp()) // 60)
+        return max(
+            self.minute,
+            int((when or self.now).replace(tzinfo=datetime.timezone.utc).timestamp()) // 60,
+        )
 
     def repeat(self, number):
         """Says an accepted line again, byte for byte."""
@@ -111,16 +162,28 @@ class Shift:
     def say_again(self, number):
         """Says a refused line again, byte for byte, which is accepted now."""
         message = json.loads(self.lines[number].text)
-        self.add(self.lines[number].text, message["UniqueID"], datetime.datetime.fromisoformat(message["TimeStamp"][:-1]), None, {})
+        self.add(
+            self.lines[number].text,
+            message["UniqueID"],
+            datetime.datetime.fromisoformat(message["TimeStamp"][:-1]),
+            None,
+            {},
+        )
 
     # ---- the day before ------------------------------------------------------------------------------------------
     def host(self):
         self.say("ClockSet", {}, "host")
         for part in PASSIVES + ACTIVES:
             self.say("PartDefined", {"PartNumber": part}, "host")
-        for part, alternate in (("CAP-100N-0402", "CAP-100N-0603"), ("RES-10K-0603", "RES-10K-0402")):
+        for part, alternate in (
+            ("CAP-100N-0402", "CAP-100N-0603"),
+            ("RES-10K-0603", "RES-10K-0402"),
+        ):
             self.say("AlternateAllowed", {"PartNumber": part, "Alternate": alternate}, "host")
-        for machine, parts, slots, others, most in ((0, PASSIVES, 40, 8, 6), (1, ACTIVES, 38, 10, 2)):
+        for machine, parts, slots, others, most in (
+            (0, PASSIVES, 40, 8, 6),
+            (1, ACTIVES, 38, 10, 2),
+        ):
             first = parts[:slots]
             second, moved = first[:], self.random.sample(range(slots // 2, slots), others)
             for slot, part in zip(moved, parts[slots:]):
@@ -132,12 +195,18 @@ class Shift:
     def sheet(self, product, machine, parts, most):
         taken, rows = self.facts.setdefault(product, collections.Counter()), []
         for slot, part in enumerate(parts, 1):
-            letter = {"CAP": "C", "RES": "R", "IND": "L", "DIO": "D", "CON": "J", "IC-": "U"}[part[:3]]
+            letter = {"CAP": "C", "RES": "R", "IND": "L", "DIO": "D", "CON": "J", "IC-": "U"}[
+                part[:3]
+            ]
             first, count = taken[letter] + 1, 3 if slot == 12 else self.random.randint(1, most)
             taken[letter] += count
-            rows.append((str(slot), part, [f"{letter}{number}" for number in range(first, first + count)]))
+            rows.append(
+                (str(slot), part, [f"{letter}{number}" for number in range(first, first + count)])
+            )
         self.sheets[product, machine] = rows
-        told = [{"Slot": slot, "PartNumber": part, "Designators": names} for slot, part, names in rows]
+        told = [
+            {"Slot": slot, "PartNumber": part, "Designators": names} for slot, part, names in rows
+        ]
         self.say("SheetDefined", {"Product": product, "Machine": machine, "Rows": told}, "host")
 
     def select(self, product):
@@ -146,13 +215,27 @@ class Shift:
             self.say("ProductSelected", {"Machine": machine, "Product": product}, "host")
 
     def level(self, part):
-        return {EXPIRING: "5a", BAKED: "6"}.get(part) or ("3" if part.startswith("IC") else "2a" if part.startswith("DIO") else "1")
+        return {EXPIRING: "5a", BAKED: "6"}.get(part) or (
+            "3" if part.startswith("IC") else "2a" if part.startswith("DIO") else "1"
+        )
 
     def receive(self, part, quantity, lot=None):
         self.reels += 1
         self.lots += 1
-        reel = Reel(f"{self.line}-R{self.reels:04}", part, lot or f"LOT-{part[0]}{self.lots:04}", self.level(part), quantity)
-        body = {"Reel": reel.name, "PartNumber": part, "Lot": reel.lot, "Level": reel.level, "Quantity": quantity}
+        reel = Reel(
+            f"{self.line}-R{self.reels:04}",
+            part,
+            lot or f"LOT-{part[0]}{self.lots:04}",
+            self.level(part),
+            quantity,
+        )
+        body = {
+            "Reel": reel.name,
+            "PartNumber": part,
+            "Lot": reel.lot,
+            "Level": reel.level,
+            "Quantity": quantity,
+        }
         if reel.level == "6":
             body["LabelMinutes"] = 2_880
         self.say("ReelReceived", body, "store")
@@ -206,9 +289,25 @@ class Shift:
     def plan(self):
         """What happens besides, each at its time."""
         hour = datetime.timedelta(hours=1)
-        self.due = sorted([(self.day + hours * hour, name) for hours, name in (
-            (6.1, "heartbeat"), (6.6, "scanned_twice"), (7.2, "scrap"), (8.0, "heartbeat"), (8.5, "count"), (8.9, "scrap_told_late"),
-            (9.25, "network_break"), (9.8, "scrap"), (11.0, "heartbeat"), (11.6, "scrap"), (12.4, "sealed"), (12.9, "network_break"))])
+        self.due = sorted(
+            [
+                (self.day + hours * hour, name)
+                for hours, name in (
+                    (6.1, "heartbeat"),
+                    (6.6, "scanned_twice"),
+                    (7.2, "scrap"),
+                    (8.0, "heartbeat"),
+                    (8.5, "count"),
+                    (8.9, "scrap_told_late"),
+                    (9.25, "network_break"),
+                    (9.8, "scrap"),
+                    (11.0, "heartbeat"),
+                    (11.6, "scrap"),
+                    (12.4, "sealed"),
+                    (12.9, "network_break"),
+                )
+            ]
+        )
 
     def happen(self, everything=False):
         while self.due and (everything or self.due[0][0] <= self.now):
@@ -217,7 +316,11 @@ class Shift:
     def produce(self, names):
         """Boards one behind the other: while one is on the second machine, the next is on the first."""
         for turn in range(len(names) + 1):
-            pairs = [(machine, names[turn - place]) for place, machine in enumerate(self.machines) if 0 <= turn - place < len(names)]
+            pairs = [
+                (machine, names[turn - place])
+                for place, machine in enumerate(self.machines)
+                if 0 <= turn - place < len(names)
+            ]
             self.happen()
             self.fill_all()
             expires = self.expires_now()
@@ -234,16 +337,26 @@ class Shift:
     def expires_now(self):
         """The floor life of the 5a reel ends at 10:10: the board that is started just before gets its piece after it."""
         before = self.day.replace(hour=10, minute=9, second=10)
-        if "expired" in self.facts or not before - datetime.timedelta(seconds=1.1 * self.pace + 30) <= self.now <= before:
+        if (
+            "expired" in self.facts
+            or not before - datetime.timedelta(seconds=1.1 * self.pace + 30) <= self.now <= before
+        ):
             return False
         self.facts["expired"], self.now = True, before
         return True
 
     def start(self, machine, board):
         body = {"Machine": machine, "Board": board}
-        slot = next((slot for slot, part, _names in self.sheets[self.product, machine] if part == EXPIRING), None)
+        slot = next(
+            (slot for slot, part, _names in self.sheets[self.product, machine] if part == EXPIRING),
+            None,
+        )
         tape = self.tapes.get((machine, slot), [])
-        if tape and tape[0].name == self.facts["expiring"] and self.now >= self.day.replace(hour=10, minute=10):
+        if (
+            tape
+            and tape[0].name == self.facts["expiring"]
+            and self.now >= self.day.replace(hour=10, minute=10)
+        ):
             number = self.say("WorkStarted", body, machine, refusal=("Expired", slot))
             self.moments["expired"] = number
             self.later(40)
@@ -258,11 +371,18 @@ class Shift:
         """Each machine tells of its pieces in two messages, in the order of its program."""
         names = [name for _slot, _part, row in self.sheets[self.product, machine] for name in row]
         order = random.Random(f"{machine} {self.product}").sample(names, len(names))
-        slot_of = {name: slot for slot, _part, row in self.sheets[self.product, machine] for name in row}
+        slot_of = {
+            name: slot for slot, _part, row in self.sheets[self.product, machine] for name in row
+        }
         half = len(order) // 2
         for part in (order[:half], order[half:]):
             reels = [self.take(machine, slot_of[name], 1) for name in part]
-            self.say("MaterialsInstalled", {"Machine": machine, "Board": board, "Designators": part}, machine, Reels=reels)
+            self.say(
+                "MaterialsInstalled",
+                {"Machine": machine, "Board": board, "Designators": part},
+                machine,
+                Reels=reels,
+            )
 
     def take(self, machine, slot, pieces):
         """Takes pieces off a slot, reel after reel; the name of the last reel."""
@@ -292,7 +412,9 @@ class Shift:
     def load(self, machine, slot, part, word="MaterialsLoaded"):
         reel = self.next_reel(part)
         left = reel.minutes_left(self.effective())
-        number = self.say(word, {"Machine": machine, "Slot": slot, "Reel": reel.name}, machine, MinutesLeft=left)
+        number = self.say(
+            word, {"Machine": machine, "Slot": slot, "Reel": reel.name}, machine, MinutesLeft=left
+        )
         reel.open(self.minute)
         self.tapes.setdefault((machine, slot), []).append(reel)
         if reel.name == self.facts["recalled"]:
@@ -310,7 +432,9 @@ class Shift:
                     if held and "before_splice" not in self.moments:
                         self.moments["before_splice"] = len(self.lines)
                         self.facts["spliced"] = (machine, slot)
-                    self.load(machine, slot, part, "MaterialsSpliced" if held else "MaterialsLoaded")
+                    self.load(
+                        machine, slot, part, "MaterialsSpliced" if held else "MaterialsLoaded"
+                    )
                 if first:
                     self.later(8)
 
@@ -319,7 +443,9 @@ class Shift:
         """The operator takes the reel beside the right one."""
         other = self.shelf[self.sheets[self.product, machine][int(slot)][1]][0]
         body = {"Machine": machine, "Slot": slot, "Reel": other.name}
-        self.moments["wrong_reel"] = self.say("MaterialsLoaded", body, machine, refusal=("WrongPart", other.name))
+        self.moments["wrong_reel"] = self.say(
+            "MaterialsLoaded", body, machine, refusal=("WrongPart", other.name)
+        )
 
     def scanned_twice(self):
         machine, slot = self.machines[1], "5"
@@ -335,7 +461,13 @@ class Shift:
         slot = str(self.random.randint(1, 38))
         pieces = min(self.random.randint(1, 4), self.left(machine, slot) - 1)
         if pieces > 0:
-            self.say("MaterialsScrapped", {"Machine": machine, "Slot": slot, "Quantity": pieces}, machine, when=when, Taken=pieces)
+            self.say(
+                "MaterialsScrapped",
+                {"Machine": machine, "Slot": slot, "Quantity": pieces},
+                machine,
+                when=when,
+                Taken=pieces,
+            )
             self.take(machine, slot, pieces)
 
     def scrap_told_late(self):
@@ -344,7 +476,9 @@ class Shift:
 
     def count(self):
         """A shelf is counted: on one reel pieces are missing, on another some are found, on others all is right."""
-        reels = [reel for part in sorted(self.shelf) for reel in self.shelf[part] if reel.left > 50][:5]
+        reels = [
+            reel for part in sorted(self.shelf) for reel in self.shelf[part] if reel.left > 50
+        ][:5]
         counts = [reel.left + more for reel, more in zip(reels, (-40, 12, 0, 0, 0))]
         told = [{"Reel": reel.name, "Quantity": count} for reel, count in zip(reels, counts)]
         taken = sum(max(0, reel.left - count) for reel, count in zip(reels, counts))
@@ -353,7 +487,9 @@ class Shift:
             reel.left = count
 
     def sealed(self):
-        for reel in (reel for part in sorted(self.shelf) for reel in self.shelf[part] if reel.level == "3"):
+        for reel in (
+            reel for part in sorted(self.shelf) for reel in self.shelf[part] if reel.level == "3"
+        ):
             self.seal(reel, "store")
             return
 
@@ -363,7 +499,11 @@ class Shift:
 
     def network_break(self):
         """No answer came for a while, so the last lines are sent again."""
-        last = [number for number in range(len(self.lines) - 6, len(self.lines)) if self.lines[number].wanted == "Accepted"]
+        last = [
+            number
+            for number in range(len(self.lines) - 6, len(self.lines))
+            if self.lines[number].wanted == "Accepted"
+        ]
         self.moments["repeats"] = len(self.lines)
         for number in last:
             self.repeat(number)
@@ -401,7 +541,9 @@ class Shift:
             for _slot, part, names in self.sheets["CTRL-A", machine]:
                 if self.random.random() < 0.9:
                     self.later(self.random.randint(5, 20))
-                    self.receive(part, self.random.choice((500, 1_000, 2_000)) if len(names) < 3 else 2_000)
+                    self.receive(
+                        part, self.random.choice((500, 1_000, 2_000)) if len(names) < 3 else 2_000
+                    )
         self.moments["end"] = len(self.lines)
 
 

@@ -2,7 +2,8 @@
 import re
 
 LITERAL = re.compile(
-    r"""(//[^\n]*|/\*.*?\*/)|b?r(#*)".*?"\2|b?"(?:[^"\\]|\\.)*"|b?'(?:[^'\\\n]|\\[^\n][^'\n]*)'""", re.S
+    r"""(//[^\n]*|/\*.*?\*/)|b?r(#*)".*?"\2|b?"(?:[^"\\]|\\.)*"|b?'(?:[^'\\\n]|\\[^\n][^'\n]*)'""",
+    re.S,
 )
 HEAD = re.compile(r"\bfn\s+(\w+)|\bimpl\b([^{;]*)")
 END = re.compile(r";(?![^\[\]{}]*\])")  # not that of an array
@@ -45,6 +46,10 @@ def spans_of(code):
         begin = code.find("{", found.end())
         ends = END.search(code, found.end())
         if begin >= 0 and (not ends or begin < ends.start()):
-            of = re.sub(r"<[^<>]*>", "", (found[2] or "").rpartition(" for ")[2]).split("::")[-1].strip()
+            of = (
+                re.sub(r"<[^<>]*>", "", (found[2] or "").rpartition(" for ")[2])
+                .split("::")[-1]
+                .strip()
+            )
             spans.append((found.start(), closing(code, begin), found[1], of))
     return spans

@@ -27,7 +27,9 @@ FAULTS = (Difference, OSError, sqlite3.Error, subprocess.SubprocessError)  # wha
 def wanting(wanted):
     """The packages of Debian that are not here, of those that bring these commands."""
     path = os.environ["PATH"] + ":/usr/sbin"
-    return [package for command, package in wanted.items() if shutil.which(command, path=path) is None]
+    return [
+        package for command, package in wanted.items() if shutil.which(command, path=path) is None
+    ]
 
 
 def tried(calls, *given, folder=None):
@@ -57,7 +59,11 @@ def loaded(path):
 
 def reader_of(about):
     """Reads the arguments of a tool whose docstring is its help."""
-    return argparse.ArgumentParser(description=about, formatter_class=argparse.RawDescriptionHelpFormatter, usage=argparse.SUPPRESS)
+    return argparse.ArgumentParser(
+        description=about,
+        formatter_class=argparse.RawDescriptionHelpFormatter,
+        usage=argparse.SUPPRESS,
+    )
 
 
 def subcommand(about, names):
@@ -86,7 +92,12 @@ def remove(file):
 
 def rows_in(database):
     """All rows of all tables."""
-    names = [name for (name,) in database.execute("SELECT name FROM sqlite_schema WHERE type = 'table' AND name NOT LIKE 'sqlite\\_%' ESCAPE '\\'")]
+    names = [
+        name
+        for (name,) in database.execute(
+            "SELECT name FROM sqlite_schema WHERE type = 'table' AND name NOT LIKE 'sqlite\\_%' ESCAPE '\\'"
+        )
+    ]
     return {name: sorted(database.execute(f"SELECT * FROM {name}")) for name in names}
 
 
@@ -94,7 +105,11 @@ def rows_in(database):
 def served(program, file, patience=60):
     """A run of `serve` for one connection, and that connection; the caller closes it, and then the run ends."""
     port = free_port()
-    process = subprocess.Popen([program, "serve", "--db", file, "--port", str(port), "--connections", "1"], stdin=subprocess.DEVNULL, stdout=subprocess.DEVNULL)
+    process = subprocess.Popen(
+        [program, "serve", "--db", file, "--port", str(port), "--connections", "1"],
+        stdin=subprocess.DEVNULL,
+        stdout=subprocess.DEVNULL,
+    )
     connection = http.client.HTTPConnection("127.0.0.1", port, timeout=patience)
     try:
         while connection.sock is None:
@@ -115,7 +130,9 @@ def served(program, file, patience=60):
 def memory_of(process, name):
     """The memory of a run in bytes: VmRSS, what it has, or VmHWM, the most that it had."""
     status = pathlib.Path(f"/proc/{process.pid}/status").read_text()
-    return 1_024 * next(int(line.split()[1]) for line in status.splitlines() if line.startswith(f"{name}:"))
+    return 1_024 * next(
+        int(line.split()[1]) for line in status.splitlines() if line.startswith(f"{name}:")
+    )
 
 
 def has_serve(program):

@@ -18,6 +18,7 @@ def tool_cases():
 
 class Vector(NamedTuple):
     """A message of a case and its answer; of an answer to something else the message is none. Over HTTP it has a status."""
+
     case: str
     message: bytes | None
     answer: dict
@@ -85,7 +86,10 @@ def opened(cases, folder):
         def bytes_of(name):
             if name is None:
                 return b""
-            return next(it for it in (made / name, folder / name) if it.exists() or it.parent == folder).read_bytes()
+            return next(
+                it for it in (made / name, folder / name) if it.exists() or it.parent == folder
+            ).read_bytes()
+
         yield json.loads((folder / "case.json").read_text(encoding="utf-8")), bytes_of
 
 
@@ -105,7 +109,9 @@ def all_of(names=()):
 
 class Exchange(NamedTuple):
     """What goes to a fresh desk and what comes back, to the end of both: the lines of `feed`, or a connection of `serve`.
-    `greatest` is how many commands it may take, none for the usual number; `status` the exit status of `feed`."""
+    `greatest` is how many commands it may take, none for the usual number; `status` the exit status of `feed`.
+    """
+
     cases: tuple
     shows: str
     form: str
@@ -116,15 +122,37 @@ class Exchange(NamedTuple):
 
     def line(self):
         """It as a line of the file that docs/api.md describes."""
-        told = {"Cases": list(self.cases), "Shows": self.shows, "Form": self.form, "Greatest": self.greatest, "Status": self.status}
+        told = {
+            "Cases": list(self.cases),
+            "Shows": self.shows,
+            "Form": self.form,
+            "Greatest": self.greatest,
+            "Status": self.status,
+        }
         told.update([spelled("Request", self.request), spelled("Answer", self.answer)])
-        return json.dumps({name: it for name, it in told.items() if it is not None}, separators=(",", ":")).encode() + b"\n"
+        return (
+            json.dumps(
+                {name: it for name, it in told.items() if it is not None}, separators=(",", ":")
+            ).encode()
+            + b"\n"
+        )
 
     @classmethod
     def read(cls, line):
         told = json.loads(line)
-        request, answer = (base64.b64decode(told[f"{it}Base64"]) if f"{it}Base64" in told else told[it].encode() for it in ("Request", "Answer"))
-        return cls(tuple(told["Cases"]), told["Shows"], told["Form"], told.get("Greatest"), told.get("Status"), request, answer)
+        request, answer = (
+            base64.b64decode(told[f"{it}Base64"]) if f"{it}Base64" in told else told[it].encode()
+            for it in ("Request", "Answer")
+        )
+        return cls(
+            tuple(told["Cases"]),
+            told["Shows"],
+            told["Form"],
+            told.get("Greatest"),
+            told.get("Status"),
+            request,
+            answer,
+        )
 
 
 def spelled(name, data):
@@ -138,9 +166,18 @@ def spelled(name, data):
 def asked_of(words):
     """The command, the file and the greatest number that the words of a command line name; none of others."""
     options = dict(zip(words[1::2], words[2::2]))
-    if words[:1] not in (["feed"], ["serve"]) or len(words) % 2 == 0 or not set(options) <= {"--db", "--greatest"} or not options.get("--greatest", "1").isdecimal():
+    if (
+        words[:1] not in (["feed"], ["serve"])
+        or len(words) % 2 == 0
+        or not set(options) <= {"--db", "--greatest"}
+        or not options.get("--greatest", "1").isdecimal()
+    ):
         return None
-    return words[0], options.get("--db"), int(options["--greatest"]) if "--greatest" in options else None
+    return (
+        words[0],
+        options.get("--db"),
+        int(options["--greatest"]) if "--greatest" in options else None,
+    )
 
 
 def names_no_file(step):
@@ -152,15 +189,28 @@ def of_fresh_desk(step, is_fresh, cases, bytes_of):
     """The exchanges of a step: form, greatest, status, request and answer, and what is put behind the step's number."""
     kind = next((it for it in ("run", "talk", "serve") if it in step), None)
     asked = asked_of(step[kind]) if kind else None
-    if asked is None or {"read_from", "write_to", "memory", "held", "errors", "files", "answer", "killed"} & set(step):
+    if asked is None or {
+        "read_from",
+        "write_to",
+        "memory",
+        "held",
+        "errors",
+        "files",
+        "answer",
+        "killed",
+    } & set(step):
         return
     command, file, greatest = asked
     if command == "feed" and (is_fresh or file is None):
-        yield "", "lines", greatest, step.get("status", 0), bytes_of(step.get("input")), bytes_of(step.get("output"))
+        yield "", "lines", greatest, step.get("status", 0), bytes_of(step.get("input")), bytes_of(
+            step.get("output")
+        )
     for number, (sent, told) in enumerate(step.get("connections", ()), 1):
         answer = b"".join(map(cases.spelled_answer, told))
         if is_fresh:
-            yield f"/{number}", "http", greatest, None, b"".join(cases.spelled_request(it, bytes_of) for it in sent), answer
+            yield f"/{number}", "http", greatest, None, b"".join(
+                cases.spelled_request(it, bytes_of) for it in sent
+            ), answer
         is_fresh = is_fresh and b'"Answer":"Accepted"' not in answer
 
 
@@ -175,6 +225,8 @@ def exchanges(names=()):
             is_fresh = True  # no step before has named a file of the case
             for number, step in enumerate(case["steps"], 1):
                 for place, *exchange in of_fresh_desk(step, is_fresh, cases, bytes_of):
-                    found.setdefault(tuple(exchange), ([], case["shows"]))[0].append(f"{folder.name}/{number}{place}")
+                    found.setdefault(tuple(exchange), ([], case["shows"]))[0].append(
+                        f"{folder.name}/{number}{place}"
+                    )
                 is_fresh = is_fresh and names_no_file(step)
     return [Exchange(tuple(them), shows, *exchange) for exchange, (them, shows) in found.items()]

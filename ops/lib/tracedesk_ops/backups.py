@@ -30,13 +30,34 @@ def about(copy):
     """What a copy says of itself; a Fault where that, its catalogue or its untraced work is not the file of its checksum."""
     try:
         text, sums = (copy / ABOUT).read_bytes(), sums_of(copy)
-        for name in (ABOUT, INDEX, *(it for it in sums if it.startswith((f"{ARCHIVE}/{untraced.FILE_NAME}", f"{untraced.INBOX}/")))):
-            if sums.get(name) != ((copy / name).exists() and catalogue.sha256_of(copy / name) or None):
+        for name in (
+            ABOUT,
+            INDEX,
+            *(
+                it
+                for it in sums
+                if it.startswith((f"{ARCHIVE}/{untraced.FILE_NAME}", f"{untraced.INBOX}/"))
+            ),
+        ):
+            if sums.get(name) != (
+                (copy / name).exists() and catalogue.sha256_of(copy / name) or None
+            ):
                 raise ValueError(f"{name} is not the file of its checksum in {SUMS}")
         told = json.loads(text)
-        return {"number": 0, "desk": "", "line": "", "name": "", "host": "", **told, "commands": told["commands"], "missing": told["missing"]}
+        return {
+            "number": 0,
+            "desk": "",
+            "line": "",
+            "name": "",
+            "host": "",
+            **told,
+            "commands": told["commands"],
+            "missing": told["missing"],
+        }
     except (OSError, ValueError, KeyError, TypeError) as fault:
-        raise plant.Fault(f"{copy} can't be read: {fault}. If it is damaged, name another copy, or move this one out of the folder once you have looked at its disk") from fault
+        raise plant.Fault(
+            f"{copy} can't be read: {fault}. If it is damaged, name another copy, or move this one out of the folder once you have looked at its disk"
+        ) from fault
 
 
 def sums_of(copy):
@@ -52,10 +73,17 @@ class Whose:
     """A desk whose copies are looked for: its name, and the first commands of it and of its archives. Neither is known if its file is lost."""
 
     def __init__(self, db, archive=None):
-        self.db, path = pathlib.Path(db), pathlib.Path(archive or pathlib.Path(db).parent / ARCHIVE) / catalogue.FILE_NAME
+        self.db, path = (
+            pathlib.Path(db),
+            pathlib.Path(archive or pathlib.Path(db).parent / ARCHIVE) / catalogue.FILE_NAME,
+        )
         self.desk = identity.of_running(db)
         self.name = self.desk.name if self.desk else ""
-        chain = identity.chain(path, catalogue.survey(path).archives, self.desk.mark)[0] if self.desk else []
+        chain = (
+            identity.chain(path, catalogue.survey(path).archives, self.desk.mark)[0]
+            if self.desk
+            else []
+        )
         self.firsts = firsts_of(db, path, chain)
 
     def has(self, copy, told):
@@ -66,16 +94,47 @@ class Whose:
 
     def guessed(self, copies):
         """The copies of a desk whose file is lost: those of a file of this path and host, if they are of one desk; a Fault if they are of several, or there are others only."""
-        here = [(it, told) for it, told in copies if told["desk"] in ("", os.path.realpath(self.db)) and told["host"] in ("", socket.gethostname())]
-        names, unnamed = {told["name"] for _, told in here} - {""}, {command(it / "desk", 1) for it, told in here if not told["name"]}
-        if copies and not here or len(names) > 1 or (not names and len(unnamed) > 1) or names and unnamed - {first for it, told in here if told["name"] for first in firsts_of(it / "desk", it / INDEX, catalogue.survey(it / INDEX).archives)}:
-            whose = sorted({f"{it.name} ({told['line'] or 'no line'}, {told['host'] or 'no host'}, {told['desk']})" for it, told in copies})
-            raise plant.Fault(f"{self.db} can't be read, so nothing says which desk it was, and the copies are of several, or of another path or host. Name one: {', '.join(whose)}")
+        here = [
+            (it, told)
+            for it, told in copies
+            if told["desk"] in ("", os.path.realpath(self.db))
+            and told["host"] in ("", socket.gethostname())
+        ]
+        names, unnamed = {told["name"] for _, told in here} - {""}, {
+            command(it / "desk", 1) for it, told in here if not told["name"]
+        }
+        if (
+            copies
+            and not here
+            or len(names) > 1
+            or (not names and len(unnamed) > 1)
+            or names
+            and unnamed
+            - {
+                first
+                for it, told in here
+                if told["name"]
+                for first in firsts_of(
+                    it / "desk", it / INDEX, catalogue.survey(it / INDEX).archives
+                )
+            }
+        ):
+            whose = sorted(
+                {
+                    f"{it.name} ({told['line'] or 'no line'}, {told['host'] or 'no host'}, {told['desk']})"
+                    for it, told in copies
+                }
+            )
+            raise plant.Fault(
+                f"{self.db} can't be read, so nothing says which desk it was, and the copies are of several, or of another path or host. Name one: {', '.join(whose)}"
+            )
         return here
 
 
 def firsts_of(desk, path, archives):
-    return {command(it, 1) for it in (desk, *(catalogue.path_of(path, it) for it in archives))} - {None}
+    return {command(it, 1) for it in (desk, *(catalogue.path_of(path, it) for it in archives))} - {
+        None
+    }
 
 
 def survey(to, whose=None):
@@ -86,7 +145,9 @@ def survey(to, whose=None):
             there.append((it, about(it)))
         except plant.Fault as fault:
             its = identity.of_running(it / "desk")  # what is left may say that it is another desk's
-            if it.exists() and not (whose and whose.name and its and its.name and its.name != whose.name):
+            if it.exists() and not (
+                whose and whose.name and its and its.name and its.name != whose.name
+            ):
                 faults.append(str(fault))
     if whose:
         there = [it for it in there if whose.has(*it)] if whose.desk else whose.guessed(there)
@@ -109,14 +170,24 @@ def kept_by_path(to, db):
 def held_by(copy, whole=()):
     """The files of the archives that a copy has, by their checksums; those of `whole` only if the file is there, and has it."""
     missing, path = about(copy)["missing"], copy / INDEX
-    return {it.sha256: catalogue.path_of(path, it) for it in catalogue.survey(path).archives if it.file not in missing and (it.sha256 not in whole or is_whole(path, it))}
+    return {
+        it.sha256: catalogue.path_of(path, it)
+        for it in catalogue.survey(path).archives
+        if it.file not in missing and (it.sha256 not in whole or is_whole(path, it))
+    }
 
 
 def taken(copy):
     """When a copy was taken, by the clock of then; a Fault where that is still to come."""
-    then = datetime.datetime.strptime(copy.name, NAMED).replace(tzinfo=datetime.timezone.utc).timestamp()
+    then = (
+        datetime.datetime.strptime(copy.name, NAMED)
+        .replace(tzinfo=datetime.timezone.utc)
+        .timestamp()
+    )
     if then > time.time() + FUTURE:
-        raise plant.Fault(f"{copy} was taken in the future, so a clock is wrong, or was: set it, and make a new copy")
+        raise plant.Fault(
+            f"{copy} was taken in the future, so a clock is wrong, or was: set it, and make a new copy"
+        )
     return then
 
 
@@ -124,12 +195,19 @@ def compare_sums(copy):
     """A Fault where a file of a copy is not that of its checksum, or has none."""
     try:
         sums = sums_of(copy)
-        there = {str(it.relative_to(copy)) for it in copy.rglob("*") if it.is_file()} - {SUMS, *(f"desk{tail}" for tail in (*catalogue.LOGS, "-shm"))}
-        wrong = sorted(there ^ set(sums)) or [it for it in sums if catalogue.sha256_of(copy / it) != sums[it]]
+        there = {str(it.relative_to(copy)) for it in copy.rglob("*") if it.is_file()} - {
+            SUMS,
+            *(f"desk{tail}" for tail in (*catalogue.LOGS, "-shm")),
+        }
+        wrong = sorted(there ^ set(sums)) or [
+            it for it in sums if catalogue.sha256_of(copy / it) != sums[it]
+        ]
     except (OSError, UnicodeDecodeError) as fault:
         raise plant.Fault(f"{copy} is not whole: {fault}") from fault
     if wrong or not sums:
-        raise plant.Fault(f"{copy} is damaged: {', '.join(wrong) or SUMS} is not the file of its checksum, or has none. Look at the disk, and move elsewhere what somebody put there; an older copy may be whole")
+        raise plant.Fault(
+            f"{copy} is damaged: {', '.join(wrong) or SUMS} is not the file of its checksum, or has none. Look at the disk, and move elsewhere what somebody put there; an older copy may be whole"
+        )
 
 
 def is_whole(path, archive):
@@ -162,13 +240,18 @@ def whole_archives(copy):
 def command(file, number):
     """The command of this number of a desk that stands whole, with all that its sender said; none where there is none, or the file is damaged."""
     with contextlib.suppress(sqlite3.Error), catalogue.opened(file) as database:
-        return database.execute("SELECT uid, source, own, command FROM accepted WHERE number = ?", [number]).fetchone()
+        return database.execute(
+            "SELECT uid, source, own, command FROM accepted WHERE number = ?", [number]
+        ).fetchone()
 
 
 def has(file, told):
     """Whether a desk has accepted this command, with all that its sender said."""
     with catalogue.opened(file) as database:
-        return database.execute("SELECT (uid, source, own, command) = (?, ?, ?, ?) FROM accepted WHERE uid = ?", [*told, told[0]]).fetchone() == (1,)
+        return database.execute(
+            "SELECT (uid, source, own, command) = (?, ?, ?, ?) FROM accepted WHERE uid = ?",
+            [*told, told[0]],
+        ).fetchone() == (1,)
 
 
 def commands(file):

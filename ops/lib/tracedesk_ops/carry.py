@@ -16,9 +16,19 @@ from typing import NamedTuple
 
 from tracedesk_ops import catalogue, copies, identity, plant, stored
 
-FLOOR_LIFE = {"1": None, "2": 525_600, "2a": 40_320, "3": 10_080, "4": 4_320, "5": 2_880, "5a": 1_440}
+FLOOR_LIFE = {
+    "1": None,
+    "2": 525_600,
+    "2a": 40_320,
+    "3": 10_080,
+    "4": 4_320,
+    "5": 2_880,
+    "5a": 1_440,
+}
 GREATEST_FLOOR_LIFE = 525_600  # in minutes, a label's too
-FARTHEST_AHEAD = 20_160  # a message may be so many minutes after the desk's, if it doesn't set the clock
+FARTHEST_AHEAD = (
+    20_160  # a message may be so many minutes after the desk's, if it doesn't set the clock
+)
 LONGEST_MESSAGE = 1_048_576
 KNOWN = 1_000  # UniqueIDs of each source that a new desk knows of the archive: those that a sender may still send again
 KNOWN_IN_ALL = 20_000  # of all sources, the newest ones
@@ -32,6 +42,7 @@ class NotCarried(Exception):
 
 class Reel(NamedTuple):
     """A row of the table reel."""
+
     reel: str
     part: str
     lot: str
@@ -84,21 +95,36 @@ class Archive:
             raise NotCarried(f"it has tables of version {number}, or some are missing")
         ((self.commands, self.minute),) = rows("SELECT count(*), max(effective) FROM accepted")
         self.parts = [part for (part,) in rows("SELECT part FROM part ORDER BY part")]
-        self.alternates = dict.fromkeys(rows("SELECT part, alternate FROM alternate ORDER BY part, alternate"))
+        self.alternates = dict.fromkeys(
+            rows("SELECT part, alternate FROM alternate ORDER BY part, alternate")
+        )
         self.sheets: dict = {}
         for product, machine, slot, part, designators in rows(
-                "SELECT product, machine, slot, part, designators FROM sheet_row ORDER BY product, machine, place"):
-            self.sheets.setdefault((product, machine), []).append((slot, part, designators.split(" ")))
+            "SELECT product, machine, slot, part, designators FROM sheet_row ORDER BY product, machine, place"
+        ):
+            self.sheets.setdefault((product, machine), []).append(
+                (slot, part, designators.split(" "))
+            )
         self.selected = dict(rows("SELECT machine, product FROM selected ORDER BY machine"))
-        self.reels = {row[0]: Reel(*row) for row in rows(f"SELECT {COLUMNS} FROM reel WHERE remaining > 0 ORDER BY reel")}
+        self.reels = {
+            row[0]: Reel(*row)
+            for row in rows(f"SELECT {COLUMNS} FROM reel WHERE remaining > 0 ORDER BY reel")
+        }
         self.spent = {reel for (reel,) in rows("SELECT reel FROM reel WHERE remaining = 0")}
         self.tapes: dict = {}
-        for machine, slot, reel in rows("SELECT machine, slot, reel FROM mount ORDER BY machine, slot, since"):
+        for machine, slot, reel in rows(
+            "SELECT machine, slot, reel FROM mount ORDER BY machine, slot, since"
+        ):
             self.tapes.setdefault((machine, slot), []).append(self.reels.get(reel))
         self.in_work = rows("SELECT machine, board FROM board WHERE machine <> '' ORDER BY machine")
         self.identity = identity.read(database)
         self.known = known(database, self.identity)
-        its = [name for name, *_ in rows("SELECT name FROM sqlite_master WHERE type = 'table' AND name NOT LIKE 'sqlite_%'")]
+        its = [
+            name
+            for name, *_ in rows(
+                "SELECT name FROM sqlite_master WHERE type = 'table' AND name NOT LIKE 'sqlite_%'"
+            )
+        ]
         self.of_others = sorted(set(its) - {*TABLES, "version", "placement", "found"})
 
     def of_one_reel(self, name, called, known_parts, minute):
@@ -107,21 +133,32 @@ class Archive:
         reel = self.reels[name]._replace(reel=called)
         if not reel.runs():  # so there are no minutes to tell
             reel = reel._replace(used=0, open_since=minute if reel.is_open() else -1)
-        it.parts, it.alternates, it.sheets, it.selected = [part for part in [reel.part] if part not in known_parts], {}, {}, {}
+        it.parts, it.alternates, it.sheets, it.selected = (
+            [part for part in [reel.part] if part not in known_parts],
+            {},
+            {},
+            {},
+        )
         it.reels, it.tapes, it.in_work, it.minute = {called: reel}, {}, [], minute
         return it
 
 
 def known(database, desk):
     """The last UniqueIDs of each source, the newest first: their number, source and own minute. What the desk was begun with, and its
-    name, are left out, but not the UniqueIDs of its own archive that it was told then: those are older than the rest, the newest first."""
-    ((first, source),) = database.execute("SELECT max(uid), max(source) FROM accepted WHERE number = 1").fetchall()
+    name, are left out, but not the UniqueIDs of its own archive that it was told then: those are older than the rest, the newest first.
+    """
+    ((first, source),) = database.execute(
+        "SELECT max(uid), max(source) FROM accepted WHERE number = 1"
+    ).fetchall()
     numbered = f"{first[:-1]}%" if desk.begun else ""
-    return database.execute("""
+    return database.execute(
+        """
         WITH those AS (SELECT *, iif(number > ?1, number, -number) AS turn FROM accepted
             WHERE NOT (number <= ?1 AND source = ?2 AND uid LIKE ?3) AND uid NOT IN (?4, ?5))
         SELECT number, uid, source, own FROM (SELECT *, row_number() OVER (PARTITION BY source ORDER BY turn DESC) AS place FROM those)
-        WHERE place <= ?6 ORDER BY turn DESC""", [desk.begun, source, numbered, desk.name, identity.BEGUN, KNOWN]).fetchall()
+        WHERE place <= ?6 ORDER BY turn DESC""",
+        [desk.begun, source, numbered, desk.name, identity.BEGUN, KNOWN],
+    ).fetchall()
 
 
 def judged(path, program):
@@ -146,11 +183,16 @@ class Messages:
 
     def add(self, uid, source, minute, word, body):
         line = stored.line(uid, source, minute, word, body)
-        self.lines.append(line if len(line) <= LONGEST_MESSAGE else setup(uid, source, catalogue.spelled(minute), body))
+        self.lines.append(
+            line
+            if len(line) <= LONGEST_MESSAGE
+            else setup(uid, source, catalogue.spelled(minute), body)
+        )
 
     def say_known(self, known):
         """Says the UniqueIDs of an archive, each as a ClockSet of its own minute, which changes nothing: so a message that is sent again
-        is refused as IdReused. None has the number that it has in the archive: by a command of that number a file is known again."""
+        is refused as IdReused. None has the number that it has in the archive: by a command of that number a file is known again.
+        """
         if not known:
             return
         while any(number == len(self.lines) + place for place, (number, *_) in enumerate(known, 1)):
@@ -160,8 +202,16 @@ class Messages:
         self.say(self.minute, "ClockSet")  # the last command is the new desk's own
 
     def say_sheet(self, minute, product, machine, rows):
-        self.say(minute, "SheetDefined", Product=product, Machine=machine,
-                 Rows=[{"Slot": slot, "PartNumber": part, "Designators": list(them)} for slot, part, them in rows])
+        self.say(
+            minute,
+            "SheetDefined",
+            Product=product,
+            Machine=machine,
+            Rows=[
+                {"Slot": slot, "PartNumber": part, "Designators": list(them)}
+                for slot, part, them in rows
+            ],
+        )
 
 
 class Carrier:
@@ -169,13 +219,16 @@ class Carrier:
 
     def __init__(self, archive, messages, end, loads):
         self.archive, self.messages, self.end = archive, messages, end
-        self.exposure = {name: reel.exposure(archive.minute) for name, reel in archive.reels.items()}
+        self.exposure = {
+            name: reel.exposure(archive.minute) for name, reel in archive.reels.items()
+        }
         self.mounts = self.mounts_in_turn() if loads else []
         self.mounted = {reel.reel: before for before, _, _, reel, _ in self.mounts}
 
     def mounts_in_turn(self):
         """Each load and splice: how many minutes before the end, machine, slot, reel, and whether it is a splice. It is at the latest opening
-        of the reels up to it on the tape: the reel before it is on the tape by then, and it had not expired, since it was put there in truth."""
+        of the reels up to it on the tape: the reel before it is on the tape by then, and it had not expired, since it was put there in truth.
+        """
         mounts = []
         for (machine, slot), tape in self.archive.tapes.items():
             before = GREATEST_FLOOR_LIFE
@@ -208,8 +261,16 @@ class Carrier:
             say(minute, "ProductSelected", Machine=machine, Product=product)
         for reel in archive.reels.values():
             label = {"LabelMinutes": reel.label} if reel.level == "6" else {}
-            say(minute, "ReelReceived", Reel=reel.reel, PartNumber=reel.part, Lot=reel.lot, Level=reel.level,
-                Quantity=reel.remaining, **label)
+            say(
+                minute,
+                "ReelReceived",
+                Reel=reel.reel,
+                PartNumber=reel.part,
+                Lot=reel.lot,
+                Level=reel.level,
+                Quantity=reel.remaining,
+                **label,
+            )
             if reel.level == "6" and reel.baked:
                 say(minute, "ReelBaked", Reel=reel.reel)
 
@@ -220,10 +281,21 @@ class Carrier:
             # of a reel with no floor life that runs it is told only whether it is open
             before = self.exposure[name] if reel.runs() else self.mounted.get(name, 0)
             if (reel.is_open() or before) and before != self.mounted.get(name):
-                told.append((before, 0, lambda at, name=name: self.messages.say(at, "ReelOpened", Reel=name)))
+                told.append(
+                    (
+                        before,
+                        0,
+                        lambda at, name=name: self.messages.say(at, "ReelOpened", Reel=name),
+                    )
+                )
             if before and not reel.is_open():
-                told.append((0, 2, lambda at, name=name: self.messages.say(at, "ReelSealed", Reel=name)))
-        told += [(mount[0], 1, lambda at, mount=mount: self.mount(at, *mount[1:])) for mount in self.mounts]
+                told.append(
+                    (0, 2, lambda at, name=name: self.messages.say(at, "ReelSealed", Reel=name))
+                )
+        told += [
+            (mount[0], 1, lambda at, mount=mount: self.mount(at, *mount[1:]))
+            for mount in self.mounts
+        ]
         # of one minute: openings before mounts, and seals last; a tape's mounts stay in their order
         told.sort(key=lambda move: (-move[0], move[1]))
         return [(before, say) for before, _, say in told]
@@ -232,7 +304,10 @@ class Carrier:
         """Puts a reel where it is, though the sheet may have changed since it was put there."""
         archive, product = self.archive, self.archive.selected[machine]
         sheet = archive.sheets[product, machine]
-        fits = any(slot == row[0] and (reel.part == row[1] or (row[1], reel.part) in archive.alternates) for row in sheet)
+        fits = any(
+            slot == row[0] and (reel.part == row[1] or (row[1], reel.part) in archive.alternates)
+            for row in sheet
+        )
         if not fits:
             self.messages.say_sheet(minute, product, machine, [(slot, reel.part, ["X1"])])
         word = "MaterialsSpliced" if is_splice else "MaterialsLoaded"
@@ -272,8 +347,14 @@ def begun(archive, checksum, at=None, loads=True, name=""):
     if at is not None and at > end:
         messages.say(at, "ClockSet")
     its = {uid: number for number, uid, _, _ in archive.identity.rows}
-    names = [(its.get(uid, 0), uid, identity.SOURCE, end) for uid in (archive.identity.name or name, identity.BEGUN) if uid]
-    room = max(0, archive.greatest - len(messages.lines)) // 2  # a desk of few commands has room for its own
+    names = [
+        (its.get(uid, 0), uid, identity.SOURCE, end)
+        for uid in (archive.identity.name or name, identity.BEGUN)
+        if uid
+    ]
+    room = (
+        max(0, archive.greatest - len(messages.lines)) // 2
+    )  # a desk of few commands has room for its own
     archive.unknown = len(archive.known) - min(room, KNOWN_IN_ALL, len(archive.known))
     archive.known = archive.known[: len(archive.known) - archive.unknown]
     messages.say_known([*names, *archive.known])
@@ -285,7 +366,9 @@ def setup(uid, source, stamp, body):
     text = io.StringIO()
     rows = [[row["Slot"], row["PartNumber"], " ".join(row["Designators"])] for row in body["Rows"]]
     csv.writer(text, lineterminator="\n").writerows([["slot", "part", "designators"], *rows])
-    return Setup(uid, source, stamp, body["Product"], body["Machine"], text.getvalue().removesuffix("\n"))
+    return Setup(
+        uid, source, stamp, body["Product"], body["Machine"], text.getvalue().removesuffix("\n")
+    )
 
 
 def spelled(minute):
@@ -294,14 +377,20 @@ def spelled(minute):
 
 def minute_of(text):
     """The minute of a time in UTC; an offset is taken off."""
-    found = re.fullmatch(r"(\d{4}-\d\d-\d\d)[T ](\d\d:\d\d)(?::\d\d(?:\.\d+)?)?(Z|[+-]\d\d:\d\d)?", text)
+    found = re.fullmatch(
+        r"(\d{4}-\d\d-\d\d)[T ](\d\d:\d\d)(?::\d\d(?:\.\d+)?)?(Z|[+-]\d\d:\d\d)?", text
+    )
     try:
         if not found:
             raise ValueError(text)
-        moment = datetime.datetime.fromisoformat(f"{found[1]}T{found[2]}:00" + (found[3] or "Z").replace("Z", "+00:00"))
+        moment = datetime.datetime.fromisoformat(
+            f"{found[1]}T{found[2]}:00" + (found[3] or "Z").replace("Z", "+00:00")
+        )
     except ValueError:
         raise argparse.ArgumentTypeError("a time is written as 2026-03-02T06:00:00Z")
-    minute = (moment - catalogue.EPOCH.replace(tzinfo=datetime.timezone.utc)) // datetime.timedelta(minutes=1)
+    minute = (moment - catalogue.EPOCH.replace(tzinfo=datetime.timezone.utc)) // datetime.timedelta(
+        minutes=1
+    )
     if minute < 0:
         raise argparse.ArgumentTypeError("a time is from 1970 on")
     return minute
@@ -310,5 +399,7 @@ def minute_of(text):
 def identifier(text):
     """A name of the desk's."""
     if not re.fullmatch(r"[!-~]([ -~]{0,62}[!-~])?", text):
-        raise argparse.ArgumentTypeError("a name is 1 to 64 printable ASCII letters, without a space at its ends")
+        raise argparse.ArgumentTypeError(
+            "a name is 1 to 64 printable ASCII letters, without a space at its ends"
+        )
     return text

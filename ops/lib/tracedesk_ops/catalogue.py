@@ -31,12 +31,27 @@ from tracedesk_ops import copies
 
 FILE_NAME = "catalogue.csv"
 RUNNING = "running desk"  # in the place of an archive's name
-HEADER = ("file", "sha256", "desk", "first_minute", "last_minute", "commands", "pieces", "from", "to", "name")
+HEADER = (
+    "file",
+    "sha256",
+    "desk",
+    "first_minute",
+    "last_minute",
+    "commands",
+    "pieces",
+    "from",
+    "to",
+    "name",
+)
 EPOCH = datetime.datetime(1970, 1, 1)
 CHUNK = 1 << 20
 LOGS = copies.LOGS
 MAGIC = b"SQLite format 3\0"
-PLANS, ASIDE, LACKS = "rollover-*/plan.json", "aside", "restore.json"  # beside the archive's folder: what roll-overs and restores leave
+PLANS, ASIDE, LACKS = (
+    "rollover-*/plan.json",
+    "aside",
+    "restore.json",
+)  # beside the archive's folder: what roll-overs and restores leave
 ENTRIES = "lacks-*.json"  # in the archive's folder: what a copy lacks that became the desk
 STAY = (ENTRIES, "untraced.csv")  # of the archive's folder, whichever desk is put in place
 LONGEST_EMPTY_LOG = 56  # bytes: the head of a log and that of a page, without the page
@@ -48,6 +63,7 @@ class CatalogueError(Exception):
 
 class Archive(NamedTuple):
     """A line of the catalogue; minutes are whole minutes since 1970-01-01T00:00Z."""
+
     file: str
     sha256: str
     desk: str
@@ -133,7 +149,9 @@ def survey_text(path, text):
                 faults.append(f"{path}, line {rows.line_num}: {fault}")
                 continue
             if archive.file in lines:
-                faults.append(f"{path}, line {rows.line_num}: {archive.file} stands in line {lines[archive.file][0]} too")
+                faults.append(
+                    f"{path}, line {rows.line_num}: {archive.file} stands in line {lines[archive.file][0]} too"
+                )
             lines.setdefault(archive.file, (rows.line_num, archive))
     except UnicodeDecodeError as fault:
         faults.append(f"{path}: it can't be read: {fault}")
@@ -158,12 +176,26 @@ def archive_of(row, header):
         raise ValueError("file or desk is empty")
     if not re.fullmatch(r"[0-9a-f]{64}", said["sha256"]):
         raise ValueError(f"sha256 is not 64 of the digits 0-9 and a-f: {said['sha256']!r}")
-    minutes, numbers = (minute_of, "a minute as 2026-03-02T06:00:00Z"), (number_of, "a whole number")
+    minutes, numbers = (minute_of, "a minute as 2026-03-02T06:00:00Z"), (
+        number_of,
+        "a whole number",
+    )
     first, last = (read_field(said, name, *minutes) for name in ("first_minute", "last_minute"))
     commands, pieces = (read_field(said, name, *numbers) for name in ("commands", "pieces"))
     if first > last:
         raise ValueError("first_minute is after last_minute")
-    return Archive(said["file"], said["sha256"], said["desk"], first, last, commands, pieces, said["from"], said["to"], said.get("name", ""))
+    return Archive(
+        said["file"],
+        said["sha256"],
+        said["desk"],
+        first,
+        last,
+        commands,
+        pieces,
+        said["from"],
+        said["to"],
+        said.get("name", ""),
+    )
 
 
 def read_field(said, name, reader, kind):
@@ -193,7 +225,9 @@ def want_chains(path, lines):
             if other and other not in lines:
                 raise CatalogueError(f"{path}, line {number}: {name} is {other}, which has no line")
             if other and (lines[other][1][back] != it.file or lines[other][1].desk != it.desk):
-                raise CatalogueError(f"{path}, line {number}: {name} is {other}, and line {lines[other][0]} doesn't say so of {it.file}")
+                raise CatalogueError(
+                    f"{path}, line {number}: {name} is {other}, and line {lines[other][0]} doesn't say so of {it.file}"
+                )
 
 
 # --- What lies around a catalogue
@@ -203,14 +237,20 @@ def has_no_archives(path):
     """Whether a line has none yet: there is no catalogue, and nothing lies where it would be. Where all around is empty too, a disk may not be mounted."""
     folder = path.parent
     with contextlib.suppress(OSError):  # that is told where the catalogue is read
-        return not path.exists() and (all(any(map(it.match, STAY)) or it.suffix == ".new" for it in folder.iterdir()) if folder.exists() else folder.parent.is_dir() and any(folder.parent.iterdir()))
+        return not path.exists() and (
+            all(any(map(it.match, STAY)) or it.suffix == ".new" for it in folder.iterdir())
+            if folder.exists()
+            else folder.parent.is_dir() and any(folder.parent.iterdir())
+        )
     return False
 
 
 def unasked(path, archives, desks=()):
     """What may have commands that no archive of the catalogue has, or has them twice; each with what to do. The desks' files may be in another folder."""
     try:
-        yield from lying_around(path, archives, sorted({path.parent.parent, *(it.parent for it in desks)}))
+        yield from lying_around(
+            path, archives, sorted({path.parent.parent, *(it.parent for it in desks)})
+        )
     except OSError as fault:
         yield f"{fault.filename}: it can't be read, so it isn't known whether it has something of the line: {fault.strerror}"
 
@@ -220,13 +260,17 @@ def lying_around(path, archives, around):
     for file in sorted(path.parent.iterdir()) if path.parent.exists() else ():
         if file.name not in named and is_database(file):
             yield f"{file}: it lies beside {path.name}, which has no line of it: if it is an archive, call tracedesk-settle --catalogue, else move it elsewhere"
-    for room in sorted(it for folder in around for it in folder.iterdir() if it.match(PLANS.partition("/")[0])):
+    for room in sorted(
+        it for folder in around for it in folder.iterdir() if it.match(PLANS.partition("/")[0])
+    ):
         if (plan := room / PLANS.partition("/")[2]).exists():
             yield f"{plan}: a roll-over is on its way or was cut off, so commands may be in two files: ask again later, or call tracedesk-rollover; a folder that stays, move out of {around}"
     for entry in sorted(path.parent.glob(ENTRIES)):
         if lacks(entry):
             yield f"{entry}: a copy was restored that lacks what the desk had accepted: once its senders have sent that again, delete this entry"
-    for aside in sorted(it for folder in around if (folder / ASIDE).exists() for it in (folder / ASIDE).iterdir()):
+    for aside in sorted(
+        it for folder in around if (folder / ASIDE).exists() for it in (folder / ASIDE).iterdir()
+    ):
         if aside.is_dir() and any(aside.iterdir()) and lacks(aside / LACKS):
             yield f"{aside}: a restore put it aside, and nobody asks it: once its senders have sent again what it has, move it elsewhere"
 
@@ -260,18 +304,26 @@ def check(path, archive):
     """Stops where an archive of the catalogue is not there, has a log, or is not the file that its line is of."""
     file = path_of(path, archive)
     if log := log_of(file):
-        raise CatalogueError(f"{file}: {log.name} lies beside it, and an archive stands whole without a log")
+        raise CatalogueError(
+            f"{file}: {log.name} lies beside it, and an archive stands whole without a log"
+        )
     try:
         told = sha256_of(file)
     except OSError as fault:
-        raise CatalogueError(f"{file}: {path} has a line of it, and it can't be read: {fault.strerror}") from fault
+        raise CatalogueError(
+            f"{file}: {path} has a line of it, and it can't be read: {fault.strerror}"
+        ) from fault
     if told != archive.sha256:
-        raise CatalogueError(f"{file}: its checksum is {told}, and in {path} {archive.sha256}: take it from a backup")
+        raise CatalogueError(
+            f"{file}: its checksum is {told}, and in {path} {archive.sha256}: take it from a backup"
+        )
 
 
 def opened(file):
     """A file that stands whole, as a database. It is not written any more, so nothing is locked or made beside it."""
-    return copies.database(f"file:{urllib.parse.quote(os.fsencode(file))}?mode=ro&immutable=1", uri=True)
+    return copies.database(
+        f"file:{urllib.parse.quote(os.fsencode(file))}?mode=ro&immutable=1", uri=True
+    )
 
 
 @contextlib.contextmanager
@@ -286,10 +338,15 @@ def unchanged(path, archive, checked=True):
             yield database
         after = os.stat(file)
     except OSError as fault:
-        raise CatalogueError(f"{file}: {path} has a line of it, and it can't be read: {fault.strerror}") from fault
+        raise CatalogueError(
+            f"{file}: {path} has a line of it, and it can't be read: {fault.strerror}"
+        ) from fault
     except sqlite3.Error as fault:
         raise CatalogueError(f"{file}: {fault}") from fault
-    if any(getattr(before, it) != getattr(after, it) for it in ("st_dev", "st_ino", "st_size", "st_mtime_ns")):
+    if any(
+        getattr(before, it) != getattr(after, it)
+        for it in ("st_dev", "st_ino", "st_size", "st_mtime_ns")
+    ):
         raise CatalogueError(f"{file}: it was changed while it was asked: ask again")
 
 
@@ -305,7 +362,9 @@ def log_of(file):
 def in_turn(archives):
     """Archives in the order of their chains: each right behind the one that it went on from, whatever their minutes say."""
     by_file, turn = {it.file: it for it in archives}, {}
-    for it in sorted(archives, key=lambda it: it.went_on_from in by_file):  # first those that begin a chain
+    for it in sorted(
+        archives, key=lambda it: it.went_on_from in by_file
+    ):  # first those that begin a chain
         while it and it.file not in turn:
             turn[it.file] = it
             it = by_file.get(it.went_on_to)
@@ -319,14 +378,21 @@ def add(path, archive):
     """Adds a line, if it isn't there. The archive that `from` names goes on to this one from now on."""
     with changed(path) as archives:
         if archive not in archives:
-            archives[:] = [it._replace(went_on_to=archive.file) if it.file == archive.went_on_from else it for it in archives]
+            archives[:] = [
+                it._replace(went_on_to=archive.file) if it.file == archive.went_on_from else it
+                for it in archives
+            ]
             archives.append(archive)
 
 
 def take_out(path, archive):
     """Takes the line of an archive out that went on to none; the one before it goes on to the running desk again."""
     with changed(path) as archives:
-        archives[:] = [it._replace(went_on_to="") if it.went_on_to == archive.file else it for it in archives if it != archive]
+        archives[:] = [
+            it._replace(went_on_to="") if it.went_on_to == archive.file else it
+            for it in archives
+            if it != archive
+        ]
 
 
 @contextlib.contextmanager
@@ -393,5 +459,8 @@ def keep(path):
 
 
 def row_of(archive):
-    row = archive._asdict() | {"first_minute": spelled(archive.first_minute), "last_minute": spelled(archive.last_minute)}
+    row = archive._asdict() | {
+        "first_minute": spelled(archive.first_minute),
+        "last_minute": spelled(archive.last_minute),
+    }
     return list(row.values())

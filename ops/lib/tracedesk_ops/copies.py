@@ -16,7 +16,10 @@ import sqlite3
 import struct
 import tempfile
 
-LOGS = ("-wal", "-journal")  # beside a desk's file, and part of it; the second only where its making was cut off
+LOGS = (
+    "-wal",
+    "-journal",
+)  # beside a desk's file, and part of it; the second only where its making was cut off
 LOCKED_FROM, LOCKED = 1 << 30, 512  # where SQLite's locks of a file lie
 FLOCK = "hhqqi0q"  # Linux' struct flock of 64 bits: type, whence, start, length, process
 
@@ -42,7 +45,9 @@ def copy(file, to):
             fcntl.lockf(source, fcntl.LOCK_SH | fcntl.LOCK_NB, LOCKED, LOCKED_FROM)
         except BlockingIOError:
             raise InUse() from None
-        with open(to, "xb") as target:  # not by name: the lock ends with the first closing of the file in this process
+        with open(
+            to, "xb"
+        ) as target:  # not by name: the lock ends with the first closing of the file in this process
             shutil.copyfileobj(source, target)
         for log in LOGS:
             if os.path.exists(file + log):

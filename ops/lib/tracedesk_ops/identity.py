@@ -22,13 +22,17 @@ from tracedesk_ops import catalogue, stored
 
 SOURCE, BEGUN = "tracedesk", "desk-begun"
 NAME = re.compile("desk-[0-9a-f]{32}")
-MARK = re.compile(r"begin-([0-9a-f]{24}|\d+-\d+)-1")  # the second up to 0.2.0: the archive's last minute, and how many commands it has
+MARK = re.compile(
+    r"begin-([0-9a-f]{24}|\d+-\d+)-1"
+)  # the second up to 0.2.0: the archive's last minute, and how many commands it has
 CHECKSUM = 24  # digits of an archive's checksum in a mark
 
 
 class Identity(NamedTuple):
     """Who a desk is. `name` is empty where it has none yet, `mark` where it was begun from no archive; `begun` is the number of the last
-    message of its beginning, `taken` how many commands it has from others since, and `rows` are the commands of its name."""
+    message of its beginning, `taken` how many commands it has from others since, and `rows` are the commands of its name.
+    """
+
     name: str
     mark: str
     begun: int
@@ -44,11 +48,21 @@ def read(database):
     ((commands, minute),) = rows("SELECT count(*), coalesce(max(effective), 0) FROM accepted")
     mark, begun = begun_from(database), 0
     if mark:
-        ((begun,),) = rows("SELECT max(number) FROM accepted WHERE uid = ? || number AND source = (SELECT source FROM accepted WHERE number = 1)", f"begin-{mark}-")
-    its = rows("SELECT number, uid, source, own FROM accepted WHERE source = ? AND command = 'ClockSet' AND uid LIKE 'desk-%' ORDER BY number", SOURCE)
+        ((begun,),) = rows(
+            "SELECT max(number) FROM accepted WHERE uid = ? || number AND source = (SELECT source FROM accepted WHERE number = 1)",
+            f"begin-{mark}-",
+        )
+    its = rows(
+        "SELECT number, uid, source, own FROM accepted WHERE source = ? AND command = 'ClockSet' AND uid LIKE 'desk-%' ORDER BY number",
+        SOURCE,
+    )
     name = next((uid for _, uid, _, _ in its if NAME.fullmatch(uid)), "")
-    ((taken,),) = rows("SELECT count(*) FROM accepted WHERE number > ? AND source <> ?", begun, SOURCE)
-    return Identity(name, mark, begun, commands, taken, minute, [it for it in its if it[1] in (name, BEGUN)])
+    ((taken,),) = rows(
+        "SELECT count(*) FROM accepted WHERE number > ? AND source <> ?", begun, SOURCE
+    )
+    return Identity(
+        name, mark, begun, commands, taken, minute, [it for it in its if it[1] in (name, BEGUN)]
+    )
 
 
 def begun_from(database):
@@ -86,7 +100,9 @@ def new_name():
 
 def naming(desk, name=""):
     """The messages that a desk lacks to have a name, this one or a new one, and to say that it was begun from an archive."""
-    uids = ([] if desk.name else [name or new_name()]) + ([BEGUN] if desk.mark and BEGUN not in {it[1] for it in desk.rows} else [])
+    uids = ([] if desk.name else [name or new_name()]) + (
+        [BEGUN] if desk.mark and BEGUN not in {it[1] for it in desk.rows} else []
+    )
     return [stored.line(uid, SOURCE, desk.minute, "ClockSet", {}) for uid in uids]
 
 
@@ -95,12 +111,18 @@ def naming(desk, name=""):
 
 def follows(mark, archive):
     """Whether a desk with this mark was begun from this archive of a catalogue."""
-    return bool(mark) and mark in (archive.sha256[:CHECKSUM], f"{archive.last_minute}-{archive.commands}")
+    return bool(mark) and mark in (
+        archive.sha256[:CHECKSUM],
+        f"{archive.last_minute}-{archive.commands}",
+    )
 
 
 def first_uids(archive):
     """The first UniqueIDs, one of which the desk has that was begun from an archive."""
-    return f"begin-{archive.sha256[:CHECKSUM]}-1", f"begin-{archive.last_minute}-{archive.commands}-1"
+    return (
+        f"begin-{archive.sha256[:CHECKSUM]}-1",
+        f"begin-{archive.last_minute}-{archive.commands}-1",
+    )
 
 
 def chain(path, archives, mark):
@@ -109,23 +131,35 @@ def chain(path, archives, mark):
     while mark:
         it = next((it for it in archives if follows(mark, it)), None)
         if it is None or it in found:
-            return found, [f"{path}: no archive has the checksum {mark}.., from which {found[-1].file if found else 'the desk'} was begun: take it from a copy, and give it to the owner of its folder"]
+            return found, [
+                f"{path}: no archive has the checksum {mark}.., from which {found[-1].file if found else 'the desk'} was begun: take it from a copy, and give it to the owner of its folder"
+            ]
         found.append(it)
         try:
             mark = mark_of(catalogue.path_of(path, it))
         except (OSError, sqlite3.Error) as fault:
-            return found, [f"{catalogue.path_of(path, it)}: it can't be read: {fault}: take it from a copy, and give it to the owner of its folder"]
+            return found, [
+                f"{catalogue.path_of(path, it)}: it can't be read: {fault}: take it from a copy, and give it to the owner of its folder"
+            ]
     return found, []
 
 
 def gaps(path, archives, marks=()):
     """Which archives of a catalogue, and desks with these marks, were begun from one that is not in it. An archive that can't be read says nothing here."""
-    there = {it for archive in archives for it in (archive.sha256[:CHECKSUM], f"{archive.last_minute}-{archive.commands}")}
+    there = {
+        it
+        for archive in archives
+        for it in (archive.sha256[:CHECKSUM], f"{archive.last_minute}-{archive.commands}")
+    }
     begun = [("the desk", it) for it in marks]
     for it in archives:
         with contextlib.suppress(OSError, sqlite3.Error):
             begun.append((it.file, mark_of(catalogue.path_of(path, it))))
-    return [f"{path}: no archive has the checksum {mark}.., from which {name} was begun: take it from a copy, and give it to the owner of its folder" for name, mark in begun if mark and mark not in there]
+    return [
+        f"{path}: no archive has the checksum {mark}.., from which {name} was begun: take it from a copy, and give it to the owner of its folder"
+        for name, mark in begun
+        if mark and mark not in there
+    ]
 
 
 # --- A running desk
@@ -133,7 +167,13 @@ def gaps(path, archives, marks=()):
 
 def question(uid):
     """A message that every desk refuses, and which tells whether the desk has accepted the UniqueID: it unloads a slot that no sheet names."""
-    return stored.line(uid, SOURCE, 0, "MaterialsUnloaded", {"Machine": f"none-{secrets.token_hex(16)}", "Slot": "-"}).encode()
+    return stored.line(
+        uid,
+        SOURCE,
+        0,
+        "MaterialsUnloaded",
+        {"Machine": f"none-{secrets.token_hex(16)}", "Slot": "-"},
+    ).encode()
 
 
 def has_it(status, body):
@@ -147,9 +187,18 @@ def has_it(status, body):
 def rows_of(columns, status, body):
     """The rows of a report, each by its columns, or none where the desk doesn't know what is asked; a ValueError where it is another answer."""
     with contextlib.suppress(ValueError, AttributeError):
-        if status == 404 and (answer := json.loads(body)).get("Answer") == "NotFound" and answer.get("Kind") != "Path":
+        if (
+            status == 404
+            and (answer := json.loads(body)).get("Answer") == "NotFound"
+            and answer.get("Kind") != "Path"
+        ):
             return None
     header, *rows = [*csv.reader(io.StringIO(body, newline=""))] or [[]]
-    if status != 200 or ",".join(header) != columns or any(len(row) != len(header) for row in rows) or not body.endswith("\n"):
+    if (
+        status != 200
+        or ",".join(header) != columns
+        or any(len(row) != len(header) for row in rows)
+        or not body.endswith("\n")
+    ):
         raise ValueError(f"is answered with status {status}: {body[:100].strip()}")
     return [dict(zip(header, row)) for row in rows]

@@ -23,18 +23,25 @@ STOP, PORT = "systemctl stop tracedesk", 8080
 START = "systemctl reset-failed tracedesk; systemctl start tracedesk"  # it may have failed too often, on a desk that was not to be had
 PROXY_PORT = 8081  # packaging/nginx.conf
 COPIES = pathlib.Path("/var/backups/tracedesk")
-SET_UP = pathlib.Path(os.environ.get("TRACEDESK_SET_UP", "/etc/tracedesk"))  # a file LINE.conf for each line that this machine serves
+SET_UP = pathlib.Path(
+    os.environ.get("TRACEDESK_SET_UP", "/etc/tracedesk")
+)  # a file LINE.conf for each line that this machine serves
 WORDS = ("line", "db", "archive", "copies", "port", "url", "stop", "start")  # of such a file
 PROXYS = "certificates.conf"  # which lies there too: packaging/nginx.conf
 DRAINED = pathlib.Path("/run/tracedesk-drained")  # packaging/nginx.conf looks for it
 SECONDS_A_MILLION = 19  # of a start, for a million placed pieces: docs/figures.md, "A file's start"
-QUIET = float(os.environ.get("TRACEDESK_QUIET", 1))  # seconds without a connection, after which nobody waits for an answer any more; ops/tests/evidence-faults is in a hurry
+QUIET = float(
+    os.environ.get("TRACEDESK_QUIET", 1)
+)  # seconds without a connection, after which nobody waits for an answer any more; ops/tests/evidence-faults is in a hurry
 CONNECTED, LISTENING = ("01", "08"), "0A"  # in /proc/net/tcp: open, or closed by the client alone
 LONGEST_OTHER = 3600  # seconds that another roll-over or backup may take
 PLAN = "plan.json"  # of a roll-over
 PATIENCE = 120  # seconds that a start may take beside what the pieces ask for
 LIBC, PR_SET_PDEATHSIG = ctypes.CDLL(None), 1
-TEXT: dict = {"encoding": sys.getfilesystemencoding(), "errors": "surrogateescape"}  # of what a program prints: it may name files
+TEXT: dict = {
+    "encoding": sys.getfilesystemencoding(),
+    "errors": "surrogateescape",
+}  # of what a program prints: it may name files
 KILL_AFTER = "TRACEDESK_KILL_AFTER"  # a step of a tool, for its test
 keep = catalogue.keep
 
@@ -78,11 +85,18 @@ def want_room(folder, size, what):
     """Stops where a disk can't hold what is to be made, before anything is stopped for it."""
     free = shutil.disk_usage(folder).free
     if free < size:
-        raise Fault(f"{free:,} bytes are free in {folder}, and {size:,.0f} are wanted for {what}: make room")
+        raise Fault(
+            f"{free:,} bytes are free in {folder}, and {size:,.0f} are wanted for {what}: make room"
+        )
 
 
 def offer_program(reader):
-    reader.add_argument("--program", default=os.environ.get("PROGRAM", "tracedesk"), metavar="FILE", help="the program (PROGRAM in the environment, else tracedesk)")
+    reader.add_argument(
+        "--program",
+        default=os.environ.get("PROGRAM", "tracedesk"),
+        metavar="FILE",
+        help="the program (PROGRAM in the environment, else tracedesk)",
+    )
 
 
 def find_program(reader, asked):
@@ -106,27 +120,53 @@ def set_ups():
     found = []
     for file in sorted(it for it in SET_UP.glob("*.conf") if it.name != PROXYS):
         try:
-            rows = [it.partition("=") for it in file.read_text(encoding="utf-8-sig").splitlines() if it.strip() and not it.lstrip().startswith("#")]
+            rows = [
+                it.partition("=")
+                for it in file.read_text(encoding="utf-8-sig").splitlines()
+                if it.strip() and not it.lstrip().startswith("#")
+            ]
         except (OSError, UnicodeDecodeError) as fault:
             raise Fault(f"{file} can't be read: {fault}") from fault
         its = {name.strip(): value.strip() for name, _, value in rows}
         names = [name.strip() for name, _, _ in rows]
-        if wrong := [name for name in its if name not in WORDS or not its[name] or names.count(name) > 1 or name in WORDS[1:4] and its[name][0] != "/"]:
-            raise Fault(f"{file}: {', '.join(wrong)} is none of {', '.join(WORDS)}, has no value, is there twice, or is no whole path, which begins with /")
+        if wrong := [
+            name
+            for name in its
+            if name not in WORDS
+            or not its[name]
+            or names.count(name) > 1
+            or name in WORDS[1:4]
+            and its[name][0] != "/"
+        ]:
+            raise Fault(
+                f"{file}: {', '.join(wrong)} is none of {', '.join(WORDS)}, has no value, is there twice, or is no whole path, which begins with /"
+            )
         if "line" not in its:
             raise Fault(f"{file} names no line: write line = LINE into it, or take it away")
         its = {"db": str(DESK), "port": str(PORT), "copies": str(COPIES), **its}
-        found.append({"archive": f"{pathlib.Path(its['db']).parent}/archive", "url": f"http://127.0.0.1:{its['port']}", **its})
+        found.append(
+            {
+                "archive": f"{pathlib.Path(its['db']).parent}/archive",
+                "url": f"http://127.0.0.1:{its['port']}",
+                **its,
+            }
+        )
     for word in ("db", "line"):
-        if twice := {it[word] for it in found if [other[word] for other in found].count(it[word]) > 1}:
-            raise Fault(f"two files of {SET_UP} have {word} = {', '.join(twice)}: take one of them away")
+        if twice := {
+            it[word] for it in found if [other[word] for other in found].count(it[word]) > 1
+        }:
+            raise Fault(
+                f"two files of {SET_UP} have {word} = {', '.join(twice)}: take one of them away"
+            )
     return found
 
 
 def set_up(reader, **names):
     """Takes the words of a tool from the line's set-up file, as far as the command line doesn't say them. `names` are those of words that the tool calls otherwise."""
     if not any(action.dest == "line" for action in reader._actions):
-        reader.add_argument("--line", type=line_name, metavar="NAME", help="which line's, where several are set up")
+        reader.add_argument(
+            "--line", type=line_name, metavar="NAME", help="which line's, where several are set up"
+        )
     given = argparse.ArgumentParser(add_help=False, allow_abbrev=False)
     given.add_argument("--line")
     given.add_argument("--db")
@@ -137,24 +177,66 @@ def set_up(reader, **names):
         reader.error(str(fault))
     own = [its for its in those if it.line in (None, its["line"])]
     if len(own) > 1:
-        reader.error(f"the lines {', '.join(its['line'] for its in own)} are set up in {SET_UP}: say by --line which it is")
+        reader.error(
+            f"the lines {', '.join(its['line'] for its in own)} are set up in {SET_UP}: say by --line which it is"
+        )
     if those and not own:
-        reader.error(f"in {SET_UP} the lines {', '.join(its['line'] for its in those)} are set up, and not {it.line}: write {SET_UP}/{it.line}.conf, or name its desk by --db")
+        reader.error(
+            f"in {SET_UP} the lines {', '.join(its['line'] for its in those)} are set up, and not {it.line}: write {SET_UP}/{it.line}.conf, or name its desk by --db"
+        )
     known = {action.dest for action in reader._actions}
-    reader.set_defaults(**{names.get(name, name): value for its in own for name, value in its.items() if names.get(name, name) in known})
+    reader.set_defaults(
+        **{
+            names.get(name, name): value
+            for its in own
+            for name, value in its.items()
+            if names.get(name, name) in known
+        }
+    )
 
 
 def offer(reader):
     """Adds the words of both tools."""
-    reader.add_argument("--db", type=pathlib.Path, default=DESK, metavar="FILE", help=f"the desk's file ({DESK})")
-    reader.add_argument("--archive", type=pathlib.Path, metavar="FOLDER", help="the archived desks with their catalogue (archive, beside the file)")
+    reader.add_argument(
+        "--db", type=pathlib.Path, default=DESK, metavar="FILE", help=f"the desk's file ({DESK})"
+    )
+    reader.add_argument(
+        "--archive",
+        type=pathlib.Path,
+        metavar="FOLDER",
+        help="the archived desks with their catalogue (archive, beside the file)",
+    )
     offer_program(reader)
-    reader.add_argument("--stop", default=STOP, metavar="COMMAND", help=f"stops the service ({STOP})")
-    reader.add_argument("--start", default=START, metavar="COMMAND", help=f"starts the service ({START})")
-    reader.add_argument("--port", type=int, default=PORT, metavar="N", help=f"where the desk answers ({PORT})")
-    reader.add_argument("--drained", type=pathlib.Path, default=DRAINED, metavar="FILE", help=f"the proxy sends senders away while it is there ({DRAINED})")
-    reader.add_argument("--drain-seconds", type=float, default=30, metavar="N", help="how long the last answers may take (30)")
-    reader.add_argument("--proxy-port", type=int, default=PROXY_PORT, metavar="N", help=f"where the proxy counts its requests for this machine ({PROXY_PORT})")
+    reader.add_argument(
+        "--stop", default=STOP, metavar="COMMAND", help=f"stops the service ({STOP})"
+    )
+    reader.add_argument(
+        "--start", default=START, metavar="COMMAND", help=f"starts the service ({START})"
+    )
+    reader.add_argument(
+        "--port", type=int, default=PORT, metavar="N", help=f"where the desk answers ({PORT})"
+    )
+    reader.add_argument(
+        "--drained",
+        type=pathlib.Path,
+        default=DRAINED,
+        metavar="FILE",
+        help=f"the proxy sends senders away while it is there ({DRAINED})",
+    )
+    reader.add_argument(
+        "--drain-seconds",
+        type=float,
+        default=30,
+        metavar="N",
+        help="how long the last answers may take (30)",
+    )
+    reader.add_argument(
+        "--proxy-port",
+        type=int,
+        default=PROXY_PORT,
+        metavar="N",
+        help=f"where the proxy counts its requests for this machine ({PROXY_PORT})",
+    )
     set_up(reader, copies="to")
 
 
@@ -168,9 +250,13 @@ def understood(reader, wants_desk=True):
     """The words of the command line, with whole paths; it ends where they can't be followed."""
     asked = reader.parse_args()
     asked.archive = (asked.archive or asked.db.absolute().parent / "archive").absolute()
-    asked.db = asked.db.resolve() if asked.db.is_symlink() else asked.db.absolute()  # a link to it stays one
+    asked.db = (
+        asked.db.resolve() if asked.db.is_symlink() else asked.db.absolute()
+    )  # a link to it stays one
     find_program(reader, asked)
-    was_cut_off = (rolled_in(asked.db) / PLAN).exists() or (asked.db.parent / catalogue.ASIDE).exists()
+    was_cut_off = (rolled_in(asked.db) / PLAN).exists() or (
+        asked.db.parent / catalogue.ASIDE
+    ).exists()
     if wants_desk and not asked.db.is_file() and not was_cut_off:
         reader.error(f"there is no file {asked.db}: name the desk's file by --db")
     if asked.archive == asked.db.parent:
@@ -191,8 +277,11 @@ def ends_by_exception():
 
     def end(number, _):
         for it in numbers:
-            signal.signal(it, lambda *_: None)  # what is ignored, the service that is started would ignore too
+            signal.signal(
+                it, lambda *_: None
+            )  # what is ignored, the service that is started would ignore too
         raise Fault(f"it was stopped by {signal.Signals(number).name}")
+
     for number in numbers:
         signal.signal(number, end)
 
@@ -208,9 +297,13 @@ def alone(db):
 def want_settled(db):
     """Stops where a roll-over or a restore was cut off: commands may be in two files; or the desk is gone, or it has a second name, and no run opens such a file."""
     if (plan := rolled_in(db) / PLAN).exists():
-        raise Fault(f"{plan} is of a roll-over that was cut off, so that commands may be in two files: call tracedesk-rollover, or stop the service and call tracedesk-settle")
+        raise Fault(
+            f"{plan} is of a roll-over that was cut off, so that commands may be in two files: call tracedesk-rollover, or stop the service and call tracedesk-settle"
+        )
     if not db.exists() or db.stat().st_nlink > 1:
-        raise Fault(f"{db} is gone or has a second name, so a restore was cut off: call tracedesk-backup --restore again, or tracedesk-settle")
+        raise Fault(
+            f"{db} is gone or has a second name, so a restore was cut off: call tracedesk-backup --restore again, or tracedesk-settle"
+        )
 
 
 @contextlib.contextmanager
@@ -277,7 +370,9 @@ class Held:
 
     def __init__(self, db):
         self.file = open(db, "r+b")
-        take = lambda: fcntl.lockf(self.file, fcntl.LOCK_EX | fcntl.LOCK_NB, copies.LOCKED, copies.LOCKED_FROM)
+        take = lambda: fcntl.lockf(
+            self.file, fcntl.LOCK_EX | fcntl.LOCK_NB, copies.LOCKED, copies.LOCKED_FROM
+        )
         try:
             wait_for_lock(take, 5, f"a run has {db} open that was started meanwhile")
         except Fault:
@@ -299,9 +394,11 @@ class Held:
 
 def wait_until_closed(db, seconds):
     """Waits until no run has a file open: a service that is still ending, or an audit whose caller was killed."""
+
     def take():
         if is_open(db):
             raise BlockingIOError
+
     wait_for_lock(take, seconds, f"a run has {db} open")
 
 
@@ -335,12 +432,17 @@ def without_log(file):
 
 class Program:
     """The program, run as the owner of the desk's file where root calls, so that nothing beside that file is root's. A run ends with the tool,
-    also where that is killed: else it would have a file open that the next call of the tool wants."""
+    also where that is killed: else it would have a file open that the next call of the tool wants.
+    """
 
     def __init__(self, program, db):
         self.program, owner = program, (db if db.exists() else db.parent).stat()
         self.uid, self.gid = owner.st_uid, owner.st_gid
-        self.how = {} if os.geteuid() or not self.uid else {"user": self.uid, "group": self.gid, "extra_groups": []}
+        self.how = (
+            {}
+            if os.geteuid() or not self.uid
+            else {"user": self.uid, "group": self.gid, "extra_groups": []}
+        )
         self.parent = os.getpid()
 
     def give(self, path):
@@ -357,22 +459,37 @@ class Program:
             os._exit(1)
 
     def run(self, *words, **how):
-        return subprocess.run([self.program, *map(str, words)], preexec_fn=self.end_with_the_tool, **self.how, **how)
+        return subprocess.run(
+            [self.program, *map(str, words)], preexec_fn=self.end_with_the_tool, **self.how, **how
+        )
 
     def audit(self, file):
         """How many commands a lawful desk has; a Fault says what else the audit found."""
-        done = self.run("audit", "--db", file, stdin=subprocess.DEVNULL, capture_output=True, **TEXT)
+        done = self.run(
+            "audit", "--db", file, stdin=subprocess.DEVNULL, capture_output=True, **TEXT
+        )
         lawful = re.fullmatch(r"lawful (\d+)\n", done.stdout)
         if done.returncode or not lawful:
             said = " ".join((done.stdout + done.stderr).split())
-            raise Fault(f"the audit of {file} ended with status {done.returncode}: {said}; docs/operations.md, 'What is said, and what to do'")
+            raise Fault(
+                f"the audit of {file} ended with status {done.returncode}: {said}; docs/operations.md, 'What is said, and what to do'"
+            )
         return int(lawful[1])
 
     def named(self, db, desk, name=""):
         """Gives a desk that no run has open a name, where it has none; whether it got one."""
-        if not desk.commands or not (lines := identity.naming(desk, name)):  # without a command it has no minute, and nothing that could be lost
+        if not desk.commands or not (
+            lines := identity.naming(desk, name)
+        ):  # without a command it has no minute, and nothing that could be lost
             return False
-        done = self.run("feed", "--db", db, input="".join(f"{it}\n" for it in lines), capture_output=True, **TEXT)
+        done = self.run(
+            "feed",
+            "--db",
+            db,
+            input="".join(f"{it}\n" for it in lines),
+            capture_output=True,
+            **TEXT,
+        )
         if done.stdout.count('"Answer":"Accepted"') != len(lines):
             raise Fault(f"{db} gets no name: {' '.join((done.stdout + done.stderr).split())}")
         return True
@@ -387,7 +504,12 @@ class Service:
 
     def __init__(self, asked, always=True, cut_off=False):
         self.commands = {"stop": asked.stop, "start": asked.start}
-        self.db, self.port, self.drained, self.drain_seconds = asked.db, asked.port, asked.drained, asked.drain_seconds
+        self.db, self.port, self.drained, self.drain_seconds = (
+            asked.db,
+            asked.port,
+            asked.drained,
+            asked.drain_seconds,
+        )
         self.proxy_port = asked.proxy_port
         self.cut_off = cut_off or asked.drained.exists()
         self.starts = always or self.cut_off or is_open(asked.db)
@@ -397,26 +519,40 @@ class Service:
         """Sends new senders away, and waits until those that are in have their answers. Where somebody stays it goes on, or gives up."""
         opened, taken = self.db.exists() and is_open(self.db), self.is_taken()
         if self.db.exists() and not opened and taken:
-            raise Fault(f"no run has {self.db} open, and something answers on port {self.port}: say by --port where this desk answers")
+            raise Fault(
+                f"no run has {self.db} open, and something answers on port {self.port}: say by --port where this desk answers"
+            )
         if gives_up and opened and not taken:
-            raise Fault(f"a run has {self.db} open, and nothing answers on port {self.port}: say by --port where this desk answers")
+            raise Fault(
+                f"a run has {self.db} open, and nothing answers on port {self.port}: say by --port where this desk answers"
+            )
         with as_caller():
             if self.drained.parent.is_dir():
                 self.drained.touch()
         end = time.monotonic() + self.drain_seconds
         while self.requests() and time.monotonic() < end:
             time.sleep(0.05)
-        met, quiet, end = connections(self.port)[1], time.monotonic(), time.monotonic() + self.drain_seconds
+        met, quiet, end = (
+            connections(self.port)[1],
+            time.monotonic(),
+            time.monotonic() + self.drain_seconds,
+        )
         while time.monotonic() - quiet < QUIET:
             connected, those = connections(self.port)
             if connected or those - met:
                 quiet = time.monotonic()
             met |= those
             if time.monotonic() > end:
-                told = f"after {self.drain_seconds:g} seconds somebody still sends to port {self.port}"
+                told = (
+                    f"after {self.drain_seconds:g} seconds somebody still sends to port {self.port}"
+                )
                 if gives_up:
-                    raise Fault(f"{told}: stop that sender, or let it send through the proxy; or wait longer, by --drain-seconds")
-                tell(f"{told}; the service is stopped nevertheless, and the sender has to send again what it has no answer to")
+                    raise Fault(
+                        f"{told}: stop that sender, or let it send through the proxy; or wait longer, by --drain-seconds"
+                    )
+                tell(
+                    f"{told}; the service is stopped nevertheless, and the sender has to send again what it has no answer to"
+                )
                 return
             time.sleep(0.05)
 
@@ -435,7 +571,9 @@ class Service:
         while self.is_taken() and time.monotonic() < end:
             time.sleep(0.05)
         if self.is_taken():
-            raise Fault(f"the service is stopped, and something answers on port {self.port}: say by --port where this desk answers")
+            raise Fault(
+                f"the service is stopped, and something answers on port {self.port}: say by --port where this desk answers"
+            )
 
     def start(self, pieces=0):
         """Starts the service where it doesn't run, lets senders in once it answers, and returns how many seconds it was not there."""
@@ -466,8 +604,14 @@ class Service:
         end = time.monotonic() + seconds
         while not (is_open(self.db) and self.answers()):
             if time.monotonic() > end:
-                what = f"nothing answers on port {self.port}" if is_open(self.db) else f"no run has {self.db} open"
-                raise Fault(f"the service was started, and after {seconds} seconds {what}: journalctl --unit tracedesk")
+                what = (
+                    f"nothing answers on port {self.port}"
+                    if is_open(self.db)
+                    else f"no run has {self.db} open"
+                )
+                raise Fault(
+                    f"the service was started, and after {seconds} seconds {what}: journalctl --unit tracedesk"
+                )
             time.sleep(0.1)
 
     def is_taken(self):
@@ -495,5 +639,11 @@ def connections(port):
     """How many connections there are to a port of this machine, the waiting ones too; and all that were there in the last minute."""
     lines = pathlib.Path("/proc/net/tcp").read_text(encoding="ascii").splitlines()[1:]
     ends = f":{port:04X}"
-    fields = [it for it in map(str.split, lines) if it[3] != LISTENING and (it[1].endswith(ends) or it[2].endswith(ends))]
-    return sum(1 for it in fields if it[1].endswith(ends) and it[3] in CONNECTED), {frozenset(it[1:3]) for it in fields}
+    fields = [
+        it
+        for it in map(str.split, lines)
+        if it[3] != LISTENING and (it[1].endswith(ends) or it[2].endswith(ends))
+    ]
+    return sum(1 for it in fields if it[1].endswith(ends) and it[3] in CONNECTED), {
+        frozenset(it[1:3]) for it in fields
+    }

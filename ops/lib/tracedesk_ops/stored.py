@@ -54,7 +54,13 @@ def sheet(it):
 
 
 def receipt(it):
-    body = {"Reel": it.name(), "PartNumber": it.name(), "Lot": it.name(), "Level": it.name(), "Quantity": it.number()}
+    body = {
+        "Reel": it.name(),
+        "PartNumber": it.name(),
+        "Lot": it.name(),
+        "Level": it.name(),
+        "Quantity": it.number(),
+    }
     label = it.number()
     return body | ({"LabelMinutes": label} if body["Level"] == "6" else {})
 
@@ -73,9 +79,19 @@ BODIES = {  # what stands behind each word
     "MaterialsUnloaded": named("Machine", "Slot"),
     "WorkStarted": named("Machine", "Board"),
     "WorkCompleted": named("Machine", "Board"),
-    "MaterialsInstalled": lambda it: {"Machine": it.name(), "Board": it.name(), "Designators": it.list(it.name)},
-    "MaterialsScrapped": lambda it: {"Machine": it.name(), "Slot": it.name(), "Quantity": it.number()},
-    "CountsTaken": lambda it: {"Counts": it.list(lambda: {"Reel": it.name(), "Quantity": it.number()})},
+    "MaterialsInstalled": lambda it: {
+        "Machine": it.name(),
+        "Board": it.name(),
+        "Designators": it.list(it.name),
+    },
+    "MaterialsScrapped": lambda it: {
+        "Machine": it.name(),
+        "Slot": it.name(),
+        "Quantity": it.number(),
+    },
+    "CountsTaken": lambda it: {
+        "Counts": it.list(lambda: {"Reel": it.name(), "Quantity": it.number()})
+    },
     "ClockSet": named(),
 }
 
@@ -104,5 +120,11 @@ def message(uid, source, own, text):
 
 def line(uid, source, minute, word, said):
     """A message as a line. Its time has no offset, which is UTC to a desk: so the last day of the year 9999 is read too."""
-    envelope = {"MessageName": "TraceDesk." + word, "UniqueID": uid, "Source": source, "TimeStamp": catalogue.spelled(minute)[:-1], "MessageBody": said}
+    envelope = {
+        "MessageName": "TraceDesk." + word,
+        "UniqueID": uid,
+        "Source": source,
+        "TimeStamp": catalogue.spelled(minute)[:-1],
+        "MessageBody": said,
+    }
     return json.dumps(envelope, separators=(",", ":"))

@@ -25,7 +25,23 @@ from typing import NamedTuple
 from tracedesk_ops import catalogue, plant
 
 FILE_NAME, INBOX, COLLECTED, STATUS = "untraced.csv", "untraced", "collected.json", "untraced.json"
-HEADER = ("id", "kind", "at", "machine", "board", "what", "refusal", "place", "source", "by", "of", "became", "reason", "record", "chain")
+HEADER = (
+    "id",
+    "kind",
+    "at",
+    "machine",
+    "board",
+    "what",
+    "refusal",
+    "place",
+    "source",
+    "by",
+    "of",
+    "became",
+    "reason",
+    "record",
+    "chain",
+)
 RECORD = re.compile(r"[0-9a-f]{32}\.json")
 HANDLING = ("MaterialsLoaded", "MaterialsSpliced", "MaterialsUnloaded")
 BEGIN = "0" * 64
@@ -36,6 +52,7 @@ csv.field_size_limit(LONGEST)  # a row has its record as one field
 
 class Record(NamedTuple):
     """A record by its id; `told` is what it says, and `text` its bytes without the line feed."""
+
     id: str
     told: dict
     text: str
@@ -43,6 +60,7 @@ class Record(NamedTuple):
 
 class Book(NamedTuple):
     """What a line's file and inbox say: records in the order in which they came, and what is wrong."""
+
     records: list
     faults: list
 
@@ -50,9 +68,23 @@ class Book(NamedTuple):
 def record_of(text):
     """The record of these bytes; a ValueError says why they are none."""
     told = json.loads(text)
-    is_refused = isinstance(told, dict) and told.get("Kind") == "refused" and isinstance(told.get("Message"), dict) and isinstance(told.get("Answer"), dict)
-    is_decided = isinstance(told, dict) and told.get("Kind") == "decided" and all(isinstance(told.get(it), str) for it in ("Of", "By", "Reason", "Became"))
-    if not (is_refused or is_decided) or not isinstance(told.get("At"), str) or not text.endswith(b"\n") or text.count(b"\n") != 1:
+    is_refused = (
+        isinstance(told, dict)
+        and told.get("Kind") == "refused"
+        and isinstance(told.get("Message"), dict)
+        and isinstance(told.get("Answer"), dict)
+    )
+    is_decided = (
+        isinstance(told, dict)
+        and told.get("Kind") == "decided"
+        and all(isinstance(told.get(it), str) for it in ("Of", "By", "Reason", "Became"))
+    )
+    if (
+        not (is_refused or is_decided)
+        or not isinstance(told.get("At"), str)
+        or not text.endswith(b"\n")
+        or text.count(b"\n") != 1
+    ):
         raise ValueError("it is no record of untraced work")
     return Record(hashlib.sha256(text).hexdigest()[:32], told, text[:-1].decode("ascii"))
 
@@ -66,13 +98,42 @@ def said(record):
     """What a record says to a reader: the columns of its row up to `reason`."""
     told = record.told
     if told["Kind"] == "decided":
-        return [record.id, "decided", told["At"], "", "", "", "", "", "", told["By"], told["Of"], told["Became"], told["Reason"]]
+        return [
+            record.id,
+            "decided",
+            told["At"],
+            "",
+            "",
+            "",
+            "",
+            "",
+            "",
+            told["By"],
+            told["Of"],
+            told["Became"],
+            told["Reason"],
+        ]
     message, answer, body = told["Message"], told["Answer"], body_of(record)
     names = body.get("Designators") if isinstance(body.get("Designators"), list) else []
-    of_slot = f"slot {body.get('Slot')}, " + (f"{body.get('Quantity')} pieces" if is_work(record) else f"reel {body.get('Reel', 'none')}")
+    of_slot = f"slot {body.get('Slot')}, " + (
+        f"{body.get('Quantity')} pieces" if is_work(record) else f"reel {body.get('Reel', 'none')}"
+    )
     work = f"{word_of(record)} {' '.join(map(str, names)) or of_slot * ('Slot' in body)}".strip()
-    return [record.id, "refused", told["At"], str(body.get("Machine", "")), str(body.get("Board", "")), work, str(answer.get("Refusal", answer.get("Answer", ""))), str(answer.get("At", "")),
-            str(message.get("Source", "")), str(told.get("By", "")), "", "", ""]
+    return [
+        record.id,
+        "refused",
+        told["At"],
+        str(body.get("Machine", "")),
+        str(body.get("Board", "")),
+        work,
+        str(answer.get("Refusal", answer.get("Answer", ""))),
+        str(answer.get("At", "")),
+        str(message.get("Source", "")),
+        str(told.get("By", "")),
+        "",
+        "",
+        "",
+    ]
 
 
 def body_of(record):
@@ -103,7 +164,9 @@ def read(archive):
     try:
         waiting, wrong = waiting_in(inbox)
     except OSError as fault:
-        waiting, wrong = [], [f"{fault.filename}: it can't be read, so it isn't known whether untraced work is in it: {fault.strerror}"]
+        waiting, wrong = [], [
+            f"{fault.filename}: it can't be read, so it isn't known whether untraced work is in it: {fault.strerror}"
+        ]
     return Book(rows + [it for it in waiting if it.id not in known], faults + wrong)
 
 
@@ -114,15 +177,27 @@ def rows_of(archive):
         count, chain = collected_in(inbox)
         text = path.read_bytes() if path.exists() else b""
     except (OSError, ValueError) as fault:
-        return [], [f"{getattr(fault, 'filename', None) or inbox / COLLECTED}: it can't be read, so it isn't known whether work was untraced: {fault}"]
+        return [], [
+            f"{getattr(fault, 'filename', None) or inbox / COLLECTED}: it can't be read, so it isn't known whether work was untraced: {fault}"
+        ]
     records, chains, wrong = parsed(path, text)
     if wrong:
         return records, [wrong]
     if len(records) < count or (count and chains[count - 1] != chain):
-        why = "is gone" if not text else "has fewer rows" if len(records) < count else "is another file"
-        return records, [f"{path}: it {why}: {inbox / COLLECTED} names {count} rows and another last one. Take it from a copy"]
+        why = (
+            "is gone"
+            if not text
+            else "has fewer rows"
+            if len(records) < count
+            else "is another file"
+        )
+        return records, [
+            f"{path}: it {why}: {inbox / COLLECTED} names {count} rows and another last one. Take it from a copy"
+        ]
     if records and not count:
-        return records, [f"{inbox / COLLECTED}: it is gone, or the folder isn't there, so records may be missing: bring the folder {inbox.name} back, then call tracedesk-untraced collect"]
+        return records, [
+            f"{inbox / COLLECTED}: it is gone, or the folder isn't there, so records may be missing: bring the folder {inbox.name} back, then call tracedesk-untraced collect"
+        ]
     return records, []
 
 
@@ -151,12 +226,24 @@ def parsed(path, text):
                     return records, chains, f"{path}, line 1: the header is not {','.join(HEADER)}"
                 continue
             record = record_of(row[13].encode() + b"\n") if len(row) == len(HEADER) else None
-            if record is None or row[:13] != said(record) or row[14] != (before := chained(before, record)):
-                return records, chains, f"{path}, line {rows.line_num}: it is not as it was written, nor is what follows it. Take the file from a copy"
+            if (
+                record is None
+                or row[:13] != said(record)
+                or row[14] != (before := chained(before, record))
+            ):
+                return (
+                    records,
+                    chains,
+                    f"{path}, line {rows.line_num}: it is not as it was written, nor is what follows it. Take the file from a copy",
+                )
             records.append(record)
             chains.append(before)
     except (csv.Error, ValueError) as fault:
-        return records, chains, f"{path}, line {max(1, rows.line_num)}: {fault}. Take the file from a copy"
+        return (
+            records,
+            chains,
+            f"{path}, line {max(1, rows.line_num)}: {fault}. Take the file from a copy",
+        )
     return records, chains, ""
 
 
@@ -228,7 +315,9 @@ def append(path, records, new):
         before = chained(before, it)
     text = io.StringIO()
     rows = csv.writer(text, lineterminator="\n")
-    if not records and not (path.exists() and path.read_bytes().startswith(",".join(HEADER).encode() + b"\n")):
+    if not records and not (
+        path.exists() and path.read_bytes().startswith(",".join(HEADER).encode() + b"\n")
+    ):
         rows.writerow(HEADER)
     for it in new:
         before = chained(before, it)
@@ -247,7 +336,9 @@ def note(inbox, records):
     chain = BEGIN
     for it in records:
         chain = chained(chain, it)
-    catalogue.put(inbox / COLLECTED, json.dumps({"Rows": len(records), "Chain": chain}) + "\n", 0o644)
+    catalogue.put(
+        inbox / COLLECTED, json.dumps({"Rows": len(records), "Chain": chain}) + "\n", 0o644
+    )
 
 
 def now():
@@ -259,7 +350,15 @@ def decide(archive, of, by, became, reason):
     records, _, _ = collect(archive)
     if of not in {it.id for it in refused(records)}:
         raise plant.Fault(f"there is no untraced work {of}: tracedesk-untraced list has the ids")
-    told = {"At": now(), "Became": became, "By": by, "Kind": "decided", "Of": of, "Reason": reason, "Version": 1}
+    told = {
+        "At": now(),
+        "Became": became,
+        "By": by,
+        "Kind": "decided",
+        "Of": of,
+        "Reason": reason,
+        "Version": 1,
+    }
     record = record_of(json.dumps(told, sort_keys=True, separators=(",", ":")).encode() + b"\n")
     catalogue.put(inbox_of(archive) / f"{record.id}.json", record.text + "\n", 0o644)
     collect(archive)
@@ -269,8 +368,17 @@ def decide(archive, of, by, became, reason):
 def write_status(folder, records):
     """Writes what the station's screens read: what is undecided, and the ids of what was decided last."""
     names = ("Id", "At", "Machine", "Board", "MessageName", "Refusal", "Place")
-    open_ones = [dict(zip(names, [row[0], *row[2:5], f"TraceDesk.{word_of(it)}", *row[6:8]])) for it in undecided(records) for row in [said(it)]]
-    told = {"At": now(), "Decided": list(decisions(records))[-MOST_DECIDED:], "Undecided": open_ones, "Version": 1}
+    open_ones = [
+        dict(zip(names, [row[0], *row[2:5], f"TraceDesk.{word_of(it)}", *row[6:8]]))
+        for it in undecided(records)
+        for row in [said(it)]
+    ]
+    told = {
+        "At": now(),
+        "Decided": list(decisions(records))[-MOST_DECIDED:],
+        "Undecided": open_ones,
+        "Version": 1,
+    }
     catalogue.put(pathlib.Path(folder) / STATUS, json.dumps(told) + "\n", 0o644)
 
 
@@ -279,8 +387,17 @@ def copy(archive, to, opened):
 
     The inbox goes first: a record that leaves it meanwhile is in the file by then."""
     inbox, path = inbox_of(archive), pathlib.Path(archive) / FILE_NAME
-    names = sorted(it.name for it in inbox.iterdir() if RECORD.fullmatch(it.name) or it.name == COLLECTED) if inbox.is_dir() else []
-    for file, copied in [*((inbox / it, to / INBOX / it) for it in names), (path, to / pathlib.Path(archive).name / FILE_NAME)]:
+    names = (
+        sorted(
+            it.name for it in inbox.iterdir() if RECORD.fullmatch(it.name) or it.name == COLLECTED
+        )
+        if inbox.is_dir()
+        else []
+    )
+    for file, copied in [
+        *((inbox / it, to / INBOX / it) for it in names),
+        (path, to / pathlib.Path(archive).name / FILE_NAME),
+    ]:
         with contextlib.suppress(FileNotFoundError), opened(file) as source:
             copied.parent.mkdir(mode=0o700, parents=True, exist_ok=True)
             copied.write_bytes(source.read())
@@ -290,7 +407,10 @@ def copy(archive, to, opened):
 def records_of(folder, name="archive"):
     """The records of a copy of the line, or of what a restore put aside, as far as they can be read."""
     path = folder / name / FILE_NAME
-    return [*(parsed(path, path.read_bytes())[0] if path.exists() else ()), *waiting_in(folder / INBOX)[0]]
+    return [
+        *(parsed(path, path.read_bytes())[0] if path.exists() else ()),
+        *waiting_in(folder / INBOX)[0],
+    ]
 
 
 def take_back(archive, records):
