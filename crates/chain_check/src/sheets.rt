@@ -80,8 +80,6 @@ pub fn first_sheet<F: Facts>(
     ensures differs { (H H' : History) → F.Stands old.now H → F.Stands new.now H'
         → IfSome result (λ k. sheet_of H k.0 k.1 ≢ sheet_of H' k.0 k.1) }
 {
-    old.is_judged();
-    new.is_judged();
     if let Some(key) = sheet_in(old_rows, old, new) {
         return Some(key);
     }

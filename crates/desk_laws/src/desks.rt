@@ -24,6 +24,4 @@ pub fn desk_is_consistent<D: Desk>(desk: &D)
         → All (IsRightlyPlaced B.history) (placements_of B.history) }
     ensures traces { (B : Basis) (board lot : Name) → D.Stands desk.now B
         → Contains (lots_of B.history board) lot ↔ Contains (boards_of B.history lot) board }
-{
-    desk.is_judged();
-}
+{}

@@ -63,11 +63,6 @@ pub trait Desk {
     fn rules(&self) -> Rules
         ensures { (B : Basis) → Stands self.now B → result ≡ B.rules };
 
-    /// A law, without code: a desk can reach each history that the desk represents, by the rules
-    /// with it.
-    fn is_judged(&self)
-        ensures { (B : Basis) → Stands self.now B → IsJudged B.rules B.history };
-
     /// Judges the command without changing the desk. The desk's owner checks for repeats and for
     /// the greatest number.
     fn judge(&self, stamped: &Stamped) -> Result<Change, JudgeFault>
@@ -117,6 +112,9 @@ pub trait Desk {
     fn free_reels(&self, part: &Id) -> Result<ReelViews, AllocError>
         ensures { (B : Basis) → Stands self.now B
             → IfOk result (λ reels. reels ≡ free_reels B.history part.now) };
+
+    /// A desk can reach each history that the desk represents, by the rules with it.
+    ghost is_judged: { (desk : Self) (B : Basis) → Stands desk B → IsJudged B.rules B.history };
 }
 
 /// Judges the commands in order and settles each accepted one. Stops when out of memory; the desk's

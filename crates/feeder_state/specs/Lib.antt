@@ -1,5 +1,6 @@
 pub mod Floor
 pub mod Held
+pub mod Laws
 pub mod Noted
 pub mod Resting
 pub mod Restored

@@ -166,18 +166,11 @@ impl StateDesk {
 impl Facts for StateDesk {
     ghost use Rattle.feeder_state.specs.Tape.{tape_at};
     ghost use Rattle.feeder_state.specs.State.{IsState};
+    ghost use Rattle.feeder_state.specs.Laws.{state_judged, state_tells_live};
 
     ghost Stands = { λ desk H. IsState H desk };
 
     ghost reels_on = { λ desk machine slot. tape_at desk.floor.tapes machine slot };
-
-    fn is_judged(&self) {
-        let _ = &self.rules;
-    }
-
-    fn tells_live(&self) {
-        let _ = &self.rules;
-    }
 
     fn minute(&self) -> Option<Minute> {
         self.minute
@@ -260,17 +253,18 @@ impl Facts for StateDesk {
     fn is_placed_on(&self, board: &Id, designator: &Designator) -> bool {
         self.work.is_placed_on(board, designator)
     }
+
+    ghost is_judged = { state_judged };
+
+    ghost tells_live = { state_tells_live };
 }
 
 #[tactic(auto, using(crate::proofs::AcceptedChanges::of_state))]
 impl Views for StateDesk {
     ghost use Rattle.feeder_state.specs.State.{Represents};
+    ghost use Rattle.feeder_state.specs.Laws.{represented_judged};
 
     ghost Stands = { λ desk B. Represents desk B };
-
-    fn is_judged(&self) {
-        let _ = &self.rules;
-    }
 
     fn selected(&self, machine: &Id) -> Option<Id> {
         self.rows.selected_on(machine)
@@ -297,11 +291,14 @@ impl Views for StateDesk {
             machine,
         )
     }
+
+    ghost is_judged = { represented_judged };
 }
 
 #[tactic(auto, using(crate::proofs::AcceptedChanges::of_state))]
 impl Desk for StateDesk {
     ghost use Rattle.feeder_state.specs.State.{Represents};
+    ghost use Rattle.feeder_state.specs.Laws.{represented_judged};
 
     ghost Stands = { λ desk B. Represents desk B };
 
@@ -311,10 +308,6 @@ impl Desk for StateDesk {
 
     fn rules(&self) -> Rules {
         self.rules
-    }
-
-    fn is_judged(&self) {
-        Views::is_judged(self);
     }
 
     fn judge(&self, stamped: &Stamped) -> Result<Change, JudgeFault> {
@@ -359,6 +352,8 @@ impl Desk for StateDesk {
             part,
         )
     }
+
+    ghost is_judged = { represented_judged };
 }
 
 impl KeepsRows for StateDesk {

@@ -30,16 +30,6 @@ pub trait Facts {
     /// The reels on a machine's slot, first one first, possibly including spent ones.
     ghost reels_on: { Self → Name → Name → List Name };
 
-    /// A law, without code: every history that the facts represent is accepted by the rules.
-    fn is_judged(&self)
-        ensures { (H : History) → Stands self.now H → IsJudged Two H };
-
-    /// A law, without code: a slot's live reels are those of `reels_on` with pieces left.
-    fn tells_live(&self)
-        ensures { (H : History) (machine slot : Name) → Stands self.now H
-            → filter (λ reel. nat_lt 0 (left_of H reel)) (reels_on self.now machine slot)
-            ≡ live_on H machine slot };
-
     /// Returns the desk minute, or none for an empty history.
     fn minute(&self) -> Option<Minute>
         ensures { (H : History) → Stands self.now H → result ≡ desk_minute H };
@@ -129,4 +119,12 @@ pub trait Facts {
     fn is_placed_on(&self, board: &Id, designator: &Designator) -> bool
         ensures { (H : History) → Stands self.now H
             → result ≡ is_placed_on H board.now designator.now };
+
+    /// Every history that the facts represent is accepted by the rules.
+    ghost is_judged: { (facts : Self) (H : History) → Stands facts H → IsJudged Two H };
+
+    /// A slot's live reels are those of `reels_on` with pieces left.
+    ghost tells_live: { (facts : Self) (H : History) (machine slot : Name) → Stands facts H
+        → filter (λ reel. nat_lt 0 (left_of H reel)) (reels_on facts machine slot)
+        ≡ live_on H machine slot };
 }

@@ -17,7 +17,6 @@ use std::alloc::{AllocError, Global};
 pub fn front<F: Facts>(facts: &F, machine: &Id, slot: &Id) -> Option<Id>
     ensures { (H : History) → F.Stands facts.now H → result ≡ front_of H machine.now slot.now }
 {
-    facts.tells_live();
     let feed = next_reel(facts, machine, slot, 0)?;
     Some(feed.reel)
 }
@@ -26,7 +25,6 @@ fn front_at<F: Facts>(facts: &F, minute: Minute, machine: &Id, slot: &Id) -> Opt
     ensures { (H : History) → F.Stands facts.now H → now_of H ≤ minute
         → result ≡ option_map (front_reel H minute) (front_of H machine.now slot.now) }
 {
-    facts.is_judged();
     let name = front(facts, machine, slot)?;
     let found = facts.reel(&name)?;
     let row = found.row;

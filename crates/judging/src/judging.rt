@@ -122,7 +122,6 @@ fn detail<F: Facts>(
     ensures { (H : History) → F.Stands facts.now H → picks.now ≡ picks_of H command.now
         → IfOk result (λ detail. detail ≡ detail_of H minute command.now) }
 {
-    facts.is_judged();
     command.ranges_hold();
     match command {
         Command::MaterialsLoaded { reel, .. } => Ok(Detail::MinutesLeft(minutes_left(
@@ -150,7 +149,6 @@ fn takes_by<F: Facts>(
     ensures { (H : History) → F.Stands facts.now H
         → IfOk result (λ taken. taken ≡ takes_by H minute command.now) }
 {
-    facts.is_judged();
     Ok(takes_for(alloc, facts, minute, picks)?)
 }
 

@@ -128,8 +128,6 @@ fn take_piece<F: Facts>(
         → IsFeeding (live_on H machine.now) (left_of H) (F.reels_on facts.now machine.now)
         (picks ++ p ∷ []) feeds.new) }
 {
-    facts.is_judged();
-    facts.tells_live();
     let past = match take_in_hand(feeds, slot) {
         Given::Reel(reel) => return Ok(Some(reel)),
         Given::Nothing(past) => past,
@@ -241,7 +239,6 @@ pub fn place_all<F: Facts>(
         (is_placed_on H board.now) [] [] designators.now)
         (install_picks (bench_of H machine.now board.now) [] designators.now)) }
 {
-    facts.tells_live();
     let sheet = facts.look_ups_on(machine);
     let placed = facts.placed_on(board);
     let mut feeds = BTreeMap::new(alloc);

@@ -83,7 +83,6 @@ pub fn picks_of_scrap<F: Facts>(
         → IfOk result (IsPicked (scrap_refusal H machine.now slot.now quantity)
         (picks_of H (MaterialsScrapped machine.now slot.now quantity))) }
 {
-    facts.tells_live();
     if is_vacant(facts, machine, slot) {
         return Ok(Err(Refusal::SlotEmpty(*slot)));
     }

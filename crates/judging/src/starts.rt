@@ -26,7 +26,6 @@ fn slots_refusal<F: Facts>(
         (λ refusal. refusal ≡ slots_refusal H minute machine.now
         (unwrap_or (sheet_on H machine.now) [])) }
 {
-    facts.is_judged();
     let Some(rows) = sheet_on(facts, machine) else {
         return Ok(None);
     };

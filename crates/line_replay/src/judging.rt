@@ -13,7 +13,7 @@ ghost use Rattle.state_rows.specs.Lists.{IsListed};
 use crate::reading::{says, stamped_of};
 use crate::row_fault::RowFault;
 use desk_answers::accepted_text;
-use desk_types::{Id, JudgeFault, RowEdits, texts_tell_commands_apart};
+use desk_types::{Id, JudgeFault, RowEdits};
 use sqlite::Row;
 use state_rows::{KeepsRows, TraceLists, rows_of};
 use std::alloc::Global;
@@ -47,7 +47,6 @@ pub fn accept_row<D: KeepsRows>(
         ≡ but_placements (with_edits it.edits (tables_in (D.kept_rows desk.old)))
         (tables_in (D.kept_rows desk.old))) }
 {
-    texts_tell_commands_apart();
     let Some(stamped) = stamped_of(alloc, row)? else {
         return Err(RowFault::NotLawful);
     };

@@ -9,7 +9,7 @@ ghost use Rattle.line_tables.specs.Rows.{columns_of};
 ghost use Rattle.line_replay.specs.Rows.{columns, rows_of};
 
 use crate::row_fault::NoRow;
-use desk_types::{Change, Kept, Text, texts_tell_commands_apart};
+use desk_types::{Change, Kept, Text};
 use line_tables::Accepted;
 use std::alloc::Global;
 
@@ -45,6 +45,4 @@ fn string_of(bytes: Vec<u8>) -> Result<String, NoRow>
 pub fn rows_tell_lists_apart()
     ensures { (rules : Rules) (G H : History) → IsJudged rules G → IsJudged rules H
         → IsPermutation (rows_of G) (rows_of H) → G ≡ H }
-{
-    texts_tell_commands_apart();
-}
+{}

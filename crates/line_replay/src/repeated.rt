@@ -9,7 +9,7 @@ ghost use Rattle.line_tables.specs.Rows.{columns_of};
 ghost use Rattle.line_replay.specs.Rows.{entry_row};
 
 use desk_answers::Answer;
-use desk_types::{Kept, Listing, Stamped, Text, texts_tell_commands_apart};
+use desk_types::{Kept, Listing, Stamped, Text};
 use line_tables::Accepted;
 use std::alloc::{AllocError, Global};
 
@@ -21,7 +21,6 @@ pub fn answer_under(alloc: Global, row: Accepted, stamped: &Stamped) -> Result<A
         → IfOk result (λ answer. answer ≡ answer_under G e stamped.now) }
 {
     stamped.ranges_hold();
-    texts_tell_commands_apart();
     let text = stamped.command.write_text(alloc)?;
     let number = u64::from(row.number);
     if is_row_of(&row, stamped, &text) {

@@ -15,7 +15,6 @@ ghost use Rattle.state_rows.specs.Lists.{IsListed};
 
 use crate::auditing::Placed;
 use crate::fault::ReplayFault;
-use crate::kept::rows_tell_lists_apart;
 use crate::taking::{are_all, least_is_one, take_rows};
 use desk_types::Rules;
 use sqlite::{Alter, Connection};
@@ -82,7 +81,6 @@ pub fn rebuild<S: Alter, D: KeepsRows + Drop>(
         × IsListed r.lists G × AreKept (D.kept_rows r.desk) G) }
     ensures reads { ReadsOnly S.Store conn.old conn.new }
 {
-    rows_tell_lists_apart();
     match replay(alloc, conn, rules, greatest) {
         Ok(replayed) => Some(replayed),
         Err(_) => None,

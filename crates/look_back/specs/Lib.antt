@@ -1,4 +1,5 @@
 pub mod Kept
+pub mod Laws
 pub mod Life
 pub mod Searching
 pub mod Totals

@@ -7,6 +7,7 @@ ghost use Rattle.desk_types.specs.declared.limits.TheConstants.{MOST_ENTRIES};
 ghost use Rattle.desk_types.specs.declared.rules.Rules.TheVariants.{Two};
 ghost use Rattle.desk_types.specs.History.{basis, basis_after};
 ghost use Rattle.desk_types.specs.Id.{same};
+ghost use Rattle.desk_types.specs.Judged.{IsJudged};
 ghost use Rattle.desk_types.specs.Desk.{IsChange};
 
 use crate::free::free_reels;
@@ -97,6 +98,7 @@ impl PlainDesk {
         requires room { length self.old.history + 1 ≤ MOST_ENTRIES }
         requires judged { IsChange self.old.rules self.old.history change.stamped change }
         ensures ok { OnOk result (self.new ≡ basis_after self.old change.stamped) }
+        ensures judged { OnOk result (IsJudged self.new.rules self.new.history) }
         ensures err { OnErr result (self.new ≡ self.old) }
     {
         let entry = Entry {
@@ -123,8 +125,9 @@ fn earlier<'a>(entries: &'a [Entry], uid: &Id) -> Option<&'a Entry>
 #[tactic(auto, using(crate::proofs::ByTwo::by_two))]
 impl Desk for PlainDesk {
     ghost use Rattle.std.specs.Prelude.{◌≡◌};
+    ghost use Rattle.desk_types.specs.Judged.{IsJudged};
 
-    ghost Stands = { λ desk B. B ≡ desk };
+    ghost Stands = { λ desk B. (B ≡ desk) × IsJudged B.rules B.history };
 
     fn fresh(alloc: Global, rules: Rules) -> PlainDesk {
         PlainDesk::with_rules(alloc, rules)
@@ -132,10 +135,6 @@ impl Desk for PlainDesk {
 
     fn rules(&self) -> Rules {
         self.rules
-    }
-
-    fn is_judged(&self) {
-        let _ = &self.rules;
     }
 
     fn judge(&self, stamped: &Stamped) -> Result<Change, JudgeFault> {
@@ -186,4 +185,6 @@ impl Desk for PlainDesk {
             part,
         )
     }
+
+    ghost is_judged = { λ desk B stands. stands.1 };
 }

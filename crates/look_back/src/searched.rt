@@ -63,18 +63,14 @@ pub fn search<'a>(
 
 impl<'a> Facts for Searched<'a> {
     ghost use Rattle.std.specs.Prelude.{◌≡◌};
+    ghost use Rattle.desk_types.specs.declared.rules.Rules.TheVariants.{Two};
+    ghost use Rattle.desk_types.specs.Judged.{IsJudged};
     ghost use Rattle.desk_types.specs.Tape.{tape_of};
+    ghost use Rattle.look_back.specs.Laws.{searched_live};
 
-    ghost Stands = { λ found H. H ≡ found };
+    ghost Stands = { λ found H. (H ≡ found) × IsJudged Two H };
 
     ghost reels_on = { λ found. tape_of found };
-
-    fn is_judged(&self) {
-        let _ = &self.parts;
-    }
-
-    #[tactic(auto, unfolding(desk_types::specs::Pieces::live_on))]
-    fn tells_live(&self) {}
 
     fn minute(&self) -> Option<Minute> {
         desk_minute(self.entries)
@@ -139,4 +135,8 @@ impl<'a> Facts for Searched<'a> {
     fn is_placed_on(&self, board: &Id, designator: &Designator) -> bool {
         is_placed_on(self.entries, board, designator)
     }
+
+    ghost is_judged = { λ found H stands. stands.1 };
+
+    ghost tells_live = { λ found H machine slot stands. searched_live found H machine slot stands.0 };
 }

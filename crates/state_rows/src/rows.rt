@@ -135,7 +135,6 @@ pub fn edits_for<D: Views>(
         ≡ unnumbered (tables_of (accept B.history change.now.stamped))) }
     ensures in_order { IfOk result (λ edits. AreTakesFirst edits × AreBalanced edits) }
 {
-    desk.is_judged();
     change.stamped.ranges_hold();
     let _ = change.minute.get();
     let edits = edits_of(

@@ -17,11 +17,6 @@ pub trait Views {
     /// The bases for which the views are true.
     ghost Stands: { Self → Basis → Type 0 };
 
-    /// A law, without code: each history for which the views are true is judged by the rules with
-    /// it.
-    fn is_judged(&self)
-        ensures { (B : Basis) → Stands self.now B → IsJudged B.rules B.history };
-
     /// Returns the product that is selected on the machine.
     fn selected(&self, machine: &Id) -> Option<Id>
         ensures { (B : Basis) → Stands self.now B → result ≡ selected_on B.history machine.now };
@@ -39,6 +34,9 @@ pub trait Views {
     fn slots_of(&self, machine: &Id) -> Result<Option<Mounts>, AllocError>
         ensures { (B : Basis) → Stands self.now B
             → IfOk result (λ mounts. mounts ≡ mounts_on B.history machine.now) };
+
+    /// Each history for which the views are true is judged by the rules with it.
+    ghost is_judged: { (views : Self) (B : Basis) → Stands views B → IsJudged B.rules B.history };
 }
 
 /// The views of a desk.
@@ -49,10 +47,6 @@ pub struct DeskViews<'a, D> {
 
 impl<'a, D: Desk> Views for DeskViews<'a, D> {
     ghost Stands = { λ views B. D.Stands views.desk.now B };
-
-    fn is_judged(&self) {
-        self.desk.is_judged();
-    }
 
     fn selected(&self, machine: &Id) -> Option<Id> {
         self.desk.selected(machine)
@@ -69,4 +63,6 @@ impl<'a, D: Desk> Views for DeskViews<'a, D> {
     fn slots_of(&self, machine: &Id) -> Result<Option<Mounts>, AllocError> {
         self.desk.slots_of(machine)
     }
+
+    ghost is_judged = { λ views. D.is_judged views.desk.now };
 }

@@ -167,7 +167,6 @@ fn send<D: Desk>(
             let edits = rows_of(alloc, &*desk, &change, number)?;
             rows.apply(edits.as_slice())?;
             desk.settle(change)?;
-            desk.is_judged();
             Ok(number + 1)
         }
         Err(JudgeFault::Refused(_)) => Ok(number),

@@ -15,5 +15,5 @@ pub returns-in-CountsTaken : goal.returns-in-CountsTaken
 returns-in-CountsTaken g c = λ H stands are.
     let a = c.in-CountsTaken in
     let range : IsListOf IsCountRow a.counts = subst IsCommand a.is c.ranges_hold.ensures in
-    ap Taken (c.pieces_of-in-CountsTaken.ensures ∙ ap (λ ps. min (pieces_of ps) (2 ^ 64 - 1)) (are ∙ ap (picks_of H) a.is) ∙ count-fits H a.counts (c.is_judged.ensures H stands) range.count.1)
+    ap Taken (c.pieces_of-in-CountsTaken.ensures ∙ ap (λ ps. min (pieces_of ps) (2 ^ 64 - 1)) (are ∙ ap (picks_of H) a.is) ∙ count-fits H a.counts (g.met.F.Facts.is_judged c.args.facts.now H stands) range.count.1)
     ∙ sym (ap (detail_of H c.args.minute) a.is)

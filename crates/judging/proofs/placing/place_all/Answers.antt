@@ -15,7 +15,7 @@ loop-designator-init g c = λ H stands.
     let none = c.in_ok-picks.ensures.items in
     record {
       feeds = subst (λ ps. IsFeeding (live_on H a.machine.now) (left_of H) (g.F.Facts.reels_on a.facts.now a.machine.now) ps c.new-feeds.result) (sym none)
-          (feeds-first (live_on H a.machine.now) (left_of H) (g.F.Facts.reels_on a.facts.now a.machine.now) c.new-feeds.result (λ slot. c.tells_live.ensures H a.machine.now slot stands)
+          (feeds-first (live_on H a.machine.now) (left_of H) (g.F.Facts.reels_on a.facts.now a.machine.now) c.new-feeds.result (λ slot. g.met.F.Facts.tells_live c.args.facts.now H a.machine.now slot stands)
           (λ s. ap (lookup (is_at (by_name s))) c.new-feeds.ensures.empty));
       seen = λ x. ap (list_any (is_at (by_name x))) c.new-seen.ensures.empty;
       refusal = ap (λ ps. designators_refusal bench (is_placed_on H a.board.now) ps [] a.designators.now) none;

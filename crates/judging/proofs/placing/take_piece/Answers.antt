@@ -21,7 +21,7 @@ returns-in-Reel-clause-feeds g c = λ H picks p stands is one.
     let machine = c.args.machine.now in
     let slot = c.args.slot.now in
     let reels = g.F.Facts.reels_on c.args.facts.now machine in
-    let judged = c.is_judged.ensures H stands in
+    let judged = g.met.F.Facts.is_judged c.args.facts.now H stands in
     let hand = given_by-reel (feed_at c.args.feeds.now slot) c.in-Reel.reel (sym c.in-Reel.ensures.given) in
     let here = subst (λ o. IsFed (left_of H) (live_on H machine slot) (reels slot) picks o) hand.1 (is slot) in
     feeds-next H machine reels picks c.args.feeds.now c.take_in_hand.new.feeds slot hand.0 p judged (λ s. live-distinct H machine s judged)
@@ -56,7 +56,7 @@ returns-clause-feeds g c = λ H picks p stands is one.
     let machine = c.args.machine.now in
     let slot = c.args.slot.now in
     let reels = g.F.Facts.reels_on c.args.facts.now machine in
-    let judged = c.is_judged.ensures H stands in
+    let judged = g.met.F.Facts.is_judged c.args.facts.now H stands in
     let feed = feed_at c.args.feeds.now slot in
     let f = c.in-Some.next in
     let hand = given_by-nothing feed c.in-Nothing.past (sym c.in-Nothing.ensures.given) in

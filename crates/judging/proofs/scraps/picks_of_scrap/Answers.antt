@@ -13,7 +13,7 @@ returns-then-scrapping-gt0 g c = λ H stands.
     let machine = c.args.machine.now in
     let slot = c.args.slot.now in
     let taken : is_vacant H machine slot ≡ false = sym (c.is_vacant.ensures H stands) ∙ c.if-is_vacant.false in
-    scrap-short H machine slot (g.F.Facts.reels_on c.args.facts.now machine slot) (c.tells_live.ensures H machine slot stands) (Rejected machine slot) c.get.result c.args.quantity
+    scrap-short H machine slot (g.F.Facts.reels_on c.args.facts.now machine slot) (g.met.F.Facts.tells_live c.args.facts.now H machine slot stands) (Rejected machine slot) c.get.result c.args.quantity
     c.in_ok-scrapping.scrapping c.get.ensures.value taken (c.in_ok-scrapping.ensures H stands) c.if-scrapping-gt0.true
 
 pub returns : goal.returns
@@ -21,7 +21,7 @@ returns g c = λ H stands.
     let machine = c.args.machine.now in
     let slot = c.args.slot.now in
     let reels = g.F.Facts.reels_on c.args.facts.now machine slot in
-    let live = c.tells_live.ensures H machine slot stands in
+    let live = g.met.F.Facts.tells_live c.args.facts.now H machine slot stands in
     let taken : is_vacant H machine slot ≡ false = sym (c.is_vacant.ensures H stands) ∙ c.if-is_vacant.false in
     let scrapped = c.in_ok-scrapping.ensures H stands in (
       scrap-enough H machine slot reels live (Rejected machine slot) c.get.result c.args.quantity c.in_ok-scrapping.scrapping c.get.ensures.value taken scrapped

@@ -1,3 +1,4 @@
+use Rattle.desk_types.proofs.Tabs.{texts_apart}
 use Rattle.desk_types.proofs.Common.{◌∙◌, ◌≡◌, ap, change_of, entry_of, inr, refl, rules, sym}
 use Rattle.line_replay.proofs.Judgements.{refused, said, stamped_is, unsaid}
 use Rattle.line_replay.proofs.judging.accept_row.Goals as goal
@@ -8,7 +9,7 @@ returns-then-not-says-clause-err g c B stands numbered =
     let s = c.in-Some.stamped in
     inr (
       refl,
-      unsaid c.texts_tell_commands_apart.ensures _ H c.args.row.now s (search rules) c.ranges_hold.ensures c.in-Ok.change c.args.number _ (c.in-Ok.ensures B stands) numbered c.in_ok-text-in-Ok.ensures
+      unsaid texts_apart _ H c.args.row.now s (search rules) c.ranges_hold.ensures c.in-Ok.change c.args.number _ (c.in-Ok.ensures B stands) numbered c.in_ok-text-in-Ok.ensures
           (λ three. search rules),
     )
 
@@ -21,7 +22,7 @@ returns-in-Ok-clause-ok g c B stands numbered =
       entry_of H s,
       refl,
       rw same at (c.in_ok-settle_edits-in-Ok.ensures.stands B stands),
-      said c.texts_tell_commands_apart.ensures _ H c.args.row.now s (search rules) c.ranges_hold.ensures c.in-Ok.change c.args.number _ is numbered c.in_ok-text-in-Ok.ensures (search rules) (search rules),
+      said texts_apart _ H c.args.row.now s (search rules) c.ranges_hold.ensures c.in-Ok.change c.args.number _ is numbered c.in_ok-text-in-Ok.ensures (search rules) (search rules),
       record {
         lead = rw same at (c.in_ok-edits-in-Ok.ensures.lead B stands (sym numbered));
         new = c.in_ok-edits-in-Ok.ensures.new B stands (sym numbered);
@@ -33,4 +34,4 @@ pub returns-in-Err-Refused-clause-err : goal.returns-in-Err-Refused-clause-err
 returns-in-Err-Refused-clause-err g c B stands numbered =
     let H = B.history in
     let s = c.in-Some.stamped in
-    inr (refl, refused c.texts_tell_commands_apart.ensures _ H c.args.row.now s (search rules) c.ranges_hold.ensures _ (rw c.in-Err-Refused.field-0-is at (c.in-Err-Refused.ensures B stands)))
+    inr (refl, refused texts_apart _ H c.args.row.now s (search rules) c.ranges_hold.ensures _ (rw c.in-Err-Refused.field-0-is at (c.in-Err-Refused.ensures B stands)))

@@ -12,7 +12,7 @@ returns-in_ok-settle-in-Ok g c =
         list = accept one.list c.in-Ok.change.stamped;
         stands = stands;
         tables = record {
-          judged = c.is_judged.ensures _ stands;
+          judged = g.met.D.Desk.is_judged _ _ stands;
           tables = rw c.as_slice.ensures at c.in_ok-apply-in-Ok.ensures ∙ ap (with_edits c.in_ok-edits-in-Ok.edits) one.tables.tables ∙ c.in_ok-edits-in-Ok.ensures.lead now one.stands one.next;
         };
         next = omega (arith, one.next);
