@@ -35,14 +35,7 @@ import sys
 import time
 import urllib.parse
 
-from tracedesk_ops import (
-    backups,
-    catalogue,
-    identity,
-    plant,
-    reader_of,
-    untraced,
-)
+from tracedesk_ops import backups, catalogue, files, identity, plant, reader_of, untraced
 
 TO = pathlib.Path("/run/tracedesk-watch/metrics")
 SETUP = pathlib.Path("/etc/tracedesk/station/setup.json")
@@ -600,8 +593,8 @@ def main():
         return 0
     try:
         path = pathlib.Path(asked.to).absolute()
-        with catalogue.held(path.parent):  # one watch at a time
-            catalogue.put(path, text, 0o644)
+        with files.held(path.parent):  # one watch at a time
+            files.put(path, text, 0o644)
         return 0
     except OSError as fault:
         plant.tell(
