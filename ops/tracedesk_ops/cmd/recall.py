@@ -45,8 +45,10 @@ Exit status: 0 all were asked; 1 all were asked, and none knows the name; 2 bad 
 read; 3 not all were asked, the archives are no chain, pieces are counted twice, or nobody decided about untraced work; 4 the
 answer can't be written; 5 all were asked, and pieces are doubtful; 9 an unexpected failure.
 """
+from __future__ import annotations
+
+import argparse
 import base64
-import collections
 import concurrent.futures
 import contextlib
 import csv
@@ -68,6 +70,8 @@ import sys
 import tempfile
 import urllib.parse
 import urllib.request
+from collections.abc import Callable, Iterable, Iterator, Sequence
+from typing import Any, NamedTuple, NoReturn
 
 from tracedesk_ops import (
     carry,
@@ -100,13 +104,55 @@ class NotAsked(Exception):
     """Why a desk or an archive gave no answer."""
 
 
-# a line of the plant; url is empty if no desk runs, machines are those that somebody named, and desk is its file if that is known
-Line = collections.namedtuple("Line", "name url catalogue machines desk", defaults=[(), None])
-Question = collections.namedtuple("Question", "kind name")  # kind is lot, board or reel
-# a desk or an archive; why is empty where it was asked
-Asked = collections.namedtuple(
-    "Asked", "line file sha256 first_minute last_minute asked known pieces why"
-)
+Row = dict[str, str]  # of a report, by its columns
+Table = list[Sequence[Any]]  # the first row is the header
+Shipped = dict[str, list[list[str]]]  # by board the customers and dates
+
+
+class Line(NamedTuple):
+    """A line of the plant; `url` is empty if no desk runs, `machines` are those that somebody named,
+    and `desk` is its file if that is known.
+    """
+
+    name: str
+    url: str
+    catalogue: pathlib.Path
+    machines: tuple[str, ...] = ()
+    desk: pathlib.Path | None = None
+
+
+class Question(NamedTuple):
+    """What is asked: `kind` is lot, board or reel."""
+
+    kind: str
+    name: str
+
+
+class About(NamedTuple):
+    """A desk or an archive that is asked."""
+
+    line: str
+    file: str
+    sha256: str = ""
+    first_minute: str = ""
+    last_minute: str = ""
+
+
+class Asked(NamedTuple):
+    """What came of asking a desk or an archive; `why` is empty if it was asked."""
+
+    line: str
+    file: str
+    sha256: str
+    first_minute: str
+    last_minute: str
+    asked: str
+    known: str
+    pieces: int
+    why: str
+
+
+Wait = tuple[catalogue.Archive, "concurrent.futures.Future[Told]"]
 
 
 # --- A running desk
@@ -115,7 +161,7 @@ Asked = collections.namedtuple(
 class AnyStatus(urllib.request.HTTPErrorProcessor):
     """Answers are taken as they are, whatever their status."""
 
-    def http_response(self, request, response):
+    def http_response(self, request: Any, response: Any) -> Any:
         return response
 
     https_response = http_response
@@ -124,11 +170,15 @@ class AnyStatus(urllib.request.HTTPErrorProcessor):
 class Desk:
     """A running desk, asked one report a connection: `answers` are pairs of target and text, `notes` say where nobody looked for reels."""
 
-    def __init__(self, line, context, users):
-        self.line, self.url, self.answers, self.notes = line, line.url.rstrip("/"), [], []
-        self.opener = urllib.request.build_opener(
-            AnyStatus, urllib.request.ProxyHandler({}), urllib.request.HTTPSHandler(context=context)
-        )
+    def __init__(
+        self, line: Line, context: ssl.SSLContext | None, users: netrc.netrc | None
+    ) -> None:
+        self.line, self.url = line, line.url.rstrip("/")
+        self.answers: list[tuple[str, str]] = []
+        self.notes: list[str] = []
+        https = urllib.request.HTTPSHandler(context=context)
+        no_proxy = urllib.request.ProxyHandler({})
+        self.opener = urllib.request.build_opener(AnyStatus, no_proxy, https)
         self.headers = {"Connection": "close"}
         user = (
             users.authenticators(urllib.parse.urlsplit(self.url).hostname or "") if users else None
@@ -138,7 +188,7 @@ class Desk:
                 "Basic " + base64.b64encode(f"{user[0]}:{user[2]}".encode()).decode()
             )
 
-    def rows(self, columns, path, **query):
+    def rows(self, columns: str, path: str, **query: object) -> list[Row] | None:
         """The rows of a report, each by its columns; none where the desk doesn't know what is asked."""
         target = path + "?" + urllib.parse.urlencode(query)
         status, body = self.get(target)
@@ -148,7 +198,7 @@ class Desk:
         except (ValueError, csv.Error) as fault:
             raise NotAsked(f"{self.url}{target} {fault}") from None
 
-    def has(self, uid):
+    def has(self, uid: str) -> bool:
         """Whether the desk has accepted this UniqueID: it is asked by a message that it refuses either way."""
         status, body = self.get("/messages", identity.question(uid))
         self.answers.append((f"/messages?has={uid}", f"{status}\n{body}"))
@@ -159,7 +209,7 @@ class Desk:
                 f"{self.url}/messages: it can't be asked which desk it is, {fault}: {'ask as a user who may send' if status in (401, 403) else 'name the URL of a desk'}"
             ) from None
 
-    def get(self, target, message=None):
+    def get(self, target: str, message: bytes | None = None) -> tuple[int, str]:
         try:
             headers = self.headers | ({"Content-Type": "application/json"} if message else {})
             request = urllib.request.Request(self.url + target, message, headers)
@@ -174,7 +224,7 @@ class Desk:
                 f"{self.url}{target}: {getattr(fault, 'reason', None) or fault}"
             ) from fault
 
-    def want_line(self, newest):
+    def want_line(self, newest: catalogue.Archive | None) -> list[str]:
         """Stops where this is not the desk that went on from the newest archive of its line. What is wrong where it went on from one and there is none."""
         if newest and not any(self.has(uid) for uid in identity.first_uids(newest)):
             raise NotAsked(
@@ -186,7 +236,7 @@ class Desk:
             ]
         return []
 
-    def ask(self, question):
+    def ask(self, question: Question) -> Told:
         """The pieces of a lot, a board or a reel, and whether it is known."""
         if question.kind == "board":
             rows = self.rows(BOARD_TRACE, "/trace/board", board=question.name, detail=4)
@@ -201,15 +251,18 @@ class Desk:
         of_it = [row for row in rows or [] if card is None or row["reel"] == question.name]
         return Told(rows is not None, [self.piece(row, lot=lot) for row in of_it])
 
-    def piece(self, row, **more):
+    def piece(self, row: Row, **more: str) -> Piece:
         return Piece(**row, **more, minute=None, line=self.line.name, file=RUNNING)
 
-    def stock(self, question, told, held, machines):
+    def stock(
+        self, question: Question, told: Told, held: dict[str, Reel], machines: set[str]
+    ) -> Iterator[Reel]:
         """What is left now of the reels that the newest archive, the trace and the machines' slot lists name. One that the desk doesn't know is told as it was held."""
-        machines = sorted(machines | {it.machine for it in told.pieces} | set(self.line.machines))
+        pieces_on = {piece.machine for piece in told.pieces}
+        looked_at = sorted(machines | pieces_on | set(self.line.machines))
         mounted = {
             row["reel"]: row | {"machine": machine}
-            for machine in machines
+            for machine in looked_at
             for row in self.rows(SLOTS, "/slots", machine=machine) or []
         }
         named = (
@@ -236,7 +289,7 @@ class Desk:
                 )
         if question.kind == "lot":
             self.notes.append(
-                f"{self.line.name}: reels of the lot that came in after the last archive are known by the slots of {', '.join(machines) or 'no machine'} alone: look in the stock, and at each other machine"
+                f"{self.line.name}: reels of the lot that came in after the last archive are known by the slots of {', '.join(looked_at) or 'no machine'} alone: look in the stock, and at each other machine"
             )
 
 
@@ -247,28 +300,33 @@ class Recall:
     """A question with what all told: `faults` are why some were not asked, `breaks` which archives are no chain, `doubts` what is told twice,
     `notes` what a reader has to know besides. Without a `chain` it is a first look."""
 
-    def __init__(self, question, lines, desk_of, chain, archives_only=False):
-        self.question, self.lines, self.desk_of, self.chain, self.archives_only = (
-            question,
-            lines,
-            desk_of,
-            chain,
-            archives_only,
-        )
+    def __init__(
+        self,
+        question: Question,
+        lines: list[Line],
+        desk_of: Callable[[Line], Desk],
+        chain: chains.Asker | None,
+        archives_only: bool = False,
+    ) -> None:
+        self.question, self.lines, self.desk_of, self.chain = question, lines, desk_of, chain
+        self.archives_only = archives_only
         self.minute = datetime.datetime.now(datetime.timezone.utc)
-        self.pieces, self.reels, self.asked, self.faults, self.breaks, self.doubts, self.notes = (
-            [],
-            [],
-            [],
-            [],
-            [],
-            [],
-            [],
-        )
-        self.catalogues, self.around, self.desks, self.proofs, self.known = {}, {}, {}, {}, False
-        self.untraced, self.doubtful = [], []
+        self.known = False
+        self.pieces: list[Piece] = []
+        self.reels: list[Reel] = []
+        self.asked: list[Asked] = []
+        self.faults: list[str] = []
+        self.breaks: list[str] = []
+        self.doubts: list[str] = []
+        self.notes: list[str] = []
+        self.catalogues: dict[pathlib.Path, catalogue.Survey] = {}
+        self.around: dict[pathlib.Path, list[str]] = {}
+        self.desks: dict[str, Desk] = {}  # by line
+        self.proofs: dict[str, chains.Answer] = {}  # by line
+        self.untraced: list[list[str]] = []
+        self.doubtful: list[list[str]] = []
 
-    def ask(self):
+    def ask(self) -> None:
         with concurrent.futures.ThreadPoolExecutor(os.cpu_count()) as threads:
             waits = {line: self.begin(line, threads) for line in self.lines}
             proofs = {
@@ -298,7 +356,7 @@ class Recall:
         self.doubt()
         self.note()
 
-    def begin(self, line, threads):
+    def begin(self, line: Line, threads: concurrent.futures.ThreadPoolExecutor) -> list[Wait]:
         """Asks the archives of a line: pairs of the archive and what will be told, in the order of their chain."""
         if line.catalogue not in self.catalogues:
             self.survey(line.catalogue)
@@ -318,7 +376,7 @@ class Recall:
             for archive in own
         ]
 
-    def survey(self, path):
+    def survey(self, path: pathlib.Path) -> None:
         """Reads a catalogue; what it names and nobody asks for, and what it doesn't name, is told."""
         lines = {line.name for line in self.lines if line.catalogue == path}
         self.catalogues[path] = catalogue.survey(path)
@@ -335,7 +393,7 @@ class Recall:
         self.around[path] = self.lying_around(path)
         self.faults += self.around[path]
 
-    def lying_around(self, path):
+    def lying_around(self, path: pathlib.Path) -> list[str]:
         return list(
             catalogue.unasked(
                 path,
@@ -344,9 +402,12 @@ class Recall:
             )
         )
 
-    def archives(self, line, waits, proof):
+    def archives(
+        self, line: Line, waits: list[Wait], proof: concurrent.futures.Future[chains.Answer] | None
+    ) -> list[catalogue.Archive]:
         """Takes what the archives of a line told; returns those that were asked, from the oldest on."""
-        told, ends = {}, []
+        told: dict[catalogue.Archive, Told] = {}
+        ends: list[chains.End] = []
         for archive, future in waits:
             try:
                 told[archive] = future.result()
@@ -367,8 +428,9 @@ class Recall:
         ] or list(told)
 
     @staticmethod
-    def about(line, archive):
-        return (
+    def about(line: Line, archive: catalogue.Archive) -> About:
+        """The archive of a line as it is told of."""
+        return About(
             line.name,
             archive.file,
             archive.sha256,
@@ -376,7 +438,9 @@ class Recall:
             catalogue.spelled(archive.last_minute),
         )
 
-    def proved(self, line, told, answer):
+    def proved(
+        self, line: Line, told: dict[catalogue.Archive, Told], answer: chains.Answer
+    ) -> list[chains.End]:
         """Takes the pieces of a line's chain. Returns what was read of each file."""
         archives = list(told)
         self.notes += [
@@ -385,9 +449,9 @@ class Recall:
         ]
         for row in answer.rows:
             archive = archives[row.pop("file")]
-            told[archive].pieces.append(
-                Piece(**row | {"minute": int(row["minute"])}, line=line.name, file=archive.file)
-            )
+            minute = int(row.pop("minute"))
+            piece = Piece(**row, minute=minute, line=line.name, file=archive.file)
+            told[archive].pieces.append(piece)
         self.faults += [
             f"{line.catalogue}: of {it.file} it doesn't say {end.commands} commands until {catalogue.spelled(end.minute)}, as the file does: tracedesk-settle --catalogue makes it anew"
             for it, end in zip(archives, answer.ends)
@@ -396,7 +460,7 @@ class Recall:
         self.proofs[line.name] = answer
         return answer.ends
 
-    def refused(self, line, archives, fault):
+    def refused(self, line: Line, archives: list[catalogue.Archive], fault: Exception) -> None:
         """Takes why there is no answer about a line's chain: what is printed of its archives is a first look."""
         status = getattr(fault, "status", None)
         if status == chains.NO_CHAIN:
@@ -412,9 +476,10 @@ class Recall:
                 f"{line.name}: its {len(archives)} archives were looked at by SQL alone, since tracedesk-chain gives no answer: {fault}"
             )
 
-    def running(self, line, archives):
+    def running(self, line: Line, archives: list[catalogue.Archive]) -> None:
         """Asks the running desk of a line, and what is left of the lot or reel; without it that is as the newest archive says."""
-        held, machines = [], set()
+        held: list[Reel] = []
+        machines: set[str] = set()
         try:
             for it in archives[-1:]:
                 with catalogue.opened(catalogue.path_of(line.catalogue, it)) as database:
@@ -436,11 +501,16 @@ class Recall:
             )[1]
         self.reels += held if left is None else left
 
-    def ask_desk(self, line, archives, held, machines):
+    def ask_desk(
+        self,
+        line: Line,
+        archives: list[catalogue.Archive],
+        held: dict[str, Reel],
+        machines: set[str],
+    ) -> list[Reel] | None:
         """Asks a running desk; what is left of the reels, none where it doesn't tell. Its file, where it is at hand, has all of them."""
-        about, desk = (line.name, RUNNING, "", "", ""), self.desks.setdefault(
-            line.name, self.desk_of(line)
-        )
+        about = About(line.name, RUNNING)
+        desk = self.desks.setdefault(line.name, self.desk_of(line))
         newest = next(
             (
                 it
@@ -455,7 +525,8 @@ class Recall:
             )
             told = self.take(about, desk.ask(self.question))
         except NotAsked as fault:
-            return self.miss(about, fault)
+            self.miss(about, fault)
+            return None
         if not told.known or self.question.kind == "board":
             return None
         try:
@@ -470,8 +541,9 @@ class Recall:
             self.faults.append(
                 f"{line.name}: what is left of it is told as of the last archive: {fault}"
             )
+            return None
 
-    def look_for_untraced(self, path):
+    def look_for_untraced(self, path: pathlib.Path) -> None:
         """What is around a catalogue: work that a desk refused, what was decided about it, and the pieces of the question that may be of another reel."""
         lines = [it for it in self.lines if it.catalogue == path]
         name, asked = "; ".join(it.name for it in lines), [it.name for it in lines]
@@ -502,26 +574,26 @@ class Recall:
             [name, *it.row()] for it in its.pieces if its.story.concerns(it, *self.question)
         ]
 
-    def has(self, line, uid):
+    def has(self, line: Line, uid: str) -> bool | None:
         """Whether the running desk of a line has a UniqueID; None if it gives no answer, which is a fault by then."""
         with contextlib.suppress(NotAsked):
             return self.desks[line.name].has(uid)
         return None
 
-    def undecided(self):
+    def undecided(self) -> list[list[str]]:
         return [row for row in self.untraced if not row[-2]]
 
-    def take(self, about, told):
+    def take(self, about: About, told: Told) -> Told:
         self.pieces += told.pieces
         self.known |= told.known
         self.asked.append(Asked(*about, "yes", "yes" if told.known else "no", len(told.pieces), ""))
         return told
 
-    def miss(self, about, fault):
+    def miss(self, about: About, fault: Exception) -> None:
         self.faults.append(f"{about[0]}: {fault}")
         self.asked.append(Asked(*about, "no", "", 0, str(fault)))
 
-    def doubt(self):
+    def doubt(self) -> None:
         """No desk places a piece twice: where a line has a board and a designator twice, two of its files overlap, or a board's name came again."""
         twice = [
             (it, other)
@@ -533,25 +605,25 @@ class Recall:
                 f"{it.line}: {len(twice)} pieces are there twice, as {it.designator} of {it.board} in {it.file} and in {other.file}: "
                 "these files have the same commands, or a board's name came again"
             )
-        files = [(it.sha256, it) for survey in self.catalogues.values() for it in survey.archives]
-        for sha256, it in files:
-            if same := [
-                f"{other.desk} {other.file}"
-                for its, other in files
-                if its == sha256 and other != it
-            ]:
+        there = [(it.sha256, it) for survey in self.catalogues.values() for it in survey.archives]
+        for sha256, archive in there:
+            same = [other for its, other in there if its == sha256 and other != archive]
+            if same:
+                names = ", ".join(f"{other.desk} {other.file}" for other in same)
                 self.doubts.append(
-                    f"{it.desk} {it.file} has the same checksum as {', '.join(same)}: it is one file, on two lines"
+                    f"{archive.desk} {archive.file} has the same checksum as {names}:"
+                    " it is one file, on two lines"
                 )
-        lines, these = {}, [it for it in self.pieces if it.file == RUNNING]
-        for it in these:
-            lines.setdefault((it.board, it.designator, it.reel), set()).add(it.line)
-        if both := next((sorted(it) for it in lines.values() if len(it) > 1), None):
+        lines: dict[tuple[str, str, str], set[str]] = {}
+        for it in self.pieces:
+            if it.file == RUNNING:
+                lines.setdefault((it.board, it.designator, it.reel), set()).add(it.line)
+        if both := next((sorted(those) for those in lines.values() if len(those) > 1), None):
             self.doubts.append(
                 f"the running desks of {' and '.join(both)} have the same pieces: both URLs lead to one desk"
             )
 
-    def note(self):
+    def note(self) -> None:
         kind, name = self.question
         if not self.known and not self.faults:
             self.notes.append(
@@ -575,7 +647,7 @@ class Recall:
                 f"no running desk was asked of {', '.join(without)}, by --archives-only"
             )
 
-    def status(self):
+    def status(self) -> int:
         return (
             3
             if self.faults or self.breaks or self.doubts or self.undecided()
@@ -591,13 +663,13 @@ class Recall:
 
 
 @functools.lru_cache
-def spelled(minute):
+def spelled(minute: int | None) -> str:
     return "" if minute is None else catalogue.spelled(minute)
 
 
-def boards_table(recall, shipped):
+def boards_table(recall: Recall, shipped: Shipped | None) -> Table:
     """A row for each board; the last minute is empty where a piece lies in a running desk, and the first where all pieces of a line do."""
-    boards = {}
+    boards: dict[str, list[Piece]] = {}
     for it in recall.pieces:
         boards.setdefault(it.board, []).append(it)
     header = ["board", "pieces", "first_minute", "last_minute", "line", "overdue", "file"] + (
@@ -609,7 +681,7 @@ def boards_table(recall, shipped):
     ]
 
 
-def board_row(board, pieces):
+def board_row(board: str, pieces: list[Piece]) -> list[Any]:
     minutes = [it.minute for it in pieces if it.minute is not None]
     first, last = (min(minutes), max(minutes)) if minutes else (None, None)
     if any(
@@ -619,34 +691,33 @@ def board_row(board, pieces):
     ):
         first = None  # a running desk of another line may have placed a piece before
     overdue = "yes" if any(it.overdue == "yes" for it in pieces) else "no"
-    joined = lambda texts: "; ".join(dict.fromkeys(texts))
     return [
         board,
         len(pieces),
         spelled(first),
         spelled(last if len(minutes) == len(pieces) else None),
-        joined(it.line for it in pieces),
+        "; ".join(dict.fromkeys(piece.line for piece in pieces)),
         overdue,
-        joined(it.file for it in pieces),
+        "; ".join(dict.fromkeys(piece.file for piece in pieces)),
     ]
 
 
-def shipment(shipped, board):
+def shipment(shipped: Shipped, board: str) -> list[str]:
     """The customers of a board and the dates, in the order of the list; empty where it was not shipped."""
     return ["; ".join(it) for it in zip(*shipped[board])] if board in shipped else ["", ""]
 
 
-def tables_of(recall, shipped):
+def tables_of(recall: Recall, shipped: Shipped | None) -> dict[str, Table]:
     now = f"{recall.minute:%Y-%m-%dT%H:%M:00Z}"
     return {
         "boards": boards_table(recall, shipped),
         "pieces": [
             Piece._fields,
-            *(it._replace(minute=spelled(it.minute)) for it in recall.pieces),
+            *([*it[:8], spelled(it.minute), *it[9:]] for it in recall.pieces),
         ],
         "reels": [
             [*Reel._fields[:-1], "as_of"],
-            *(it._replace(minute=spelled(it.minute) or now) for it in recall.reels),
+            *([*it[:-1], spelled(it.minute) or now] for it in recall.reels),
         ],
         "asked": [Asked._fields, *recall.asked],
         "untraced": [
@@ -684,7 +755,7 @@ th { font-weight: normal; color: #5a6675 } td { overflow-wrap: anywhere } .whole
 """
 
 
-def page(recall, tables, shipped, version):
+def page(recall: Recall, tables: dict[str, Table], shipped: Shipped | None, version: str) -> str:
     """One page: the question, whether all were asked, the boards, what is left of the reels, and who was asked."""
     kind, name = recall.question
     title = html.escape(f"Recall of the {kind} {name}")
@@ -730,9 +801,9 @@ def page(recall, tables, shipped, version):
 """
 
 
-def customers(boards):
+def customers(boards: Table) -> Table:
     """How many boards each customer has; the boards of the first row were not shipped."""
-    counts = {}
+    counts: dict[str, int] = {}
     for row in boards[1:]:
         counts[row[-2] or "not shipped"] = counts.get(row[-2] or "not shipped", 0) + 1
     return [
@@ -741,47 +812,46 @@ def customers(boards):
     ]
 
 
-def listed(texts):
+def listed(texts: Iterable[str]) -> str:
     return f"<ul>{''.join(f'<li>{html.escape(it)}</li>' for it in texts)}</ul>" if texts else ""
 
 
-def html_table(table):
+def html_table(table: Table) -> str:
     header, *rows = table
     if not rows:
         return "<p>None.</p>"
-    cells = (
-        lambda row, tag: "<tr>"
-        + "".join(f"<{tag}>{html.escape(str(it))}</{tag}>" for it in row)
-        + "</tr>\n"
-    )
+
+    def cells(row: Sequence[Any], tag: str) -> str:
+        texts = (f"<{tag}>{html.escape(str(value))}</{tag}>" for value in row)
+        return f"<tr>{''.join(texts)}</tr>\n"
+
     return f"<table><thead>{cells(header, 'th')}</thead><tbody>{''.join(cells(row, 'td') for row in rows)}</tbody></table>"
 
 
 # --- What is written
 
 
-def program_version(program):
+def program_version(program: str) -> str:
     try:
-        return subprocess.run(
-            [program, "--version"], capture_output=True, **plant.TEXT, check=True
-        ).stdout.strip()
+        how: dict[str, Any] = {"capture_output": True, "check": True, **plant.TEXT}
+        return str(subprocess.run([program, "--version"], **how).stdout).strip()
     except (OSError, subprocess.CalledProcessError):
         return f"no version: {program} is not here"
 
 
-def bytes_of(text):
+def bytes_of(text: str) -> bytes:
     """A text as UTF-8, whatever names of files stand in it."""
     return text.encode(errors="backslashreplace")
 
 
-def write(path, content):
+def write(path: pathlib.Path, content: bytes) -> None:
     with open(path, "xb") as file:
         file.write(content)
         file.flush()
         os.fsync(file.fileno())
 
 
-def write_beside(path, content):
+def write_beside(path: pathlib.Path, content: bytes) -> None:
     """A new file, whole or not at all; one that is there stays."""
     with named(path), tempfile.TemporaryDirectory(prefix=f".{path.name}-", dir=path.parent) as room:
         write(pathlib.Path(room, "new"), content)
@@ -789,7 +859,7 @@ def write_beside(path, content):
 
 
 @contextlib.contextmanager
-def named(path):
+def named(path: pathlib.Path) -> Iterator[None]:
     """Gives a whole answer its name on the disk; a Fault where that fails."""
     try:
         yield
@@ -798,16 +868,16 @@ def named(path):
         raise plant.Fault(f"{path}: {fault.strerror}") from fault
 
 
-def write_evidence(folder, files):
+def write_evidence(folder: pathlib.Path, contents: dict[str, bytes]) -> None:
     """A new folder with these files and their checksums, whole or not at all; one that has something in it stays."""
     sums = "".join(
         f"{hashlib.sha256(content).hexdigest()}  {name}\n"
-        for name, content in sorted(files.items())
+        for name, content in sorted(contents.items())
     )
     with named(folder):
         room = pathlib.Path(tempfile.mkdtemp(prefix=f".{folder.name}-", dir=folder.parent))
         try:
-            for name, content in {**files, "SHA256SUMS": bytes_of(sums)}.items():
+            for name, content in {**contents, "SHA256SUMS": bytes_of(sums)}.items():
                 write(room / name, content)
             files.keep(room)
             os.rename(room, folder)
@@ -815,30 +885,34 @@ def write_evidence(folder, files):
             shutil.rmtree(room, ignore_errors=True)
 
 
-def evidence(recall, tables, words, paper, version):
+def evidence(
+    recall: Recall, tables: dict[str, Table], words: argparse.Namespace, paper: str, version: str
+) -> dict[str, bytes]:
     """The files of the evidence: their names and contents."""
-    files = {f"{name}.csv": bytes_of(catalogue.csv_text(table)) for name, table in tables.items()}
-    files |= {
+    contents = {
+        f"{name}.csv": bytes_of(catalogue.csv_text(table)) for name, table in tables.items()
+    }
+    contents |= {
         "question.txt": bytes_of(question_text(recall, words, version)),
         "recall.html": bytes_of(paper),
     }
     for number, survey in enumerate(recall.catalogues.values(), 1):
-        files[f"catalogue-{number}.csv"] = survey.text
+        contents[f"catalogue-{number}.csv"] = survey.text
     for number, line in enumerate(recall.lines, 1):
         if line.name in recall.proofs:
-            files[f"chain-{number}.csv"] = bytes_of(recall.proofs[line.name].text)
+            contents[f"chain-{number}.csv"] = bytes_of(recall.proofs[line.name].text)
         if line.url:
-            files[f"desk-{number}.txt"] = bytes_of(
+            contents[f"desk-{number}.txt"] = bytes_of(
                 "".join(
                     f"GET {target}\n{text}\n" for target, text in recall.desks[line.name].answers
                 )
             )
     if words.shipped:
-        files["shipped.csv"] = read_once(words.shipped)
-    return files
+        contents["shipped.csv"] = read_once(words.shipped)
+    return contents
 
 
-def question_text(recall, words, version):
+def question_text(recall: Recall, words: argparse.Namespace, version: str) -> str:
     lines = [
         f"question: {recall.question.kind} {recall.question.name}",
         f"asked at: {recall.minute:%Y-%m-%dT%H:%M:00Z}",
@@ -873,12 +947,14 @@ def question_text(recall, words, version):
 # --- The command line
 
 
-def stop(text, status=2):
+def stop(text: str, status: int = 2) -> NoReturn:
     plant.tell(text)
     sys.exit(status)
 
 
-def rows_of(path, header, more=()):
+def rows_of(
+    path: pathlib.Path, header: Sequence[str], more: Sequence[str] = ()
+) -> Iterator[list[str]]:
     """The rows of a CSV file that has the columns of a header, and may have more; the tool stops where it can't be read."""
     try:
         rows = csv.DictReader(
@@ -898,7 +974,7 @@ def rows_of(path, header, more=()):
         stop(f"{path}: it can't be read: {fault}")
 
 
-def lines_of(words):
+def lines_of(words: argparse.Namespace) -> list[Line]:
     told = [(pathlib.Path(), *it, "", None) for it in words.line]
     if words.lines:
         told += [
@@ -917,7 +993,8 @@ def lines_of(words):
             )
             for it in plant.set_ups()
         ]
-    lines, seen = [], {}
+    lines: list[Line] = []
+    seen: dict[tuple[str, Any], str] = {}
     for folder, name, url, path, machines, desk in told:
         if path in ("", "-"):
             stop(
@@ -953,29 +1030,27 @@ def lines_of(words):
     )
 
 
-def place_of(url):
+def place_of(url: str) -> tuple[str | None, int, str]:
     """Where a URL leads, however it is written."""
     it = urllib.parse.urlsplit(url)
     return it.hostname, it.port or (443 if it.scheme == "https" else 80), it.path.rstrip("/")
 
 
-def want_secrets_kept(lines, users):
+def want_secrets_kept(lines: Iterable[Line], users: netrc.netrc | None) -> None:
     """Stops where a password would go over a network in plain text."""
     for it in lines:
         to = urllib.parse.urlsplit(it.url)
-        if (
-            users
-            and to.scheme == "http"
-            and users.authenticators(to.hostname)
-            and not re.fullmatch(r"localhost|127\..*|::1", to.hostname)
-        ):
+        host = to.hostname or ""
+        is_here = re.fullmatch(r"localhost|127\..*|::1", host)
+        if users and to.scheme == "http" and users.authenticators(host) and not is_here:
             stop(
-                f"the running desk of the line {it.name} would have its password in plain text: ask it by https, or leave {to.hostname} out of the file of --netrc"
+                f"the running desk of the line {it.name} would have its password in plain text:"
+                f" ask it by https, or leave {host} out of the file of --netrc"
             )
 
 
-def shipped_of(path):
-    shipped = {}
+def shipped_of(path: pathlib.Path) -> Shipped:
+    shipped: Shipped = {}
     for board, *row in rows_of(path, ("board", "customer", "date")):
         if not row[0]:
             stop(f"{path}: board {board} has no customer: leave out what was not shipped")
@@ -984,14 +1059,14 @@ def shipped_of(path):
     return shipped
 
 
-def users_of(path):
+def users_of(path: pathlib.Path | None) -> netrc.netrc | None:
     try:
         return netrc.netrc(path) if path else None
     except (OSError, UnicodeDecodeError, netrc.NetrcParseError) as fault:
         stop(f"{path}: it can't be read: {fault}")
 
 
-def context_of(path, lines):
+def context_of(path: pathlib.Path | None, lines: Iterable[Line]) -> ssl.SSLContext | None:
     """By which certificates https URLs are known; none where no URL is one, since reading them takes time."""
     try:
         return (
@@ -1003,7 +1078,7 @@ def context_of(path, lines):
         stop(f"{path}: it is no certificate that can be read: {fault}")
 
 
-def parse():
+def parse() -> argparse.Namespace:
     parser = reader_of(__doc__)
     parser.add_argument("kind", choices=("lot", "reel", "board"), help="the kind of the name")
     parser.add_argument("name", type=carry.identifier, help="its name")
@@ -1041,7 +1116,7 @@ def parse():
     return words
 
 
-def main():
+def main() -> int:
     words = parse()
     try:
         lines, users = lines_of(words), users_of(words.netrc)

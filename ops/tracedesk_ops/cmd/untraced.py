@@ -23,6 +23,8 @@ decision. If a recall names pieces as doubtful because of it, and nothing was pl
 Exit status: 0 done, and of list: nothing is undecided; 1 something is undecided; 2 bad command line; 3 a file is damaged or
 gone, and standard error says which; 9 an unexpected failure.
 """
+from __future__ import annotations
+
 import argparse
 import csv
 import io
@@ -34,7 +36,7 @@ from tracedesk_ops import plant, reader_of, untraced
 ARCHIVE, STATUS = plant.DESK.parent / "archive", plant.DESK.parent / "status"
 
 
-def collect(asked):
+def collect(asked: argparse.Namespace) -> int:
     """Collects once, or for ever; then a fault is said, and what comes later is still taken."""
     while True:
         status = 0
@@ -55,12 +57,12 @@ def collect(asked):
         time.sleep(asked.every)
 
 
-def tell_station(asked, records):
+def tell_station(asked: argparse.Namespace, records: list[untraced.Record]) -> None:
     if asked.status or STATUS.is_dir():
         untraced.write_status(asked.status or STATUS, records)
 
 
-def show(asked):
+def show(asked: argparse.Namespace) -> int:
     book = untraced.read(asked.archive)
     decided, rows = untraced.decisions(book.records), []
     for it in book.records:
@@ -105,7 +107,7 @@ def show(asked):
     return 3 if book.faults else 1 if untraced.undecided(book.records) else 0
 
 
-def decide(asked):
+def decide(asked: argparse.Namespace) -> int:
     try:
         records, _, _ = untraced.collect(asked.archive)
         ids = [it.id for it in untraced.refused(records) if it.id.startswith(asked.id)]
@@ -121,13 +123,13 @@ def decide(asked):
         return 3
 
 
-def words_of(text):
+def words_of(text: str) -> str:
     if not text.strip() or not text.isprintable() or len(text) > 500:
         raise argparse.ArgumentTypeError("it is a text of one line, of 1 to 500 letters")
     return text.strip()
 
 
-def main():
+def main() -> int:
     reader = reader_of(__doc__)
     verbs = reader.add_subparsers(dest="verb", required=True)
     for verb, call in (("collect", collect), ("list", show), ("decide", decide)):
@@ -152,4 +154,4 @@ def main():
     asked = reader.parse_args()
     asked.archive = asked.archive.absolute()
     with plant.as_owner(asked.archive.parent / plant.DESK.name):
-        return asked.call(asked)
+        return int(asked.call(asked))

@@ -19,6 +19,9 @@ When the desk is down the file is written with tracedesk_up 0. It gives way to t
 Exit status: 0 written, whatever was found; 1 not written, and the file before it stays; 2 bad command line;
 9 an unexpected failure.
 """
+from __future__ import annotations
+
+import argparse
 import collections
 import contextlib
 import csv
@@ -34,6 +37,8 @@ import subprocess
 import sys
 import time
 import urllib.parse
+from collections.abc import Callable, Iterator
+from typing import Any, NamedTuple
 
 from tracedesk_ops import backups, catalogue, files, identity, plant, reader_of, untraced
 
@@ -64,7 +69,22 @@ FAULTS = (
     csv.Error,
 )
 
-Metric = collections.namedtuple("Metric", "kind about")
+
+class Metric(NamedTuple):
+    """What Prometheus is told of a metric."""
+
+    kind: str
+    about: str
+
+
+class Sample(NamedTuple):
+    """A value of a metric."""
+
+    name: str
+    labels: dict[str, str]
+    value: float
+
+
 METRICS = {
     "tracedesk_up": Metric(
         "gauge", "1 where the desk answered a GET on its port in the time given, else 0."
@@ -164,14 +184,12 @@ METRICS = {
     "tracedesk_watch_timestamp_seconds": Metric("gauge", "When this file was written."),
 }
 
-Sample = collections.namedtuple("Sample", "name labels value")
-
 
 @contextlib.contextmanager
-def within(seconds):
+def within(seconds: float) -> Iterator[None]:
     """Ends what takes longer with a TimeoutError."""
 
-    def end(*_):
+    def end(*_: object) -> None:
         raise TimeoutError(f"no end after {seconds:g} seconds")
 
     signal.signal(signal.SIGALRM, end)
@@ -182,7 +200,7 @@ def within(seconds):
         signal.setitimer(signal.ITIMER_REAL, 0)
 
 
-def is_there(path):
+def is_there(path: str | pathlib.Path) -> bool:
     """Whether there is something; a PermissionError where that can't be seen."""
     try:
         os.stat(path)
@@ -197,10 +215,10 @@ def is_there(path):
 class Desk:
     """The running desk. Each request has a connection of its own, so that nobody waits for this tool."""
 
-    def __init__(self, port, seconds):
+    def __init__(self, port: int, seconds: float) -> None:
         self.port, self.seconds, self.end = port, seconds, time.monotonic() + ANSWERS * seconds
 
-    def get(self, target, message=None):
+    def get(self, target: str, message: bytes | None = None) -> tuple[int, str]:
         """The status and the body of a GET, whole; of a POST where there is a message."""
         with within(max(0.001, min(self.seconds, self.end - time.monotonic()))), contextlib.closing(
             http.client.HTTPConnection("127.0.0.1", self.port)
@@ -212,11 +230,11 @@ class Desk:
                 answer.read().decode(),
             )  # all that Content-Length says, or IncompleteRead
 
-    def has(self, uid):
+    def has(self, uid: str) -> bool:
         """Whether the desk has accepted a UniqueID, by a message that it refuses in any case."""
         return identity.has_it(*self.get("/messages", identity.question(uid)))
 
-    def rows(self, path, columns, **asked):
+    def rows(self, path: str, columns: str, **asked: object) -> list[dict[str, str]]:
         """The rows of a report; none where the desk says that the thing isn't there."""
         target = f"{path}?{urllib.parse.urlencode(asked)}" if asked else path
         try:
@@ -225,7 +243,7 @@ class Desk:
             raise plant.Fault(f"{target} {fault}") from None
 
 
-def whole_number(text):
+def whole_number(text: str) -> int:
     """A number as reports write it; a ValueError where it is another text."""
     if not (text.isascii() and text.isdigit()):
         raise ValueError(f"{text!r} is no number of a report")
@@ -235,18 +253,15 @@ def whole_number(text):
 class Watch:
     """What is found, source by source."""
 
-    def __init__(self, asked):
-        self.asked, self.desk, self.samples, self.is_up = (
-            asked,
-            Desk(asked.port, asked.timeout),
-            [],
-            False,
-        )
+    def __init__(self, asked: argparse.Namespace) -> None:
+        self.asked, self.desk = asked, Desk(asked.port, asked.timeout)
+        self.samples: list[Sample] = []
+        self.is_up = False
 
-    def say(self, name, value, **labels):
+    def say(self, name: str, value: float, **labels: str) -> None:
         self.samples.append(Sample(name, labels, value))
 
-    def tried(self, name, call):
+    def tried(self, name: str, call: Callable[[], None]) -> bool:
         """Whether a call got all that it looks for; else the reason is told."""
         try:
             call()
@@ -255,7 +270,7 @@ class Watch:
             plant.tell(f"{name}: {str(fault) or repr(fault)}")
             return False
 
-    def whole(self):
+    def whole(self) -> list[Sample]:
         """All samples of this moment."""
         self.is_up = self.tried("the desk", self.probe)
         self.say("tracedesk_up", int(self.is_up))
@@ -274,7 +289,7 @@ class Watch:
         self.say("tracedesk_watch_timestamp_seconds", round(time.time(), 3))
         return self.samples
 
-    def probe(self):
+    def probe(self) -> None:
         began = time.monotonic()
         status, body = self.desk.get(PROBE)
         if not (
@@ -286,19 +301,19 @@ class Watch:
             raise plant.Fault(f"{PROBE} was answered {status}: {body[:200]}")
         self.say("tracedesk_get_seconds", round(time.monotonic() - began, 6))
 
-    def proxy(self):
+    def proxy(self) -> None:
         """Whether nginx answers. It is on this machine, so its certificate is not looked at."""
         url, trust = urllib.parse.urlsplit(self.asked.health), ssl.SSLContext(
             ssl.PROTOCOL_TLS_CLIENT
         )
         trust.check_hostname, trust.verify_mode = False, ssl.CERT_NONE
         with within(SECONDS_FOR_NGINX), contextlib.closing(
-            http.client.HTTPSConnection(url.hostname, url.port, context=trust)
+            http.client.HTTPSConnection(str(url.hostname), url.port, context=trust)
         ) as link:
             link.request("GET", url.path, headers={"Connection": "close"})
             link.getresponse().read()
 
-    def reports(self):
+    def reports(self) -> None:
         """What is overdue, and of each machine what ends first. What is whole stays where a later report fails."""
         if not self.is_up:
             raise plant.Fault("the desk is not asked for them: it is down")
@@ -306,23 +321,16 @@ class Watch:
         for machine, product in machines_of(self.asked.setup):
             self.machine(machine, product)
 
-    def machine(self, machine, product):
+    def machine(self, machine: str, product: str | None) -> None:
         slots = self.desk.rows("/slots", SLOTS, machine=machine)
-        pieces = collections.Counter(
-            {
-                it["slot"]: 0
-                for it in (
-                    self.desk.rows("/kit", KIT, product=product, machine=machine, boards=1)
-                    if product
-                    else []
-                )
-            }
-        )
-        for it in slots:
-            pieces[it["slot"]] += whole_number(it["remaining"])
-        lives = [
-            whole_number(it["minutes_left"]) for it in slots if it["minutes_left"] not in NO_MINUTES
-        ]
+        kit = []
+        if product:
+            kit = self.desk.rows("/kit", KIT, product=product, machine=machine, boards=1)
+        pieces = collections.Counter({row["slot"]: 0 for row in kit})
+        for row in slots:
+            pieces[row["slot"]] += whole_number(row["remaining"])
+        limited = [row["minutes_left"] for row in slots if row["minutes_left"] not in NO_MINUTES]
+        lives = [whole_number(minutes) for minutes in limited]
         if lives:
             self.say("tracedesk_least_floor_life_seconds", 60 * min(lives), machine=machine)
         if pieces:
@@ -330,7 +338,7 @@ class Watch:
 
     # --- What no route tells
 
-    def service(self):
+    def service(self) -> None:
         words = ["systemctl", "show", "--property=ActiveState,NRestarts,LoadState", self.asked.unit]
         done = subprocess.run(
             words,
@@ -347,7 +355,7 @@ class Watch:
         self.say("tracedesk_service_active", int(told["ActiveState"] == "active"))
         self.say("tracedesk_service_restarts_total", whole_number(told["NRestarts"]))
 
-    def file(self):
+    def file(self) -> None:
         """The size of the desk's file and what follows from it, and the room beside it; no file is opened."""
         size, log = os.stat(self.asked.db).st_size, f"{self.asked.db}-wal"
         pieces = size // BYTES_A_PIECE
@@ -360,7 +368,7 @@ class Watch:
             round(pieces * plant.SECONDS_A_MILLION / 1_000_000, 3),
         )
 
-    def backup(self):
+    def backup(self) -> None:
         """The desk's newest copy that lacks no archive, and what its backup.json and its tables say; one of the future is none to trust."""
         if not is_there(self.asked.backups):
             return
@@ -376,7 +384,7 @@ class Watch:
                 self.say("tracedesk_backup_pieces", placed_in(copy / "desk"))
                 return
 
-    def archive(self):
+    def archive(self) -> None:
         path = self.asked.archive / catalogue.FILE_NAME
         archives = catalogue.read(path)
         if gone := [it.file for it in archives if not is_there(catalogue.path_of(path, it))]:
@@ -396,7 +404,7 @@ class Watch:
         self.say("tracedesk_archive_commands", sum(it.commands for it in archives))
         self.say("tracedesk_archive_pieces", sum(it.pieces for it in archives))
 
-    def clock(self):
+    def clock(self) -> None:
         """The answer that the idle clock had last, where one is switched on."""
         if is_there(self.asked.clock):
             told = json.loads(self.asked.clock.read_text(encoding="utf-8"))
@@ -406,7 +414,7 @@ class Watch:
             self.say("tracedesk_clock_timestamp_seconds", int(minute.timestamp()))
             self.say("tracedesk_clock_commands", int(told["Number"]))
 
-    def status(self):
+    def status(self) -> None:
         """What each sender of the line says of itself, and what is undecided. One that can't be read doesn't hide the others."""
         spoilt = []
         for file in (
@@ -414,13 +422,7 @@ class Watch:
         ):
             try:
                 told = json.loads(file.read_bytes())
-                if file.name == untraced.STATUS:
-                    its = [
-                        ("tracedesk_untraced_undecided", len(told["Undecided"]), {}),
-                        ("tracedesk_untraced_timestamp_seconds", second_of(told["At"]), {}),
-                    ]
-                else:
-                    its = list(said_of(told))
+                its = list(book_of(told) if file.name == untraced.STATUS else said_of(told))
             except FAULTS as fault:
                 spoilt.append(f"{file}: {str(fault) or repr(fault)}")
                 continue
@@ -430,7 +432,13 @@ class Watch:
             raise plant.Fault("; ".join(spoilt))
 
 
-def said_of(told):
+def book_of(told: dict[str, Any]) -> Iterator[tuple[str, int, dict[str, str]]]:
+    """The samples of the status of tracedesk-untraced."""
+    yield "tracedesk_untraced_undecided", len(told["Undecided"]), {}
+    yield "tracedesk_untraced_timestamp_seconds", second_of(told["At"]), {}
+
+
+def said_of(told: dict[str, Any]) -> Iterator[tuple[str, int, dict[str, str]]]:
     """The samples of a sender's status: name, value and labels of each."""
     sender = {"sender": str(told["Sender"])}
     yield "tracedesk_sender_waiting", int(told["Waiting"]), sender
@@ -444,7 +452,7 @@ def said_of(told):
         yield "tracedesk_interlock_go", int(it["State"] == "go"), {**sender, "machine": machine}
 
 
-def second_of(text):
+def second_of(text: str) -> int:
     return int(
         datetime.datetime.strptime(text, "%Y-%m-%dT%H:%M:%SZ")
         .replace(tzinfo=datetime.timezone.utc)
@@ -452,7 +460,7 @@ def second_of(text):
     )
 
 
-def machines_of(path):
+def machines_of(path: pathlib.Path) -> list[tuple[str, str | None]]:
     """The machines of the station's setup.json, each with the product of its sheet or none."""
     if not is_there(path):
         return []
@@ -469,17 +477,17 @@ def machines_of(path):
         ) from fault
 
 
-def placed_in(copy):
+def placed_in(copy: pathlib.Path) -> int:
     """How many pieces the tables of a copy have placed. A copy stands whole, and nothing is written beside it."""
     with within(SECONDS_FOR_A_FILE), catalogue.opened(copy) as database:
         ((pieces,),) = database.execute("SELECT coalesce(sum(placed), 0) FROM reel").fetchall()
-        return pieces
+        return int(pieces)
 
 
 # --- The file
 
 
-def text_of(samples):
+def text_of(samples: list[Sample]) -> str:
     """The samples in the text format of Prometheus, each metric's together."""
     lines = []
     for name, metric in METRICS.items():
@@ -490,7 +498,7 @@ def text_of(samples):
     return "\n".join(lines) + "\n"
 
 
-def labels_of(labels):
+def labels_of(labels: dict[str, str]) -> str:
     written = {
         name: value.replace("\\", r"\\").replace('"', r"\"").replace("\n", r"\n")
         for name, value in labels.items()
@@ -502,7 +510,7 @@ def labels_of(labels):
     )
 
 
-def words():
+def words() -> argparse.Namespace:
     reader = reader_of(__doc__)
     reader.add_argument("--list", action="store_true", help="print the metrics")
     reader.add_argument(
@@ -582,7 +590,7 @@ def words():
     return asked
 
 
-def main():
+def main() -> int:
     asked = words()
     if asked.list:
         print("\n".join(f"{name} {it.kind} {it.about}" for name, it in METRICS.items()))
