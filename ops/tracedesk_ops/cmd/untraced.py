@@ -1,4 +1,3 @@
-#!/usr/bin/env python3
 """Lists the work that a line's desk refused and did not trace, and keeps each person's decision about it.
 
 usage: tracedesk-untraced collect [--every SECONDS] [--status FOLDER] [--archive FOLDER]
@@ -28,12 +27,9 @@ import argparse
 import csv
 import io
 import pathlib
-import sys
 import time
 
-sys.path.insert(0, str(pathlib.Path(__file__).resolve().parent / "lib"))
-sys.dont_write_bytecode = True
-from tracedesk_ops import plant, reader_of, statuses, untraced  # noqa: E402
+from tracedesk_ops import plant, reader_of, untraced
 
 ARCHIVE, STATUS = plant.DESK.parent / "archive", plant.DESK.parent / "status"
 
@@ -157,7 +153,3 @@ def main():
     asked.archive = asked.archive.absolute()
     with plant.as_owner(asked.archive.parent / plant.DESK.name):
         return asked.call(asked)
-
-
-if __name__ == "__main__":
-    statuses.end(main)
