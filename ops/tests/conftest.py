@@ -13,7 +13,7 @@ import os
 import pathlib
 import shutil
 import tempfile
-from typing import Callable, Iterator
+from typing import Iterator
 
 import pytest
 
@@ -22,7 +22,7 @@ pytest.register_assert_rewrite("lab")
 from lab import line as lines  # noqa: E402
 from lab import messages, world as worlds  # noqa: E402
 from lab.desk import Desk  # noqa: E402
-from lab.line import Line  # noqa: E402
+from lab.line import Line, NewLine  # noqa: E402
 from lab.world import World  # noqa: E402
 from tracedesk_dev import program as programs  # noqa: E402
 from tracedesk_ops import plant  # noqa: E402
@@ -47,8 +47,6 @@ PACKAGES = {  # of Debian, by the commands that tests name
 }
 MORE_PATHS = ":/usr/sbin:/usr/lib/postgresql/15/bin"
 NO_CHAIN = "there is no tracedesk-chain next to {}: dev/build --chain, or CHAIN=FILE"
-
-NewLine = Callable[..., Line]
 
 
 def pytest_addoption(parser: pytest.Parser) -> None:
