@@ -1,18 +1,25 @@
-// What the page knows of the line: the desk's reports, each with its moment. It asks at the same moments of the server's clock
-// as every other station, so that the proxy's cache makes one request of all theirs.
+// What the page knows of the line: the desk's reports, each with its moment. It asks at the same
+// moments of the server's clock as every other station, so that the proxy's cache makes one
+// request of all theirs.
 import * as clock from "./clock.js";
-import * as desk from "./desk.js";
-import * as store from "./store.js";
 import { rowsOf } from "./csv.js";
+import * as desk from "./desk.js";
 import { lifeOrder } from "./life.js";
+import * as store from "./store.js";
 
 const LEAST_PERIOD = 3; // seconds
 const KIT_PERIOD = 300; // of sheets, free reels and the overdue list, which seldom change
 const ALL_BOARDS = "100000";
-const PACE_WINDOW = 20 * 60_000, PACE_LEAST = 2 * 60_000; // milliseconds over which a machine's pace is reckoned
-const ENOUGH = 6, CARDS = 24; // free reels that are enough to choose from, and cards that are asked for at most to find more
+const PACE_WINDOW = 20 * 60_000;
+const PACE_LEAST = 2 * 60_000; // milliseconds over which a machine's pace is reckoned
+const ENOUGH = 6;
+const CARDS = 24; // free reels that are enough to choose from, and cards that are asked for at
+                   // most to find more
 
-/** Every how many seconds the slots are asked for, so that all stations together use up so many connections a day at most. */
+/**
+ * Every how many seconds the slots are asked for, so that all stations together use up so many
+ * connections a day at most.
+ */
 export function period(machines, connections) {
   const rest = connections - kitsADay(machines);
   return rest <= 0 ? 600 : Math.max(LEAST_PERIOD, (machines * 86_400) / rest);
@@ -29,7 +36,17 @@ export class Model {
     this.setup = setup;
     this.changed = changed;
     this.period = period(setup.machines.length, setup.connectionsADay) * 1000;
-    this.lines = setup.machines.map(({ machine, product }) => ({ machine, configured: product ?? null, slots: null, text: null, kit: null, kitHad: null, missing: null, looks: [], rows: null }));
+    this.lines = setup.machines.map(({ machine, product }) => ({
+                                      machine,
+                                      configured: product ?? null,
+                                      slots: null,
+                                      text: null,
+                                      kit: null,
+                                      kitHad: null,
+                                      missing: null,
+                                      looks: [],
+                                      rows: null,
+                                    }));
     this.overdue = null;
     this.overdueHad = null;
     this.parts = new Map(); // of reels, as the desk's reports told them
@@ -38,7 +55,8 @@ export class Model {
     this.selected = {}; // of each machine: what this station's accepted selection said
     this.state = { had: null, age: null, at: 0, old: false, ok: false, status: 0 };
     this.boards = new Map(); // of each machine: the board in work, as a sender reports it
-    this.refused = []; // reports of work that were refused and that nobody has decided about: {Id, Machine, MessageName, Board, Place, Refusal, At}
+    this.refused = []; // reports of work that were refused and that nobody has decided
+                              // about: {Id, Machine, MessageName, Board, Place, Refusal, At}
     this.kitTurn = null; // which of the server's periods the kits are of
   }
 
@@ -49,7 +67,8 @@ export class Model {
         await this.all();
         document.body.dataset.asked = "all";
       }
-      const now = clock.now() ?? Date.now(), next = (Math.floor(now / this.period) + 1) * this.period;
+      const now = clock.now() ?? Date.now();
+      const next = (Math.floor(now / this.period) + 1) * this.period;
       await new Promise((resolve) => setTimeout(resolve, next - now + 50));
     }
   }
@@ -60,11 +79,19 @@ export class Model {
 
   /** The product of a machine, and where this page has it from. */
   product(machine) {
-    const configured = this.line(machine)?.configured, chosen = this.selected[machine], said = configured && this.setup.since > chosen?.at ? null : chosen; // the later of the two
-    return said ? { product: said.product, from: "station", number: said.number, at: said.at } : configured ? { product: configured, from: "setup", at: this.setup.since } : null;
+    const configured = this.line(machine)?.configured;
+    const chosen = this.selected[machine];
+    const said =
+      configured && this.setup.since > chosen?.at ? null : chosen; // the later of the two
+    return said ? { product: said.product, from: "station", number: said.number, at: said.at }
+      : configured ? { product: configured, from: "setup", at: this.setup.since }
+                   : null;
   }
 
-  /** What this page's sheet says of a slot that is scanned: its part, by which sheet, known from where. */
+  /**
+   * What this page's sheet says of a slot that is scanned: its part, by which sheet, known from
+   * where.
+   */
   wanted({ machine, slot }) {
     const part = slot ? this.slot(machine, slot).part : null;
     return part === null ? { part } : { part, ...this.product(machine) };
@@ -88,13 +115,37 @@ export class Model {
     }
   }
 
-  /** Reads what the senders and the collector say of refused reports of work: of each machine the last one that nobody has decided about. */
+  /**
+   * Reads what the senders and the collector say of refused reports of work: of each machine the
+   * last one that nobody has decided about.
+   */
   async untraced() {
-    const files = await desk.lineStatus(""), told = Array.isArray(files) ? await Promise.all(files.filter((it) => it.type === "file" && it.name.endsWith(".json")).map((it) => desk.lineStatus(it.name))) : [];
-    this.boards = new Map(told.flatMap((it) => Object.entries(it?.Machines ?? {}).filter(([, { Board }]) => typeof Board === "string").map(([machine, { Board }]) => [machine, Board])));
-    const decided = new Set(told.flatMap((it) => it?.Decided ?? [])), found = new Map();
-    const last = told.flatMap((it) => Object.entries(it?.Machines ?? {}).filter(([, { LastRefused }]) => LastRefused).map(([Machine, { LastRefused: { Id, At, Answer, Message } }]) => ({
-      Id, At, Machine, MessageName: Message.MessageName, Board: Message.MessageBody?.Board, Place: Answer.At, Refusal: Answer.Refusal ?? Answer.Fault })));
+    const files = await desk.lineStatus("");
+    const told = Array.isArray(files)
+      ? await Promise.all(files.filter(
+                                 (it) => it.type === "file" && it.name.endsWith(".json"),
+        ).map((it) => desk.lineStatus(it.name)))
+      : [];
+    this.boards = new Map(told.flatMap(
+      (it) => Object.entries(it?.Machines ?? {})
+                .filter(([, { Board }]) => typeof Board === "string")
+                .map(([machine, { Board }]) => [machine, Board]),
+    ));
+    const decided = new Set(told.flatMap((it) => it?.Decided ?? []));
+    const found = new Map();
+    const last = told.flatMap(
+      (it) => Object.entries(it?.Machines ?? {})
+                .filter(([, { LastRefused }]) => LastRefused)
+                .map(([Machine, { LastRefused: { Id, At, Answer, Message } }]) => ({
+                       Id,
+                       At,
+                       Machine,
+                       MessageName: Message.MessageName,
+                       Board: Message.MessageBody?.Board,
+                       Place: Answer.At,
+                       Refusal: Answer.Refusal ?? Answer.Fault,
+                     })),
+    );
     for (const it of [...told.flatMap((file) => file?.Undecided ?? []), ...last]) {
       if (!decided.has(it.Id) && !(found.get(it.Machine)?.At >= it.At)) {
         found.set(it.Machine, it);
@@ -110,7 +161,8 @@ export class Model {
   }
 
   async kits() {
-    const turn = this.turn(), areHad = [];
+    const turn = this.turn();
+    const areHad = [];
     for (const line of this.lines) {
       areHad.push(await this.kit(line));
     }
@@ -118,12 +170,25 @@ export class Model {
       this.overdue = told.rows.length;
       this.overdueHad = told.had;
     }));
-    this.kitTurn = areHad.every(Boolean) ? turn : null; // else they are asked for again at the next look
+    this.kitTurn =
+      areHad.every(Boolean) ? turn : null; // else they are asked for again at the next look
   }
 
-  /** Takes a report where it is had, and notes how the desk is; false where it isn't had. That a thing is unknown is the desk's answer too. */
+  /**
+   * Takes a report where it is had, and notes how the desk is; false where it isn't had. That a
+   * thing is unknown is the desk's answer too.
+   */
   async had(asking, take, without = () => {}) {
-    const heard = (told) => { this.state = { had: told.had, age: told.age, at: performance.now(), old: told.old, ok: true, status: 200 }; };
+    const heard = (told) => {
+      this.state = {
+        had: told.had,
+        age: told.age,
+        at: performance.now(),
+        old: told.old,
+        ok: true,
+        status: 200,
+      };
+    };
     let isHad = true;
     try {
       const told = await asking;
@@ -146,16 +211,24 @@ export class Model {
   }
 
   async slots(line) {
-    await this.had(desk.report("slots", { machine: line.machine }), (told) => {
-      if (told.text !== line.text) {
-        line.slots = rowsOf(told.text);
-        line.slots.forEach((it) => this.parts.set(it.reel, it.part));
-      }
-      Object.assign(line, { text: told.text, had: told.had, missing: null, rows: null });
-      if (told.had !== null) {
-        line.looks = [...line.looks.filter((it) => told.had - it.at < PACE_WINDOW), { at: told.had, slots: line.slots }];
-      }
-    }, (kind, had) => Object.assign(line, { slots: [], text: null, had, missing: kind, rows: null }));
+    await this.had(
+      desk.report("slots", { machine: line.machine }),
+      (told) => {
+        if (told.text !== line.text) {
+          line.slots = rowsOf(told.text);
+          line.slots.forEach((it) => this.parts.set(it.reel, it.part));
+        }
+        Object.assign(line, { text: told.text, had: told.had, missing: null, rows: null });
+        if (told.had !== null) {
+          line.looks = [
+            ...line.looks.filter((it) => told.had - it.at < PACE_WINDOW),
+            { at: told.had, slots: line.slots },
+          ];
+        }
+      },
+      (kind, had) =>
+        Object.assign(line, { slots: [], text: null, had, missing: kind, rows: null }),
+    );
   }
 
   async kit(line) {
@@ -164,9 +237,15 @@ export class Model {
       line.kit = line.rows = null;
       return true;
     }
-    return this.had(desk.rows("kit", { product, machine: line.machine, boards: "1" }), (told) => {
-      Object.assign(line, { kit: sheetOf(told.rows), kitHad: told.had, noSheet: false, rows: null });
-    }, (kind, had) => Object.assign(line, { kit: null, kitHad: had, noSheet: true, rows: null }));
+    return this.had(
+      desk.rows("kit", { product, machine: line.machine, boards: "1" }),
+      (told) => {
+        Object.assign(
+          line, { kit: sheetOf(told.rows), kitHad: told.had, noSheet: false, rows: null },
+        );
+      },
+      (kind, had) => Object.assign(line, { kit: null, kitHad: had, noSheet: true, rows: null }),
+    );
   }
 
   /** A machine's rows as they are shown: reckoned once for each report. */
@@ -182,7 +261,11 @@ export class Model {
 
   /** The slots whose reels end within the minutes of the set-up, the next one first. */
   ending() {
-    const rows = this.lines.flatMap((line) => this.rows(line).filter((it) => it.isEnding).map((row) => ({ ...row, machine: line.machine })));
+    const rows = this.lines.flatMap(
+      (line) => this.rows(line).filter(
+                                 (it) => it.isEnding,
+      ).map((row) => ({ ...row, machine: line.machine })),
+    );
     return rows.sort((a, b) => a.minutes - b.minutes);
   }
 
@@ -194,17 +277,25 @@ export class Model {
     }
   }
 
-  /** The part that a slot wants by the sheet that is shown, and the reels on it, the front first. */
+  /**
+   * The part that a slot wants by the sheet that is shown, and the reels on it, the front first.
+   */
   slot(machine, slot) {
     const line = this.line(machine);
     const wanted = line?.kit?.find((it) => it.slot === slot) ?? null;
-    return { known: Boolean(line?.slots), sheet: Boolean(line?.kit), part: wanted?.part ?? null, reels: (line?.slots ?? []).filter((it) => it.slot === slot) };
+    return {
+      known: Boolean(line?.slots),
+      sheet: Boolean(line?.kit),
+      part: wanted?.part ?? null,
+      reels: (line?.slots ?? []).filter((it) => it.slot === slot),
+    };
   }
 
   /** The slot that a reel is on, by the slot lists; or null. */
   place(reel) {
     const line = this.lines.find((it) => it.slots?.some((on) => on.reel === reel));
-    return line ? { machine: line.machine, slot: line.slots.find((it) => it.reel === reel).slot } : null;
+    return line ? { machine: line.machine, slot: line.slots.find((it) => it.reel === reel).slot }
+                : null;
   }
 
   /** Takes what an answer to a scan says of a slot: it holds until a later slot list says it. */
@@ -212,7 +303,9 @@ export class Model {
     if (answer.Refusal === "WrongPart" && about?.part) {
       this.unfit.add(JSON.stringify([this.parts.get(body.Reel), about.part]));
     }
-    const isLive = answer.Answer === "Accepted" ? { MaterialsLoaded: true, MaterialsSpliced: true, MaterialsUnloaded: false }[word] : { SlotTaken: true, SlotEmpty: false }[answer.Refusal];
+    const isLive = answer.Answer === "Accepted"
+      ? { MaterialsLoaded: true, MaterialsSpliced: true, MaterialsUnloaded: false }[word]
+      : { SlotTaken: true, SlotEmpty: false }[answer.Refusal];
     if (body.Slot && isLive !== undefined) {
       this.answers.set(JSON.stringify([body.Machine, body.Slot]), { isLive, at: clock.now() });
     }
@@ -221,7 +314,9 @@ export class Model {
   /** Whether a slot has a live reel: by the last slot list, or by an answer after it. */
   isLive(machine, slot) {
     const said = this.answers.get(JSON.stringify([machine, slot]));
-    return said && !(this.line(machine).had > said.at) ? said.isLive : this.slot(machine, slot).reels.length > 0;
+    return said && !(this.line(machine).had > said.at)
+      ? said.isLive
+      : this.slot(machine, slot).reels.length > 0;
   }
 
   /** The card of a reel, or null where the desk does not tell it. */
@@ -235,9 +330,14 @@ export class Model {
     }
   }
 
-  /** The free reels that the kit list names for a slot or another one of the same part, the first to end first, and alternates that it has at earlier slots; null where it isn't had. */
+  /**
+   * The free reels that the kit list names for a slot or another one of the same part, the first
+   * to end first, and alternates that it has at earlier slots; null where it isn't had.
+   */
   async freeFor(machine, slot) {
-    const product = this.product(machine)?.product, found = new Map(), earlier = new Map();
+    const product = this.product(machine)?.product;
+    const found = new Map();
+    const earlier = new Map();
     if (!product) {
       return null;
     }
@@ -251,14 +351,31 @@ export class Model {
       }
       part = told.rows.find((it) => it.slot === slot)?.part ?? null;
       const first = told.rows.findIndex((it) => it.part === part);
-      told.rows.forEach((it, at) => it.reel !== "" && (it.part === part ? found : at < first ? earlier : new Map()).set(it.reel, it));
+      told.rows.forEach(
+        (it, at) => it.reel !== "" &&
+          (it.part === part ? found
+             : at < first ? earlier
+                            : new Map()
+          ).set(it.reel, it),
+      );
     }
     found.forEach((_, reel) => earlier.delete(reel));
-    const sorted = (reels) => [...reels].sort((a, b) => lifeOrder(a.minutes_left) - lifeOrder(b.minutes_left) || (a.reel < b.reel ? -1 : 1));
-    return { part, reels: sorted(found.values()), alternates: part !== null && found.size < ENOUGH ? sorted(await this.alternates(earlier, part)) : [] };
+    const sorted = (reels) => [...reels].sort(
+      (a, b) =>
+        lifeOrder(a.minutes_left) - lifeOrder(b.minutes_left) || (a.reel < b.reel ? -1 : 1),
+    );
+    return {
+      part,
+      reels: sorted(found.values()),
+      alternates:
+        part !== null && found.size < ENOUGH ? sorted(await this.alternates(earlier, part)) : [],
+    };
   }
 
-  /** Those of some rows' reels whose own part is another than the row's: the kit has an alternate at one slot only, whatever parts it stands for. One that was refused for this part is none. */
+  /**
+   * Those of some rows' reels whose own part is another than the row's: the kit has an alternate
+   * at one slot only, whatever parts it stands for. One that was refused for this part is none.
+   */
   async alternates(rows, part) {
     const found = [];
     let cards = 0;
@@ -268,7 +385,10 @@ export class Model {
         await this.card(row.reel);
       }
       const own = this.parts.get(row.reel);
-      if (own !== undefined && own !== row.part && !this.unfit.has(JSON.stringify([own, part]))) {
+      if (own !== undefined && own !== row.part && !this.unfit.has(JSON.stringify([
+            own,
+            part,
+          ]))) {
         found.push({ ...row, own });
       }
     }
@@ -283,51 +403,114 @@ function sheetOf(rows) {
   return [...found.values()];
 }
 
-/** How many boards of a slot's pieces were used between two slot lists. A reel that is gone was used up. */
+/**
+ * How many boards of a slot's pieces were used between two slot lists. A reel that is gone was
+ * used up.
+ */
 function usedOf({ slot, needed }, before, now) {
   const left = new Map(now.filter((it) => it.slot === slot).map((it) => [it.reel, it.remaining]));
-  return sumOf(before.filter((it) => it.slot === slot).map((it) => ({ remaining: it.remaining - (left.get(it.reel) ?? 0) }))) / needed;
+  return sumOf(before.filter(
+                       (it) => it.slot === slot,
+         ).map((it) => ({ remaining: it.remaining - (left.get(it.reel) ?? 0) }))) /
+    needed;
 }
 
-/** How many boards a machine makes a minute: that of the slot in the middle, so that no count, scrap or unloading decides. 0 if it isn't known. */
+/**
+ * How many boards a machine makes a minute: that of the slot in the middle, so that no count,
+ * scrap or unloading decides. 0 if it isn't known.
+ */
 function paceOf({ looks, kit }) {
-  const first = looks[0], last = looks.at(-1), minutes = (last?.at - first?.at) / 60_000, of = (list) => list.sort((a, b) => a - b)[list.length >> 1] ?? 0;
+  const first = looks[0];
+  const last = looks.at(-1);
+  const minutes = (last?.at - first?.at) / 60_000;
+  const of = (list) => list.sort((a, b) => a - b)[list.length >> 1] ?? 0;
   if (!kit || !(last?.at - first?.at >= PACE_LEAST) || first.slots === last.slots) {
     return 0;
   }
-  return Math.max(0, of(kit.filter((it) => it.needed && first.slots.some(({ slot }) => slot === it.slot)).map((it) => usedOf(it, first.slots, last.slots)))) / minutes;
+  return Math.max(
+           0,
+           of(kit.filter(
+                   (it) => it.needed && first.slots.some(({ slot }) => slot === it.slot),
+           ).map((it) => usedOf(it, first.slots, last.slots))),
+         ) /
+    minutes;
 }
 
-/** The rows of a machine as they are shown: its sheet's, then the slots that are on no row of it. Without a slot list there are none. */
+/**
+ * The rows of a machine as they are shown: its sheet's, then the slots that are on no row of it.
+ * Without a slot list there are none.
+ */
 function shownRows(line, setup) {
   if (!line.slots) {
     return [];
   }
-  const bySlot = new Map(), pace = paceOf(line);
+  const bySlot = new Map();
+  const pace = paceOf(line);
   line.slots.forEach((it) => bySlot.set(it.slot, [...(bySlot.get(it.slot) ?? []), it]));
-  const sheet = (line.kit ?? []).map((row) => rowOf(row, bySlot.get(row.slot) ?? [], setup, pace));
-  const named = new Set(sheet.map((it) => it.slot)), off = line.kit ? "OFF" : "NOSHEET";
-  const rest = [...bySlot].filter(([slot]) => !named.has(slot)).sort(([a], [b]) => a.localeCompare(b, "en", { numeric: true }));
-  return [...sheet, ...rest.map(([slot, reels]) => rowOf({ slot, part: reels[0].part, needed: 0 }, reels, setup, 0, off))];
+  const sheet =
+    (line.kit ?? []).map((row) => rowOf(row, bySlot.get(row.slot) ?? [], setup, pace));
+  const named = new Set(sheet.map((it) => it.slot));
+  const off = line.kit ? "OFF" : "NOSHEET";
+  const rest = [...bySlot].filter(
+                             ([slot]) => !named.has(slot),
+  ).sort(([a], [b]) => a.localeCompare(b, "en", { numeric: true }));
+  return [
+    ...sheet,
+    ...rest.map(
+      ([slot, reels]) => rowOf({ slot, part: reels[0].part, needed: 0 }, reels, setup, 0, off),
+    ),
+  ];
 }
 
 /**
- * A slot as it is shown. `boards` are those of the reels before the first that is expired, and `minutes` how long they last at
- * the machine's pace; `worst` is the reel whose floor life ends first, wherever it is on the tape; `off` says that no row of the
- * sheet names the slot, or that no sheet is known.
+ * A slot as it is shown. `boards` are those of the reels before the first that is expired, and
+ * `minutes` how long they last at the machine's pace; `worst` is the reel whose floor life ends
+ * first, wherever it is on the tape; `off` says that no row of the sheet names the slot, or that
+ * no sheet is known.
  */
 function rowOf({ slot, part, needed }, reels, setup, pace, off = null) {
-  const front = reels[0] ?? null, pieces = sumOf(reels), expired = reels.findIndex((it) => it.minutes_left === "0");
-  const boards = needed ? Math.floor(sumOf(expired < 0 ? reels : reels.slice(0, expired)) / needed) : null, minutes = pace && boards !== null ? Math.floor(boards / pace) : null;
-  const worst = reels.reduce((least, it) => (least === null || lifeOrder(it.minutes_left) < lifeOrder(least.minutes_left) ? it : least), null);
-  const life = worst && lifeOrder(worst.minutes_left), others = [...new Set(reels.map((it) => it.part).filter((it) => it !== part))], states = [];
-  const isUsed = front && expired !== 0 && boards !== null, isEnding = Boolean(isUsed && minutes !== null && minutes < setup.splice);
-  [["EMPTY", !front], ["EXPIRED", expired >= 0], ["LOW", isEnding || (isUsed && boards < setup.boards)], ["EXPIRES", expired < 0 && front && life < setup.expires], ["OTHER", others.length], [off, off]].forEach(([state, holds]) => {
-    if (holds) {
-      states.push(state);
-    }
-  });
-  return { slot, part, front, behind: reels.slice(1), pieces, boards, minutes, isEnding, worst, life, others, off, states };
+  const front = reels[0] ?? null;
+  const pieces = sumOf(reels);
+  const expired = reels.findIndex((it) => it.minutes_left === "0");
+  const boards =
+    needed ? Math.floor(sumOf(expired < 0 ? reels : reels.slice(0, expired)) / needed) : null;
+  const minutes = pace && boards !== null ? Math.floor(boards / pace) : null;
+  const worst = reels.reduce(
+    (least, it) =>
+      (least === null || lifeOrder(it.minutes_left) < lifeOrder(least.minutes_left) ? it : least),
+    null,
+  );
+  const life = worst && lifeOrder(worst.minutes_left);
+  const others = [...new Set(reels.map((it) => it.part).filter((it) => it !== part))];
+  const states = [];
+  const isUsed = front && expired !== 0 && boards !== null;
+  const isEnding = Boolean(isUsed && minutes !== null && minutes < setup.splice);
+  [["EMPTY", !front],
+   ["EXPIRED", expired >= 0],
+   ["LOW", isEnding || (isUsed && boards < setup.boards)],
+   ["EXPIRES", expired < 0 && front && life < setup.expires],
+   ["OTHER", others.length],
+   [off, off]]
+    .forEach(([state, holds]) => {
+      if (holds) {
+        states.push(state);
+      }
+    });
+  return {
+    slot,
+    part,
+    front,
+    behind: reels.slice(1),
+    pieces,
+    boards,
+    minutes,
+    isEnding,
+    worst,
+    life,
+    others,
+    off,
+    states,
+  };
 }
 
 function sumOf(reels) {
