@@ -65,14 +65,18 @@ function reelsOf(lines, rows, cards) {
       (it) =>
         standsFor.set(it.own, new Set([...(standsFor.get(it.own) ?? [it.own]), ...it.parts])),
     );
-  free.filter(
-        (it) => it.own,
-  ).forEach((it) => standsFor.get(it.own).forEach((part) => it.parts.add(part)));
+  free
+    .filter(
+      (it) => it.own,
+    )
+    .forEach((it) => standsFor.get(it.own).forEach((part) => it.parts.add(part)));
   const idle = lines.flatMap(
     ({ machine, slots }) =>
-      slots.filter(
-             (it) => !wanted.has(`${machine} ${it.slot}`) && it.minutes_left !== "0",
-      ).map((it) => ({ ...it, machine })),
+      slots
+        .filter(
+          (it) => !wanted.has(`${machine} ${it.slot}`) && it.minutes_left !== "0",
+        )
+        .map((it) => ({ ...it, machine })),
   );
   const movable = idle.map(({ machine, slot, reel, part, remaining, minutes_left }) => ({
                              reel,

@@ -4,6 +4,7 @@ import * as desk from "./desk.js";
 import { button, el } from "./dom.js";
 import { isEnd, letterOf } from "./keys.js";
 import { filled, LEVELS } from "./names.js";
+import { said } from "./say.js";
 import { ACTIONS } from "./scan.js";
 import * as setup from "./setup.js";
 import { TEXTS } from "./words.js";
@@ -27,7 +28,7 @@ async function slotsOf({ machine, product }, codes) {
     const { rows } = await desk.rows("kit", { product, machine, boards: "1" });
     const slots = [...new Set(rows.map((it) => it.slot))];
     return group(
-      filled(TEXTS.codesPage.slots, { machine, product }),
+      said(TEXTS.codesPage.slots, { machine, product }),
       slots.map((slot) => card(`${machine} ${slot}`, filled(codes.slot, { machine, slot }))),
     );
   } catch {
@@ -59,8 +60,8 @@ async function begin() {
   const texts = TEXTS.codesPage;
   const main = document.getElementById("main");
   if (!read) {
-    main.replaceChildren(el("p", { class: "note wrong" }, filled(TEXTS.setup.wanting, {
-                              fault: filled(TEXTS.setup[fault], told),
+    main.replaceChildren(el("p", { class: "note wrong" }, said(TEXTS.setup.wanting, {
+                              fault: said(TEXTS.setup[fault], told),
                             })));
     return;
   }
@@ -87,14 +88,17 @@ async function begin() {
     ),
     group(
       texts.levels,
-      LEVELS.map((it) => card(filled(texts.level, { level: it }), action(`LEVEL-${it}`))),
+      LEVELS.map((it) => card(said(texts.level, { level: it }), action(`LEVEL-${it}`))),
     ),
     group(
       texts.screens,
-      Object.entries(TEXTS.screens,
-      ).map(([name, text]) => card(text, action(name.toUpperCase()))),
+      Object
+        .entries(
+          TEXTS.screens,
+        )
+        .map(([name, text]) => card(text, action(name.toUpperCase()))),
     ),
-    el("p", null, filled(texts.badge, { code: filled(codes.badge, { badge: "NAME" }) })),
+    el("p", null, said(texts.badge, { code: filled(codes.badge, { badge: "NAME" }) })),
   ];
   for (const machine of read.machines.filter((it) => it.product)) {
     parts.push(await slotsOf(machine, codes));

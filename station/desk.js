@@ -1,14 +1,14 @@
 // What is asked of the desk, through the proxy that gave this page.
 import { hear, now as serverNow } from "./clock.js";
 import { rowsOf } from "./csv.js";
+import * as session from "./session.js";
 
 const GET_SECONDS = 25;
 const POST_SECONDS = 30; // then the same bytes are sent again: a message acts once
-const ANEW = 300;
-const ANEW_TIMES = 8; // milliseconds, and how often an answer of before is asked for again while
-                       // the desk makes a new one
-const CACHE =
-  3_000; // milliseconds after which the proxy asks the desk anew: it counts two whole seconds
+const ANEW = 300; // milliseconds until an answer of before is asked for again
+const ANEW_TIMES = 8; // and how often that is done while the desk makes a new one
+const CACHE = 3_000; // milliseconds after which the proxy asks the desk anew: two whole seconds
+const MOST_FILES = 50; // of senders: so many are read
 const DECIDED = {
   200: ["Accepted"],
   202: ["Ignored"],
@@ -17,8 +17,9 @@ const DECIDED = {
   422: ["Faulty"],
 };
 const OF_THE_REQUEST = ["BadHead", "BadLength", "BadQuery"];
-let answered = 0; // the server's moment of the last answer to a scan: a report of before may
-                   // lack what that scan did
+
+// The server's moment of the last answer to a scan: a report of before may lack what it did.
+let answered = 0;
 
 /** The desk has answered a scan: reports that are asked for from now on are no older. */
 export function heardAnswer() {
@@ -56,6 +57,7 @@ async function asked(target, how, seconds) {
   try {
     const answer = await fetch(target, {
       ...how,
+      headers: { ...session.headers(), ...how.headers },
       cache: "no-store",
       credentials: "same-origin",
       redirect: "error",
@@ -132,30 +134,46 @@ export async function file(name) {
 /** Whether this log-in may send; null where nothing said so. It hears the server's time too. */
 export async function maySend(seconds = GET_SECONDS) {
   const { status } = await asked("/station/may-send.json", {}, seconds);
-  return status === 200 ? true : status === 401 || status === 403 ? false : null;
-}
-
-/** Puts a record of untraced work into the line's inbox; false where it isn't there yet. */
-export async function putRecord({ id, text }) {
-  const { status } = await asked(
-    `/line/untraced/${id}.json`,
-    { method: "PUT", body: text, headers: { "Content-Type": "application/json" } },
-    POST_SECONDS,
-  );
-  return status === 200 || status === 201 || status === 204;
+  return status === 200 ? true : session.isLoggedOut(status) ? false : null;
 }
 
 /**
- * What a sender's or the collector's file of the line's status says, or null; `""` is the list
- * of those files.
+ * Puts a record of untraced work into the line's inbox: "had", or "forbidden", or "none" where
+ * the inbox gave no answer. `authorization` is another log-in than the page's.
  */
-export async function lineStatus(name) {
-  const { status, text } = await asked(`/line/status/${name}`, {}, GET_SECONDS);
+export async function putRecord({ id, text }, authorization = null) {
+  const log = authorization === null ? {} : { Authorization: authorization };
+  const headers = { "Content-Type": "application/json", ...log };
+  const how = { method: "PUT", body: text, headers };
+  const { status } = await asked(`/line/untraced/${id}.json`, how, POST_SECONDS);
+  const isHad = [200, 201, 204].includes(status);
+  return isHad ? "had" : session.isLoggedOut(status) ? "forbidden" : "none";
+}
+
+/**
+ * A file of the line's status: {name, told, changed}; what is told is null where it is no JSON.
+ */
+async function lineFile(name) {
+  const target = `/line/status/${encodeURIComponent(name)}`;
+  const { status, text, headers } = await asked(target, {}, GET_SECONDS);
+  const changed = Date.parse(headers.get("Last-Modified") ?? "");
   try {
-    return status === 200 ? JSON.parse(text) : null;
+    return { name, told: status === 200 ? JSON.parse(text) : undefined, changed };
   } catch {
+    return { name, told: null, changed };
+  }
+}
+
+/** What senders and the collector say of themselves, a file each; null where it isn't had. */
+export async function lineStatus() {
+  const { told: list } = await lineFile("");
+  if (!Array.isArray(list)) {
     return null;
   }
+  const isStatus = (it) => it?.type === "file" && String(it.name).endsWith(".json");
+  const files =
+    await Promise.all(list.filter(isStatus).slice(0, MOST_FILES).map(({ name }) => lineFile(name)));
+  return files.filter(({ told }) => told !== undefined);
 }
 
 /**

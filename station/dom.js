@@ -10,6 +10,7 @@ const PLAIN = [
   "href",
   "download",
   "placeholder",
+  "autocomplete",
   "min",
   "max",
   "maxlength",
@@ -48,15 +49,17 @@ export function el(tag, attributes, ...children) {
       Object.assign(made.dataset, value);
     } else if (PLAIN.includes(name)) {
       made.setAttribute(name, value);
-    } else if (["hidden", "disabled", "checked", "required"].includes(name)) {
+    } else if (["hidden", "disabled", "checked", "required", "selected"].includes(name)) {
       made[name] = value;
     } else {
       throw new Error(`no attribute ${name}`);
     }
   }
-  made.append(...children.flat().filter(
-                                  (it) => it !== null && it !== undefined,
-  ).map((it) => (it instanceof Node ? it : String(it))));
+  made.append(...children.flat()
+                .filter(
+                  (it) => it !== null && it !== undefined,
+                )
+                .map((it) => (it instanceof Node ? it : String(it))));
   return made;
 }
 

@@ -1,11 +1,11 @@
 // The screen Scan: what is held, buttons in place of action codes, a number pad, and the last
 // scans of this station.
+import { whatOf, wordsOf } from "./answers.js";
 import * as clock from "./clock.js";
 import { button, el, table } from "./dom.js";
-import { filled } from "./names.js";
+import { said } from "./say.js";
 import { ACTIONS } from "./scan.js";
 import * as store from "./store.js";
-import { whatOf, wordsOf } from "./verdict.js";
 import { TEXTS } from "./words.js";
 
 const SHOWN = 12;
@@ -59,7 +59,7 @@ export class ScanScreen {
     const rows = scans.map((it) => {
       const words = it.answer ? wordsOf(it) : null;
       const answer = !words ? texts.waiting
-        : words.kind === "accepted" ? filled(TEXTS.verdict.accepted, { done: words.title })
+        : words.kind === "accepted" ? said(TEXTS.verdict.accepted, { done: words.title })
                                     : `${TEXTS.verdict.refused}: ${words.title}`;
       return [clock.shown(it.at), whatOf(it), [answer, words?.kind ?? "asked"]];
     });

@@ -1,7 +1,8 @@
 // What a wedge types leads to a scan, whatever has the focus: a button, a radio, a field that is
 // filled. A field keeps what is meant for it: names and numbers, while the station waits for
 // neither a reel nor a number.
-import { filled, isName, readCode, stripped } from "./names.js";
+import { isName, readCode, stripped } from "./names.js";
+import { said } from "./say.js";
 import { TEXTS } from "./words.js";
 
 const CONTROLS = {
@@ -80,7 +81,8 @@ export class Keys {
   focused(target) {
     this.clicked = target;
     this.whole = null;
-    if (isField(target) && target !== this.field && !(this.run?.into === target && performance.now() - this.last <= PAUSE)) {
+    const isTyped = this.run?.into === target && performance.now() - this.last <= PAUSE;
+    if (isField(target) && target !== this.field && !isTyped) {
       target.select();
     }
   }
@@ -94,7 +96,7 @@ export class Keys {
     if (value !== "" && !this.station.scan.asking && performance.now() - this.last > FORGOTTEN) {
       this.forget();
       this.field.value = "";
-      this.station.fault(filled(TEXTS.fault.unended, { text: value }));
+      this.station.fault(said(TEXTS.fault.unended, { text: value }));
     }
   }
 
@@ -157,7 +159,8 @@ export class Keys {
   letter(event, letter) {
     const { activeElement } = document;
     const into = this.place(event);
-    if (event.key === " " && into !== activeElement && into.value === "" && (!this.station.isCovered() || activeElement.closest("#verdict"))) {
+    const isUsable = !this.station.isCovered() || activeElement.closest("#verdict");
+    if (event.key === " " && into !== activeElement && into.value === "" && isUsable) {
       return; // it presses a button, or chooses a radio
     }
     if (into !== activeElement) {
@@ -189,19 +192,21 @@ export class Keys {
    * field's text before.
    */
   typed(field) {
-    return [this.run, this.whole].filter(
-                                     (it) => it?.into === field,
-    ).map(({ text, begin, end }) => {
-      const before = text.slice(0, begin);
-      const after = text.slice(end);
-      const now = field.value;
-      const isPlain = now.startsWith(before) && now.endsWith(after) &&
-        now.length >= before.length + after.length;
-      return {
-        scan: isPlain ? now.slice(before.length, now.length - after.length) : "",
-        rest: text,
-      };
-    });
+    return [this.run, this.whole]
+      .filter(
+        (it) => it?.into === field,
+      )
+      .map(({ text, begin, end }) => {
+        const before = text.slice(0, begin);
+        const after = text.slice(end);
+        const now = field.value;
+        const isPlain = now.startsWith(before) && now.endsWith(after) &&
+          now.length >= before.length + after.length;
+        return {
+          scan: isPlain ? now.slice(before.length, now.length - after.length) : "",
+          rest: text,
+        };
+      });
   }
 
   hasForm(text) {
@@ -233,10 +238,9 @@ export class Keys {
     if (found || field.inputMode !== "numeric") {
       return found ?? null;
     }
-    return typed.find(
-             ({ scan }) => isName(stripped(scan, this.station.setup.scanner)) && /[^0-9]/.test(scan),
-           ) ??
-      null;
+    const { scanner } = this.station.setup;
+    const isReel = ({ scan }) => isName(stripped(scan, scanner)) && /[^0-9]/.test(scan);
+    return typed.find(isReel) ?? null;
   }
 
   enter(event) {

@@ -13,6 +13,8 @@ export function fieldsOf(text, separators) {
          [...separators.map((it) => [it, "\x1d"]), ["{RS}", "\x1e"], ["{EOT}", "\x04"]]) {
     read = read.split(wedge).join(control);
   }
+  // its separators are control characters
+  // eslint-disable-next-line no-control-regex
   const envelope = /^\[\)>\x1e?06\x1d?(.*?)\x1e?\x04?$/s.exec(read);
   if (!envelope || !envelope[1].includes("\x1d")) {
     return null;

@@ -1,8 +1,6 @@
 // Floor lives and pieces as an operator reads them.
-import { filled } from "./names.js";
+import { numberText, said } from "./say.js";
 import { TEXTS } from "./words.js";
-
-const numbers = new Intl.NumberFormat(TEXTS.lang);
 
 /** The floor life that a report or an answer says: minutes, or a word. */
 export function lifeText(minutes) {
@@ -18,8 +16,8 @@ export function lifeText(minutes) {
   }
   const days = Math.floor(left / 1440);
   const hours = Math.floor((left % 1440) / 60);
-  return days ? filled(TEXTS.life.days, { days, hours })
-              : filled(TEXTS.life.hours, { hours, minutes: left % 60 });
+  return days ? said(TEXTS.life.days, { days, hours })
+              : said(TEXTS.life.hours, { hours, minutes: left % 60 });
 }
 
 /** A number to order floor lives by: the first to end is the least. */
@@ -29,6 +27,4 @@ export function lifeOrder(minutes) {
                                                      : Number(minutes);
 }
 
-export function piecesText(number) {
-  return numbers.format(Number(number));
-}
+export const piecesText = numberText;

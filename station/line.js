@@ -1,10 +1,12 @@
 // The screen Line: what needs a person on top, in letters for two metres, and below it all slots
 // of each machine. Of many slots there is a tile for each machine, and a touch shows its slots.
+import { isLoad } from "./answers.js";
+import * as clock from "./clock.js";
 import { button, el, put, table } from "./dom.js";
 import { dayAnd, productText, sheetText } from "./known.js";
 import { lifeText, piecesText } from "./life.js";
-import { filled } from "./names.js";
-import { WORDS } from "./scan.js";
+import { isFresh } from "./machines.js";
+import { said } from "./say.js";
 import { TEXTS } from "./words.js";
 
 const URGENT = ["EXPIRED", "EMPTY", "LOW", "EXPIRES"]; // a person has to come
@@ -79,7 +81,7 @@ export class LineScreen {
       this.urgent,
       this.overview,
       this.machines,
-      el("p", { class: "legend" }, filled(TEXTS.line.low, { boards, minutes: expires, splice })),
+      el("p", { class: "legend" }, said(TEXTS.line.low, { boards, minutes: expires, splice })),
     ];
   }
 
@@ -106,35 +108,45 @@ export class LineScreen {
   }
 
   /**
-   * What goes before all else: refused reports of work that nobody has decided about, and loads
-   * without an answer.
+   * What goes before all else: work that was refused or that a machine contradicts and that
+   * nobody has decided about, and loads without an answer.
    */
   firstTiles() {
     const { model, waiting } = this.station;
     const texts = TEXTS.line;
-    const of = (what, todo) =>
+    const of = ([what, todo]) =>
       el("li", { class: "EMPTY" }, el("b", null, what), el("span", null, todo));
-    const words = ({ Machine: machine, MessageName, Board, Refusal, Place, At }) =>
-      filled(texts.untraced, {
-        machine,
-        message: MessageName?.replace("TraceDesk.", ""),
-        board: Board || "",
-        refusal: Refusal,
-        place: Place ?? "",
-        time: dayAnd(Date.parse(At)),
-      });
-    return [
-      ...model.refused.map((it) => of(words(it), texts.untracedDo)),
-      ...waiting.filter((it) => [WORDS.LOAD, WORDS.SPLICE].includes(it.word))
-        .map(
-          ({ body }) => of(
-            filled(
-              texts.unverified, { machine: body.Machine, slot: body.Slot, reel: body.Reel },
-            ),
-            texts.unverifiedDo,
-          ),
-        ),
-    ];
+    const open = model.machines.open.map((it) => this.openTexts(it));
+    const unread =
+      model.machines.unread.map((name) => [said(texts.unread, { name }), texts.unreadDo]);
+    const unverified = waiting.filter(isLoad).map(({ body }) => {
+      const values = { machine: body.Machine, slot: body.Slot, reel: body.Reel };
+      return [said(texts.unverified, values), texts.unverifiedDo];
+    });
+    return [...open, ...unverified, ...unread].map(of);
+  }
+
+  /** What is said of work that nobody has decided about, and what to do. */
+  openTexts(it) {
+    const texts = TEXTS.line;
+    const { machine, kind, at } = it;
+    const place = this.station.model.place(it.place ?? it.desk);
+    const slot = it.slot ?? (place?.machine === machine ? place.slot : null);
+    const where = slot === null ? machine : said(texts.urgent.where, { machine, slot });
+    const values = { where, board: it.board ?? "", time: at === null ? "" : dayAnd(at) };
+    if (kind === "differs") {
+      const what = {
+        desk: it.desk ?? "?",
+        took: it.took ?? "?",
+        designators: it.designators.join(" "),
+      };
+      const known = it.isKnown ? "" : ` ${texts.differsUnknown}`;
+      return [`${said(texts.witnesses, { ...values, ...what })}${known}`, texts.witnessesDo];
+    }
+    const [title] = TEXTS.refusals[it.refusal] ?? [`${it.refusal ?? ""} {at}`];
+    const message = it.message?.replace("TraceDesk.", "") ?? "";
+    const refusal = said(title, { at: it.place ?? "" });
+    return [said(texts.untraced, { ...values, message, refusal }), texts.untracedDo];
   }
 
   /** How many slots are in each state that needs somebody, as marks. */
@@ -145,7 +157,8 @@ export class LineScreen {
           (state) =>
             [state,
              lines.reduce(
-               (sum, { rows }) => sum + rows.filter((it) => it.states.includes(state)).length, 0,
+               (sum, { rows }) => sum + rows.filter((it) => it.states.includes(state)).length,
+               0,
              )],
         )
         .filter(([, count]) => count);
@@ -153,7 +166,7 @@ export class LineScreen {
       ([state, count]) => el(
         "span",
         { class: `mark ${state}` },
-        filled(TEXTS.line.alarms, { count, state: TEXTS.line.states[state] }),
+        said(TEXTS.line.alarms, { count, state: TEXTS.line.states[state] }),
       ),
     );
   }
@@ -162,7 +175,7 @@ export class LineScreen {
     const marks = this.marks(lines);
     const isKnown = lines.every(({ line }) => line.slots && line.kit);
     const { overdue, overdueHad } = this.station.model;
-    const late = overdue ? [el("span", { class: "mark LATE" }, filled(TEXTS.line.overdue, {
+    const late = overdue ? [el("span", { class: "mark LATE" }, said(TEXTS.line.overdue, {
                                   count: overdue,
                                   time: overdueHad ? dayAnd(overdueHad) : "",
                                 }))]
@@ -207,9 +220,9 @@ export class LineScreen {
       this.urgent,
       ...urgent.slice(0, count).map(
         (it) =>
-          el("li", { class: it.states[0] }, this.tile(it, filled(TEXTS.line.urgent.where, it))),
+          el("li", { class: it.states[0] }, this.tile(it, said(TEXTS.line.urgent.where, it))),
       ),
-      ...(rest ? [el("li", { class: "more" }, filled(TEXTS.line.more, { count: rest }))] : []),
+      ...(rest ? [el("li", { class: "more" }, said(TEXTS.line.more, { count: rest }))] : []),
     );
   }
 
@@ -217,23 +230,17 @@ export class LineScreen {
   tile({ part, front, worst, boards, minutes, states }, where) {
     const texts = TEXTS.line.urgent;
     const isFront = worst === front || worst?.reel === front?.reel;
-    const isSoon = minutes !== null && states.includes("LOW");
-    const words =
-      states.filter((it) => it !== "OTHER")
-        .map(
-          (it) => filled(
-            texts[it === "EXPIRED" && !isFront ? "BEHIND" : it] ?? TEXTS.line.states[it],
-            { boards, life: worst ? lifeText(worst.minutes_left) : "" },
-          ),
-        );
-    const reel = states.includes("EXPIRED") || states.includes("EXPIRES") ? worst.reel
-      : front ? front.reel
-                                                                          : part;
+    const values = { boards, life: worst ? lifeText(worst.minutes_left) : "" };
+    const textOf = (it) =>
+      texts[it === "EXPIRED" && !isFront ? "BEHIND" : it] ?? TEXTS.line.states[it];
+    const words = states.filter((it) => it !== "OTHER").map((it) => said(textOf(it), values));
+    const soon =
+      minutes !== null && states.includes("LOW") ? [said(texts.soon, { minutes })] : [];
+    const isOld = states.includes("EXPIRED") || states.includes("EXPIRES");
+    const reel = isOld ? worst.reel : front?.reel ?? part;
     return [
       el("b", null, where),
-      el(
-        "b", null, [...words, ...(isSoon ? [filled(texts.soon, { minutes })] : [])].join(" · "),
-      ),
+      el("b", null, [...words, ...soon].join(" · ")),
       el("span", null, reel),
     ];
   }
@@ -244,7 +251,8 @@ export class LineScreen {
    */
   machineTile({ line, rows, head, notes }) {
     const [worst] = urgentOf([{ line, rows }]);
-    const board = this.station.model.boards.get(line.machine);
+    const known = this.station.model.machines.states.get(line.machine);
+    const board = known && isFresh(known, clock.now()) ? known.board : null;
     const texts = TEXTS.line;
     const marks = this.marks([{ rows }]);
     const state = worst?.states[0] ?? (marks.length || notes.length ? "OTHER" : "OK");
@@ -258,7 +266,7 @@ export class LineScreen {
           el(
             "span",
             { class: "product" },
-            [head[0], board ? filled(texts.board, { board }) : ""].filter(Boolean).join(" · "),
+            [head[0], board ? said(texts.board, { board }) : ""].filter(Boolean).join(" · "),
           ),
         ),
         el("span", { class: "marks" }, marks.length ? marks : calm),
@@ -276,12 +284,12 @@ export class LineScreen {
     if (line.missing) {
       notes.push(texts.unknownMachine);
     } else if (line.noSheet) {
-      notes.push(filled(texts.unknownSheet, this.station.model.product(line.machine)));
+      notes.push(said(texts.unknownSheet, this.station.model.product(line.machine)));
     }
     const rows = line.kit ? this.station.model.rows(line) : [];
     const odd = rows.filter((it) => it.others.length || it.off).length;
     if (odd > rows.length / 4) {
-      notes.push(filled(texts.differs, { count: odd }));
+      notes.push(said(texts.differs, { count: odd }));
     }
     return notes;
   }
@@ -319,17 +327,17 @@ export class LineScreen {
     made.tHead.prepend(
       el("tr", null, el("th", { class: "machine", colspan: "9", scope: "colgroup" }, name)),
     );
-    return el(
-      "section", { class: "machine" }, notes.map((it) => el("p", { class: "note wrong" }, it)), made,
-    );
+    const wrong = notes.map((it) => el("p", { class: "note wrong" }, it));
+    return el("section", { class: "machine" }, wrong, made);
   }
 
   cells({ slot, part, front, behind, pieces, boards, worst, others, states }) {
     const texts = TEXTS.line;
-    const waits =
-      behind.map(
-              (it) => filled(texts.behind, { reel: it.reel, left: piecesText(it.remaining) }),
-      ).join(", ");
+    const waits = behind
+                    .map(
+                      (it) => said(texts.behind, { reel: it.reel, left: Number(it.remaining) }),
+                    )
+                    .join(", ");
     const words =
       states.length ? states.map((it) => texts.states[it]).join(" · ") : texts.states.OK;
     const life = front ? lifeText(worst.minutes_left) : "";
@@ -341,7 +349,7 @@ export class LineScreen {
       behind.length ? piecesText(pieces) : "",
       boards === null ? "" : piecesText(boards),
       [waits, "name"],
-      worst && worst !== front ? filled(texts.lifeOf, { life, reel: worst.reel }) : life,
+      worst && worst !== front ? said(texts.lifeOf, { life, reel: worst.reel }) : life,
       [words, "state"],
     ];
   }
@@ -364,7 +372,8 @@ export class LineScreen {
       set(size);
       return main.scrollHeight <= main.clientHeight + 1 && isNarrow();
     };
-    if (!machines.hasChildNodes() || (!isResized && fitted === this.fitted && main.scrollHeight <= main.clientHeight + 1)) {
+    const isHigh = main.scrollHeight > main.clientHeight + 1;
+    if (!machines.hasChildNodes() || (!isResized && fitted === this.fitted && !isHigh)) {
       return;
     }
     this.fitted = fitted;

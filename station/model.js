@@ -5,16 +5,17 @@ import * as clock from "./clock.js";
 import { rowsOf } from "./csv.js";
 import * as desk from "./desk.js";
 import { lifeOrder } from "./life.js";
+import { readMachines } from "./machines.js";
+import { sheetOf, shownRows } from "./reckon.js";
 import * as store from "./store.js";
 
 const LEAST_PERIOD = 3; // seconds
 const KIT_PERIOD = 300; // of sheets, free reels and the overdue list, which seldom change
 const ALL_BOARDS = "100000";
-const PACE_WINDOW = 20 * 60_000;
-const PACE_LEAST = 2 * 60_000; // milliseconds over which a machine's pace is reckoned
-const ENOUGH = 6;
-const CARDS = 24; // free reels that are enough to choose from, and cards that are asked for at
-                   // most to find more
+const PACE_WINDOW = 20 * 60_000; // milliseconds over which a machine's pace is reckoned
+const STATUS_PERIOD = 3_000; // milliseconds: of what senders say of their machines
+const ENOUGH = 6; // free reels to choose from
+const CARDS = 24; // that are asked for at most to find more
 
 /**
  * Every how many seconds the slots are asked for, so that all stations together use up so many
@@ -28,6 +29,15 @@ export function period(machines, connections) {
 /** How many connections a day the sheets, free reels and the overdue list use up. */
 export function kitsADay(machines) {
   return ((machines + 1) * 86_400) / KIT_PERIOD;
+}
+
+/** Does something; a fault in it stops nothing but that. */
+async function survived(act) {
+  try {
+    await act();
+  } catch (fault) {
+    console.error(fault);
+  }
 }
 
 export class Model {
@@ -54,22 +64,33 @@ export class Model {
     this.unfit = new Set(); // own parts of reels that were refused for a slot's part
     this.selected = {}; // of each machine: what this station's accepted selection said
     this.state = { had: null, age: null, at: 0, old: false, ok: false, status: 0 };
-    this.boards = new Map(); // of each machine: the board in work, as a sender reports it
-    this.refused = []; // reports of work that were refused and that nobody has decided
-                              // about: {Id, Machine, MessageName, Board, Place, Refusal, At}
+    this.machines = readMachines([], null); // as their senders say it
+    this.known = new Map(); // of each machine: what a sender said of it last
+    this.loads = new Map(); // of slots that stop a machine: the free reel to load, or null
     this.kitTurn = null; // which of the server's periods the kits are of
   }
 
   async begin() {
     this.selected = (await store.note("selected")) ?? {};
+    this.watch();
     for (;;) {
       if (!document.hidden) {
-        await this.all();
+        await survived(() => this.all());
         document.body.dataset.asked = "all";
       }
       const now = clock.now() ?? Date.now();
       const next = (Math.floor(now / this.period) + 1) * this.period;
       await new Promise((resolve) => setTimeout(resolve, next - now + 50));
+    }
+  }
+
+  /** Reads how the machines are, for good: the proxy has that, and the desk isn't asked. */
+  async watch() {
+    for (;;) {
+      if (!document.hidden) {
+        await survived(() => this.lookAtMachines());
+      }
+      await new Promise((resolve) => setTimeout(resolve, STATUS_PERIOD));
     }
   }
 
@@ -109,50 +130,49 @@ export class Model {
     for (const line of this.lines) {
       await this.slots(line);
     }
-    await this.untraced();
     if (this.kitTurn === null || this.kitTurn !== this.turn()) {
       await this.kits();
     }
   }
 
   /**
-   * Reads what the senders and the collector say of refused reports of work: of each machine the
-   * last one that nobody has decided about.
+   * Reads what the senders and the collector say, and which reel to load where a slot stops one.
    */
-  async untraced() {
-    const files = await desk.lineStatus("");
-    const told = Array.isArray(files)
-      ? await Promise.all(files.filter(
-                                 (it) => it.type === "file" && it.name.endsWith(".json"),
-        ).map((it) => desk.lineStatus(it.name)))
-      : [];
-    this.boards = new Map(told.flatMap(
-      (it) => Object.entries(it?.Machines ?? {})
-                .filter(([, { Board }]) => typeof Board === "string")
-                .map(([machine, { Board }]) => [machine, Board]),
-    ));
-    const decided = new Set(told.flatMap((it) => it?.Decided ?? []));
-    const found = new Map();
-    const last = told.flatMap(
-      (it) => Object.entries(it?.Machines ?? {})
-                .filter(([, { LastRefused }]) => LastRefused)
-                .map(([Machine, { LastRefused: { Id, At, Answer, Message } }]) => ({
-                       Id,
-                       At,
-                       Machine,
-                       MessageName: Message.MessageName,
-                       Board: Message.MessageBody?.Board,
-                       Place: Answer.At,
-                       Refusal: Answer.Refusal ?? Answer.Fault,
-                     })),
+  async lookAtMachines() {
+    const files = await desk.lineStatus();
+    if (files === null) {
+      return;
+    }
+    this.machines = readMachines(files, clock.now());
+    this.machines.states.forEach((it) => this.known.set(it.machine, it));
+    this.changed();
+    await this.findLoads();
+  }
+
+  /** Asks once for a free reel for each slot that stops a machine. */
+  async findLoads() {
+    const stops = [...this.machines.states.values()].filter(
+      (it) => it.slot !== null && this.line(it.machine),
     );
-    for (const it of [...told.flatMap((file) => file?.Undecided ?? []), ...last]) {
-      if (!decided.has(it.Id) && !(found.get(it.Machine)?.At >= it.At)) {
-        found.set(it.Machine, it);
+    const keys = stops.map((it) => JSON.stringify([it.machine, it.slot, it.cause, it.reel]));
+    [...this.loads.keys()]
+      .filter(
+        (key) => !keys.includes(key),
+      )
+      .forEach((key) => this.loads.delete(key));
+    for (const [at, key] of keys.entries()) {
+      if (!this.loads.has(key)) {
+        const free = await this.freeFor(stops[at].machine, stops[at].slot);
+        this.loads.set(key, { part: free?.part ?? null, reel: free?.reels[0]?.reel ?? null });
+        this.changed();
       }
     }
-    this.refused = [...found.values()];
-    this.changed();
+  }
+
+  /** What to load on the slot that stops a machine: {part, reel}, each of which may be null. */
+  loadFor({ machine, slot, cause, reel }) {
+    return this.loads.get(JSON.stringify([machine, slot, cause, reel])) ??
+      { part: this.slot(machine, slot).part, reel: null };
   }
 
   /** The number of the server's period: it changes at the same moment at every station. */
@@ -241,7 +261,8 @@ export class Model {
       desk.rows("kit", { product, machine: line.machine, boards: "1" }),
       (told) => {
         Object.assign(
-          line, { kit: sheetOf(told.rows), kitHad: told.had, noSheet: false, rows: null },
+          line,
+          { kit: sheetOf(told.rows), kitHad: told.had, noSheet: false, rows: null },
         );
       },
       (kind, had) => Object.assign(line, { kit: null, kitHad: had, noSheet: true, rows: null }),
@@ -262,9 +283,11 @@ export class Model {
   /** The slots whose reels end within the minutes of the set-up, the next one first. */
   ending() {
     const rows = this.lines.flatMap(
-      (line) => this.rows(line).filter(
-                                 (it) => it.isEnding,
-      ).map((row) => ({ ...row, machine: line.machine })),
+      (line) => this.rows(line)
+                  .filter(
+                    (it) => it.isEnding,
+                  )
+                  .map((row) => ({ ...row, machine: line.machine })),
     );
     return rows.sort((a, b) => a.minutes - b.minutes);
   }
@@ -394,125 +417,4 @@ export class Model {
     }
     return found;
   }
-}
-
-/** The rows of a sheet, in its order, as the kit list of one board tells them. */
-function sheetOf(rows) {
-  const found = new Map();
-  rows.forEach(({ slot, part, needed }) => found.set(slot, { slot, part, needed: Number(needed) }));
-  return [...found.values()];
-}
-
-/**
- * How many boards of a slot's pieces were used between two slot lists. A reel that is gone was
- * used up.
- */
-function usedOf({ slot, needed }, before, now) {
-  const left = new Map(now.filter((it) => it.slot === slot).map((it) => [it.reel, it.remaining]));
-  return sumOf(before.filter(
-                       (it) => it.slot === slot,
-         ).map((it) => ({ remaining: it.remaining - (left.get(it.reel) ?? 0) }))) /
-    needed;
-}
-
-/**
- * How many boards a machine makes a minute: that of the slot in the middle, so that no count,
- * scrap or unloading decides. 0 if it isn't known.
- */
-function paceOf({ looks, kit }) {
-  const first = looks[0];
-  const last = looks.at(-1);
-  const minutes = (last?.at - first?.at) / 60_000;
-  const of = (list) => list.sort((a, b) => a - b)[list.length >> 1] ?? 0;
-  if (!kit || !(last?.at - first?.at >= PACE_LEAST) || first.slots === last.slots) {
-    return 0;
-  }
-  return Math.max(
-           0,
-           of(kit.filter(
-                   (it) => it.needed && first.slots.some(({ slot }) => slot === it.slot),
-           ).map((it) => usedOf(it, first.slots, last.slots))),
-         ) /
-    minutes;
-}
-
-/**
- * The rows of a machine as they are shown: its sheet's, then the slots that are on no row of it.
- * Without a slot list there are none.
- */
-function shownRows(line, setup) {
-  if (!line.slots) {
-    return [];
-  }
-  const bySlot = new Map();
-  const pace = paceOf(line);
-  line.slots.forEach((it) => bySlot.set(it.slot, [...(bySlot.get(it.slot) ?? []), it]));
-  const sheet =
-    (line.kit ?? []).map((row) => rowOf(row, bySlot.get(row.slot) ?? [], setup, pace));
-  const named = new Set(sheet.map((it) => it.slot));
-  const off = line.kit ? "OFF" : "NOSHEET";
-  const rest = [...bySlot].filter(
-                             ([slot]) => !named.has(slot),
-  ).sort(([a], [b]) => a.localeCompare(b, "en", { numeric: true }));
-  return [
-    ...sheet,
-    ...rest.map(
-      ([slot, reels]) => rowOf({ slot, part: reels[0].part, needed: 0 }, reels, setup, 0, off),
-    ),
-  ];
-}
-
-/**
- * A slot as it is shown. `boards` are those of the reels before the first that is expired, and
- * `minutes` how long they last at the machine's pace; `worst` is the reel whose floor life ends
- * first, wherever it is on the tape; `off` says that no row of the sheet names the slot, or that
- * no sheet is known.
- */
-function rowOf({ slot, part, needed }, reels, setup, pace, off = null) {
-  const front = reels[0] ?? null;
-  const pieces = sumOf(reels);
-  const expired = reels.findIndex((it) => it.minutes_left === "0");
-  const boards =
-    needed ? Math.floor(sumOf(expired < 0 ? reels : reels.slice(0, expired)) / needed) : null;
-  const minutes = pace && boards !== null ? Math.floor(boards / pace) : null;
-  const worst = reels.reduce(
-    (least, it) =>
-      (least === null || lifeOrder(it.minutes_left) < lifeOrder(least.minutes_left) ? it : least),
-    null,
-  );
-  const life = worst && lifeOrder(worst.minutes_left);
-  const others = [...new Set(reels.map((it) => it.part).filter((it) => it !== part))];
-  const states = [];
-  const isUsed = front && expired !== 0 && boards !== null;
-  const isEnding = Boolean(isUsed && minutes !== null && minutes < setup.splice);
-  [["EMPTY", !front],
-   ["EXPIRED", expired >= 0],
-   ["LOW", isEnding || (isUsed && boards < setup.boards)],
-   ["EXPIRES", expired < 0 && front && life < setup.expires],
-   ["OTHER", others.length],
-   [off, off]]
-    .forEach(([state, holds]) => {
-      if (holds) {
-        states.push(state);
-      }
-    });
-  return {
-    slot,
-    part,
-    front,
-    behind: reels.slice(1),
-    pieces,
-    boards,
-    minutes,
-    isEnding,
-    worst,
-    life,
-    others,
-    off,
-    states,
-  };
-}
-
-function sumOf(reels) {
-  return reels.reduce((sum, it) => sum + Number(it.remaining), 0);
 }

@@ -26,7 +26,8 @@ export function numberIn(text, least, most) {
 /** The text with its {name} places filled. */
 export function filled(text, values) {
   return text.replace(
-    /\{(\w+)\}/g, (whole, name) => (name in values ? String(values[name]) : whole),
+    /\{(\w+)\}/g,
+    (whole, name) => (name in values ? String(values[name]) : whole),
   );
 }
 
@@ -59,6 +60,15 @@ function placed(text, pattern, values) {
   return isOfForm ? text.slice(before.length, text.length - after.length) : null;
 }
 
+/** Whether a text is only the beginning of a code: what its pattern has before a place. */
+function isFragment(text, { machines, codes }) {
+  const begins = [
+    ...machines.map(({ machine }) => around(codes.slot, { machine })[0]),
+    ...[codes.slot, codes.action, codes.badge].map((it) => it.slice(0, it.indexOf("{"))),
+  ];
+  return begins.includes(text);
+}
+
 /**
  * What a code is: a slot with its machine, an action, a badge, a supplier's label, or else a
  * reel.
@@ -66,6 +76,9 @@ function placed(text, pattern, values) {
 export function readCode(text, setup) {
   if (text.startsWith("[)>")) {
     return { kind: "label", text };
+  }
+  if (isFragment(text, setup)) {
+    return { kind: "fragment", text };
   }
   for (const { machine } of setup.machines) {
     const slot = placed(text, setup.codes.slot, { machine });

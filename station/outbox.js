@@ -10,7 +10,8 @@ const FIRST_PAUSE = 250;
 const LONGEST_PAUSE = 5000; // milliseconds
 const ANSWERED_BETWEEN_TIDYINGS = 50;
 const TAB = crypto.randomUUID();
-const BEFORE = sessionStorage.getItem("page",
+const BEFORE = sessionStorage.getItem(
+  "page",
 ); // while this page is there it holds a lock of this name; the one before it was loaded is gone
 sessionStorage.setItem("page", TAB);
 
@@ -124,7 +125,7 @@ export class Outbox {
     if (this.mayHold) {
       const areHad = [];
       for (const { uid, record } of await store.unrecorded()) {
-        areHad.push(await desk.putRecord(record));
+        areHad.push((await desk.putRecord(record)) === "had");
         if (areHad.at(-1)) {
           await store.recorded(uid);
         }

@@ -1,10 +1,11 @@
 // The screen Receive: a supplier's label or fields by hand, and one ReelReceived. What was filled
 // in stays until the desk accepted it.
+import { wordsOf } from "./answers.js";
 import { button, el, field, isTwice } from "./dom.js";
 import { fieldsOf, receiptOf } from "./label.js";
-import { filled, isName, LEVELS, MOST_MINUTES, MOST_PIECES, numberIn } from "./names.js";
+import { isName, LEVELS, MOST_MINUTES, MOST_PIECES, numberIn } from "./names.js";
+import { said } from "./say.js";
 import { bodyOf, WORDS } from "./scan.js";
-import { wordsOf } from "./verdict.js";
 import { TEXTS } from "./words.js";
 
 const FIELDS = ["reel", "part", "lot", "quantity"];
@@ -110,8 +111,9 @@ export class ReceiveScreen {
     );
     if (isOther && !this.isSent) {
       this.station.verdict.ask(
-        filled(
-          TEXTS.ask.label, { held: FIELDS.map((name) => held[name]).filter(Boolean).join(", ") },
+        said(
+          TEXTS.ask.label,
+          { held: FIELDS.map((name) => held[name]).filter(Boolean).join(", ") },
         ),
         () => this.take(found, receipt),
       );
@@ -122,10 +124,11 @@ export class ReceiveScreen {
 
   /** Fills the fields from a label. */
   take(found, receipt) {
-    const read = filled(TEXTS.receive.read, {
+    const read = said(TEXTS.receive.read, {
       fields: Object.entries(found).map(([name, value]) => `${name} ${value}`).join(", "),
     });
-    this.fill(receipt,
+    this.fill(
+      receipt,
     ); // the level is on each bag: another one of the part may have another level
     this.moveOn();
     this.say(`${read}. ${this.wanted()}`, false);
@@ -143,7 +146,7 @@ export class ReceiveScreen {
   wanted() {
     const texts = TEXTS.receive;
     const next = this.empty();
-    return next ? filled(texts.next, { field: texts[next.name] })
+    return next ? said(texts.next, { field: texts[next.name] })
       : this.form.elements.level.value ? texts.ready
                                        : texts.levelWanted;
   }
@@ -217,7 +220,8 @@ export class ReceiveScreen {
   submit(event) {
     event.preventDefault();
     const { activeElement } = document;
-    if (activeElement?.form === this.form && activeElement.tagName === "INPUT" && activeElement.type !== "radio") {
+    const isInput = activeElement?.form === this.form && activeElement.tagName === "INPUT";
+    if (isInput && activeElement.type !== "radio") {
       this.moveOn();
       this.say(this.wanted(), false);
     } else if (performance.now() - this.moved > UNMEANT && !isTwice(event, this.last)) {
@@ -243,7 +247,7 @@ export class ReceiveScreen {
     const values = this.values();
     const wrong = this.wrongField(values);
     if (wrong || !values.level) {
-      this.say(wrong ? filled(texts.bad, { field: texts[wrong] }) : texts.levelWanted, true);
+      this.say(wrong ? said(texts.bad, { field: texts[wrong] }) : texts.levelWanted, true);
       (wrong ? this.form.elements[wrong] : this.form.querySelector("input[type=radio]")).focus();
       return;
     }
@@ -258,7 +262,9 @@ export class ReceiveScreen {
    * once it is accepted.
    */
   answered({ word, body, answer }) {
-    if (word !== WORDS.RECEIVE || !this.form || JSON.stringify(bodyOf("RECEIVE", this.values())) !== JSON.stringify(body)) {
+    const isReceipt = word === WORDS.RECEIVE && Boolean(this.form);
+    const held = isReceipt ? JSON.stringify(bodyOf("RECEIVE", this.values())) : null;
+    if (held !== JSON.stringify(body)) {
       return;
     }
     if (answer.Answer === "Accepted") {
@@ -266,7 +272,8 @@ export class ReceiveScreen {
       this.say(TEXTS.receive.hint, false);
     } else {
       this.say(
-        filled(TEXTS.receive.notTaken, { title: wordsOf({ word, body, answer }).title }), true,
+        said(TEXTS.receive.notTaken, { title: wordsOf({ word, body, answer }).title }),
+        true,
       );
     }
   }

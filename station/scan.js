@@ -1,8 +1,8 @@
 // What a scan does: codes in, a message out. It holds at most a slot or a reel, an action that
 // waits for one, and a number.
 import * as desk from "./desk.js";
-import { piecesText } from "./life.js";
-import { filled, LEVELS, MOST_PIECES, numberIn, readCode, stripped } from "./names.js";
+import { LEVELS, MOST_PIECES, numberIn, readCode, stripped } from "./names.js";
+import { said } from "./say.js";
 import { TEXTS } from "./words.js";
 
 const OF_SLOT = ["UNLOAD", "SCRAP"];
@@ -28,12 +28,11 @@ export const WORDS = {
 const isOfReceive = (action) => OF_RECEIVE.includes(action) || /^[0-9]$/.test(action);
 const FRESH = 3_000; // milliseconds: what is known of a slot is asked for again when it is older
 const CARD_WAIT = 4_000; // milliseconds that a count waits for the reel's card
-const BOUNCE =
-  1_000; // milliseconds: the same action code within them is one that was read twice
+const BOUNCE = 1_000; // milliseconds: the same action code within them was read twice
 const RISE = {
   pieces: 100,
   part: 0.1,
-}; // a count may be so much above what the desk has of a reel without a question
+}; // so much a count may be above the desk's, unasked
 
 export class Scan {
   /**
@@ -43,11 +42,12 @@ export class Scan {
   constructor(station) {
     this.station = station;
     this.turn = Promise.resolve(); // scans are taken one behind the other
-    this.touched =
-      0; // when the last one came, by the tablet's own clock: that goes on while it sleeps
+    this.touched = 0; // when the last one came, by the tablet's own clock, which never sleeps
     this.at = 0; // and when the one came that is taken now, by the page's
     this.isForgotten = false;
     this.last = { text: "", at: -Infinity }; // the last code, and when it came
+    this.isRepeat =
+      false; // whether the code that is taken now is an action, and the last one again
     this.dropped = ""; // what became of it, where it wasn't taken
     this.clear();
   }
@@ -108,10 +108,10 @@ export class Scan {
     this.isForgotten = false;
     const code = readCode(read, station.setup);
     const isNumber = this.asking && code.kind !== "action" && code.kind !== "badge";
-    const isBounce = !isPressed && code.kind === "action" && read === this.last.text &&
-      at - this.last.at < BOUNCE;
+    this.isRepeat = !isPressed && code.kind === "action" && read === this.last.text;
+    const isBounce = this.isRepeat && at - this.last.at < BOUNCE;
     this.last = isBounce ? this.last : { text: read, at };
-    this.dropped = isBounce ? filled(TEXTS.strip.once, { text: read }) : "";
+    this.dropped = isBounce ? said(TEXTS.strip.once, { text: read }) : "";
     if (isBounce) {
       station.scanned();
       return;
@@ -119,7 +119,7 @@ export class Scan {
     if (station.verdict.isAsking()) {
       this.dropped = ["ENTER", "CANCEL"].includes(code.action)
         ? ""
-        : filled(TEXTS.strip.dropped, { text: read });
+        : said(TEXTS.strip.dropped, { text: read });
       await station.verdict.answer(code.action);
     } else if (code.action === "CANCEL") {
       station.cancel();
@@ -131,11 +131,15 @@ export class Scan {
   }
 
   noneScanned({ text }) {
-    this.station.fault(filled(TEXTS.fault.none, { text }));
+    this.station.fault(said(TEXTS.fault.none, { text }));
+  }
+
+  fragmentScanned({ text }) {
+    this.station.fault(said(TEXTS.fault.fragment, { text }));
   }
 
   foreignScanned({ text }) {
-    this.station.fault(filled(TEXTS.fault.foreign, { text }));
+    this.station.fault(said(TEXTS.fault.foreign, { text }));
   }
 
   labelScanned({ text }) {
@@ -162,7 +166,7 @@ export class Scan {
     if (this.action && OF_SLOT.includes(this.action)) {
       return this.act(this.action, { machine: code.machine, slot: code.slot });
     } else if (this.action) {
-      this.station.fault(filled(TEXTS.strip.actionReel, { action: TEXTS.actions[this.action] }));
+      this.station.fault(said(TEXTS.strip.actionReel, { action: TEXTS.actions[this.action] }));
     } else {
       this.slotHeld(code);
     }
@@ -175,7 +179,7 @@ export class Scan {
     if (this.action && OF_REEL.includes(this.action)) {
       return this.act(this.action, { reel });
     } else if (this.action) {
-      this.station.fault(filled(TEXTS.strip.actionSlot, { action: TEXTS.actions[this.action] }));
+      this.station.fault(said(TEXTS.strip.actionSlot, { action: TEXTS.actions[this.action] }));
     } else if (this.slot) {
       return this.act(this.isLive(this.slot) ? "SPLICE" : "LOAD", { ...this.slot, reel });
     } else {
@@ -228,8 +232,9 @@ export class Scan {
     } else if (OF_REEL.includes(action)) {
       return this.begin(action, this.reel && { reel: this.reel });
     } else if (!this.station.coded(action)) {
-      this.station.fault(filled(
-        isOfReceive(action) ? TEXTS.fault.receiveFirst : TEXTS.fault.action, { text: action },
+      this.station.fault(said(
+        isOfReceive(action) ? TEXTS.fault.receiveFirst : TEXTS.fault.action,
+        { text: action },
       ));
     }
   }
@@ -238,6 +243,11 @@ export class Scan {
   begin(action, values) {
     if (values) {
       return this.act(action, values);
+    }
+    if (this.isRepeat && this.action !== action) { // it acted, and isn't for the next slot or
+                                                    // reel
+      this.dropped = said(TEXTS.strip.twice, { action: TEXTS.actions[action] });
+      return null;
     }
     this.clear();
     this.action = action;
@@ -250,18 +260,13 @@ export class Scan {
     const quantity = numberIn(text, WITH_NUMBER[action], MOST_PIECES);
     const { fault } = TEXTS;
     this.digits = "";
-    const names = [
-      values.reel,
-      ...(
-        values.slot
-          ? this.station.model.slot(values.machine, values.slot).reels.map((it) => it.reel)
-          : []
-      ),
-    ];
+    const { model } = this.station;
+    const reels = values.slot ? model.slot(values.machine, values.slot).reels : [];
+    const names = [values.reel, ...reels.map((it) => it.reel)];
     if (quantity === null || names.includes(text)) {
-      this.station.fault(filled(
+      this.station.fault(said(
         quantity === null ? fault.number : fault.numberIsName,
-        { text, least: WITH_NUMBER[action], most: piecesText(MOST_PIECES) },
+        { text, least: WITH_NUMBER[action], most: MOST_PIECES },
       ));
       return;
     }
@@ -275,8 +280,8 @@ export class Scan {
     this.clear();
     const send = () => this.station.act(action, { ...values, quantity });
     if (action === "COUNT" && quantity > left + Math.max(RISE.pieces, left * RISE.part)) {
-      const told = { ...values, quantity: piecesText(quantity), left: piecesText(left) };
-      this.station.verdict.ask(filled(had?.known ? TEXTS.ask.rise : TEXTS.ask.count, told), send);
+      const told = { ...values, left };
+      this.station.verdict.ask(said(had?.known ? TEXTS.ask.rise : TEXTS.ask.count, told), send);
     } else {
       await send();
     }
@@ -306,23 +311,23 @@ export class Scan {
     const { strip, actions } = TEXTS;
     if (this.asking) {
       const { action, values } = this.asking;
-      const what = values.reel ?? filled(strip.slot, values);
-      return [filled(strip.number, { action: actions[action], what }), this.digits];
+      const what = values.reel ?? said(strip.slot, values);
+      return [said(strip.number, { action: actions[action], what }), this.digits];
     }
     if (this.action) {
-      return [filled(OF_SLOT.includes(this.action) ? strip.actionSlot : strip.actionReel, {
+      return [said(OF_SLOT.includes(this.action) ? strip.actionSlot : strip.actionReel, {
         action: actions[this.action],
       })];
     }
     if (this.slot) {
-      return [filled(strip.slot, this.slot), this.slotText()];
+      return [said(strip.slot, this.slot), this.slotText()];
     }
     if (this.reel) {
       const { card } = this;
-      const texts = [filled(strip.reel, { reel: this.reel })];
+      const texts = [said(strip.reel, { reel: this.reel })];
       if (card) {
         texts.push(
-          card.known ? filled(strip.reelCard, { ...card, left: piecesText(card.remaining) })
+          card.known ? said(strip.reelCard, { ...card, left: Number(card.remaining) })
             : card.none ? strip.reelNone
                         : strip.slotUnknown,
         );
@@ -342,22 +347,23 @@ export class Scan {
     if (!known.known) {
       return strip.slotUnknown;
     }
-    const part = known.part ?? "?";
+    if (known.sheet && !known.part) {
+      return strip.slotNoSheet;
+    }
     const [front] = known.reels;
-    const all = piecesText(known.reels.reduce((sum, it) => sum + Number(it.remaining), 0));
-    const does = this.isLive(this.slot)
-      ? filled(
-          known.reels.length > 1 ? strip.slotSpliceMore : strip.slotSplice,
-          { part, reel: front?.reel ?? "?", left: piecesText(front?.remaining ?? 0), all },
-        )
-      : filled(strip.slotLoad, { part });
-    return known.sheet && !known.part ? strip.slotNoSheet : does;
+    const all = known.reels.reduce((sum, it) => sum + Number(it.remaining), 0);
+    const part = known.part ?? "?";
+    const left = Number(front?.remaining ?? 0);
+    const splice = known.reels.length > 1 ? strip.slotSpliceMore : strip.slotSplice;
+    const text = this.isLive(this.slot) ? splice : strip.slotLoad;
+    return said(text, { part, reel: front?.reel ?? "?", left, all });
   }
 }
 
 /** The body of a message of an action. */
 export function bodyOf(
-  action, { machine, slot, reel, quantity, product, part, lot, level, minutes },
+  action,
+  { machine, slot, reel, quantity, product, part, lot, level, minutes },
 ) {
   switch (action) {
     case "LOAD":

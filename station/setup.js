@@ -9,12 +9,11 @@ export const USUAL = {
   boards: 10,
   expires: 60,
   splice: 10, // minutes before the end of a slot's reels at which somebody is called
-  heldSeconds:
-    120, // without a scan: then a slot, a reel or an action that is held is forgotten
+  heldSeconds: 120, // without a scan: then a slot, a reel or an action is forgotten
   badgeMinutes: 60, // without a message: then the badge is
   badgeWanted: false, // whether nothing is sent without a badge
-  connectionsADay:
-    26_000, // of the desk's, which all stations of this line may use up together by looking
+  connectionsADay: 26_000, // of the desk's, which all stations together may use up by looking
+  places: {}, // where a part or a reel is in the store
   scanner: { prefix: "", suffix: "", separators: ["{GS}"] },
   codes: { slot: "S/{machine}/{slot}", badge: "B/{badge}", action: "A/{action}" },
   label: { part: "P", reel: "S" },
@@ -22,15 +21,20 @@ export const USUAL = {
 
 /** Whether a pattern has these places, each once and in this order. */
 function hasPlaces(pattern, ...names) {
-  const found =
-    typeof pattern === "string" ? [...pattern.matchAll(/\{(\w+)\}/g)].map((it) => it[1]) : [];
-  return found.join() === names.join() && /^[^{]+\{/.test(pattern) &&
-    (names.length > 1 || !/^[A-Za-z0-9]\{/.test(pattern)
-    ); // one letter alone begins many a reel's name
+  const text = typeof pattern === "string" ? pattern : "";
+  const found = [...text.matchAll(/\{(\w+)\}/g)].map((it) => it[1]);
+  const isLetter = /^[A-Za-z0-9]\{/.test(text); // one letter alone begins many a reel's name
+  return found.join() === names.join() && /^[^{]+\{/.test(text) &&
+    (names.length > 1 || !isLetter);
 }
 
 function isText(it) {
   return typeof it === "string" && it.length <= 200;
+}
+
+/** Whether a group has a text for each of its names. */
+function areTexts(group) {
+  return group !== null && typeof group === "object" && Object.values(group).every(isText);
 }
 
 /** The member that is not as it has to be, or null. */
@@ -45,6 +49,8 @@ function faultOf(setup) {
     badgeMinutes: whole(setup.badgeMinutes, 1_440),
     badgeWanted: typeof setup.badgeWanted === "boolean",
     connectionsADay: whole(setup.connectionsADay, 1_000_000),
+    language: setup.language === undefined || isText(setup.language),
+    places: areTexts(setup.places),
     scanner: isText(setup.scanner.prefix) && isText(setup.scanner.suffix) &&
       Array.isArray(setup.scanner.separators) &&
       setup.scanner.separators.every((it) => isText(it) && it !== ""),
@@ -69,18 +75,21 @@ function areMachines(machines) {
  */
 function alike({ machines, codes }) {
   const { slot, kinds } = TEXTS.setup;
+  const ofSlots = (machine) => {
+    const [before] = around(codes.slot, { machine });
+    return { kind: filled(slot, { machine }), before };
+  };
   const begins = [
-    ...machines.map(
-      ({ machine }) => ({ kind: filled(slot, { machine }), before: around(codes.slot, { machine })[0] }),
-    ),
+    ...machines.map(({ machine }) => ofSlots(machine)),
     ...["action", "badge"].map((it) => ({ kind: kinds[it], before: around(codes[it], {})[0] })),
     { kind: kinds.label, before: "[)>" },
   ];
   return begins.flatMap(
-    (it, at) =>
-      begins.filter(
-              (other, place) => place !== at && other.before.startsWith(it.before),
-      ).map((other) => [it.kind, other.kind]),
+    (it, at) => begins
+                  .filter(
+                    (other, place) => place !== at && other.before.startsWith(it.before),
+                  )
+                  .map((other) => [it.kind, other.kind]),
   )[0];
 }
 

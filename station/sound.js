@@ -26,7 +26,8 @@ export function play(kind) {
       tone.start(time);
       tone.stop(time + seconds);
       tone.addEventListener(
-        "ended", () => context?.currentTime >= ends && context.suspend(),
+        "ended",
+        () => context?.currentTime >= ends && context.suspend(),
       ); // a context that runs uses the processor all the time
       time += seconds;
     }

@@ -115,7 +115,8 @@ export async function unrecorded() {
 
 /** Notes that the record of a refused report of work is handed on. */
 export async function recorded(uid) {
-  const { record, ...scan } = await byUid(uid);
+  const scan = await byUid(uid);
+  delete scan.record;
   await put(scan);
 }
 

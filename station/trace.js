@@ -4,7 +4,8 @@ import * as clock from "./clock.js";
 import { fieldsOf } from "./csv.js";
 import * as desk from "./desk.js";
 import { button, el, field } from "./dom.js";
-import { filled, isName } from "./names.js";
+import { isName } from "./names.js";
+import { said } from "./say.js";
 import * as store from "./store.js";
 import { TEXTS } from "./words.js";
 
@@ -30,7 +31,8 @@ export class TraceScreen {
     const texts = TEXTS.trace;
     const chosen = Object.keys(QUESTIONS).map((it) => {
       const input = el(
-        "input", { type: "radio", name: "question", value: it, checked: it === this.question },
+        "input",
+        { type: "radio", name: "question", value: it, checked: it === this.question },
       );
       return el("label", null, input, texts[it]);
     });
@@ -116,12 +118,15 @@ export class TraceScreen {
       [
         texts[question],
         Object.entries(query).map(([name, value]) => `${name} ${value}`).join(", "),
-      ].filter(Boolean,
-      ).join(": ");
-    const upTo = last ? filled(texts.upTo, { number: last.number, time: clock.stamp(last.at) })
+      ]
+        .filter(
+          Boolean,
+        )
+        .join(": ");
+    const upTo = last ? said(texts.upTo, { number: last.number, time: clock.stamp(last.at) })
                       : texts.upToNone;
     return [
-      filled(texts.evidence, {
+      said(texts.evidence, {
         asked,
         desk: this.station.setup.title,
         host: location.host,
@@ -129,11 +134,10 @@ export class TraceScreen {
         count: rows.length,
       }),
       upTo,
-      filter ? filled(texts.filtered, { filter, shown: count, count: rows.length })
+      filter ? said(texts.filtered, { filter, shown: count, count: rows.length })
              : texts.unfiltered,
-      sort
-        ? filled(sort.way > 0 ? texts.ascending : texts.descending, { column: head[sort.column] })
-        : texts.unsorted,
+      sort ? said(sort.way > 0 ? texts.ascending : texts.descending, { column: head[sort.column] })
+           : texts.unsorted,
       ...(told.old ? [texts.old] : []),
       texts.archives,
     ];
@@ -161,7 +165,11 @@ export class TraceScreen {
     this.result.replaceChildren(
       this.proof,
       el(
-        "div", { class: "buttons tools" }, filter, save, button(texts.print, () => window.print()),
+        "div",
+        { class: "buttons tools" },
+        filter,
+        save,
+        button(texts.print, () => window.print()),
       ),
       this.rows,
     );
@@ -214,12 +222,16 @@ export class TraceScreen {
         ),
       );
     });
-    const shown = chosen.slice(
-                          0, most,
-    ).map((row) => el("tr", null, row.map((it) => el("td", { class: "name" }, it))));
+    const shown =
+      chosen
+        .slice(
+          0,
+          most,
+        )
+        .map((row) => el("tr", null, row.map((it) => el("td", { class: "name" }, it))));
     const count = chosen.length > most
-      ? filled(texts.more, { shown: most, count: chosen.length })
-      : filled(texts.shown, { shown: chosen.length, count: rows.length });
+      ? said(texts.more, { shown: most, count: chosen.length })
+      : said(texts.shown, { shown: chosen.length, count: rows.length });
     this.proof.replaceChildren(...this.evidence(chosen.length).map((it) => el("p", null, it)));
     this.rows.replaceChildren(
       el("p", { class: "count" }, count),

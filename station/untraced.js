@@ -16,7 +16,8 @@ async function made(told) {
   const text = `${
     JSON.stringify(sorted({ ...told, Version: 1 }))
       .replace(
-        /[\u0080-\uffff]/g, (it) => `\\u${it.charCodeAt(0).toString(16).padStart(4, "0")}`,
+        /[\u0080-\uffff]/g,
+        (it) => `\\u${it.charCodeAt(0).toString(16).padStart(4, "0")}`,
       )}\n`;
   const digest =
     new Uint8Array(await crypto.subtle.digest("SHA-256", new TextEncoder().encode(text)));
