@@ -79,8 +79,8 @@ def lines() -> list[Places]:
         values = [getattr(its, name) for its in found]
         if twice := sorted({str(value) for value in values if values.count(value) > 1}):
             raise NotSetUp(
-                f"two files of {FOLDER} have {name} = {', '.join(twice)}: take one of them away, or "
-                "name another place in it"
+                f"two files of {FOLDER} have {name} = {', '.join(twice)}: take one of them away, "
+                "or name another place in it"
             )
     return found
 
@@ -97,8 +97,8 @@ def words_in(path: Path) -> dict[str, str]:
     wrong = [name for name in words if names.count(name) > 1 or not is_word(name, words[name])]
     if wrong:
         raise NotSetUp(
-            f"{path}: {', '.join(wrong)} is none of {', '.join(WORDS)}, has no value, is there twice, "
-            "or is no whole path, which begins with /"
+            f"{path}: {', '.join(wrong)} is none of {', '.join(WORDS)}, has no value, is there "
+            "twice, or is no whole path, which begins with /"
         )
     if "line" not in words:
         raise NotSetUp(f"{path} names no line: write line = LINE into it, or take it away")

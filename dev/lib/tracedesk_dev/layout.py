@@ -1,7 +1,7 @@
 """What a plant installs, and where it lies: one list for the .deb, below /usr, and for the tarball, below /usr/local.
 
 What stands in a folder by a rule needs no line here: all units, users and folders of packaging/, all queries, pages of
-the station, schemas and documents, and each tool of ops/ as tracedesk-NAME, with the modules of ops/lib.
+the station, schemas and documents, and each tool of ops/, with the package tracedesk_ops.
 A folder of packaging/ but debian goes to share/tracedesk.
 Sources name the places of the .deb; `place` writes those of another prefix.
 """
@@ -28,8 +28,8 @@ class NotWhole(Exception):
 
 
 def tools():
-    """The tools that a plant calls, each as tracedesk-NAME."""
-    return [it for it in sorted((ROOT / "ops").iterdir()) if it.is_file()]
+    """The tools that a plant calls: what starts each."""
+    return sorted((ROOT / "ops").glob("tracedesk-*"))
 
 
 def files():
@@ -47,7 +47,8 @@ def files():
     return [
         *((f"share/tracedesk/{name}", these(f"packaging/{name}/*")) for name in own),
         ("lib/tracedesk", tools()),
-        ("lib/tracedesk/lib/tracedesk_ops", these("ops/lib/tracedesk_ops/*.py")),
+        ("lib/tracedesk/tracedesk_ops", these("ops/tracedesk_ops/*.py")),
+        ("lib/tracedesk/tracedesk_ops/cmd", these("ops/tracedesk_ops/cmd/*.py")),
         ("lib/systemd/system", these("packaging/*.service", "packaging/*.timer")),
         ("share/tracedesk/plant", these("ops/plant/*.sql")),
         ("share/tracedesk/station", these("station/*")),
@@ -77,7 +78,7 @@ def lay(base, programs, date, version):
         for it in these:
             put(it, below / folder / it.name, os.access(it, os.X_OK))
     for it in tools():
-        (below / f"bin/tracedesk-{it.name}").symlink_to(f"../lib/tracedesk/{it.name}")
+        (below / "bin" / it.name).symlink_to(f"../lib/tracedesk/{it.name}")
     (below / "bin/tracedesk-bridge").symlink_to("../lib/tracedesk/bridge/tracedesk-bridge")
     subprocess.run(
         [ROOT / "dev/api", "--vectors", below / "share/doc/tracedesk/api/vectors.jsonl.gz"],

@@ -1,4 +1,3 @@
-#!/usr/bin/python3
 """Loads archives, and running desks as of their last copies, into the plant's PostgreSQL: docs/plant.md.
 
 usage: tracedesk-plant-load [--line NAME] [CATALOGUE | COPY]..
@@ -28,11 +27,8 @@ no psycopg; 9 an unexpected failure.
 import hashlib
 import itertools
 import pathlib
-import sys
 from typing import NamedTuple
 
-sys.path.insert(0, str(pathlib.Path(__file__).resolve().parent / "lib"))
-sys.dont_write_bytecode = True
 from tracedesk_ops import (
     backups,
     catalogue,
@@ -40,9 +36,8 @@ from tracedesk_ops import (
     identity,
     plant,
     reader_of,
-    statuses,
     untraced,
-)  # noqa: E402
+)
 
 try:
     import psycopg
@@ -659,7 +654,3 @@ def main():
         plant.tell(f"REFUSED: {text_of(fault)}")
         return 1
     return 1 if loading.refused else 0
-
-
-if __name__ == "__main__":
-    statuses.end(main)

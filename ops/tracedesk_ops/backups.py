@@ -1,4 +1,4 @@
-"""The copies that ops/backup makes, in a folder: their order, whose they are, how old, and whether they are whole.
+"""The copies that ops/tracedesk-backup makes, in a folder: their order, whose they are, how old, and whether they are whole.
 
 A copy is a folder that is named by when it was taken, in UTC: `desk`, `archive` with the catalogue, the checksums in
 SHA256SUMS, and backup.json, which has the copy's number, its desk's name, file and line, how many commands it has, and

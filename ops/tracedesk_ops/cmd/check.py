@@ -1,4 +1,3 @@
-#!/usr/bin/env python3
 """Names each fault of a desk's file with its row, and the remedy. It reads a copy, and the file is unchanged.
 
 usage: tracedesk-check [FILE | --line NAME] [--program FILE] [--most N]
@@ -34,21 +33,17 @@ import shutil
 import sqlite3
 import stat
 import subprocess
-import sys
 import tempfile
 from typing import NamedTuple
 
-sys.path.insert(0, str(pathlib.Path(__file__).resolve().parent / "lib"))
-sys.dont_write_bytecode = True
 from tracedesk_ops import (
     catalogue,
     copies,
     declared,
     plant,
     reader_of,
-    statuses,
     stored,
-)  # noqa: E402
+)
 
 HEAD = 100  # bytes of a database's head
 SMALLEST = 512  # bytes of a page
@@ -875,7 +870,3 @@ def main():
             )
         plant.tell(f"{asked.file} can't be judged: {str(fault) or 'it was interrupted'}")
         return 3
-
-
-if __name__ == "__main__":
-    statuses.end(main)

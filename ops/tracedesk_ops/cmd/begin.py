@@ -1,4 +1,3 @@
-#!/usr/bin/env python3
 """Prints the messages with which a new desk is begun where an archived one ended.
 
 usage: tracedesk-begin [--at TIME] [--no-loads] FILE > begin.jsonl
@@ -28,9 +27,7 @@ Exit status: 0 done; 1 the file is no desk's or can't be carried over, or the me
 import pathlib
 import sys
 
-sys.path.insert(0, str(pathlib.Path(__file__).resolve().parent / "lib"))
-sys.dont_write_bytecode = True
-from tracedesk_ops import carry, catalogue, plant, reader_of, statuses  # noqa: E402
+from tracedesk_ops import carry, catalogue, plant, reader_of
 
 
 def words(given=None):
@@ -78,7 +75,3 @@ def main():
         sys.exit(f"{plant.NAME}: {asked.file}: {fault}")
     for note in carrier.notes():
         plant.tell(note)
-
-
-if __name__ == "__main__":
-    statuses.end(main)

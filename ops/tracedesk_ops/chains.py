@@ -1,4 +1,4 @@
-"""The proved program over the files of a line, tracedesk-chain: for ops/recall and ops/backup.
+"""The proved program over the files of a line, tracedesk-chain: for ops/tracedesk-recall and ops/tracedesk-backup.
 
 It opens each file as an audit does: for writing, under a lock, with a log beside it, as the file's owner where root calls.
 It refuses a file that has several hard links. So what has those, is locked, or can't be written is copied first.

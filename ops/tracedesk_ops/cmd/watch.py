@@ -1,4 +1,3 @@
-#!/usr/bin/env python3
 """Writes what there is to know of a running desk as a text file for Prometheus, whole or not at all.
 
 usage: tracedesk-watch [--to FILE] [--port N] [--health URL] [--unit NAME] [--setup FILE] [--db FILE] [--archive FOLDER]
@@ -36,8 +35,6 @@ import sys
 import time
 import urllib.parse
 
-sys.path.insert(0, str(pathlib.Path(__file__).resolve().parent / "lib"))
-sys.dont_write_bytecode = True
 from tracedesk_ops import (
     backups,
     catalogue,
@@ -45,13 +42,12 @@ from tracedesk_ops import (
     places,
     plant,
     reader_of,
-    statuses,
     untraced,
-)  # noqa: E402
+)
 
 TO = pathlib.Path("/run/tracedesk-watch/metrics")
 SETUP = pathlib.Path("/etc/tracedesk/station/setup.json")
-CLOCK = pathlib.Path("/run/tracedesk-clock/answer.json")  # ops/clock writes it
+CLOCK = pathlib.Path("/run/tracedesk-clock/answer.json")  # ops/tracedesk-clock writes it
 HEALTH = "https://127.0.0.1/health"
 BYTES_A_PIECE = 120  # of a desk's file: docs/figures.md, "A file's start and memory by its pieces"
 PROBE, NO_REEL = "/reel?reel=-", {
@@ -613,7 +609,3 @@ def main():
             f"{asked.to} was not written: {fault}. The one before it stays; make room, or name another by --to"
         )
         return 1
-
-
-if __name__ == "__main__":
-    statuses.end(main)

@@ -1,4 +1,4 @@
-"""What the tables of a desk's file declare, and which rows break it: for ops/check.
+"""What the tables of a desk's file declare, and which rows break it: for ops/tracedesk-check.
 
 The declarations are those of docs/definitions.md, "The tables of a desk's file", as the program writes them. A file
 of the older layout has two indexes on `placement` beside them, and a file of version 1 has no table `found`.

@@ -1,4 +1,4 @@
-"""Messages to a desk, and the accepted commands of one as messages again: for ops/check, which gives them to a new desk.
+"""Messages to a desk, and the accepted commands of one as messages again: for ops/tracedesk-check, which gives them to a new desk.
 
 The table `accepted` keeps each command as one text: its word and its members, with a tab between each two
 (crates/desk_types/specs/StoredText.antt). A list is its length and then its elements.

@@ -1,4 +1,3 @@
-#!/usr/bin/env python3
 """Copies a desk with its archive, audits the copy, keeps copies of some days and months, and puts one back.
 
 usage: tracedesk-backup [--to FOLDER] [--days N] [--months N]
@@ -42,11 +41,8 @@ import shutil
 import socket
 import sqlite3
 import stat
-import sys
 import time
 
-sys.path.insert(0, str(pathlib.Path(__file__).resolve().parent / "lib"))
-sys.dont_write_bytecode = True
 from tracedesk_ops import (
     backups,
     catalogue,
@@ -55,10 +51,9 @@ from tracedesk_ops import (
     identity,
     plant,
     reader_of,
-    statuses,
     unfinished,
     untraced,
-)  # noqa: E402
+)
 
 ROOM = 1.2  # of the bytes that are copied: an audit has a log too
 DAY, MONTH = len("2026-11-25"), len("2026-11")
@@ -836,7 +831,3 @@ def alone_in(to):
     with plant.folder_lock(to / PART) as take:
         plant.wait_for_lock(take, plant.LONGEST_OTHER, f"another tool has the copies in {to}")
         yield
-
-
-if __name__ == "__main__":
-    statuses.end(main)

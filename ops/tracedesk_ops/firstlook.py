@@ -1,4 +1,4 @@
-"""A first look at an archive for ops/recall, by SQL: what tracedesk-chain doesn't print, and all of it by `--quick`."""
+"""A first look at an archive for ops/tracedesk-recall, by SQL: what tracedesk-chain doesn't print, and all of it by `--quick`."""
 import collections
 import sys
 

@@ -1,4 +1,3 @@
-#!/usr/bin/env python3
 """Recalls a lot, a board or a reel over the running desks of lines and all archives of their catalogues.
 
 usage: tracedesk-recall (lot | board | reel) NAME [--line LINE URL CATALOGUE].. [--lines FILE]
@@ -70,8 +69,6 @@ import tempfile
 import urllib.parse
 import urllib.request
 
-sys.path.insert(0, str(pathlib.Path(__file__).resolve().parent / "lib"))
-sys.dont_write_bytecode = True
 from tracedesk_ops import (
     carry,
     catalogue,
@@ -81,10 +78,9 @@ from tracedesk_ops import (
     identity,
     plant,
     reader_of,
-    statuses,
     untraced,
-)  # noqa: E402
-from tracedesk_ops.firstlook import Piece, Reel, Told  # noqa: E402
+)
+from tracedesk_ops.firstlook import Piece, Reel, Told
 
 RUNNING = catalogue.RUNNING
 SECONDS_FOR_A_REPORT = 120  # as the proxy waits; a trace of very many pieces takes its time
@@ -1120,7 +1116,3 @@ def main():
             "NOT ALL WERE ASKED, or the archives are no chain, as is told above: what is printed may lack boards"
         )
     return recall.status()
-
-
-if __name__ == "__main__":
-    statuses.end(main)

@@ -1,4 +1,3 @@
-#!/usr/bin/env python3
 """Lists the work that a line's desk refused and did not trace, and keeps each person's decision about it.
 
 usage: tracedesk-untraced collect [--every SECONDS] [--line NAME] [--status FOLDER] [--archive FOLDER]
@@ -29,12 +28,9 @@ import argparse
 import csv
 import io
 import pathlib
-import sys
 import time
 
-sys.path.insert(0, str(pathlib.Path(__file__).resolve().parent / "lib"))
-sys.dont_write_bytecode = True
-from tracedesk_ops import places, plant, reader_of, statuses, untraced  # noqa: E402
+from tracedesk_ops import places, plant, reader_of, untraced
 
 
 def collect(asked):
@@ -160,7 +156,3 @@ def main():
     asked.archive = asked.archive.absolute()
     with plant.as_owner(asked.archive.parent / plant.DESK.name):
         return asked.call(asked)
-
-
-if __name__ == "__main__":
-    statuses.end(main)

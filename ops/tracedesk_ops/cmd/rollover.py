@@ -1,4 +1,3 @@
-#!/usr/bin/env python3
 """Archives a line's desk whole and begins a new one where it ended, so that starts stay quick.
 
 usage: tracedesk-rollover [--line NAME] [--if-due] [--with-board-in-work] [--at TIME] [--no-loads]
@@ -28,15 +27,11 @@ import collections
 import itertools
 import json
 import os
-import pathlib
 import re
 import sqlite3
 import subprocess
-import sys
 import time
 
-sys.path.insert(0, str(pathlib.Path(__file__).resolve().parent / "lib"))
-sys.dont_write_bytecode = True
 from tracedesk_ops import (
     carry,
     catalogue,
@@ -44,9 +39,8 @@ from tracedesk_ops import (
     identity,
     plant,
     reader_of,
-    statuses,
     unfinished,
-)  # noqa: E402
+)
 
 DUE_PIECES = 1_000_000  # docs/operations.md, "The file grows"
 FULL = 0.9  # of the greatest number of commands
@@ -447,7 +441,3 @@ def rolled_over(asked):
         plant.tell("the new desk is in place" if is_new else "the old desk is as it was")
         return 3 if is_new else 1
     return 0
-
-
-if __name__ == "__main__":
-    statuses.end(main)

@@ -1,4 +1,4 @@
-"""What a roll-over or a restore leaves that was cut off, and how it is finished or put back: for ops/settle, ops/rollover and ops/backup."""
+"""What a roll-over or a restore leaves that was cut off, and how it is finished or put back: for ops/tracedesk-settle, ops/tracedesk-rollover and ops/tracedesk-backup."""
 import contextlib
 import errno
 import hashlib

@@ -1,4 +1,4 @@
-"""Untraced work of a line: reports of work that its desk refused, and what a person decided about each. For ops/untraced, ops/recall
+"""Untraced work of a line: reports of work that its desk refused, and what a person decided about each. For ops/tracedesk-untraced, ops/tracedesk-recall
 and those that copy a line's files. Refused loads, splices and unloads have records too, but nobody has to decide about them: a recall
 says which pieces they make doubtful (doubtful.py).
 

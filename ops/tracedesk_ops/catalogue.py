@@ -1,4 +1,4 @@
-"""The catalogue of a line's archived desks, a CSV file in the folder with the archives: for ops/rollover and those
+"""The catalogue of a line's archived desks, a CSV file in the folder with the archives: for ops/tracedesk-rollover and those
 that read archives.
 
     file,sha256,desk,first_minute,last_minute,commands,pieces,from,to,name

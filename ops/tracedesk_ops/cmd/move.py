@@ -1,4 +1,3 @@
-#!/usr/bin/env python3
 """Prints the messages with which a reel changes lines: those for the desk that it comes to, and that for the old one.
 
 usage: tracedesk-move REEL --from OLD --to NEW [--as NAME] [--at TIME] > arrives.jsonl
@@ -35,9 +34,7 @@ import pathlib
 import sqlite3
 import sys
 
-sys.path.insert(0, str(pathlib.Path(__file__).resolve().parent / "lib"))
-sys.dont_write_bytecode = True
-from tracedesk_ops import carry, catalogue, copies, plant, reader_of, statuses  # noqa: E402
+from tracedesk_ops import carry, catalogue, copies, plant, reader_of
 
 SOURCE = "move"
 KINDS = {
@@ -251,7 +248,3 @@ def main():
         )
     for note in told:
         plant.tell(note)
-
-
-if __name__ == "__main__":
-    statuses.end(main)

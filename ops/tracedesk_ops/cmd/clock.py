@@ -1,4 +1,3 @@
-#!/usr/bin/env python3
 """Tells a desk the time, by one ClockSet: for a line that is idle, while no message moves its minute.
 
 usage: tracedesk-clock [--url URL] [--synced COMMAND] [--sender FILE] [--answer FILE] [--drained FILE] [--patience SECONDS]
@@ -23,9 +22,7 @@ import sys
 import tempfile
 import time
 
-sys.path.insert(0, str(pathlib.Path(__file__).resolve().parent / "lib"))
-sys.dont_write_bytecode = True
-from tracedesk_ops import catalogue, plant, reader_of, statuses, stored  # noqa: E402
+from tracedesk_ops import catalogue, plant, reader_of, stored
 
 URL = f"http://127.0.0.1:{plant.PORT}"
 SYNCED = "timedatectl show --property=NTPSynchronized --value"
@@ -147,7 +144,3 @@ def main():
             f"the desk accepted it, and its answer can't be kept: {fault}. Make room, or name another file by --answer"
         )
         return 1
-
-
-if __name__ == "__main__":
-    statuses.end(main)

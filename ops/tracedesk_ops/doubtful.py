@@ -1,4 +1,4 @@
-"""Pieces of a line that may be of another reel than the desk has it: for ops/recall, ops/untraced and ops/plant-load.
+"""Pieces of a line that may be of another reel than the desk has it: for ops/tracedesk-recall, ops/tracedesk-untraced and ops/tracedesk-plant-load.
 
 A desk attributes a piece to the reel that feeds its slot when the install is accepted. Three things can make that the wrong reel:
 

@@ -1,4 +1,3 @@
-#!/usr/bin/env python3
 """Finishes or undoes a roll-over or a restore that was cut off, and makes a catalogue anew from its archives.
 
 usage: tracedesk-settle [--damaged]
@@ -22,14 +21,10 @@ failure.
 """
 import contextlib
 import os
-import pathlib
 import sqlite3
-import sys
 import time
 
-sys.path.insert(0, str(pathlib.Path(__file__).resolve().parent / "lib"))
-sys.dont_write_bytecode = True
-from tracedesk_ops import catalogue, identity, plant, reader_of, statuses, unfinished  # noqa: E402
+from tracedesk_ops import catalogue, identity, plant, reader_of, unfinished
 
 
 def read(folder, file, before, line):
@@ -181,7 +176,3 @@ def main():
     except (*plant.FAULTS, sqlite3.Error) as fault:
         plant.tell_fault(fault)
         return 1
-
-
-if __name__ == "__main__":
-    statuses.end(main)

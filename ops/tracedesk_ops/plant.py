@@ -1,4 +1,4 @@
-"""What ops/rollover, ops/backup, ops/check and ops/plant-load share: the program, the service of a desk, the proxy in front of it, and its copies."""
+"""What ops/tracedesk-rollover, ops/tracedesk-backup, ops/tracedesk-check and ops/tracedesk-plant-load share: the program, the service of a desk, the proxy in front of it, and its copies."""
 import argparse
 import contextlib
 import ctypes
