@@ -23,6 +23,7 @@ from lab import line as lines  # noqa: E402
 from lab import messages, world as worlds  # noqa: E402
 from lab.desk import Desk  # noqa: E402
 from lab.line import Line, NewLine  # noqa: E402
+from lab.shifted import Shifted  # noqa: E402
 from lab.world import World  # noqa: E402
 from tracedesk_dev import program as programs  # noqa: E402
 from tracedesk_ops import plant  # noqa: E402
@@ -55,6 +56,7 @@ def pytest_addoption(parser: pytest.Parser) -> None:
         metavar="FILE",
         help="the program under test; else PROGRAM in the environment, else the repository's own",
     )
+    parser.addoption("--seed", type=int, default=1, metavar="N", help="of random tests (1)")
 
 
 def pytest_configure(config: pytest.Config) -> None:
@@ -92,6 +94,12 @@ def program() -> pathlib.Path:
     if not plant.chain_of(str(file)):
         pytest.skip(NO_CHAIN.format(file))
     return file
+
+
+@pytest.fixture(scope="session")
+def seed(request: pytest.FixtureRequest) -> int:
+    """That of --seed."""
+    return int(request.config.getoption("--seed"))
 
 
 @pytest.fixture(scope="session", autouse=True)
@@ -145,6 +153,24 @@ def new_line(program: pathlib.Path, folder: pathlib.Path) -> Iterator[NewLine]:
 def line(new_line: NewLine) -> Line:
     """Line L1, served, whose reel K1 of lot L1 is on slot 1 of machine M."""
     return new_line()
+
+
+@pytest.fixture(scope="session")
+def shifted(program: pathlib.Path) -> Iterator[Shifted]:
+    """The messages of a shift, and what one desk makes of them."""
+    with tempfile.TemporaryDirectory(prefix="ops-") as name:
+        yield Shifted(program, pathlib.Path(name))
+
+
+@pytest.fixture
+def half(shifted: Shifted, folder: pathlib.Path) -> Iterator[Line]:
+    """Line L1, served, which has taken the first half of a shift; no board is in work."""
+    line = shifted.copy(folder / "half")
+    line.serve()
+    try:
+        yield line
+    finally:
+        line.end()
 
 
 @pytest.fixture(scope="session")
