@@ -30,8 +30,8 @@ class Run:
         self.inbox = places.Place(str(place.untraced), lambda _: desk)
         inbox = None if planted else self.inbox
         self.sources = {
-            its: Source(place.spools / f"{name}-{its}", f"{name}-{its}", desk, inbox)
-            for its in ("machine", "tablet")
+            its: Source(place.spools / f"{name}-{its}", f"{name}-{its}", desk, inbox, machines)
+            for its, machines in (("machine", [name]), ("tablet", []))
         }
         self.is_out = {its: False for its in self.sources}
         self.told: list[tuple[Any, ...]] = []  # for who looks at a failed run

@@ -5,7 +5,7 @@ import pathlib
 from typing import Optional
 
 from tracedesk import desk as desks
-from tracedesk import sender, spool
+from tracedesk import interlock, sender, spool
 from tracedesk import untraced as places
 from truth.world import Killed, Killer
 
@@ -20,9 +20,15 @@ class Source:
     new process."""
 
     def __init__(
-        self, folder: pathlib.Path, name: str, desk: desks.Desk, inbox: Optional[places.Place]
+        self,
+        folder: pathlib.Path,
+        name: str,
+        desk: desks.Desk,
+        inbox: Optional[places.Place],
+        machines: list[str],
     ) -> None:
         self.folder, self.name, self.desk, self.inbox = folder, name, desk, inbox
+        self.machines = machines  # that go by this sender's interlock
         self.held = contextlib.ExitStack()
         self.begin()
         self.last = ""
@@ -49,8 +55,8 @@ class Source:
     def send_all(self) -> None:
         if self.sender is None:
             self.held.enter_context(self.spool.sending())
-            self.sender = sender.Sender(self.spool, self.desk, inbox=self.inbox)
-            self.sender.interlock.is_needed = True
+            states = interlock.Interlock(self.spool, self.machines, every=0.0, is_used=True)
+            self.sender = sender.Sender(self.spool, self.desk, inbox=self.inbox, interlock=states)
         while self.sender.send_waiting():
             pass
         self.sender.line.look()
@@ -60,8 +66,8 @@ class Source:
         if self.sender is None:
             return False
         self.sender.interlock.look_ahead(self.spool.names())
-        said: tuple[str, ...] = self.sender.interlock.look().get(machine, ("stop",))
-        return said[0] == "go"
+        self.sender.asker.ask()
+        return self.sender.interlock.state(machine).word == "go"
 
     def start_of(self, board: str) -> str:
         """The message by which the desk accepted the start of a board, if it did, by what is in the spool."""
