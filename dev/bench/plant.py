@@ -6,18 +6,18 @@ usage: dev/bench/run plant [--program FILE] [--folder FOLDER] [--archives N] [--
 examples:
   dev/bench/run plant                                       1,000 files of 200,000 pieces: 25 GB of disk, and an hour
   dev/bench/run plant --boards 1 --files 10000              10,000 files of 178 pieces: 3 GB
-  dev/bench/run plant --archives 41 --boards 5180 --files 40    40 archives of a million pieces, all loaded by ops/plant-load
+  dev/bench/run plant --archives 41 --boards 5180 --files 40    40 archives of a million pieces, all loaded by ops/tracedesk-plant-load
   dev/bench/run plant --recall                              52 archives of 810,000 pieces: 10 GB of disk, and an hour
 
-One shift of dev/lib/tracedesk_dev/shift.py is fed to the program: that is the first archive. The others, each of a line of its own, are its
+One shift of dev/tracedesk_dev/shift.py is fed to the program: that is the first archive. The others, each of a line of its own, are its
 bytes with other names of boards, machines, reels and lots of the same length; the audit of the second must be lawful.
-Each archive is loaded by ops/plant-load, by a catalogue of its own, and then removed. SQL then copies the rows of
+Each archive is loaded by ops/tracedesk-plant-load, by a catalogue of its own, and then removed. SQL then copies the rows of
 the first one, by the same statements and with other names, until there are --files. Two reels in five of the files become the lot.
 PostgreSQL has its default settings, and fsync is on; while SQL copies, it is off, and no log is written. Cold is after a
 new start of it, with its files out of the system's cache.
 
-With --recall they are the archives of one line that rolls over, each begun by ops/begin from the one before. A lot with
-pieces in two of them is asked for, and a board, by tracedesk-chain and by ops/recall, and each file is audited: the same
+With --recall they are the archives of one line that rolls over, each begun by ops/tracedesk-begin from the one before. A lot with
+pieces in two of them is asked for, and a board, by tracedesk-chain and by ops/tracedesk-recall, and each file is audited: the same
 reading, so that is compared. tracedesk-chain is the one next to the program, or that of CHAIN. PostgreSQL isn't needed then.
 
 --folder   where all of it lies; it is new, and is removed at the end
@@ -161,7 +161,7 @@ def loads(asked, server, room):
         catalogue.add(at / catalogue.FILE_NAME, its)
         began = taken(server)
         subprocess.run(
-            [ROOT / "ops/plant-load", at / catalogue.FILE_NAME],
+            [ROOT / "ops/tracedesk-plant-load", at / catalogue.FILE_NAME],
             check=True,
             stdout=subprocess.DEVNULL,
         )
@@ -169,7 +169,7 @@ def loads(asked, server, room):
         shutil.rmtree(at)
 
 
-# --- A line's chain of archives, by tracedesk-chain and by ops/recall
+# --- A line's chain of archives, by tracedesk-chain and by ops/tracedesk-recall
 
 
 def chain_of(asked, at):
@@ -190,7 +190,7 @@ def chain_of(asked, at):
             desk = pathlib.Path(room, "desk")
             if files:
                 subprocess.run(
-                    [ROOT / "ops/begin", files[-1]],
+                    [ROOT / "ops/tracedesk-begin", files[-1]],
                     check=True,
                     stdout=given,
                     stderr=subprocess.DEVNULL,
@@ -294,8 +294,8 @@ def recall_bench(asked, room):
         ["board", board],
     ):
         of(
-            "ops/recall " + " ".join((words[0], *words[2:])),
-            measured(ROOT / "ops/recall", *words, *line),
+            "ops/tracedesk-recall " + " ".join((words[0], *words[2:])),
+            measured(ROOT / "ops/tracedesk-recall", *words, *line),
         )
 
 
@@ -338,7 +338,7 @@ def restarted(server, **options):
     server.start()
 
 
-# a copy of what ops/plant-load made of the first archive, with other names, as that makes it
+# a copy of what ops/tracedesk-plant-load made of the first archive, with other names, as that makes it
 COPIES = """DO $$ DECLARE its text; BEGIN FOR it IN {first} .. {last} LOOP
     its := 'placement_' || it;
     INSERT INTO file SELECT it, 'C' || it % 10, 'archive-' || it, md5(it::text), first_minute, last_minute, commands, last_uid, pieces, '', false, 0, said, md5(it::text) FROM file WHERE id = 1;

@@ -337,7 +337,9 @@ def a_scan_over_a_roll_over(site):
             log.rename(site.room / "archive-wal")
         site.feed(
             subprocess.run(
-                [sys.executable, ROOT / "ops/begin", archive], check=True, capture_output=True
+                [sys.executable, ROOT / "ops/tracedesk-begin", archive],
+                check=True,
+                capture_output=True,
             ).stdout.splitlines()
         )
         site.start_desk()
