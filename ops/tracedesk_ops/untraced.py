@@ -21,7 +21,7 @@ import pathlib
 import re
 from typing import NamedTuple
 
-from tracedesk_ops import catalogue, files, places, plant
+from tracedesk_ops import files, places, plant
 
 FILE_NAME, INBOX, COLLECTED, STATUS = "untraced.csv", "untraced", "collected.json", "untraced.json"
 HEADER = (
