@@ -1,18 +1,14 @@
-"""A refused report of work: it is recorded once, and not sent again unless a person decides so; and the interlock."""
+"""A refused report of work: it is recorded once, and not sent again unless a person decides so."""
 import hashlib
 import json
 import pathlib
-import subprocess
 import tempfile
-import time
 import unittest
-from unittest import mock
 
-import interlocked
 import test_send
 import test_spool
 
-from tracedesk import answers, interlock, spool
+from tracedesk import answers, spool
 
 
 def work(uid, word="WorkStarted", **body):
@@ -106,7 +102,7 @@ class Untraced(test_send.Sending):
         )
         machine = status["Machines"]["M1"]
         self.assertEqual(
-            (machine["State"], machine["LastRefused"]["Message"]["UniqueID"]), ("stop", "bad4")
+            (machine["State"], machine["LastRefused"]["Message"]["UniqueID"]), (None, "bad4")
         )
         self.assertTrue((self.inbox / f"{machine['LastRefused']['Id']}.json").exists())
         # the page's own command: the request waits again, the reports do not
@@ -265,122 +261,6 @@ class Untraced(test_send.Sending):
                 if not is_ended:
                     return
         self.fail("more calls than expected")
-
-    def states(self, **how):
-        """An interlock of M1 whose start of board B1 was just accepted."""
-        it = interlock.Interlock(spool.Spool(self.room / "states"), ["M1"], "true", **how)
-        self.assertEqual(it.look()["M1"][0], "stop")
-        self.judge(it, work("u1"))
-        self.assertEqual(it.look()["M1"], ("go", "board B1 was started"))
-        self.assertEqual(it.told()["M1"]["Board"], "B1")
-        return it
-
-    def judge(self, it, text, says="Accepted", is_tried=False):
-        told = json.loads(text)
-        more = {"Number": 1} if says == "Accepted" else {"At": "1", "Refusal": "Expired"}
-        it.judged(
-            told["UniqueID"],
-            told,
-            answers.read(
-                json.dumps({"Answer": says, "UniqueID": told["UniqueID"], **more}).encode()
-            ),
-            is_tried,
-        )
-        return it.look()["M1"][0]
-
-    def test_states_follow_the_answers(self):
-        it = self.states()
-        self.assertEqual(
-            self.judge(it, work("u2", "MaterialsInstalled", Designators=["C1"]), "Refused"), "stop"
-        )
-        self.assertEqual(
-            self.judge(it, work("u3", "MaterialsInstalled", Designators=["C2"])), "stop"
-        )
-        self.assertEqual(self.judge(it, work("u2", "MaterialsInstalled", Designators=["C1"])), "go")
-        self.assertEqual(self.judge(it, work("u4", "MaterialsLoaded", Slot="1"), "Refused"), "stop")
-        self.assertEqual(self.judge(it, work("u5", "MaterialsLoaded", Slot="1")), "go")
-        self.assertEqual(self.judge(it, work("u6", "WorkCompleted")), "stop")
-        self.assertEqual(self.judge(it, work("u7"), is_tried=True), "stop")
-        self.assertEqual(self.judge(it, work("u8")), "go")
-        # a start that waits, and one behind it
-        for number in (1, 2):
-            it.spool.put(work(f"w{number}", Board=f"W{number}"))
-        it.look_ahead(it.spool.names())
-        self.assertEqual(it.look()["M1"][0], "stop")
-        it.judged(
-            "000000000001", json.loads(work("w1", Board="W1")), answers.Accepted(1, "w1"), False
-        )
-        self.assertEqual(it.look()["M1"][0], "stop")
-        it.judged(
-            "000000000002", json.loads(work("w2", Board="W2")), answers.Accepted(1, "w2"), False
-        )
-        self.assertEqual(it.look()["M1"], ("go", "board W2 was started"))
-        # what nobody can read may be of any machine
-        it.judged("3", {}, answers.Faulty("NotJson"), False)
-        self.assertEqual(it.look()["M1"][0], "stop")
-
-    def test_silence_a_full_disk_and_a_clock_that_is_set_back_stop(self):
-        it, real = self.states(silence=5.0), (time.time, time.monotonic)
-        with mock.patch.object(
-            interlock.time, "monotonic", lambda: real[1]() + 6
-        ), mock.patch.object(interlock.time, "time", lambda: real[0]() + 6):
-            self.assertEqual(it.look()["M1"], ("stop", "no answer for 5 seconds"))
-            it.heard()
-            self.assertEqual(it.look()["M1"][0], "go")
-        it = self.states()
-        with mock.patch.object(
-            interlock, "write_synced", side_effect=OSError(28, "No space left on device")
-        ):
-            it.look_at_disk()
-        self.assertEqual(
-            it.look()["M1"], ("stop", "the spool can't be written: No space left on device")
-        )
-        it.look_at_disk()
-        self.assertEqual(it.look()["M1"][0], "go")
-        it.is_stuck = True
-        self.assertEqual(it.look()["M1"][0], "stop")
-        it = self.states()
-        with mock.patch.object(interlock.time, "time", lambda: real[0]() - 3600):
-            self.assertEqual(it.look()["M1"][0], "stop")
-        self.assertIn("clock was set back", it.look()["M1"][1])
-
-    def test_a_desk_that_goes_away_stops(self):
-        """Without messages the desk is asked for a sign of life: while it answers the machine may work."""
-        log = self.room / "calls"
-        command = self.room / "permit"
-        command.write_text(f'#!/bin/sh\necho "$2 $3" >> {log}\n')
-        command.chmod(0o755)
-        self.send("--put", "-", given=work("u1"))
-        running = subprocess.Popen(
-            self.words(
-                "--stay",
-                "--interlock",
-                command,
-                "--machine",
-                "M1",
-                "--every",
-                "0.2",
-                "--silence",
-                "1.5",
-            ),
-            stderr=subprocess.DEVNULL,
-        )
-        try:
-            self.wait_for(lambda: log.exists() and "go" in log.read_text())
-            time.sleep(3)
-            self.assertTrue(log.read_text().splitlines()[-1].startswith("go"))
-            self.server.shutdown()
-            self.server.server_close()
-            self.wait_for(
-                lambda: log.read_text().splitlines()[-1] == "stop no answer for 1.5 seconds"
-            )
-        finally:
-            running.kill()
-            running.wait()
-
-    def test_the_interlock_stops(self):
-        told = interlocked.run(kills=4, refusals=12, seed=1)
-        self.assertEqual((told["stopped"], told["refused"]), (4, 12), told)
 
 
 for _name in [it for it in dir(test_send.Sending) if it.startswith("test_")]:

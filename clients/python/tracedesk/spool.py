@@ -454,9 +454,13 @@ class Spool:
             Answer=answers.read_object(answer.text),
             Message=told,
         )
+        self.keep_made(made, text)
+        return json.dumps({"At": at, "Id": made}) + "\n"
+
+    def keep_made(self, made: str, text: bytes) -> None:
+        """Keeps a record, by its id."""
         write_synced(self.untraced / f"{made}.json", text)
         sync_folder(self.untraced)
-        return json.dumps({"At": at, "Id": made}) + "\n"
 
     def record_old(self) -> None:
         """Makes the records of messages that were set aside by a version that made none."""
@@ -579,8 +583,7 @@ class Spool:
             Of=self.why(name)[2].get("Id"),
             Reason=reason,
         )
-        write_synced(self.untraced / f"{made}.json", text)
-        sync_folder(self.untraced)
+        self.keep_made(made, text)
 
     def again(self, names: Iterable[str], decided: bool = False) -> List[str]:
         """Puts messages that were set aside behind those that wait, the same bytes; their new names. Of reports of work only with a decision."""

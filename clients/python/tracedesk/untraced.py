@@ -10,7 +10,7 @@ from typing import Any, Callable, Dict, List, Optional
 from . import answers
 from .console import NEWS_OF_A_FAULT, PAUSE_OF_A_FAULT
 from .desk import Desk, NotThere
-from .interlock import Interlock
+from .interlock import PERIOD, Interlock
 from .records import spelled, utc
 from .spool import Spool, sync_folder, write_synced
 
@@ -121,6 +121,7 @@ class Line:
                 pass
         return {
             "At": utc(),
+            "Period": PERIOD,
             "Sender": self.spool.name,
             "Waiting": len(names),
             "OldestWaiting": oldest,

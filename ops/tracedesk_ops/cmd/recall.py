@@ -74,6 +74,7 @@ from tracedesk_ops import (
     catalogue,
     chains,
     doubtful,
+    files,
     firstlook,
     identity,
     plant,
@@ -792,7 +793,7 @@ def named(path):
     """Gives a whole answer its name on the disk; a Fault where that fails."""
     try:
         yield
-        plant.keep(path.parent)
+        files.keep(path.parent)
     except OSError as fault:
         raise plant.Fault(f"{path}: {fault.strerror}") from fault
 
@@ -808,7 +809,7 @@ def write_evidence(folder, files):
         try:
             for name, content in {**files, "SHA256SUMS": bytes_of(sums)}.items():
                 write(room / name, content)
-            plant.keep(room)
+            files.keep(room)
             os.rename(room, folder)
         finally:
             shutil.rmtree(room, ignore_errors=True)
@@ -922,7 +923,8 @@ def lines_of(words):
             stop(
                 f"the line {name} has no catalogue: name the path that it has, or will have, as archive/catalogue.csv beside the desk's file"
             )
-        if (at := (folder / path).resolve()).is_dir():
+        at = pathlib.Path(os.path.abspath(folder / path))  # a link stays one, as in each tool
+        if at.is_dir():
             stop(
                 f"{at} is a folder: name the catalogue of the line {name}, as {at}/{catalogue.FILE_NAME}"
             )

@@ -38,7 +38,9 @@ import urllib.parse
 from tracedesk_ops import (
     backups,
     catalogue,
+    files,
     identity,
+    places,
     plant,
     reader_of,
     untraced,
@@ -569,7 +571,7 @@ def words():
         "--status",
         type=pathlib.Path,
         metavar="FOLDER",
-        help="what senders say of themselves (status, beside the file)",
+        help="what senders say of themselves (that of the set-up file)",
     )
     reader.add_argument(
         "--timeout",
@@ -581,7 +583,7 @@ def words():
     plant.set_up(reader, copies="backups")
     asked = reader.parse_args()
     asked.archive = asked.archive or asked.db.parent / "archive"
-    asked.status = asked.status or asked.db.parent / "status"
+    asked.status = asked.status or places.of_desk(asked.db).status
     if asked.timeout <= 0:
         reader.error("--timeout: an answer takes some time")
     if not asked.health.startswith("https://"):
@@ -600,8 +602,8 @@ def main():
         return 0
     try:
         path = pathlib.Path(asked.to).absolute()
-        with catalogue.held(path.parent):  # one watch at a time
-            catalogue.put(path, text, 0o644)
+        with files.held(path.parent):  # one watch at a time
+            files.put(path, text, 0o644)
         return 0
     except OSError as fault:
         plant.tell(
