@@ -47,10 +47,11 @@ def minutes_left(database: sqlite3.Connection, reel: str) -> str | int:
     ).fetchone()
     if level == "6" and not baked:
         return "unbaked"
-    limit = label if level == "6" else LIMITS[level]
+    limit: int | None = label if level == "6" else LIMITS[level]
     if limit is None:
         return "unlimited"
-    return max(0, int(limit) - used - (desk_minute(database) - since if since >= 0 else 0))
+    out: int = used + (desk_minute(database) - since if since >= 0 else 0)
+    return max(0, limit - out)
 
 
 def exists(database: sqlite3.Connection, kind: str, table: str, **wanted: str) -> None:

@@ -1,4 +1,4 @@
-"""A validator of JSON Schema (2020-12) with the keywords that dev/api writes: for dev/api and dev/api-test.
+"""A validator of JSON Schema (2020-12) with the keywords that dev/api writes: for dev/api and dev/tests/test_api.py.
 
 It needs no package. A keyword that it doesn't know raises, so that no schema says more than is looked at. Patterns are those
 of ECMA-262 that Python spells alike; `$` is the end of the text, as there. A schema is made into calls once: each takes a
@@ -20,7 +20,7 @@ def is_whole(value: Any) -> bool:
     )
 
 
-KINDS = {
+KINDS: dict[str, Callable[[Any], bool]] = {
     "object": lambda it: isinstance(it, dict),
     "array": lambda it: isinstance(it, list),
     "string": lambda it: isinstance(it, str),
@@ -142,7 +142,7 @@ class Schema:
         ]
 
         def look(value: Any) -> str | None:
-            told = ": it is none of the shapes that it may have"
+            told: str | None = ": it is none of the shapes that it may have"
             for constants, call in pairs:
                 if isinstance(value, dict) and any(
                     name in value and not same(it, value[name]) for name, it in constants

@@ -17,8 +17,9 @@ import datetime
 import random
 from typing import Any
 
-from tracedesk_dev.messages import Messages
+from tracedesk_dev.messages import Messages, Said
 
+__all__ = ["MINUTES", "RECALLED", "Reel", "Said", "Shift"]
 Row = tuple[str, str, list[str]]  # of a sheet: slot, part, designators
 
 MINUTES = {"1": None, "2a": 40_320, "3": 10_080, "5a": 1_440, "6": 2_880}

@@ -13,7 +13,7 @@ import sys
 import tempfile
 import time
 import types
-from typing import Any, Callable, Iterable, Iterator, Sequence
+from typing import Any, Callable, Iterator, Sequence
 
 ROOT = pathlib.Path(__file__).resolve().parents[2]
 
