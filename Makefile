@@ -22,7 +22,7 @@ plant-recall:  ## three lines in one PostgreSQL, and a recall over them, compare
 	@ops/tests/plant-page-test
 	@ops/tests/three-ways-test >&2
 	@ops/tests/plant-load-test >&2
-	@ops/tests/company-test >&2
+	@/usr/bin/python3 -m pytest -q ops/tests/test_company.py >&2
 
 #: test
 test:          ## the tests: proves everything from nothing, tries wrong bodies, runs the tests and the worked cases, fails calls | 1 h | rt curl, and gcc libc6-dev, or failing calls are skipped

@@ -1,15 +1,21 @@
 // The page of codes to print: actions, screens, digits, and the slots of each machine's sheet.
-import { TEXTS } from "./words.js";
-import { button, el } from "./dom.js";
-import { filled, LEVELS } from "./names.js";
 import { bars } from "./code128.js";
 import * as desk from "./desk.js";
+import { button, el } from "./dom.js";
 import { isEnd, letterOf } from "./keys.js";
-import * as setup from "./setup.js";
+import { filled, LEVELS } from "./names.js";
+import { said } from "./say.js";
 import { ACTIONS } from "./scan.js";
+import * as setup from "./setup.js";
+import { TEXTS } from "./words.js";
 
 function card(text, code) {
-  return el("figure", null, bars(code) ?? el("p", { class: "wrong" }, TEXTS.codesPage.tooLong), el("figcaption", null, el("b", null, text), el("small", null, code)));
+  return el(
+    "figure",
+    null,
+    bars(code) ?? el("p", { class: "wrong" }, TEXTS.codesPage.tooLong),
+    el("figcaption", null, el("b", null, text), el("small", null, code)),
+  );
 }
 
 function group(title, cards) {
@@ -21,7 +27,10 @@ async function slotsOf({ machine, product }, codes) {
   try {
     const { rows } = await desk.rows("kit", { product, machine, boards: "1" });
     const slots = [...new Set(rows.map((it) => it.slot))];
-    return group(filled(TEXTS.codesPage.slots, { machine, product }), slots.map((slot) => card(`${machine} ${slot}`, filled(codes.slot, { machine, slot }))));
+    return group(
+      said(TEXTS.codesPage.slots, { machine, product }),
+      slots.map((slot) => card(`${machine} ${slot}`, filled(codes.slot, { machine, slot }))),
+    );
   } catch {
     return null;
   }
@@ -47,18 +56,50 @@ function handOver() {
 
 async function begin() {
   handOver();
-  const { setup: read, fault, ...told } = await setup.read(), texts = TEXTS.codesPage, main = document.getElementById("main");
+  const { setup: read, fault, ...told } = await setup.read();
+  const texts = TEXTS.codesPage;
+  const main = document.getElementById("main");
   if (!read) {
-    main.replaceChildren(el("p", { class: "note wrong" }, filled(TEXTS.setup.wanting, { fault: filled(TEXTS.setup[fault], told) })));
+    main.replaceChildren(el("p", { class: "note wrong" }, said(TEXTS.setup.wanting, {
+                              fault: said(TEXTS.setup[fault], told),
+                            })));
     return;
   }
-  const { codes } = read, action = (name) => filled(codes.action, { action: name });
-  const parts = [el("h1", null, `${read.title}: ${texts.title}`), el("p", { class: "no-print" }, texts.hint, " ", button(texts.print, () => window.print()), " ", el("a", { href: "./" }, TEXTS.title)),
+  const { codes } = read;
+  const action = (name) => filled(codes.action, { action: name });
+  const parts = [
+    el("h1", null, `${read.title}: ${texts.title}`),
+    el(
+      "p",
+      { class: "no-print" },
+      texts.hint,
+      " ",
+      button(texts.print, () => window.print()),
+      " ",
+      el("a", { href: "./" }, TEXTS.title),
+    ),
     group(texts.actions, ACTIONS.map((it) => card(TEXTS.actions[it], action(it)))),
-    group(texts.digits, [...[..."0123456789"].map((it) => card(it, action(it))), card(TEXTS.actions.ENTER, action("ENTER"))]),
-    group(texts.levels, LEVELS.map((it) => card(filled(texts.level, { level: it }), action(`LEVEL-${it}`)))),
-    group(texts.screens, Object.entries(TEXTS.screens).map(([name, text]) => card(text, action(name.toUpperCase())))),
-    el("p", null, filled(texts.badge, { code: filled(codes.badge, { badge: "NAME" }) }))];
+    group(
+      texts.digits,
+      [
+        ...[..."0123456789"].map((it) => card(it, action(it))),
+        card(TEXTS.actions.ENTER, action("ENTER")),
+      ],
+    ),
+    group(
+      texts.levels,
+      LEVELS.map((it) => card(said(texts.level, { level: it }), action(`LEVEL-${it}`))),
+    ),
+    group(
+      texts.screens,
+      Object
+        .entries(
+          TEXTS.screens,
+        )
+        .map(([name, text]) => card(text, action(name.toUpperCase()))),
+    ),
+    el("p", null, said(texts.badge, { code: filled(codes.badge, { badge: "NAME" }) })),
+  ];
   for (const machine of read.machines.filter((it) => it.product)) {
     parts.push(await slotsOf(machine, codes));
   }

@@ -1,19 +1,8 @@
-"""The fixtures, options and markers of the tests of ops/.
-
-    /usr/bin/python3 -m pytest ops/tests/test_backup.py::test_sums_are_cut --program /usr/bin/tracedesk
-    /usr/bin/python3 -m pytest ops/tests -m gate -n 2
-
-The program under test is that of --program, else PROGRAM in the environment, else the repository's own. tracedesk-chain is
-that of CHAIN in the environment, else the one next to the program.
-
-A test has the marker `gate`, unless it has `whole` (it takes minutes), `root` or `browser`; one of these may have `gate` too.
-`needs` names commands without which a test is skipped.
-"""
+"""The fixtures of the tests of ops/. The conftest.py at the top has the options, markers and programs."""
 import os
 import pathlib
-import shutil
 import tempfile
-from typing import Callable, Iterator
+from typing import Iterator
 
 import pytest
 
@@ -22,78 +11,8 @@ pytest.register_assert_rewrite("lab")
 from lab import line as lines  # noqa: E402
 from lab import messages, world as worlds  # noqa: E402
 from lab.desk import Desk  # noqa: E402
-from lab.line import Line  # noqa: E402
+from lab.line import Line, NewLine  # noqa: E402
 from lab.world import World  # noqa: E402
-from tracedesk_dev import program as programs  # noqa: E402
-from tracedesk_ops import plant  # noqa: E402
-
-MARKERS = {
-    "gate": "runs in the gate; each test has it that has none of the next three",
-    "whole": "takes minutes",
-    "root": "is left out where root doesn't call it",
-    "browser": "wants a browser",
-    "needs(*commands)": "is left out where one of these commands is not there",
-}
-APART = ("whole", "root", "browser")
-PACKAGES = {  # of Debian, by the commands that tests name
-    "cc": "gcc libc6-dev",
-    "chromium": "chromium chromium-driver python3-selenium",
-    "initdb": "postgresql",
-    "nginx": "nginx-light",
-    "openssl": "openssl",
-    "promtool": "prometheus",
-    "psql": "postgresql",
-    "systemd-analyze": "systemd",
-}
-MORE_PATHS = ":/usr/sbin:/usr/lib/postgresql/15/bin"
-NO_CHAIN = "there is no tracedesk-chain next to {}: dev/build --chain, or CHAIN=FILE"
-
-NewLine = Callable[..., Line]
-
-
-def pytest_addoption(parser: pytest.Parser) -> None:
-    parser.addoption(
-        "--program",
-        metavar="FILE",
-        help="the program under test; else PROGRAM in the environment, else the repository's own",
-    )
-
-
-def pytest_configure(config: pytest.Config) -> None:
-    for name, about in MARKERS.items():
-        config.addinivalue_line("markers", f"{name}: {about}")
-    named = config.getoption("--program")
-    if named or os.environ.get("PROGRAM"):
-        os.environ["PROGRAM"] = programs.to_use(named)  # for the tools too
-
-
-def pytest_collection_modifyitems(items: list[pytest.Item]) -> None:
-    for item in items:
-        if not any(item.get_closest_marker(name) for name in APART):
-            item.add_marker("gate")
-
-
-def pytest_runtest_setup(item: pytest.Item) -> None:
-    if item.get_closest_marker("root") and os.geteuid():
-        pytest.skip("it wants root: call it by sudo")
-    path = os.environ["PATH"] + MORE_PATHS
-    for marker in item.iter_markers("needs"):
-        for command in marker.args:
-            if not shutil.which(command, path=path):
-                pytest.skip(f"there is no {command}: apt-get install {PACKAGES[command]}")
-
-
-@pytest.fixture(scope="session")
-def program() -> pathlib.Path:
-    """The program under test, with tracedesk-chain."""
-    if not os.environ.get("PROGRAM"):
-        if not programs.is_built():
-            pytest.skip("there is no program: make build, or PROGRAM=FILE")
-        os.environ["PROGRAM"] = programs.own()
-    file = pathlib.Path(os.environ["PROGRAM"])
-    if not plant.chain_of(str(file)):
-        pytest.skip(NO_CHAIN.format(file))
-    return file
 
 
 @pytest.fixture(scope="session", autouse=True)

@@ -109,15 +109,7 @@ class Whose:
             or len(names) > 1
             or (not names and len(unnamed) > 1)
             or names
-            and unnamed
-            - {
-                first
-                for it, told in here
-                if told["name"]
-                for first in firsts_of(
-                    it / "desk", it / INDEX, catalogue.survey(it / INDEX).archives
-                )
-            }
+            and unnamed - {first for it, told in here if told["name"] for first in firsts_in(it)}
         ):
             whose = sorted(
                 {
@@ -135,6 +127,12 @@ def firsts_of(desk, path, archives):
     return {command(it, 1) for it in (desk, *(catalogue.path_of(path, it) for it in archives))} - {
         None
     }
+
+
+def firsts_in(copy):
+    """The first commands of the desk in a copy and of the archives of its catalogue."""
+    path = copy / INDEX
+    return firsts_of(copy / "desk", path, catalogue.survey(path).archives)
 
 
 def survey(to, whose=None):

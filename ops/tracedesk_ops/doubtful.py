@@ -25,7 +25,7 @@ import sqlite3
 import tempfile
 from typing import NamedTuple
 
-from tracedesk_ops import catalogue, copies, identity, plant, untraced
+from tracedesk_ops import catalogue, copies, identity, places, plant, untraced
 
 WORDS = (*untraced.HANDLING, "MaterialsInstalled", "MaterialsScrapped")
 LOADED, SPLICED, UNLOADED = untraced.HANDLING
@@ -58,7 +58,6 @@ LATE, SHORT, LONG = (
 )
 AFTER, REFUSED = "after such an order, on the same tape", "a refused reel may be on the slot"
 TAKEN_OFF = "taken off"  # what became of a refused reel from which nothing was placed
-STATUS = "status"  # beside the archives: what senders say of themselves
 TRIES = 5  # of a copy of a running desk's file
 
 
@@ -621,7 +620,7 @@ def look(path, archives, is_running=False, running=()):
     return Line(
         [(it, decided.get(it.id), story.reels_of(work_of(it))) for it in works],
         pieces,
-        [*book.faults, *faults, *waiting(path.parent.parent / STATUS)],
+        [*book.faults, *faults, *waiting(places.of_archive(path.parent).status)],
         notes,
         story,
     )

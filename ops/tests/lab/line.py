@@ -3,7 +3,7 @@ import collections
 import csv
 import io
 import pathlib
-from typing import Any, Iterable, Mapping, Optional
+from typing import Any, Callable, Iterable, Mapping, Optional
 
 from lab import messages
 from lab.desk import Desk, rows_of
@@ -73,8 +73,8 @@ class Line(Desk):
 
     def recall_archives(self, lot: str = "L1") -> Ended:
         """Recalls a lot over the archives alone."""
-        words = ["lot", lot, "--archives-only", "--line", self.name, "-", self.catalogue]
-        return run_tool("recall", *words)
+        line: list[Word] = ["--line", self.name, "-", self.catalogue]
+        return run_tool("recall", "lot", lot, "--archives-only", *line)
 
     # --- What is there
 
@@ -129,6 +129,9 @@ class Line(Desk):
     def more(self, *names: str) -> None:
         """Says a command of each of these names, which the desk accepts."""
         self.accept(*(messages.part(name, self.time) for name in names))
+
+
+NewLine = Callable[..., Line]  # the fixture `new_line`
 
 
 def begin(line: Line, lines: Iterable[bytes]) -> Line:

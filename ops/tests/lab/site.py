@@ -2,19 +2,15 @@
 of its own."""
 import os
 import pathlib
-import sys
 
-from lab import ROOT
-
-sys.path.append(str(ROOT / "station/tests"))
-import station_site  # noqa: E402
+import station_site
 
 SYSTEMCTL = "#!/bin/sh\ncat {0}/systemctl.says\nexit $(cat {0}/systemctl.status)\n"
 WELL = "LoadState=loaded\nActiveState=active\nNRestarts=3\n"
 WATCHED = "/run/tracedesk-watch"  # packaging/nginx.conf
 
 
-class Site(station_site.Site):  # type: ignore[misc]  # station_site has no types
+class Site(station_site.Site):
     """A site whose watch writes into its own folder."""
 
     room: pathlib.Path

@@ -589,7 +589,7 @@ def opened_desk(seen):
 def newest_of(copies):
     """The newest copy of each desk. One without a name is older than that of a desk which began as it did, itself or an archive of it."""
     newest = {desk_of(it): it for it in copies}
-    firsts = {key: backups.firsts_of(it) for key, it in newest.items()} if len(newest) > 1 else {}
+    firsts = {key: backups.firsts_in(it) for key, it in newest.items()}
     return {
         key: it
         for key, it in newest.items()

@@ -922,7 +922,8 @@ def lines_of(words):
             stop(
                 f"the line {name} has no catalogue: name the path that it has, or will have, as archive/catalogue.csv beside the desk's file"
             )
-        if (at := (folder / path).resolve()).is_dir():
+        at = pathlib.Path(os.path.abspath(folder / path))  # a link stays one, as in each tool
+        if at.is_dir():
             stop(
                 f"{at} is a folder: name the catalogue of the line {name}, as {at}/{catalogue.FILE_NAME}"
             )

@@ -39,6 +39,7 @@ from tracedesk_ops import (
     backups,
     catalogue,
     identity,
+    places,
     plant,
     reader_of,
     untraced,
@@ -569,7 +570,7 @@ def words():
         "--status",
         type=pathlib.Path,
         metavar="FOLDER",
-        help="what senders say of themselves (status, beside the file)",
+        help="what senders say of themselves (that of the set-up file)",
     )
     reader.add_argument(
         "--timeout",
@@ -581,7 +582,7 @@ def words():
     plant.set_up(reader, copies="backups")
     asked = reader.parse_args()
     asked.archive = asked.archive or asked.db.parent / "archive"
-    asked.status = asked.status or asked.db.parent / "status"
+    asked.status = asked.status or places.of_desk(asked.db).status
     if asked.timeout <= 0:
         reader.error("--timeout: an answer takes some time")
     if not asked.health.startswith("https://"):

@@ -13,7 +13,7 @@ import re
 import shutil
 import subprocess
 
-ROOT = pathlib.Path(__file__).resolve().parents[3]
+ROOT = pathlib.Path(__file__).resolve().parents[2]
 OURS = re.compile(
     rb"/usr/(?:local/)?(?=(?:bin|lib|lib/systemd/system|lib/sysusers\.d|lib/tmpfiles\.d|share|share/doc)/tracedesk)"
 )

@@ -4,7 +4,7 @@ import json
 import pathlib
 import re
 
-ROOT = pathlib.Path(__file__).resolve().parent.parent.parent.parent
+ROOT = pathlib.Path(__file__).resolve().parents[2]
 FILE = ROOT / "crates/desk_tests/src/tests/cases.rt"
 MOST = 400  # messages of a case: the test runs each beginning of it
 HEAD = '''//! The messages of the cases, made by `dev/cases --desks`.

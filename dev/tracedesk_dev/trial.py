@@ -14,7 +14,7 @@ import tempfile
 import time
 import types
 
-ROOT = pathlib.Path(__file__).resolve().parents[3]
+ROOT = pathlib.Path(__file__).resolve().parents[2]
 
 
 class Difference(Exception):

@@ -9,7 +9,7 @@ import subprocess
 import sys
 import time
 
-ROOT = pathlib.Path(__file__).resolve().parents[3]
+ROOT = pathlib.Path(__file__).resolve().parents[2]
 CRATES = ROOT / "crates"
 CRATE = "tracedesk"
 BUILT = CRATES / CRATE / "out" / CRATE
