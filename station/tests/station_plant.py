@@ -37,6 +37,9 @@ MACHINES, SLOTS, SECONDS = (
     120,
     0.3,
 )  # of a long line; of the page's processor time, from a scan to its verdict and after it
+CLOCKS = """window.asleep = 0; window.later = 0;
+const steady = performance.now.bind(performance), wall = Date.now.bind(Date);
+performance.now = () => steady() - window.asleep; Date.now = () => wall() + window.later;"""
 
 
 def plant(site: Site, selected: Sequence[str] = ("M1", "M2")) -> None:
