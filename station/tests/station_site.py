@@ -20,7 +20,7 @@ from typing import Any, Callable, Sequence, TypeVar
 from tracedesk_dev.trial import Difference, wanting
 
 ROOT = pathlib.Path(__file__).resolve().parents[2]
-PEOPLE = {"op": "senders", "office": "readers"}  # their passwords are their names
+PEOPLE = {"op": "senders", "office": "readers", "qm": "deciders"}  # their passwords are their names
 CERTIFICATES = {"m2": "sender", "auditor": "reader"}
 SETUP = {
     "title": "Line 1",
@@ -107,7 +107,16 @@ class Site:
         )  # what an operator looks at before the browser is closed
         self.agreed = 0
         self.drained = self.room / "drained"
-        for it in ("etc/station", "share", "log", "temporary", "line/untraced", "line/status"):
+        for it in (
+            "etc/station",
+            "share",
+            "log",
+            "temporary",
+            "line/untraced",
+            "line/status",
+            "line/decided",
+            "line/scans",
+        ):
             (self.room / it).mkdir(parents=True)
         (self.room / "share/station").symlink_to(ROOT / "station")
         self.set_up(SETUP)
@@ -153,6 +162,7 @@ class Site:
             for name in PEOPLE
         }
         (at / "readers").write_text("".join(lines.values()))
+        (at / "deciders").write_text(lines["op"] + lines["qm"])
         (at / "senders").write_text(
             "".join(line for name, line in lines.items() if PEOPLE[name] == "senders")
         )
