@@ -37,6 +37,9 @@ MACHINES, SLOTS, SECONDS = (
     120,
     0.3,
 )  # of a long line; of the page's processor time, from a scan to its verdict and after it
+CLOCKS = """window.asleep = 0; window.later = 0;
+const steady = performance.now.bind(performance), wall = Date.now.bind(Date);
+performance.now = () => steady() - window.asleep; Date.now = () => wall() + window.later;"""
 
 
 def plant(site: Site, selected: Sequence[str] = ("M1", "M2")) -> None:
@@ -324,3 +327,17 @@ def agrees(operator: Operator) -> None:
             if site.report(f"/kit?product=CTRL-A&machine={machine}&boards=1").startswith("slot,"):
                 line_is_as_reported(site, operator, machine)
                 site.agreed += 1
+
+
+def records(site: Site) -> list[dict[str, Any]]:
+    """The records of untraced work that were handed on."""
+    return [json.loads(file.read_bytes()) for file in (site.room / "line/untraced").glob("*.json")]
+
+
+def machines_say(site: Site, period: float = 3_600, ago: float = 0, **machines: Any) -> None:
+    """Writes what a sender says of its machines, as it did so many seconds ago."""
+    at = datetime.datetime.now(datetime.timezone.utc) - datetime.timedelta(seconds=ago)
+    told = {"At": at.strftime("%Y-%m-%dT%H:%M:%SZ"), "Period": period, "Machines": machines}
+    file = site.room / "line/status/m1.json"
+    file.with_suffix(".new").write_text(json.dumps({"Version": 1, "Sender": "m1", **told}))
+    file.with_suffix(".new").rename(file)

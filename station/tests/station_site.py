@@ -152,6 +152,11 @@ class Site:
                 f'"~^CN={name}$" sender;\n' for name, may in CERTIFICATES.items() if may == "sender"
             )
         )
+        self.make_users()
+
+    def make_users(self) -> None:
+        """Writes who may read and who may send, with the passwords."""
+        at = self.room / "etc"
         lines = {
             name: f"{name}:{subprocess.run(['openssl', 'passwd', '-6', name], check=True, capture_output=True, text=True).stdout}"
             for name in PEOPLE

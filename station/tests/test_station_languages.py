@@ -218,9 +218,7 @@ def test_each_form_by_the_keyboard(site: Site) -> None:
 
 def test_a_plants_own_texts(site: Site) -> None:
     """A file that has some texts only, one that has a fault, and none: each text that is not the plant's is ours; and none of ours is dead."""
-    at, ours = site.room / "etc/station/texts.js", (ROOT / "station/texts.js").read_text(
-        encoding="utf-8"
-    )
+    at = site.room / "etc/station/texts.js"
     some = 'export const TEXTS = { lang: "de", verdict: { accepted: "ANGENOMMEN: {done}" }, refusals: { UnknownReel: ["Rolle {at} ist unbekannt", "Noch einmal scannen."], Expired: ["nur eins"] }, screens: 7 };'
     told = []
     for text, yes, number in (
