@@ -6,7 +6,7 @@ examples:
   dev/bench/run day --boards 60 --turns 1                    both tables (make bench)
   dev/bench/run day --boards '' --commands 1000,3000,10000   the second table alone
 
-The messages are those of dev/lib/tracedesk_dev/shift.py. Figures are medians of --turns turns, one after the other. Rates
+The messages are those of dev/tracedesk_dev/shift.py. Figures are medians of --turns turns, one after the other. Rates
 of `feed --db` are of all lines at once. Latencies are of lines that are sent one by one, to `feed` over a pipe and to
 `serve` over one connection, from the last byte of the message to the last byte of its answer; the rates of `serve` are by
 the sum of these. Opening is a run on the finished file without a line. SQLite is Python's sqlite3 in WAL mode with

@@ -9,7 +9,7 @@ examples:
   dev/bench/run plant --archives 41 --boards 5180 --files 40    40 archives of a million pieces, all loaded by ops/tracedesk-plant-load
   dev/bench/run plant --recall                              52 archives of 810,000 pieces: 10 GB of disk, and an hour
 
-One shift of dev/lib/tracedesk_dev/shift.py is fed to the program: that is the first archive. The others, each of a line of its own, are its
+One shift of dev/tracedesk_dev/shift.py is fed to the program: that is the first archive. The others, each of a line of its own, are its
 bytes with other names of boards, machines, reels and lots of the same length; the audit of the second must be lawful.
 Each archive is loaded by ops/tracedesk-plant-load, by a catalogue of its own, and then removed. SQL then copies the rows of
 the first one, by the same statements and with other names, until there are --files. Two reels in five of the files become the lot.

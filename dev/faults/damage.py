@@ -2,7 +2,7 @@
 
 usage: dev/faults/run damage [--program FILE] [--boards N] [--pages N] [--seconds N] [--seed N] [--folder FOLDER]
 
-The file is that of the beginning of a shift (dev/lib/tracedesk_dev/shift.py). It is cut at the end of each of its pages, within some
+The file is that of the beginning of a shift (dev/tracedesk_dev/shift.py). It is cut at the end of each of its pages, within some
 of them, each page is filled with zeros in turn, and single bytes at random places get another value. So at most
 --pages of each (all pages of the file where it has fewer), and for at most --seconds. Of each damaged copy:
 

@@ -7,7 +7,7 @@ examples:
   dev/faults/run kills --kills 20 feed
 
 The parts, all of them where none is named:
-  feed    `feed --db` gets a shift of a line (dev/lib/tracedesk_dev/shift.py) as fast as it takes it, and is killed by SIGKILL at a
+  feed    `feed --db` gets a shift of a line (dev/tracedesk_dev/shift.py) as fast as it takes it, and is killed by SIGKILL at a
           random moment; one kill in ten hits `audit` in its place. It is killed --kills times (200), and begins a new
           shift on a new file whenever one is done.
   serve   the same with `serve`, over one connection, where the program has it.

@@ -28,7 +28,7 @@ import tempfile
 from collections.abc import Callable, Iterable, Iterator, Sequence
 from typing import NamedTuple, Optional
 
-from tracedesk_ops import catalogue, copies, identity, plant, untraced
+from tracedesk_ops import catalogue, copies, identity, places, plant, untraced
 
 WORDS = (*untraced.HANDLING, "MaterialsInstalled", "MaterialsScrapped")
 LOADED, SPLICED, UNLOADED = untraced.HANDLING
@@ -61,7 +61,6 @@ LATE, SHORT, LONG = (
 )
 AFTER, REFUSED = "after such an order, on the same tape", "a refused reel may be on the slot"
 TAKEN_OFF = "taken off"  # what became of a refused reel from which nothing was placed
-STATUS = "status"  # beside the archives: what senders say of themselves
 TRIES = 5  # of a copy of a running desk's file
 
 
@@ -649,7 +648,7 @@ def look(
     return Line(
         [(it, decided.get(it.id), story.reels_of(work_of(it))) for it in works],
         pieces,
-        [*book.faults, *faults, *waiting(path.parent.parent / STATUS)],
+        [*book.faults, *faults, *waiting(places.of_archive(path.parent).status)],
         notes,
         story,
     )

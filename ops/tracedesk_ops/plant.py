@@ -19,19 +19,14 @@ import time
 from collections.abc import Callable, Iterator
 from typing import Any
 
-from tracedesk_ops import catalogue, copies, identity
+from tracedesk_ops import catalogue, copies, identity, places
 
 NAME = pathlib.Path(sys.argv[0]).name
-DESK = pathlib.Path("/var/lib/tracedesk/desk")
-STOP, PORT = "systemctl stop tracedesk", 8080
+DESK, PORT, COPIES = places.DESK, places.PORT, places.COPIES
+STOP = "systemctl stop tracedesk"
 START = "systemctl reset-failed tracedesk; systemctl start tracedesk"  # it may have failed too often, on a desk that was not to be had
 PROXY_PORT = 8081  # packaging/nginx.conf
-COPIES = pathlib.Path("/var/backups/tracedesk")
-SET_UP = pathlib.Path(
-    os.environ.get("TRACEDESK_SET_UP", "/etc/tracedesk")
-)  # a file LINE.conf for each line that this machine serves
-WORDS = ("line", "db", "archive", "copies", "port", "url", "stop", "start")  # of such a file
-PROXYS = "certificates.conf"  # which lies there too: packaging/nginx.conf
+SET_UP = places.FOLDER
 DRAINED = pathlib.Path("/run/tracedesk-drained")  # packaging/nginx.conf looks for it
 SECONDS_A_MILLION = 19  # of a start, for a million placed pieces: docs/figures.md, "A file's start"
 QUIET = float(
@@ -119,49 +114,11 @@ def chain_of(program: str) -> str | None:
 
 
 def set_ups() -> list[dict[str, str]]:
-    """The lines that are set up on this machine: of each what its file LINE.conf says, as `db = /var/lib/tracedesk/desk`, and what follows from that."""
-    found = []
-    for file in sorted(it for it in SET_UP.glob("*.conf") if it.name != PROXYS):
-        try:
-            rows = [
-                it.partition("=")
-                for it in file.read_text(encoding="utf-8-sig").splitlines()
-                if it.strip() and not it.lstrip().startswith("#")
-            ]
-        except (OSError, UnicodeDecodeError) as fault:
-            raise Fault(f"{file} can't be read: {fault}") from fault
-        its = {name.strip(): value.strip() for name, _, value in rows}
-        names = [name.strip() for name, _, _ in rows]
-        if wrong := [
-            name
-            for name in its
-            if name not in WORDS
-            or not its[name]
-            or names.count(name) > 1
-            or name in WORDS[1:4]
-            and its[name][0] != "/"
-        ]:
-            raise Fault(
-                f"{file}: {', '.join(wrong)} is none of {', '.join(WORDS)}, has no value, is there twice, or is no whole path, which begins with /"
-            )
-        if "line" not in its:
-            raise Fault(f"{file} names no line: write line = LINE into it, or take it away")
-        its = {"db": str(DESK), "port": str(PORT), "copies": str(COPIES), **its}
-        found.append(
-            {
-                "archive": f"{pathlib.Path(its['db']).parent}/archive",
-                "url": f"http://127.0.0.1:{its['port']}",
-                **its,
-            }
-        )
-    for word in ("db", "line"):
-        if twice := {
-            it[word] for it in found if [other[word] for other in found].count(it[word]) > 1
-        }:
-            raise Fault(
-                f"two files of {SET_UP} have {word} = {', '.join(twice)}: take one of them away"
-            )
-    return found
+    """The lines that are set up on this machine: of each the words of its file LINE.conf, and what it doesn't name."""
+    try:
+        return [its.words() for its in places.lines()]
+    except places.NotSetUp as fault:
+        raise Fault(str(fault)) from fault
 
 
 def set_up(reader: argparse.ArgumentParser, **names: str) -> None:
@@ -173,9 +130,11 @@ def set_up(reader: argparse.ArgumentParser, **names: str) -> None:
     given = argparse.ArgumentParser(add_help=False, allow_abbrev=False)
     given.add_argument("--line")
     given.add_argument("--db")
+    given.add_argument("--archive")
     it = given.parse_known_args()[0]
     try:
-        those = [its for its in set_ups() if it.db in (None, its["db"])]
+        named = "db" if it.db or not it.archive else "archive"
+        those = [its for its in set_ups() if getattr(it, named) in (None, its[named])]
     except Fault as fault:
         reader.error(str(fault))
     own = [its for its in those if it.line in (None, its["line"])]

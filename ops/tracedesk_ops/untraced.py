@@ -2,8 +2,7 @@
 and those that copy a line's files. Refused loads, splices and unloads have records too, but nobody has to decide about them: a recall
 says which pieces they make doubtful (doubtful.py).
 
-Senders put records into the line's inbox, the folder `untraced` beside that of the archives. `collect` appends each of them to
-`untraced.csv`, beside the catalogue, once:
+Senders put records into the line's inbox (places.py). `collect` appends each of them to `untraced.csv`, beside the catalogue, once:
 
     id,kind,at,machine,board,what,refusal,place,source,by,of,became,reason,record,chain
 
@@ -25,7 +24,7 @@ import re
 from collections.abc import Callable, Iterable
 from typing import Any, BinaryIO, NamedTuple
 
-from tracedesk_ops import files, plant
+from tracedesk_ops import files, places, plant
 
 FILE_NAME, INBOX, COLLECTED, STATUS = "untraced.csv", "untraced", "collected.json", "untraced.json"
 HEADER = (
@@ -94,7 +93,7 @@ def record_of(text: bytes) -> Record:
 
 def inbox_of(archive: pathlib.Path) -> pathlib.Path:
     """The inbox of the line whose archives, and catalogue, are in that folder."""
-    return pathlib.Path(archive).parent / INBOX
+    return places.of_archive(pathlib.Path(archive)).inbox
 
 
 def said(record: Record) -> list[str]:

@@ -65,6 +65,7 @@ import re
 import shutil
 import sqlite3
 import ssl
+import stat
 import subprocess
 import sys
 import tempfile
@@ -1000,7 +1001,8 @@ def lines_of(words: argparse.Namespace) -> list[Line]:
             stop(
                 f"the line {name} has no catalogue: name the path that it has, or will have, as archive/catalogue.csv beside the desk's file"
             )
-        if (at := (folder / path).resolve()).is_dir():
+        at = pathlib.Path(os.path.abspath(folder / path))  # a link stays one, as in each tool
+        if is_folder(at):
             stop(
                 f"{at} is a folder: name the catalogue of the line {name}, as {at}/{catalogue.FILE_NAME}"
             )
@@ -1028,6 +1030,14 @@ def lines_of(words: argparse.Namespace) -> list[Line]:
     return lines or stop(
         f"no line is named, and none is set up in {plant.SET_UP}: --line NAME URL CATALOGUE, or --lines FILE"
     )
+
+
+def is_folder(path: pathlib.Path) -> bool:
+    """Whether a folder is there. What no path can be, as links in a circle, is an OSError or a ValueError."""
+    try:
+        return stat.S_ISDIR(os.stat(path).st_mode)
+    except (FileNotFoundError, NotADirectoryError):
+        return False
 
 
 def place_of(url: str) -> tuple[str | None, int, str]:

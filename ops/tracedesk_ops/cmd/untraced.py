@@ -1,8 +1,8 @@
 """Lists the work that a line's desk refused and did not trace, and keeps each person's decision about it.
 
-usage: tracedesk-untraced collect [--every SECONDS] [--status FOLDER] [--archive FOLDER]
-       tracedesk-untraced list [--all] [--archive FOLDER]
-       tracedesk-untraced decide ID --by NAME --became TEXT --reason TEXT [--status FOLDER] [--archive FOLDER]
+usage: tracedesk-untraced collect [--every SECONDS] [--line NAME] [--status FOLDER] [--archive FOLDER]
+       tracedesk-untraced list [--all] [--line NAME] [--archive FOLDER]
+       tracedesk-untraced decide ID --by NAME --became TEXT --reason TEXT [--line NAME] [--status FOLDER] [--archive FOLDER]
 
 examples:
   tracedesk-untraced collect                     once
@@ -11,13 +11,14 @@ examples:
   tracedesk-untraced list --all                  all of it, with the decisions, and each refused load, splice and unload
   tracedesk-untraced decide 3f0c9a.. --by 'A. Person' --became scrapped --reason 'built with the expired reel'
 
-Senders put a record of each refused report of work into the folder `untraced` next to that of the archives. `collect` appends it to
-untraced.csv, next to the catalogue. A recall names each board that is in it, and ends with status 3 until somebody decided what became
+Senders put a record of each refused report of work into the line's inbox, which its set-up file names: else the folder `untraced` next
+to that of the archives. `collect` appends it to untraced.csv, next to the catalogue. A recall names each board that is in it, and ends with status 3 until somebody decided what became
 of the board. ID may be the beginning of an id, if no other has it. A refused load, splice or unload has a record too, and needs no
 decision. If a recall names pieces as doubtful because of it, and nothing was placed from that reel, decide --became 'taken off'.
 
---archive  the folder with the archives and the catalogue (/var/lib/tracedesk/archive)
---status   where collect and decide write untraced.json, which the station reads (/var/lib/tracedesk/status, if it is there)
+--line     which line's, where several are set up
+--archive  the folder with the archives and the catalogue (that of the set-up file, else /var/lib/tracedesk/archive)
+--status   where collect and decide write untraced.json, which the station reads (that of the set-up file, if it is there)
 --became   scrapped, reworked, used as it is, sent again, or words of your own; of a refused reel, taken off
 
 Exit status: 0 done, and of list: nothing is undecided; 1 something is undecided; 2 bad command line; 3 a file is damaged or
@@ -31,9 +32,7 @@ import io
 import pathlib
 import time
 
-from tracedesk_ops import plant, reader_of, untraced
-
-ARCHIVE, STATUS = plant.DESK.parent / "archive", plant.DESK.parent / "status"
+from tracedesk_ops import places, plant, reader_of, untraced
 
 
 def collect(asked: argparse.Namespace) -> int:
@@ -58,8 +57,9 @@ def collect(asked: argparse.Namespace) -> int:
 
 
 def tell_station(asked: argparse.Namespace, records: list[untraced.Record]) -> None:
-    if asked.status or STATUS.is_dir():
-        untraced.write_status(asked.status or STATUS, records)
+    folder = asked.status or places.of_archive(asked.archive).status
+    if asked.status or folder.is_dir():
+        untraced.write_status(folder, records)
 
 
 def show(asked: argparse.Namespace) -> int:
@@ -140,7 +140,9 @@ def main() -> int:
             usage=argparse.SUPPRESS,
         )
         it.set_defaults(call=call)
-        it.add_argument("--archive", type=pathlib.Path, default=ARCHIVE, metavar="FOLDER")
+        it.add_argument(
+            "--archive", type=pathlib.Path, default=places.HOME / "archive", metavar="FOLDER"
+        )
         if verb == "list":
             it.add_argument("--all", action="store_true")
         else:
@@ -151,6 +153,7 @@ def main() -> int:
             it.add_argument("id", type=words_of)
             for name in ("by", "became", "reason"):
                 it.add_argument(f"--{name}", required=True, type=words_of, metavar="TEXT")
+        plant.set_up(it, status="")
     asked = reader.parse_args()
     asked.archive = asked.archive.absolute()
     with plant.as_owner(asked.archive.parent / plant.DESK.name):

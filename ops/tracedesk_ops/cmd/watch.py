@@ -40,7 +40,16 @@ import urllib.parse
 from collections.abc import Callable, Iterator
 from typing import Any, NamedTuple
 
-from tracedesk_ops import backups, catalogue, files, identity, plant, reader_of, untraced
+from tracedesk_ops import (
+    backups,
+    catalogue,
+    files,
+    identity,
+    places,
+    plant,
+    reader_of,
+    untraced,
+)
 
 TO = pathlib.Path("/run/tracedesk-watch/metrics")
 SETUP = pathlib.Path("/etc/tracedesk/station/setup.json")
@@ -570,7 +579,7 @@ def words() -> argparse.Namespace:
         "--status",
         type=pathlib.Path,
         metavar="FOLDER",
-        help="what senders say of themselves (status, beside the file)",
+        help="what senders say of themselves (that of the set-up file)",
     )
     reader.add_argument(
         "--timeout",
@@ -582,7 +591,7 @@ def words() -> argparse.Namespace:
     plant.set_up(reader, copies="backups")
     asked = reader.parse_args()
     asked.archive = asked.archive or asked.db.parent / "archive"
-    asked.status = asked.status or asked.db.parent / "status"
+    asked.status = asked.status or places.of_desk(asked.db).status
     if asked.timeout <= 0:
         reader.error("--timeout: an answer takes some time")
     if not asked.health.startswith("https://"):
