@@ -1,22 +1,25 @@
-"""Messages to a desk, and the accepted commands of one as messages again: for ops/tracedesk-check, which gives them to a new desk.
+"""Messages to a desk, and the accepted commands of one as messages again.
 
 The table `accepted` keeps each command as one text: its word and its members, with a tab between each two
-(crates/desk_types/specs/StoredText.antt). A list is its length and then its elements.
+(crates/desk_types/specs/StoredText.antt). A list is its length and then its elements. Which members a message has, and
+in which order, the message classes of the package tracedesk say.
 
-    stored.message("u1", "S", 0, "PartDefined\tP")
+    stored.message("u1", "S", 0, "PartDefined\\tP")
     '{"MessageName":"TraceDesk.PartDefined","UniqueID":"u1","Source":"S","TimeStamp":"1970-01-01T00:00:00","MessageBody":{"PartNumber":"P"}}'
 """
 from __future__ import annotations
 
 import json
 import re
-from collections.abc import Callable
 from typing import Any
+
+from tracedesk import forms, words
 
 from tracedesk_ops import catalogue
 
 Body = dict[str, Any]  # of a message
 NUMBER = re.compile(r"0|[1-9][0-9]{0,17}")
+BODIES = {kind.WORD: kind for kind in words.MESSAGES}
 
 
 class NotACommand(Exception):
@@ -29,77 +32,40 @@ class Fields:
     def __init__(self, fields: list[str]) -> None:
         self.fields = iter(fields)
 
-    def name(self) -> str:
+    def text(self) -> str:
         try:
             return next(self.fields)
         except StopIteration:
             raise NotACommand("it ends too early") from None
 
     def number(self) -> int:
-        field = self.name()
+        field = self.text()
         if not NUMBER.fullmatch(field):
             raise NotACommand(f"{field!r} stands where a number has to")
         return int(field)
 
-    def list(self, element: Callable[[], Any]) -> list[Any]:
-        return [element() for _ in range(self.number())]
+    def value(self, form: forms.Form) -> Any:
+        """A member of this form."""
+        if isinstance(form, forms.ListOf):
+            return [self.value(form.form) for _ in range(self.number())]
+        if isinstance(form, forms.Row):
+            return self.members(form.kind)
+        if isinstance(form, forms.Where):
+            return self.value(form.form)
+        return self.number() if isinstance(form, forms.Whole) else self.text()
+
+    def members(self, kind: type[forms.Part]) -> Body:
+        """The members of a body or of a row in it."""
+        said, by_attribute = {}, {}
+        for name, attribute, form in kind.MEMBERS:
+            by_attribute[attribute] = value = self.value(form)
+            if not isinstance(form, forms.Where) or by_attribute[form.other] == form.value:
+                said[name] = value
+        return said
 
     def end(self) -> None:
         for field in self.fields:
             raise NotACommand(f"{field!r} stands behind its end")
-
-
-def named(*members: str) -> Callable[[Fields], Body]:
-    return lambda fields: {member: fields.name() for member in members}
-
-
-def sheet(fields: Fields) -> Body:
-    text = fields.name
-    row = lambda: {"Slot": text(), "PartNumber": text(), "Designators": fields.list(text)}
-    return {"Product": text(), "Machine": text(), "Rows": fields.list(row)}
-
-
-def receipt(fields: Fields) -> Body:
-    body = {
-        "Reel": fields.name(),
-        "PartNumber": fields.name(),
-        "Lot": fields.name(),
-        "Level": fields.name(),
-        "Quantity": fields.number(),
-    }
-    label = fields.number()
-    return body | ({"LabelMinutes": label} if body["Level"] == "6" else {})
-
-
-BODIES: dict[str, Callable[[Fields], Body]] = {  # what stands behind each word
-    "PartDefined": named("PartNumber"),
-    "AlternateAllowed": named("PartNumber", "Alternate"),
-    "SheetDefined": sheet,
-    "ProductSelected": named("Machine", "Product"),
-    "ReelReceived": receipt,
-    "ReelOpened": named("Reel"),
-    "ReelSealed": named("Reel"),
-    "ReelBaked": named("Reel"),
-    "MaterialsLoaded": named("Machine", "Slot", "Reel"),
-    "MaterialsSpliced": named("Machine", "Slot", "Reel"),
-    "MaterialsUnloaded": named("Machine", "Slot"),
-    "WorkStarted": named("Machine", "Board"),
-    "WorkCompleted": named("Machine", "Board"),
-    "MaterialsInstalled": lambda fields: {
-        "Machine": fields.name(),
-        "Board": fields.name(),
-        "Designators": fields.list(fields.name),
-    },
-    "MaterialsScrapped": lambda fields: {
-        "Machine": fields.name(),
-        "Slot": fields.name(),
-        "Quantity": fields.number(),
-    },
-    "CountsTaken": lambda fields: {
-        "Counts": fields.list(lambda: {"Reel": fields.name(), "Quantity": fields.number()})
-    },
-    "ClockSet": named(),
-}
 
 
 def body(text: str) -> tuple[str, Body]:
@@ -108,7 +74,7 @@ def body(text: str) -> tuple[str, Body]:
     if word not in BODIES:
         raise NotACommand(f"{word!r} is none of the {len(BODIES)} words")
     rest = Fields(fields)
-    said = BODIES[word](rest)
+    said = rest.members(BODIES[word])
     rest.end()
     return word, said
 

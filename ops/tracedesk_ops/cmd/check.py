@@ -320,11 +320,11 @@ class Copy:
         self.wanted = declared.expected(self.number)
         self.gone = list(declared.missing(self.wanted, self.there))
 
-    def version(self) -> int:
-        """The version that it says, 2 where it says none."""
+    def version(self) -> Any:
+        """The version that it says, which may be any value; 2 if it says none."""
         with contextlib.suppress(sqlite3.Error):
             rows = copies.rows(self.database, "SELECT number FROM version")
-            return int(rows[0][0]) if rows else 2
+            return rows[0][0] if rows else 2
         return 2
 
     def layout(self) -> Iterator[Finding]:

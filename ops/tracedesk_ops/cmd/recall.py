@@ -56,7 +56,6 @@ import datetime
 import functools
 import hashlib
 import html
-import http.client
 import io
 import netrc
 import os
@@ -74,7 +73,10 @@ import urllib.request
 from collections.abc import Callable, Iterable, Iterator, Sequence
 from typing import Any, NamedTuple, NoReturn
 
+from tracedesk import words as reports
+from tracedesk.desk import checked_url
 from tracedesk_ops import (
+    asking,
     carry,
     catalogue,
     chains,
@@ -95,17 +97,7 @@ read_once = functools.lru_cache(
     pathlib.Path.read_bytes
 )  # a list may be a pipe, and may change: the evidence has what was asked by
 # the columns of the running desk's reports
-LOT_TRACE = "board,designator,part,reel,machine,slot,overdue"
-BOARD_TRACE = "designator,part,lot,reel,machine,slot,overdue"
-CARD = "reel,part,lot,level,received,placed,scrapped,remaining,minutes_left,state"
-SLOTS = "slot,position,reel,part,lot,remaining,minutes_left"
 
-
-class NotAsked(Exception):
-    """Why a desk or an archive gave no answer."""
-
-
-Row = dict[str, str]  # of a report, by its columns
 Table = list[Sequence[Any]]  # the first row is the header
 Shipped = dict[str, list[list[str]]]  # by board the customers and dates
 
@@ -159,138 +151,94 @@ Wait = tuple[catalogue.Archive, "concurrent.futures.Future[Told]"]
 # --- A running desk
 
 
-class AnyStatus(urllib.request.HTTPErrorProcessor):
-    """Answers are taken as they are, whatever their status."""
+class Desk(asking.Once):
+    """A running desk. `notes` say where nobody looked for reels."""
 
-    def http_response(self, request: Any, response: Any) -> Any:
-        return response
-
-    https_response = http_response
-
-
-class Desk:
-    """A running desk, asked one report a connection: `answers` are pairs of target and text, `notes` say where nobody looked for reels."""
-
-    def __init__(
-        self, line: Line, context: ssl.SSLContext | None, users: netrc.netrc | None
-    ) -> None:
-        self.line, self.url = line, line.url.rstrip("/")
-        self.answers: list[tuple[str, str]] = []
+    def __init__(self, line: Line, trust: ssl.SSLContext | None, users: netrc.netrc | None) -> None:
+        super().__init__(line.url, SECONDS_FOR_A_REPORT, trust)
+        self.line = line
         self.notes: list[str] = []
-        https = urllib.request.HTTPSHandler(context=context)
-        no_proxy = urllib.request.ProxyHandler({})
-        self.opener = urllib.request.build_opener(AnyStatus, no_proxy, https)
-        self.headers = {"Connection": "close"}
-        user = (
-            users.authenticators(urllib.parse.urlsplit(self.url).hostname or "") if users else None
-        )
-        if user:
-            self.headers["Authorization"] = (
-                "Basic " + base64.b64encode(f"{user[0]}:{user[2]}".encode()).decode()
-            )
-
-    def rows(self, columns: str, path: str, **query: object) -> list[Row] | None:
-        """The rows of a report, each by its columns; none where the desk doesn't know what is asked."""
-        target = path + "?" + urllib.parse.urlencode(query)
-        status, body = self.get(target)
-        self.answers.append((target, f"{status}\n{body}"))
-        try:
-            return identity.rows_of(columns, status, body)
-        except (ValueError, csv.Error) as fault:
-            raise NotAsked(f"{self.url}{target} {fault}") from None
-
-    def has(self, uid: str) -> bool:
-        """Whether the desk has accepted this UniqueID: it is asked by a message that it refuses either way."""
-        status, body = self.get("/messages", identity.question(uid))
-        self.answers.append((f"/messages?has={uid}", f"{status}\n{body}"))
-        try:
-            return identity.has_it(status, body)
-        except ValueError as fault:
-            raise NotAsked(
-                f"{self.url}/messages: it can't be asked which desk it is, {fault}: {'ask as a user who may send' if status in (401, 403) else 'name the URL of a desk'}"
-            ) from None
-
-    def get(self, target: str, message: bytes | None = None) -> tuple[int, str]:
-        try:
-            headers = self.headers | ({"Content-Type": "application/json"} if message else {})
-            request = urllib.request.Request(self.url + target, message, headers)
-            with self.opener.open(request, timeout=SECONDS_FOR_A_REPORT) as answer:
-                if answer.length is None and not answer.chunked:
-                    raise ValueError(
-                        "the answer says no length, so it may be cut off: ask the desk, or a proxy that hands its lengths on"
-                    )
-                return answer.status, answer.read().decode()
-        except (OSError, http.client.HTTPException, ValueError) as fault:
-            raise NotAsked(
-                f"{self.url}{target}: {getattr(fault, 'reason', None) or fault}"
-            ) from fault
+        if user := users.authenticators(self.url.hostname or "") if users else None:
+            log_in = base64.b64encode(f"{user[0]}:{user[2]}".encode()).decode()
+            self.headers["Authorization"] = f"Basic {log_in}"
 
     def want_line(self, newest: catalogue.Archive | None) -> list[str]:
-        """Stops where this is not the desk that went on from the newest archive of its line. What is wrong where it went on from one and there is none."""
+        """Stops where this is not the desk that went on from the newest archive of its line. What is
+        wrong if it went on from one and there is none.
+        """
         if newest and not any(self.has(uid) for uid in identity.first_uids(newest)):
-            raise NotAsked(
-                f"{self.url}: this desk did not go on from {newest.file}, the line's newest archive: it is another line's, or a newer archive is not in the catalogue"
+            raise plant.Fault(
+                f"{self.name}: this desk did not go on from {newest.file}, the line's newest archive:"
+                " it is another line's, or a newer archive is not in the catalogue"
             )
         if not newest and self.has(identity.BEGUN):
             return [
-                f"{self.line.name}: {self.url}: this desk was begun from an archive, and the line has none: name its catalogue, or mount its disk"
+                f"{self.line.name}: {self.name}: this desk was begun from an archive, and the line has"
+                " none: name its catalogue, or mount its disk"
             ]
         return []
 
-    def ask(self, question: Question) -> Told:
+    def pieces_of(self, question: Question) -> Told:
         """The pieces of a lot, a board or a reel, and whether it is known."""
         if question.kind == "board":
-            rows = self.rows(BOARD_TRACE, "/trace/board", board=question.name, detail=4)
-            return Told(
-                rows is not None, [self.piece(row, board=question.name) for row in rows or []]
+            of_board: list[reports.BoardPiece] | None = self.rows(
+                "/trace/board", 4, board=question.name
             )
-        card = self.rows(CARD, "/reel", reel=question.name) if question.kind == "reel" else None
-        if question.kind == "reel" and card is None:
-            return Told(False, [])
-        lot = card[0]["lot"] if card else question.name
-        rows = self.rows(LOT_TRACE, "/trace/lot", lot=lot, detail=4)
-        of_it = [row for row in rows or [] if card is None or row["reel"] == question.name]
-        return Told(rows is not None, [self.piece(row, lot=lot) for row in of_it])
+            there = [self.piece(row, question.name, row.lot) for row in of_board or []]
+            return Told(of_board is not None, there)
+        lot = question.name
+        if question.kind == "reel":
+            card = self.card(question.name)
+            if card is None:
+                return Told(False, [])
+            lot = card.lot
+        of_lot: list[reports.LotPiece] | None = self.rows("/trace/lot", 4, lot=lot)
+        wanted = [
+            row for row in of_lot or [] if question.kind == "lot" or row.reel == question.name
+        ]
+        return Told(of_lot is not None, [self.piece(row, row.board, lot) for row in wanted])
 
-    def piece(self, row: Row, **more: str) -> Piece:
-        return Piece(**row, **more, minute=None, line=self.line.name, file=RUNNING)
+    def card(self, reel: str) -> reports.ReelCard | None:
+        """A reel's card; None if the desk doesn't know the reel."""
+        cards = self.rows("/reel", reel=reel)
+        return cards[0] if cards else None
+
+    def piece(self, row: reports.BoardPiece | reports.LotPiece, board: str, lot: str) -> Piece:
+        overdue = "yes" if row.overdue else "no"
+        where = row.machine, row.slot, overdue, None, self.line.name, RUNNING
+        return Piece(board, row.designator, row.part, lot, row.reel, *where)
 
     def stock(
         self, question: Question, told: Told, held: dict[str, Reel], machines: set[str]
     ) -> Iterator[Reel]:
-        """What is left now of the reels that the newest archive, the trace and the machines' slot lists name. One that the desk doesn't know is told as it was held."""
+        """What is left now of the reels that the newest archive, the trace and the machines' slot
+        lists name. One that the desk doesn't know is reported as it was held.
+        """
         pieces_on = {piece.machine for piece in told.pieces}
         looked_at = sorted(machines | pieces_on | set(self.line.machines))
-        mounted = {
-            row["reel"]: row | {"machine": machine}
+        mounted: dict[str, tuple[str, reports.SlotRow]] = {
+            row.reel: (machine, row)
             for machine in looked_at
-            for row in self.rows(SLOTS, "/slots", machine=machine) or []
+            for row in self.rows("/slots", machine=machine) or []
         }
-        named = (
-            [name for name, row in mounted.items() if row["lot"] == question.name]
-            if question.kind == "lot"
-            else [question.name]
-        )
-        for name in sorted({*named, *held, *(it.reel for it in told.pieces)}):
-            card = self.rows(CARD, "/reel", reel=name)
+        named = {question.name}
+        if question.kind == "lot":
+            named = {name for name, (_, row) in mounted.items() if row.lot == question.name}
+        for name in sorted({*named, *held, *(piece.reel for piece in told.pieces)}):
+            card = self.card(name)
             if card is None and name in held:
                 yield held[name]
-            elif card and card[0][question.kind] == question.name and card[0]["remaining"] != "0":
-                row, place = card[0], mounted.get(name, {"machine": "", "slot": ""})
-                yield Reel(
-                    name,
-                    row["part"],
-                    row["lot"],
-                    int(row["remaining"]),
-                    row["state"],
-                    place["machine"],
-                    place["slot"],
-                    self.line.name,
-                    None,
-                )
+            elif card and getattr(card, question.kind) == question.name and card.remaining:
+                machine, slot = "", ""
+                if name in mounted:
+                    machine, slot = mounted[name][0], mounted[name][1].slot
+                left = card.part, card.lot, card.remaining, card.state
+                yield Reel(name, *left, machine, slot, self.line.name, None)
         if question.kind == "lot":
             self.notes.append(
-                f"{self.line.name}: reels of the lot that came in after the last archive are known by the slots of {', '.join(looked_at) or 'no machine'} alone: look in the stock, and at each other machine"
+                f"{self.line.name}: reels of the lot that came in after the last archive are known by"
+                f" the slots of {', '.join(looked_at) or 'no machine'} alone: look in the stock, and at"
+                " each other machine"
             )
 
 
@@ -524,8 +472,8 @@ class Recall:
             self.faults += desk.want_line(
                 next((it for it in archives if newest and it.file == newest.file), newest)
             )
-            told = self.take(about, desk.ask(self.question))
-        except NotAsked as fault:
+            told = self.take(about, desk.pieces_of(self.question))
+        except plant.Fault as fault:
             self.miss(about, fault)
             return None
         if not told.known or self.question.kind == "board":
@@ -538,7 +486,7 @@ class Recall:
             left = list(desk.stock(self.question, told, held, machines))
             self.notes += desk.notes
             return left
-        except (NotAsked, catalogue.CatalogueError) as fault:
+        except (plant.Fault, catalogue.CatalogueError) as fault:
             self.faults.append(
                 f"{line.name}: what is left of it is told as of the last archive: {fault}"
             )
@@ -577,7 +525,7 @@ class Recall:
 
     def has(self, line: Line, uid: str) -> bool | None:
         """Whether the running desk of a line has a UniqueID; None if it gives no answer, which is a fault by then."""
-        with contextlib.suppress(NotAsked):
+        with contextlib.suppress(plant.Fault):
             return self.desks[line.name].has(uid)
         return None
 
@@ -1013,11 +961,14 @@ def lines_of(words: argparse.Namespace) -> list[Line]:
             tuple(filter(None, map(str.strip, machines.split(";")))),
             desk,
         )
-        if it.url and not re.match(r"https?://[^/]", it.url):
+        try:
+            place = place_of(it.url) if it.url else None
+        except ValueError as fault:
             stop(
-                f"the running desk of the line {name} is no URL, as http://127.0.0.1:8080: {url!r}"
+                f"the running desk of the line {name} is no URL, as http://127.0.0.1:8080: {url!r}:"
+                f" {fault}"
             )
-        for what in ("name", name), ("running desk", it.url and place_of(it.url)):
+        for what in ("name", name), ("running desk", place):
             if what in seen:
                 stop(
                     f"the lines {seen[what]} and {name} have the same {what[0]}: each is asked once"
@@ -1041,9 +992,10 @@ def is_folder(path: pathlib.Path) -> bool:
 
 
 def place_of(url: str) -> tuple[str | None, int, str]:
-    """Where a URL leads, however it is written."""
-    it = urllib.parse.urlsplit(url)
-    return it.hostname, it.port or (443 if it.scheme == "https" else 80), it.path.rstrip("/")
+    """Where a URL leads, however it is written; a ValueError if it is none of a desk."""
+    parts = checked_url(url)
+    port = parts.port or (443 if parts.scheme == "https" else 80)
+    return parts.hostname, port, parts.path.rstrip("/")
 
 
 def want_secrets_kept(lines: Iterable[Line], users: netrc.netrc | None) -> None:
