@@ -21,7 +21,7 @@ plant-recall:  ## three lines in one PostgreSQL, and a recall over them, compare
 	$(say)
 	@ops/tests/plant-page-test
 	@ops/tests/three-ways-test >&2
-	@ops/tests/plant-load-test >&2
+	@/usr/bin/python3 -m pytest -q ops/tests/test_plant_load*.py >&2
 	@/usr/bin/python3 -m pytest -q ops/tests/test_company.py >&2
 
 #: test
