@@ -31,7 +31,7 @@ test:          ## the tests: proves everything from nothing, tries wrong bodies,
 wrong-bodies:  ## tries all wrong bodies, those outside the tests too, and the wrong programs: each has to be refused; and asks another validator about all messages | 1 h, and up to 40 min for each of the programs | rt
 	$(say)
 	@dev/wrong-bodies
-	@dev/api-test --all
+	@/usr/bin/python3 -m pytest -q -m whole dev/tests/test_api.py
 faults:        ## fails each call of the program, refuses its memory, cuts the power, kills it, fills its disk, damages its file, and makes it large | 25 min | gcc libc6-dev strace
 	$(say)
 	@dev/faults/run calls

@@ -21,7 +21,7 @@ import pathlib
 import re
 from typing import NamedTuple
 
-from tracedesk_ops import catalogue, places, plant
+from tracedesk_ops import files, places, plant
 
 FILE_NAME, INBOX, COLLECTED, STATUS = "untraced.csv", "untraced", "collected.json", "untraced.json"
 HEADER = (
@@ -287,7 +287,7 @@ def undecided(records):
 def collect(archive):
     """Appends what is in the inbox to the line's file. Returns its records, how many are new, and what is wrong in the inbox; a Fault where the file is damaged."""
     archive = pathlib.Path(archive)
-    with catalogue.held(archive):
+    with files.held(archive):
         records, faults = rows_of(archive)
         inbox, path = inbox_of(archive), archive / FILE_NAME
         if faults and not (records and not collected_in(inbox)[0] and inbox.is_dir()):
@@ -328,16 +328,14 @@ def append(path, records, new):
         file.write(text.getvalue().encode())
         file.flush()
         os.fsync(file.fileno())
-    plant.keep(path.parent)
+    files.keep(path.parent)
 
 
 def note(inbox, records):
     chain = BEGIN
     for it in records:
         chain = chained(chain, it)
-    catalogue.put(
-        inbox / COLLECTED, json.dumps({"Rows": len(records), "Chain": chain}) + "\n", 0o644
-    )
+    files.put(inbox / COLLECTED, json.dumps({"Rows": len(records), "Chain": chain}) + "\n", 0o644)
 
 
 def now():
@@ -359,7 +357,7 @@ def decide(archive, of, by, became, reason):
         "Version": 1,
     }
     record = record_of(json.dumps(told, sort_keys=True, separators=(",", ":")).encode() + b"\n")
-    catalogue.put(inbox_of(archive) / f"{record.id}.json", record.text + "\n", 0o644)
+    files.put(inbox_of(archive) / f"{record.id}.json", record.text + "\n", 0o644)
     collect(archive)
     return record
 
@@ -378,7 +376,7 @@ def write_status(folder, records):
         "Undecided": open_ones,
         "Version": 1,
     }
-    catalogue.put(pathlib.Path(folder) / STATUS, json.dumps(told) + "\n", 0o644)
+    files.put(pathlib.Path(folder) / STATUS, json.dumps(told) + "\n", 0o644)
 
 
 def copy(archive, to, opened):
@@ -418,4 +416,4 @@ def take_back(archive, records):
     for it in records:
         if it.id not in known:
             inbox.mkdir(exist_ok=True)
-            catalogue.put(inbox / f"{it.id}.json", it.text + "\n", 0o644)
+            files.put(inbox / f"{it.id}.json", it.text + "\n", 0o644)

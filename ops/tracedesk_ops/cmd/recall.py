@@ -75,6 +75,7 @@ from tracedesk_ops import (
     catalogue,
     chains,
     doubtful,
+    files,
     firstlook,
     identity,
     plant,
@@ -793,7 +794,7 @@ def named(path):
     """Gives a whole answer its name on the disk; a Fault where that fails."""
     try:
         yield
-        plant.keep(path.parent)
+        files.keep(path.parent)
     except OSError as fault:
         raise plant.Fault(f"{path}: {fault.strerror}") from fault
 
@@ -809,7 +810,7 @@ def write_evidence(folder, files):
         try:
             for name, content in {**files, "SHA256SUMS": bytes_of(sums)}.items():
                 write(room / name, content)
-            plant.keep(room)
+            files.keep(room)
             os.rename(room, folder)
         finally:
             shutil.rmtree(room, ignore_errors=True)
