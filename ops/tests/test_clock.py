@@ -9,7 +9,7 @@ import pytest
 from lab.tools import SENDER, Ended, Word, run_tool
 from lab.watched import Watched, watched
 
-pytestmark = [pytest.mark.needs("nginx", "openssl")]
+pytestmark = [pytest.mark.needs("nginx", "openssl"), pytest.mark.xdist_group("clock")]
 
 
 @pytest.fixture(scope="module")

@@ -17,6 +17,8 @@ from lab.world import RUNNING
 from tracedesk_dev import postgres, shift
 from tracedesk_ops import backups, catalogue
 
+pytestmark = [pytest.mark.xdist_group("plant_load")]
+
 SEED, BOARDS = 7, 10
 MANY = "SELECT lot FROM piece GROUP BY 1 ORDER BY count(*) DESC LIMIT 1"
 OTHERS = """SELECT count(*) FROM pg_stat_activity

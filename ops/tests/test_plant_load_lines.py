@@ -16,6 +16,8 @@ from lab.world import RUNNING
 from tracedesk_dev import shift
 from tracedesk_ops import untraced
 
+pytestmark = [pytest.mark.xdist_group("plant_load_lines")]
+
 SEED, BOARDS = 9, 12
 JUMPED = "2036-01-01T000000Z"  # the name of a copy by a clock that had jumped
 SAYS = r"doubtful piece of D1: (\w+) of board B1, \S+, may not be of K1"

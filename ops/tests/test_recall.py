@@ -10,6 +10,8 @@ from lab.recalls import Asking, lot_of, recall, recalled, state_of
 from lab.world import World
 from tracedesk_ops import catalogue, firstlook
 
+pytestmark = [pytest.mark.xdist_group("recall")]
+
 CHANGED = (
     "it was changed meanwhile, or what lies around it, as by a roll-over or a restore: ask again"
 )

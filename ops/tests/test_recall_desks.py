@@ -17,6 +17,8 @@ from lab.waits import free_port
 from lab.world import RUNNING, World
 from tracedesk_ops.cmd import recall as tool
 
+pytestmark = [pytest.mark.xdist_group("recall_desks")]
+
 IN_STOCK = "SELECT reel, remaining FROM reel WHERE lot = ? AND remaining > 0 ORDER BY reel"
 PASSWORD = "secret word"
 CERTIFICATE = (

@@ -12,6 +12,8 @@ from lab.tools import Word
 from lab.world import ArchivedLine, World
 from tracedesk_ops import catalogue
 
+pytestmark = [pytest.mark.xdist_group("recall_faults")]
+
 CATALOGUE = "catalogue.csv"
 FIRST, ARCHIVES = {"L1-1"}, {"L1-1", "L1-2", "L1-3", "L1-4"}
 Change = Callable[[pathlib.Path], object]

@@ -12,6 +12,8 @@ from lab.world import RUNNING, ArchivedLine, World
 from tracedesk_dev import shift
 from tracedesk_ops import catalogue
 
+pytestmark = [pytest.mark.xdist_group("recall_lines")]
+
 # a lot with few pieces, and a reel of it that is on a machine
 MOUNTED = """SELECT lot, reel, machine FROM mount JOIN reel USING (reel)
     WHERE lot IN (SELECT lot FROM reel WHERE placed > 0) ORDER BY placed, reel LIMIT 1"""

@@ -14,6 +14,8 @@ from lab.tools import Ended, Word, run, run_tool, strings, tool
 from lab.world import World
 from tracedesk_ops import chains, plant
 
+pytestmark = [pytest.mark.xdist_group("recall_written")]
+
 SHIPPED = """board,customer,date,note
 L1-000001,Customer A,2026-03-05,
 L1-000001,Customer B,2026-04-01,again

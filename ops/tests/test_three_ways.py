@@ -17,6 +17,8 @@ from lab.world import RUNNING
 from tracedesk_dev import postgres, shift
 from tracedesk_ops import backups
 
+pytestmark = [pytest.mark.xdist_group("three_ways")]
+
 SEED, BOARDS = 7, 16
 SOME = [pytest.param(2, id="some"), pytest.param(12, id="more", marks=pytest.mark.whole)]
 # the parts of tables that a query reads

@@ -13,7 +13,7 @@ from lab.tools import Word, run_tool
 from lab.waits import wait_for
 from lab.watched import COME_AGAIN, ODD, Metrics, Watched, expect, read, watched
 
-pytestmark = [pytest.mark.needs("nginx", "openssl")]
+pytestmark = [pytest.mark.needs("nginx", "openssl"), pytest.mark.xdist_group("watch")]
 
 SAMPLE = """# HELP tracedesk_up whether the desk answers
 # TYPE tracedesk_up gauge

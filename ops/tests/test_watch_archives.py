@@ -10,7 +10,7 @@ import pytest
 from lab.watched import Watched, expect, watched
 from tracedesk_ops import backups, catalogue
 
-pytestmark = [pytest.mark.needs("nginx", "openssl")]
+pytestmark = [pytest.mark.needs("nginx", "openssl"), pytest.mark.xdist_group("watch_archives")]
 
 SUM = "0" * 64  # of both archives
 # a copy, how many commands it has, and which archives it lacks

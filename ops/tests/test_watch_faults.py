@@ -13,7 +13,7 @@ from lab.tools import started
 from lab.waits import wait_for
 from lab.watched import COME_AGAIN, Watched, expect, read, saying, watched
 
-pytestmark = [pytest.mark.needs("nginx", "openssl")]
+pytestmark = [pytest.mark.needs("nginx", "openssl"), pytest.mark.xdist_group("watch_faults")]
 
 KILLS = 40
 JSON = "application/json"
