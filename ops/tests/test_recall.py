@@ -15,7 +15,7 @@ pytestmark = [pytest.mark.xdist_group("recall")]
 CHANGED = (
     "it was changed meanwhile, or what lies around it, as by a roll-over or a restore: ask again"
 )
-ALL = [pytest.param(12, id="some"), pytest.param(1, id="all", marks=pytest.mark.whole)]
+ALL = [pytest.param(24, id="some"), pytest.param(1, id="all", marks=pytest.mark.whole)]
 # a tracedesk-chain that ends otherwise: how, and what a recall says then
 ENDS = {
     "exit 1": ("differs minute 1 2", "NOT A CHAIN: L1: L1-1: differs minute 1 2"),
