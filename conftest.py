@@ -22,6 +22,7 @@ MARKERS = {
     "whole": "takes minutes",
     "root": "is left out where root doesn't call it",
     "browser": "wants a browser",
+    "xdist_group(name)": "runs in one process with the others of this name",
     "needs(*commands)": "is left out where one of these commands is not there",
 }
 APART = ("whole", "root", "browser")

@@ -104,7 +104,9 @@ export async function explained(scan, model) {
     await Promise.all(model.lines.map((it) => model.refresh(it.machine)));
   }
   if (answer.Answer === "Accepted" && body.PartNumber) {
-    return [own({ part: body.PartNumber, lot: body.Lot })];
+    const href = `codes.html?reel=${encodeURIComponent(body.Reel)}`;
+    const print = el("a", { class: "button", href }, TEXTS.verdict.print);
+    return [own({ part: body.PartNumber, lot: body.Lot }), el("p", null, print)];
   }
   if (answer.Answer === "Accepted") {
     return isLoad(scan) ? loaded(await model.card(body.Reel), scan.about) : [];

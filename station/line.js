@@ -15,20 +15,8 @@ const MOST_TILES = 10;
 const MOST_ABOVE = 4; // of what needs a person: above the slots, and above the overview, which
                         // names the worst slot of each machine
 const MOST_ROWS = 100; // slots that are all shown; of more there is an overview
-const SIZES = [
-  30,
-  28,
-  26,
-  24,
-  22,
-  20,
-  19,
-  18,
-  17,
-  16,
-  15,
-  14,
-]; // of the slots' letters, in pixels of a screen of 1080 lines
+// of the slots' letters, in pixels of a screen of 1080 lines
+const SIZES = [54, 48, 42, 38, 34, 30, 28, 26, 24, 22, 20, 19, 18, 17, 16, 15, 14];
 const SCROLLED = 17; // the letters if the slots don't fit anyway, as on a tablet
 const SORTS = {
   sheet: () => 0,

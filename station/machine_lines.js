@@ -10,6 +10,7 @@ import { TEXTS } from "./words.js";
 const CALM = ["idle", "waiting"]; // a machine stands so between two boards
 const OF_A_SLOT = ["empty", "expired", "unbaked", "slot"];
 const LARGEST = 0.052; // of the screen's height: the letters of a machine that is stopped
+const WIDEST = 0.06; // of its width
 const CALMER = 0.6; // of these letters, where none is
 const LEAST = 16; // pixels
 const STEP = 2;
@@ -93,10 +94,11 @@ export class MachineLines {
   /** The largest letters in which all lines are in their room. */
   fit() {
     const isCalm = this.place.querySelector(".stop, .unknown") === null;
-    const largest = Math.round(innerHeight * LARGEST * (isCalm ? CALMER : 1));
+    const most = Math.min(innerHeight * LARGEST, innerWidth * WIDEST);
+    const largest = Math.round(most * (isCalm ? CALMER : 1));
     for (let size = Math.max(LEAST, largest); size >= LEAST; size -= STEP) {
       this.place.style.setProperty("--letters", `${size}px`);
-      if (this.place.scrollHeight <= this.place.clientHeight + 1) {
+      if (this.place.scrollHeight <= this.place.clientHeight) {
         break;
       }
     }

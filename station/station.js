@@ -23,6 +23,7 @@ import { TraceScreen } from "./trace.js";
 import { takenOff } from "./untraced.js";
 import { Verdict } from "./verdict.js";
 import { TEXTS } from "./words.js";
+import { keepLarge } from "./zoom.js";
 
 const SCREENS = {
   line: LineScreen,
@@ -103,6 +104,7 @@ export class Station {
       this.scan.take(this.keys.scanned());
     });
     this.keys = new Keys(this, at("scan"));
+    keepLarge(at("main"));
     window.addEventListener("hashchange", () => this.go(location.hash.slice(1)));
     setInterval(() => this.tick(), 1000);
     this.go(location.hash.slice(1));

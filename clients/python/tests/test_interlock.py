@@ -169,6 +169,11 @@ def test_a_slot_that_is_on_no_sheet_is_mended_by_the_next_scan(line: Line) -> No
     assert line.tablet("MaterialsSpliced", Slot="9", Reel="1-K2") == "stop"
     assert line.tablet("MaterialsSpliced", "another", Slot="2", Reel="2-K2") == "stop"
     assert line.tablet("MaterialsSpliced", Slot="1", Reel="1-K2") == "go"
+    line.tablet("MaterialsSpliced", Slot="9", Reel="1-K3")
+    line.begin()
+    line.send(line.message("WorkCompleted", Board="B1"))
+    line.states.mend(line.states.of("M1"), "2", "tablet")
+    line.start("B2")
 
 
 def test_a_tablet_stops_and_mends(line: Line) -> None:

@@ -50,6 +50,7 @@ class Fault:
     source: str = ""
     line: int = 0  # of the list of scans: only a scan behind it can mend it
     batch: int = 0  # of the same: only a batch behind it can
+    is_followed: bool = False  # whether its source scanned something behind it, which was accepted
 
 
 def idle(reason: str) -> Fault:
@@ -312,9 +313,10 @@ class Interlock:
         """A load, splice or unload of a slot was accepted: what was wrong with that slot is mended, and nothing else. A fault without
         a slot of the sheet is mended by the next one of the same source."""
         for name, fault in list(it.slots.items()):
-            is_its = name == slot or name in (no_slot(), no_slot(source))
-            if is_its and (line is None or line > fault.line and self.batches > fault.batch):
-                del it.slots[name]
+            if line is None or line > fault.line and self.batches > fault.batch:
+                fault.is_followed = fault.is_followed or fault.source == source
+                if name in (slot, no_slot(), no_slot(source)):
+                    del it.slots[name]
 
     def differ(self, machine: str, told: Dict[str, Any]) -> None:
         """The machine took another reel than the desk has for a piece. It is told again once the slot is known."""
@@ -339,7 +341,8 @@ class Interlock:
         """The desk says that a slot isn't on the sheet, so no load of it can be accepted: its fault waits for the next scan of who caused it."""
         with self.lock:
             slots = self.of(machine).slots
-            if fault := slots.pop(slot, None):
+            fault = slots.pop(slot, None)
+            if fault and not fault.is_followed:
                 slots[no_slot(fault.source)] = fault
 
     def refused(self, machine: str, told: Dict[str, Any]) -> None:

@@ -1,22 +1,10 @@
-#!/usr/bin/env python3
-"""Tries the packaged nginx before a desk: what it answers by itself, whom it lets send, and the folders of a line.
+"""The packaged nginx before a desk: what it answers by itself, whom it lets send, and the folders of a line.
 
-usage: dev/proxy-test [--program FILE] [--firewall]
+nginx and the desk run in a folder of their own, on free ports of this machine. The rules of docs/operations.md against
+connections that never finish a request are tried by root, in a network of its own:
 
-examples:
-  dev/proxy-test
-  dev/proxy-test --firewall
-
-nginx and the desk run in a folder of their own, on free ports of this machine. --firewall tries the rules of docs/operations.md
-against connections that never finish a request, in a network of its own: as root, with nftables, in half a minute. Where nginx or
-openssl is not there, all is left out by name.
-
---program FILE  the program (PROGRAM in the environment, else the repository's own: dev/build)
-
-A line for each check; the last one is 'N passed, M failed'.
-Exit status: 0 none failed; 1 some did; 2 bad command line, or there is no program.
+    unshare --net sh -c 'ip link set lo up && /usr/bin/python3 -m pytest dev/tests/test_proxy.py -m root'
 """
-import argparse
 import base64
 import contextlib
 import hashlib
@@ -24,24 +12,32 @@ import json
 import os
 import pathlib
 import re
-import shutil
 import socket
 import ssl
 import subprocess
 import sys
 import time
+from typing import Iterator
 
-ROOT = pathlib.Path(__file__).resolve().parents[1]
+import pytest
+from tracedesk_dev import ROOT
+from tracedesk_dev.trial import Difference
+
 sys.path.append(str(ROOT / "station/tests"))
 from station_site import Site  # noqa: E402
-from tracedesk_dev import program
-from tracedesk_dev.trial import FAULTS, Difference, wanting
 
+pytestmark = [pytest.mark.needs("nginx", "openssl"), pytest.mark.xdist_group("proxy")]
 LOGGED_IN = "Authorization: Basic b3A6b3A=\r\n"  # op:op
-STATUS = "/line/status/m1.json"
+STATUS = "/line/status/op.json"
 
 
-def raw(site, text):
+@pytest.fixture(scope="module")
+def site(program: pathlib.Path) -> Iterator[Site]:
+    with Site(str(program)) as made:
+        yield made
+
+
+def raw(site: Site, text: str) -> tuple[str, str, str]:
     """The status line, the headers and the body of what nginx answers to these bytes."""
     link = ssl.create_default_context(cafile=site.room / "etc/server.crt").wrap_socket(
         socket.create_connection(("127.0.0.1", site.port), 20), server_hostname="localhost"
@@ -56,15 +52,15 @@ def raw(site, text):
     return head.split("\r\n")[0], head, body
 
 
-def agree(what, wanted, got):
+def agree(what: str, wanted: object, got: object) -> None:
     if wanted != got:
         raise Difference(f"{what}: wanted {wanted!r:.400}, got {got!r:.400}")
 
 
-def own_answers_are_json(site):
+def test_own_answers_are_json(site: Site) -> None:
     """Requests that nginx refuses before the desk sees them, also those whose line it can't read."""
 
-    def request(line, *headers, body=""):
+    def request(line: str, *headers: str, body: str = "") -> str:
         return f"{line} HTTP/1.1\r\nHost: localhost\r\nConnection: close\r\n{LOGGED_IN}{''.join(it + chr(13) + chr(10) for it in headers)}\r\n{body}"
 
     message = ("Content-Type: application/json", "Content-Length: 2")
@@ -94,7 +90,7 @@ def own_answers_are_json(site):
         "a POST to a page": (request("POST /station/", *message, body="{}"), 403),
         "POST to a file of the line": (
             request("POST /line/status/here.json", *message, body="{}"),
-            405,
+            403,
         ),
         "a text for a message": (
             request("POST /messages", "Content-Type: text/plain", "Content-Length: 2", body="{}"),
@@ -125,10 +121,9 @@ def own_answers_are_json(site):
     for it in (" GET /overdue 401 ", " GET /station/none 404 ", " POST /messages 413 "):
         if it not in log:
             raise Difference(f"the log has no {it!r}: {log[-900:]}")
-    return f"{len(worked) + 1} requests, each with its status, and in the log with its own path"
 
 
-def certificates_are_compared_letter_by_letter(site):
+def test_certificates_are_compared_letter_by_letter(site: Site) -> None:
     message = json.dumps(
         {
             "MessageName": "TraceDesk.PartDefined",
@@ -150,10 +145,9 @@ def certificates_are_compared_letter_by_letter(site):
         for name in ("m2", "capital", "longer", "before", "more", "auditor")
     }
     agree("who may send", {name: 200 if name == "m2" else 401 for name in got}, got)
-    return "CN=m2 sends; CN=M2, CN=m22, CN=xm2 and CN=m2 with O=x don't"
 
 
-def nobody_logs_in_as_the_tools(site):
+def test_nobody_logs_in_as_the_tools(site: Site) -> None:
     """A user and a certificate with the name of the tools' own source get JSON with 403, everybody else goes on."""
     for name in ("readers", "senders"):
         file = site.room / "etc" / name
@@ -171,23 +165,22 @@ def nobody_logs_in_as_the_tools(site):
     ]
     agree("statuses", [403, 403, 200, 200], [it[0] for it in got])
     agree("answers", {"Proxy"}, {json.loads(it[2])["Answer"] for it in got[:2]})
-    return "a user and a certificate with that name get 403"
 
 
-def untraced_work_is_put_once(site):
+def test_untraced_work_is_put_once(site: Site) -> None:
     record = '{"At":"2026-11-27T14:55:02Z","Kind":"refused","Version":1}\n'
     name = hashlib.sha256(record.encode()).hexdigest()[:32]
     path, file = f"/line/untraced/{name}.json", site.room / f"line/untraced/{name}.json"
     other = {"Origin": "https://elsewhere.example", "Sec_Fetch_Site": "cross-site"}
     worked = [
-        ("PUT", path, None, record, {}, 401),
-        ("PUT", path, "office", record, {}, 401),
+        ("PUT", path, None, record, {}, 403),
+        ("PUT", path, "office", record, {}, 403),
         ("PUT", path, "op", record, other, 403),
-        ("PUT", path, "op", "x" * 2**21 + "x", {}, 413),
+        ("PUT", path, "op", "x" * 3 * 2**20 + "x", {}, 413),
         ("PUT", path.replace(name[-1] + ".json", "G.json"), "op", record, {}, 404),
         ("PUT", path.replace(".json", ".txt"), "op", record, {}, 404),
         ("PUT", "/line/untraced/../desk", "op", record, {}, 404),
-        ("GET", "/line/untraced/", "op", None, {}, 404),
+        ("GET", "/line/untraced/", "op", None, {}, 403),
         ("GET", path, "op", None, {}, 403),
         ("DELETE", path, "op", None, {}, 403),
         ("MKCOL", path, "op", None, {}, 403),
@@ -216,16 +209,15 @@ def untraced_work_is_put_once(site):
     agree("by a certificate", 204, site.asked("PUT", path, None, record, "m2")[0])
     agree(
         "by a reader's",
-        401,
+        403,
         site.asked("PUT", path.replace(name, "0" * 32), None, record, "auditor")[0],
     )
-    return f"{len(worked)} requests put nothing; a record is there whole, once, and stays as it is"
 
 
-def status_is_put_by_senders_and_read(site):
+def test_status_is_put_by_senders_and_read(site: Site) -> None:
     worked = [
-        ("PUT", STATUS, None, 401),
-        ("PUT", STATUS, "office", 401),
+        ("PUT", STATUS, None, 403),
+        ("PUT", STATUS, "office", 403),
         ("PUT", "/line/status/untraced.json", "op", 403),
         ("PUT", "/line/status/.m1.json", "op", 403),
         ("PUT", "/line/status/m1.txt", "op", 403),
@@ -252,7 +244,7 @@ def status_is_put_by_senders_and_read(site):
     got, headers, body = site.asked("GET", "/line/status/", "office")
     agree(
         "the folder",
-        (200, "application/json", [("m1.json", "file"), ("untraced.json", "file")]),
+        (200, "application/json", [("op.json", "file"), ("untraced.json", "file")]),
         (got, headers["Content-Type"], [(it["name"], it["type"]) for it in json.loads(body)]),
     )
     agree(
@@ -260,19 +252,17 @@ def status_is_put_by_senders_and_read(site):
         (200, "{}\n"),
         site.asked("GET", "/line/status/untraced.json", "office")[::2],
     )
-    return f"{len(worked)} requests do nothing; a status is put, written anew, read and listed"
 
 
-def rules_of_the_firewall():
+def rules_of_the_firewall() -> str:
     """The rules of docs/operations.md."""
     text = (ROOT / "docs/operations.md").read_text(encoding="utf-8")
     return re.search(r"^table inet tracedesk \{\n.*?^\}\n", text, re.M | re.S)[0]
 
 
-def guesses_can_be_counted(site):
+@pytest.mark.needs("fail2ban-regex")
+def test_guesses_can_be_counted(site: Site) -> None:
     """fail2ban finds a wrong password in the log by the expression of docs/operations.md, and no reader who asks whether to send."""
-    if not shutil.which("fail2ban-regex"):
-        return "not looked at: there is no fail2ban of Debian"
     rule = re.search(
         r"^failregex = (.*)$", (ROOT / "docs/operations.md").read_text(encoding="utf-8"), re.M
     )[1]
@@ -297,16 +287,12 @@ def guesses_can_be_counted(site):
     )
     found = re.search(r"Failregex: (\d+) total", done.stdout)
     agree("wrong passwords in the log", "3", found and found[1])
-    return "3 wrong passwords; a reader, and names that nobody has, aren't counted"
 
 
-def held(site, count):
-    """How many of so many connections with unfinished heads are open at once, and how long they took."""
-    context, links, began = (
-        ssl.create_default_context(cafile=site.room / "etc/server.crt"),
-        [],
-        time.monotonic(),
-    )
+def held(site: Site, count: int) -> list[ssl.SSLSocket]:
+    """How many of so many connections with unfinished heads are open at once."""
+    context = ssl.create_default_context(cafile=site.room / "etc/server.crt")
+    links: list[ssl.SSLSocket] = []
     for _ in range(count):
         try:
             link = context.wrap_socket(
@@ -316,10 +302,13 @@ def held(site, count):
             links.append(link)
         except OSError:
             break
-    return links, time.monotonic() - began
+    return links
 
 
-def a_firewall_limits_unfinished_requests(site):
+@pytest.mark.whole
+@pytest.mark.root
+@pytest.mark.needs("nft")
+def test_a_firewall_limits_unfinished_requests(site: Site) -> None:
     """Without the rules one address takes each connection of nginx; with them it gets as many as they say, and others go on."""
     site.stop_nginx()
     file = site.room / "nginx.conf"
@@ -329,7 +318,7 @@ def a_firewall_limits_unfinished_requests(site):
         )
     )
     site.start_nginx()
-    links, _ = held(site, 400)
+    links = held(site, 400)
     free = len(links)
     for it in links:
         it.close()
@@ -340,7 +329,7 @@ def a_firewall_limits_unfinished_requests(site):
         text=True,
         check=True,
     )
-    links, _ = held(site, 400)
+    links = held(site, 400)
     with contextlib.closing(
         socket.create_connection(("127.0.0.1", site.port), 5, ("127.0.0.2", 0))
     ) as link, ssl.create_default_context(cafile=site.room / "etc/server.crt").wrap_socket(
@@ -354,67 +343,3 @@ def a_firewall_limits_unfinished_requests(site):
         raise Difference(
             f"without the rules {free} connections, with them {len(links)}; another address got {said!r}"
         )
-    return f"without the rules {free} connections of one address, with them {len(links)}, and another address has its answer"
-
-
-CHECKS = (
-    own_answers_are_json,
-    certificates_are_compared_letter_by_letter,
-    nobody_logs_in_as_the_tools,
-    untraced_work_is_put_once,
-    status_is_put_by_senders_and_read,
-    guesses_can_be_counted,
-)
-
-
-def main():
-    reader = argparse.ArgumentParser(
-        description=__doc__,
-        formatter_class=argparse.RawDescriptionHelpFormatter,
-        usage=argparse.SUPPRESS,
-    )
-    program.offer(reader)
-    reader.add_argument("--firewall", action="store_true", help=argparse.SUPPRESS)
-    asked = reader.parse_args()
-    if lacking := wanting(
-        {
-            "nginx": "nginx-light",
-            "openssl": "openssl",
-            **({"nft": "nftables"} if asked.firewall else {}),
-        }
-    ):
-        print(
-            f"the proxy is left out: there is no {' and no '.join(lacking)} of Debian\n0 passed, 0 failed"
-        )
-        return 0
-    asked.program = program.to_use(asked.program)
-    if asked.firewall and "IN_OWN_NETWORK" not in os.environ:
-        os.execvpe(
-            "unshare",
-            [
-                "unshare",
-                "--net",
-                "sh",
-                "-c",
-                'ip link set lo up && exec "$@"',
-                "sh",
-                sys.executable,
-                *sys.argv,
-            ],
-            {**os.environ, "IN_OWN_NETWORK": "1", "PROGRAM": asked.program},
-        )
-    checks, failed = (a_firewall_limits_unfinished_requests,) if asked.firewall else CHECKS, 0
-    with Site(asked.program) as site:
-        for check in checks:
-            name = check.__name__.replace("_", " ")
-            try:
-                print(f"ok       {name}: {check(site)}", flush=True)
-            except (*FAULTS, KeyError, ValueError) as fault:
-                print(f"FAILED   {name}: {fault}", flush=True)
-                failed += 1
-    print(f"{len(checks) - failed} passed, {failed} failed")
-    return 1 if failed else 0
-
-
-if __name__ == "__main__":
-    sys.exit(main())

@@ -1,24 +1,10 @@
-#!/usr/bin/env python3
-"""Tries what dev/dist makes: both packages, man pages and completions. Nothing of this machine is changed.
-
-usage: dev/dist-test [--program FILE]
-
-examples:
-  dev/dist-test
-  dev/dist-test --program dist/tracedesk
+"""What dev/dist makes: both packages, man pages and completions. Nothing of this machine is changed.
 
 Both packages are built twice, in two folders, under two time zones and masks for new files, and are compared byte by
 byte. Then their files are compared with each other and with the repository, lintian is asked, the man pages are rendered,
 and bash is asked for completions. Where root calls it, the .deb is installed and purged in a root laid over this one,
-which goes away. What a check needs and is not there is named, with the package that has it, and the
-check is left out. ops/tests/plant-test installs the packages, and takes them away.
-
---program FILE  the program (PROGRAM in the environment, else the repository's own: dev/build)
-
-A line for each check; the last one is 'N passed, M failed'.
-Exit status: 0 none failed; 1 some did; 2 bad command line, or there is no program.
+which goes away. `make plant-test` installs the packages, and takes them away.
 """
-import argparse
 import concurrent.futures
 import json
 import os
@@ -27,16 +13,17 @@ import re
 import shutil
 import subprocess
 import sys
-import tempfile
+from typing import Any, Iterator
 
-TOP = pathlib.Path(__file__).resolve().parents[1]
-from tracedesk_dev import helps, layout, program
-from tracedesk_dev.trial import FAULTS, Difference
+import pytest
+from tracedesk_dev import ROOT, helps
+from tracedesk_dev.trial import Difference
 from tracedesk_ops import plant
 
-ROOT = layout.ROOT
-MAKES = {"pandoc": "pandoc", "readelf": "binutils", "dh_builddeb": "debhelper"}
-
+pytestmark = [
+    pytest.mark.needs("pandoc", "readelf", "dh_builddeb"),
+    pytest.mark.xdist_group("packages"),
+]
 
 ONE_ALONE = {
     f"usr/share/{it}"
@@ -48,76 +35,66 @@ ONE_ALONE = {
 } | {"install", "docs", "LICENSE", "NEEDS", "SHA256SUMS"}
 
 
-class Skipped(Exception):
-    """What is not there."""
-
-
-def run(*words, **how):
-    how = {
-        "stdout": subprocess.PIPE,
-        "stderr": subprocess.STDOUT,
-        "stdin": subprocess.DEVNULL,
-        "text": True,
+def run(
+    *words: object, umask: int = -1, stderr: int = subprocess.STDOUT, **how: Any
+) -> "subprocess.CompletedProcess[str]":
+    return subprocess.run(
+        [str(word) for word in words],
+        stdout=subprocess.PIPE,
+        stderr=stderr,
+        stdin=subprocess.DEVNULL,
+        text=True,
+        umask=umask,
         **how,
-    }
-    return subprocess.run([str(it) for it in words], **how)
-
-
-def want(command, package):
-    if not shutil.which(command):
-        raise Skipped(f"there is no {command}: apt-get install {package}")
+    )
 
 
 class Packages:
     """What was made, unpacked: `deb` and `tar` are trees from / on, `control` the .deb's own files."""
 
-    def __init__(self, words, room):
-        self.program, self.room = words.program, room
-        self.deb, self.tar, self.control = (room / it for it in ("deb", "tar", "control"))
+    def __init__(self, program: str, room: pathlib.Path) -> None:
+        self.program, self.room = program, room
+        self.deb, self.tar, self.control = (room / name for name in ("deb", "tar", "control"))
+        with concurrent.futures.ThreadPoolExecutor(2) as threads:
+            self.first, self.second = threads.map(self.built, (0, 1))
+        self.unpack(self.first)
 
-    def built(self, number):
+    def built(self, number: int) -> pathlib.Path:
         """Both, in a folder of their own; the surroundings differ each time."""
         to = self.room / f"built {number}"
         zone = {"TZ": ("UTC", "Asia/Tokyo")[number], "LC_ALL": ("C.UTF-8", "C")[number]}
-        done = run(
-            ROOT / "dev/dist",
-            "--program",
-            self.program,
-            "--to",
-            to,
-            env={**os.environ, **zone},
-            umask=(0o022, 0o077)[number],
-        )
-        if done.returncode:
-            raise Difference(f"dev/dist ended with status {done.returncode}: {done.stdout[-900:]}")
+        words = [ROOT / "dev/dist", "--program", self.program, "--to", to]
+        done = run(*words, env={**os.environ, **zone}, umask=(0o022, 0o077)[number])
+        assert done.returncode == 0, done.stdout[-900:]
         return to
 
-    def unpack(self, to):
+    def unpack(self, to: pathlib.Path) -> None:
         (self.package,), (tarball,) = to.glob("*.deb"), to.glob("*.tar.gz")
         run("dpkg-deb", "--extract", self.package, self.deb, check=True)
         run("dpkg-deb", "--control", self.package, self.control, check=True)
         self.tar.mkdir()
         run("tar", "-xzf", tarball, "-C", self.tar, "--strip-components=1", check=True)
-        return f"{self.package.name}, {self.package.stat().st_size:,} bytes; {tarball.name}, {tarball.stat().st_size:,} bytes"
 
-    def commands(self):
+    def commands(self) -> list[pathlib.Path]:
         return sorted((self.deb / "usr/bin").iterdir())
 
-    def version(self):
+    def version(self) -> str:
         return run(self.deb / "usr/bin/tracedesk", "--version").stdout.split()[1]
 
 
-def same_twice(packages):
-    """The same program and sources give the same bytes."""
-    with concurrent.futures.ThreadPoolExecutor(2) as threads:
-        first, second = threads.map(packages.built, (0, 1))
-    for it in sorted(first.iterdir()):
-        if it.read_bytes() != (second / it.name).read_bytes():
-            raise Difference(f"{it.name} differs from a second build")
-    return packages.unpack(first)
+@pytest.fixture(scope="module")
+def packages(
+    program: pathlib.Path, tmp_path_factory: pytest.TempPathFactory
+) -> "Iterator[Packages]":
+    yield Packages(str(program), tmp_path_factory.mktemp("packages"))
 
 
-def files_below(tree):
+def test_the_same_program_and_sources_give_the_same_bytes(packages: Packages) -> None:
+    for file in sorted(packages.first.iterdir()):
+        assert file.read_bytes() == (packages.second / file.name).read_bytes(), file.name
+
+
+def files_below(tree: pathlib.Path) -> dict[str, pathlib.Path]:
     return {
         str(it.relative_to(tree)): it
         for it in tree.rglob("*")
@@ -125,7 +102,7 @@ def files_below(tree):
     }
 
 
-def one_layout(packages):
+def test_both_packages_have_the_same_files(packages: Packages) -> None:
     """Both packages have the same files, below /usr and /usr/local; what differs is what each package manager wants."""
     deb = {
         re.sub("^(?:usr/)?lib/systemd", "usr/lib/systemd", name)
@@ -148,10 +125,9 @@ def one_layout(packages):
                 and re.search(wrong, it.read_bytes())
             ):
                 raise Difference(f"{name} names {wrong.decode()}")
-    return f"{len(deb)} files"
 
 
-def all_is_in(packages):
+def test_each_unit_and_tool_is_there(packages: Packages) -> None:
     """Each unit, list of users and folders, and tool is there, the tools run, and the bytes of the programs are theirs."""
     for pattern, at in (
         ("*.service", "lib/systemd/system/{}"),
@@ -184,10 +160,9 @@ def all_is_in(packages):
         "tracedesk-rollover",
     } <= set(names):
         raise Difference(f"the commands are {names}")
-    return f"{len(names)} commands"
 
 
-def versions(packages):
+def test_each_command_has_the_version(packages: Packages) -> None:
     """Each command that has --version says the same one; the page and the package of Python do too."""
     wanted, without = packages.version(), []
     for it in packages.commands():
@@ -198,14 +173,9 @@ def versions(packages):
             raise Difference(f"{it.name} --version: status {done.returncode}, {done.stdout!r}")
     if f"\n## [{wanted}]" not in (ROOT / "CHANGELOG.md").read_text(encoding="utf-8"):
         raise Difference(f"CHANGELOG.md has no {wanted}")
-    return f"{wanted}" + (
-        f"; without --version: {', '.join(without)}: offer_version of ops/tracedesk_ops gives it"
-        if without
-        else ""
-    )
 
 
-def conffiles(packages):
+def test_what_a_plant_edits_is_a_conffile(packages: Packages) -> None:
     """What a plant edits is a conffile, and nothing else is; the scripts are shell that dash takes."""
     told = (packages.control / "conffiles").read_text().split()
     wanted = ["/etc/nginx/sites-available/tracedesk", "/etc/tracedesk/station/setup.json"]
@@ -218,7 +188,6 @@ def conffiles(packages):
             raise Difference(f"{it}: {done.stdout}")
         if left := re.findall(r"^[^#\n]*#[A-Z]+#", (packages.control / it).read_text(), re.M):
             raise Difference(f"{it} has {left}")
-    return ", ".join(told)
 
 
 OTHER_ROOT = r"""
@@ -247,19 +216,19 @@ runuser -u tracedesk -- tracedesk audit --db /var/lib/tracedesk/desk
 """
 
 
-def install_and_purge(packages):
+def test_it_is_installed_and_purged_in_a_root_that_goes_away(packages: Packages) -> None:
     """Installed, installed over itself and purged in a root that goes away: nothing is switched on, changes and the desk stay."""
     if os.geteuid() or not shutil.which("unshare") or not shutil.which("systemd-sysusers"):
-        raise Skipped("it wants root, and a Debian with systemd")
+        pytest.skip("it wants root, and a Debian with systemd")
     if shutil.which("tracedesk", path="/usr/bin:/usr/local/bin"):
-        raise Skipped("tracedesk is installed here")
+        pytest.skip("tracedesk is installed here")
     room = packages.room / "other"
     room.mkdir()
     done = run(
         "unshare", "--mount", "sh", "-c", OTHER_ROOT, "sh", room, packages.package, INSTALLED
     )
     if done.returncode == 77:
-        raise Skipped("no root can be laid over this one")
+        pytest.skip("no root can be laid over this one")
     for wanted in (
         "\ndisabled\ndisabled\ndisabled\n",
         "\n/etc/tracedesk root www-data 750\n/var/lib/tracedesk tracedesk tracedesk 710\n/var/lib/tracedesk/archive tracedesk tracedesk 700\n/var/lib/tracedesk/untraced tracedesk tracedesk 2770\n/var/lib/tracedesk/status tracedesk tracedesk 2770\n",
@@ -276,12 +245,11 @@ def install_and_purge(packages):
             raise Difference(
                 f"status {done.returncode}, {wanted!r} is wanted: {done.stdout[-3000:]}"
             )
-    return "nothing is switched on; a change and the desk stay; a purge says what it leaves"
 
 
-def lintian(packages):
+@pytest.mark.needs("lintian")
+def test_lintian_finds_nothing(packages: Packages) -> None:
     """Nothing but what packaging/debian/lintian-overrides names, each with its reason."""
-    want("lintian", "lintian")
     done = run(
         "lintian",
         "--profile",
@@ -295,12 +263,11 @@ def lintian(packages):
     if done.returncode or said:
         raise Difference("\n".join(said) or f"status {done.returncode}")
     overrides = (ROOT / "packaging/debian/lintian-overrides").read_text().splitlines()
-    return f"clean but for {sum(not it.startswith('#') for it in overrides)} overrides"
 
 
-def man_pages(packages):
+@pytest.mark.needs("man")
+def test_each_command_has_a_man_page_with_its_options(packages: Packages) -> None:
     """One of each command; each renders without a warning, and has each option of the help."""
-    want("man", "man-db")
     for it in packages.commands():
         page = packages.deb / f"usr/share/man/man1/{it.name}.1.gz"
         done = run(
@@ -328,17 +295,15 @@ def man_pages(packages):
         ]
         if lacking:
             raise Difference(f"{page.name} lacks {lacking}")
-    return f"{len(packages.commands())} pages"
 
 
-def mandoc(packages):
+@pytest.mark.needs("mandoc")
+def test_mandoc_finds_nothing(packages: Packages) -> None:
     """The other renderer has no warning either."""
-    want("mandoc", "mandoc")
     pages = sorted((packages.deb / "usr/share/man/man1").iterdir())
     for it in pages:
         if said := run("mandoc", "-T", "lint", "-W", "warning", it).stdout:
             raise Difference(f"{it.name}: {said}")
-    return f"{len(pages)} pages"
 
 
 ASKED = """
@@ -350,7 +315,7 @@ printf '%s\\n' "${COMPREPLY[@]}"
 """
 
 
-def completed(packages, *words):
+def completed(packages: Packages, *words: str) -> list[str]:
     """What bash answers for the last of these words."""
     done = run(
         "bash",
@@ -365,7 +330,7 @@ def completed(packages, *words):
     return sorted(done.stdout.split())
 
 
-def completions(packages):
+def test_bash_completes_commands_options_and_files(packages: Packages) -> None:
     """Bash is asked: for the program's commands, each command's options, words of a choice, files and folders."""
     (packages.room / "some folder").mkdir()
     (packages.room / "some-file").touch()
@@ -394,7 +359,6 @@ def completions(packages):
             len(words) > 2 and got != wanted
         ):
             raise Difference(f"{' '.join(words)}: wanted {wanted}, got {got}")
-    return f"{count} options, commands, choices, files and folders"
 
 
 ZSH_ASKED = r"""
@@ -411,9 +375,9 @@ print -r -- "$got"
 """
 
 
-def zsh(packages):
+@pytest.mark.needs("zsh")
+def test_zsh_completes_options(packages: Packages) -> None:
     """zsh reads its completions, and offers the options of a command."""
-    want("zsh", "zsh")
     files = sorted((packages.deb / "usr/share/zsh/vendor-completions").iterdir())
     for it in files:
         if (done := run("zsh", "-n", it)).returncode or done.stdout:
@@ -423,10 +387,9 @@ def zsh(packages):
         it for it in ("--db", "--port", "--connections", "--greatest") if it not in said
     ]:
         raise Difference(f"tracedesk serve --: {lacking} is not in {said!r}")
-    return f"{len(files)} files, and the options of tracedesk serve"
 
 
-def container(packages):
+def test_the_container_stops_without_a_desk(packages: Packages) -> None:
     """The container runs the program with the unit's words, and stops where the desk's file is missing, as the unit does."""
     text = (ROOT / "packaging/Containerfile").read_text(encoding="utf-8")
     words = json.loads(re.search(r"^CMD (\[.*\])$", text, re.M)[1])
@@ -440,10 +403,9 @@ def container(packages):
     done = run("sh", "-c", words[-1].replace("/var/lib/tracedesk", str(packages.room)))
     if done.returncode != 2 or "there is no desk" not in done.stdout:
         raise Difference(f"without a desk: status {done.returncode}, {done.stdout}")
-    return "not run, but for its last command without a desk"
 
 
-def faults(packages):
+def test_a_fault_leaves_nothing(packages: Packages) -> None:
     """Bad words, a program that isn't one, and a machine without pandoc are told, and nothing is left."""
     to = packages.room / "none"
     for words, status, told, changed in (
@@ -466,55 +428,3 @@ def faults(packages):
             or (to.exists() and list(to.iterdir()))
         ):
             raise Difference(f"{words}: status {done.returncode}, {done.stdout[-300:]}")
-    return "bad words, no program, no pandoc"
-
-
-def main():
-    reader = argparse.ArgumentParser(
-        description=__doc__,
-        formatter_class=argparse.RawDescriptionHelpFormatter,
-        usage=argparse.SUPPRESS,
-    )
-    reader.add_argument("--program", metavar="FILE")
-    words = reader.parse_args()
-    words.program = program.to_use(words.program)
-    if lacking := {package for command, package in MAKES.items() if not shutil.which(command)}:
-        print(
-            f"skipped  all: some of what makes the packages is not there: apt-get install {' '.join(sorted(lacking))}\n0 passed, 0 failed"
-        )
-        return 0
-    passed = failed = 0
-    with tempfile.TemporaryDirectory() as room:
-        packages = Packages(words, pathlib.Path(room))
-        for check in (
-            same_twice,
-            one_layout,
-            all_is_in,
-            versions,
-            conffiles,
-            install_and_purge,
-            lintian,
-            man_pages,
-            mandoc,
-            completions,
-            zsh,
-            container,
-            faults,
-        ):
-            name = check.__name__.replace("_", " ")
-            try:
-                print(f"ok       {name}: {check(packages)}", flush=True)
-                passed += 1
-            except Skipped as lack:
-                print(f"skipped  {name}: {lack}", flush=True)
-            except (*FAULTS, helps.Unreadable, ValueError, TypeError) as fault:
-                print(f"FAILED   {name}: {fault}", flush=True)
-                failed += 1
-                if check is same_twice:
-                    break
-    print(f"{passed} passed, {failed} failed")
-    return 1 if failed else 0
-
-
-if __name__ == "__main__":
-    sys.exit(main())

@@ -1,0 +1,16 @@
+"""The page's own modules, tried by node: what machines do, scans, reports, languages."""
+import pathlib
+import re
+import subprocess
+
+import pytest
+
+HERE = pathlib.Path(__file__).resolve().parent
+
+
+@pytest.mark.needs("node")
+@pytest.mark.parametrize("file", sorted((HERE / "unit").glob("*.test.mjs")), ids=lambda it: it.stem)
+def test_modules(file: pathlib.Path) -> None:
+    done = subprocess.run(["node", "--test", file], capture_output=True, text=True)
+    assert done.returncode == 0, done.stdout[-3_000:] + done.stderr[-1_000:]
+    assert int(re.findall(r"^# pass (\d+)", done.stdout, re.M)[-1]) > 0
