@@ -10,6 +10,7 @@ const PLAIN = [
   "href",
   "download",
   "placeholder",
+  "rows",
   "autocomplete",
   "min",
   "max",

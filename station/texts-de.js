@@ -506,7 +506,6 @@ export const TEXTS = {
     labelsHint: "Ein Name je Zeile. Nur diese Etiketten werden gedruckt.",
     badges: "Ausweise",
     reels: "Rollen",
-    form: "Code",
     make: "Etiketten machen",
     all: "Alle Codes",
     print: "Drucken",

@@ -489,7 +489,6 @@ export const TEXTS = {
     labelsHint: "Un nombre por línea. Solo se imprimen estas etiquetas.",
     badges: "Credenciales",
     reels: "Rollos",
-    form: "Código",
     make: "Hacer las etiquetas",
     all: "Todos los códigos",
     print: "Imprimir",

@@ -401,7 +401,6 @@ export const TEXTS = {
     labelsHint: "每行一个名称。只打印这些标签。",
     badges: "工牌",
     reels: "料盘",
-    form: "条码",
     make: "生成标签",
     all: "全部条码",
     print: "打印",

@@ -479,7 +479,6 @@ export const TEXTS = {
     labelsHint: "A name on each line. Only these labels are printed.",
     badges: "Badges",
     reels: "Reels",
-    form: "Code",
     make: "Make the labels",
     all: "All codes",
     print: "Print",

@@ -28,7 +28,7 @@ from station_site import Site  # noqa: E402
 
 pytestmark = [pytest.mark.needs("nginx", "openssl"), pytest.mark.xdist_group("proxy")]
 LOGGED_IN = "Authorization: Basic b3A6b3A=\r\n"  # op:op
-STATUS = "/line/status/m1.json"
+STATUS = "/line/status/op.json"
 
 
 @pytest.fixture(scope="module")
@@ -90,7 +90,7 @@ def test_own_answers_are_json(site: Site) -> None:
         "a POST to a page": (request("POST /station/", *message, body="{}"), 403),
         "POST to a file of the line": (
             request("POST /line/status/here.json", *message, body="{}"),
-            405,
+            403,
         ),
         "a text for a message": (
             request("POST /messages", "Content-Type: text/plain", "Content-Length: 2", body="{}"),
@@ -173,14 +173,14 @@ def test_untraced_work_is_put_once(site: Site) -> None:
     path, file = f"/line/untraced/{name}.json", site.room / f"line/untraced/{name}.json"
     other = {"Origin": "https://elsewhere.example", "Sec_Fetch_Site": "cross-site"}
     worked = [
-        ("PUT", path, None, record, {}, 401),
-        ("PUT", path, "office", record, {}, 401),
+        ("PUT", path, None, record, {}, 403),
+        ("PUT", path, "office", record, {}, 403),
         ("PUT", path, "op", record, other, 403),
-        ("PUT", path, "op", "x" * 2**21 + "x", {}, 413),
+        ("PUT", path, "op", "x" * 3 * 2**20 + "x", {}, 413),
         ("PUT", path.replace(name[-1] + ".json", "G.json"), "op", record, {}, 404),
         ("PUT", path.replace(".json", ".txt"), "op", record, {}, 404),
         ("PUT", "/line/untraced/../desk", "op", record, {}, 404),
-        ("GET", "/line/untraced/", "op", None, {}, 404),
+        ("GET", "/line/untraced/", "op", None, {}, 403),
         ("GET", path, "op", None, {}, 403),
         ("DELETE", path, "op", None, {}, 403),
         ("MKCOL", path, "op", None, {}, 403),
@@ -209,15 +209,15 @@ def test_untraced_work_is_put_once(site: Site) -> None:
     agree("by a certificate", 204, site.asked("PUT", path, None, record, "m2")[0])
     agree(
         "by a reader's",
-        401,
+        403,
         site.asked("PUT", path.replace(name, "0" * 32), None, record, "auditor")[0],
     )
 
 
 def test_status_is_put_by_senders_and_read(site: Site) -> None:
     worked = [
-        ("PUT", STATUS, None, 401),
-        ("PUT", STATUS, "office", 401),
+        ("PUT", STATUS, None, 403),
+        ("PUT", STATUS, "office", 403),
         ("PUT", "/line/status/untraced.json", "op", 403),
         ("PUT", "/line/status/.m1.json", "op", 403),
         ("PUT", "/line/status/m1.txt", "op", 403),
@@ -244,7 +244,7 @@ def test_status_is_put_by_senders_and_read(site: Site) -> None:
     got, headers, body = site.asked("GET", "/line/status/", "office")
     agree(
         "the folder",
-        (200, "application/json", [("m1.json", "file"), ("untraced.json", "file")]),
+        (200, "application/json", [("op.json", "file"), ("untraced.json", "file")]),
         (got, headers["Content-Type"], [(it["name"], it["type"]) for it in json.loads(body)]),
     )
     agree(

@@ -30,13 +30,14 @@ const seen = () => ({ turn: Number(at("verdict").dataset.turn ?? 0), kind: at("v
   const told = [];
   for (const { codes, yes } of commands) {
     const before = new Set((await kept()).map((it) => it.uid));
+    if (codes[0] === scanned.code && codes[0].startsWith("A/")) { await scan("A/CANCEL"); } // an action twice counts once
     for (const code of codes.slice(0, -1)) { await scan(code); }
     const held = at("held").innerText, turn = seen().turn;
     await scan(codes.at(-1));
     let shown = seen();
     const asked = shown.kind === "ask" && shown.turn > turn;
     if (asked) { await scan(yes ? "A/ENTER" : "A/CANCEL"); }
-    told.push({ held, asked, shown, made: (await kept()).filter((it) => !before.has(it.uid)).map(({ uid, word, body }) => ({ uid, word, body })) });
+    told.push({ held, asked, shown, turn, made: (await kept()).filter((it) => !before.has(it.uid)).map(({ uid, word, body }) => ({ uid, word, body })) });
   }
   (await opened).close();
   done(told);
@@ -126,6 +127,7 @@ class Page:
         is_lost = not made and (
             (told["asked"] and not command.yes)
             or (shown["kind"] == "fault" and "DROPPED" in shown["text"])
+            or (shown["turn"] > told["turn"] and shown["text"].startswith("✗ NOT SENT"))
         )
         is_kept = len(made) == 1 and made[0]["word"] in words and made[0]["body"] == body
         if is_away and shown["kind"] == "accepted":

@@ -8,7 +8,7 @@ import shutil
 import sqlite3
 from typing import Any, Sequence
 
-from station_operator import Operator
+from station_operator import Operator, chain_of
 from station_line import line_is_as_reported
 from station_site import SETUP, Site, wait_for
 from tracedesk_dev.trial import Difference
@@ -37,6 +37,9 @@ MACHINES, SLOTS, SECONDS = (
     120,
     0.3,
 )  # of a long line; of the page's processor time, from a scan to its verdict and after it
+CLOCKS = """window.asleep = 0; window.later = 0;
+const steady = performance.now.bind(performance), wall = Date.now.bind(Date);
+performance.now = () => steady() - window.asleep; Date.now = () => wall() + window.later;"""
 
 
 def plant(site: Site, selected: Sequence[str] = ("M1", "M2")) -> None:
@@ -114,10 +117,9 @@ LABEL = [
 
 def type_label(operator: Operator, label: str) -> None:
     """A label as a wedge types it: separators as Ctrl and a letter."""
-    from selenium.webdriver import ActionChains
     from selenium.webdriver.common.keys import Keys
 
-    chain, keys = ActionChains(operator.page), {"\x1d": "]", "\x1e": "6", "\x04": "d"}
+    chain, keys = chain_of(operator.page), {"\x1d": "]", "\x1e": "6", "\x04": "d"}
     for letter in label:
         if letter in keys:
             chain.key_down(Keys.CONTROL).send_keys(keys[letter]).key_up(Keys.CONTROL)
@@ -173,10 +175,9 @@ def opened(site: Site, before: str, name: str = "W1") -> Operator:
 
 def touch(it: Operator, selector: str) -> None:
     """Touches the middle of an element, once as a mouse does."""
-    from selenium.webdriver import ActionChains
     from selenium.webdriver.common.by import By
 
-    ActionChains(it.page).move_to_element(
+    chain_of(it.page).move_to_element(
         it.page.find_element(By.CSS_SELECTOR, selector)
     ).click().perform()
 
@@ -192,7 +193,7 @@ def count_is(it: Operator, count: int, what: str) -> None:
 
 def long_line(site: Site) -> Any:
     """Twelve machines with 120 slots each, most of them loaded."""
-    lines = []
+    lines: list[bytes] = []
 
     def say(word: str, body: Any) -> None:
         at = datetime.datetime.now(datetime.timezone.utc) - datetime.timedelta(minutes=5)
@@ -324,3 +325,18 @@ def agrees(operator: Operator) -> None:
             if site.report(f"/kit?product=CTRL-A&machine={machine}&boards=1").startswith("slot,"):
                 line_is_as_reported(site, operator, machine)
                 site.agreed += 1
+
+
+def records(site: Site) -> list[dict[str, Any]]:
+    """The records of untraced work that were handed on, and the decisions about them."""
+    files = [*site.room.glob("line/untraced/*.json"), *site.room.glob("line/decided/*.json")]
+    return [json.loads(file.read_bytes()) for file in files]
+
+
+def machines_say(site: Site, period: float = 3_600, ago: float = 0, **machines: Any) -> None:
+    """Writes what a sender says of its machines, as it did so many seconds ago."""
+    at = datetime.datetime.now(datetime.timezone.utc) - datetime.timedelta(seconds=ago)
+    told = {"At": at.strftime("%Y-%m-%dT%H:%M:%SZ"), "Period": period, "Machines": machines}
+    file = site.room / "line/status/m1.json"
+    file.with_suffix(".new").write_text(json.dumps({"Version": 1, "Sender": "m1", **told}))
+    file.with_suffix(".new").rename(file)

@@ -10,14 +10,11 @@ import pytest
 from station_costs import KITS, PERIODS, days
 from station_line import shown_rows
 from station_operator import Operator
-from station_plant import DISK, count_is, opened, refused, whole
+from station_plant import CLOCKS, DISK, count_is, opened, refused, whole
 from station_site import ROOT, SETUP, Site, wait_for
 from tracedesk_dev.trial import Difference
 
 pytestmark = pytest.mark.browser
-CLOCKS = """window.asleep = 0; window.later = 0;
-const steady = performance.now.bind(performance), wall = Date.now.bind(Date);
-performance.now = () => steady() - window.asleep; Date.now = () => wall() + window.later;"""
 
 
 def test_a_servers_clock_that_jumps(site: Site) -> None:

@@ -1,57 +1,19 @@
 """Red stays until somebody has seen it, and nothing is dropped without a word."""
 import json
 import time
-from typing import Any
 
 import hashlib
 import pytest
 from station_line import report
 from station_operator import Operator
-from station_plant import opened, refused, touch, whole
+from station_plant import opened, records, refused, touch, whole
 from station_site import SETUP, Site, wait_for
 from tracedesk_dev.trial import Difference
-from tracedesk_ops import doubtful, untraced
 
 pytestmark = pytest.mark.browser
 GATES = """const fetched = window.fetch, pause = () => new Promise((done) => setTimeout(done, 20));
 window.fetch = async (...how) => { while (window.shut?.test(how[0])) { await pause(); } return fetched(...how); };"""
 REDS = "return [...document.querySelectorAll('#verdict:not([hidden]) :is(.one.refused, .brief)')].map((it) => it.dataset.scan)"
-
-
-def records(site: Site) -> Any:
-    return [json.loads(file.read_bytes()) for file in (site.room / "line/untraced").glob("*.json")]
-
-
-def taken_off(site: Site, it: Operator) -> None:
-    """Says of the refused reel that is shown that it was taken off, first without a badge, and then while the line's folder is away."""
-    press, said, folder = (
-        "document.querySelector('#verdict .off button').click()",
-        "return document.querySelector('#verdict .off')?.innerText ?? ''",
-        site.room / "line/untraced",
-    )
-    it.script(press)
-    wait_for("a badge is wanted", lambda: "scan your badge" in it.script(said))
-    it.scan("B/anna")
-    wait_for("the refused load is there", lambda: records(site))
-    folder.rename(folder.with_name("away"))
-    it.script(press)
-    wait_for("it is not noted", lambda: "gave no answer" in it.script(said))
-    folder.with_name("away").rename(folder)
-    it.script(press)
-    wait_for("it is noted", lambda: it.script(said).startswith("Noted"))
-    (decided,) = [
-        untraced.record_of(file.read_bytes())
-        for file in folder.glob("*.json")
-        if b'"decided"' in file.read_bytes()
-    ]
-    told = decided.told
-    if (
-        not (folder / f"{decided.id}.json").exists()
-        or not (folder / f"{told['Of']}.json").exists()
-        or told["Became"] != doubtful.TAKEN_OFF
-        or "anna" not in told["By"]
-    ):
-        raise Difference(f"a decision: {told}")
 
 
 def test_untraced_work_is_red(site: Site) -> None:
@@ -76,7 +38,7 @@ def test_untraced_work_is_red(site: Site) -> None:
             "the refusal",
             lambda: all(
                 word in it.script(first)
-                for word in ("M1", "WorkStarted", "SN-7", "Expired", "Put the board aside")
+                for word in ("M1", "WorkStarted", "SN-7", "EXPIRED", "Put the board aside")
             ),
         )
         (status / "untraced.json").write_text(
@@ -84,7 +46,6 @@ def test_untraced_work_is_red(site: Site) -> None:
         )
         wait_for("it is decided", lambda: "SN-7" not in it.script(first))
         it.does("S/M1/1", "K-2", kind="refused", holds=("TAKEN OFF",))
-        taken_off(site, it)
         it.seen()
         inbox = lambda: [
             it["Message"]["MessageBody"] for it in records(site) if it["Kind"] == "refused"

@@ -161,7 +161,7 @@ def send_all(
         if not is_stopped and isinstance(answer, answers.Ignored) and answer.is_mistyped:
             tell(answers.why(answer))
             mistyped += 1
-        if not is_stopped or records.is_report(answers.read_object(line)):
+        if not is_stopped or records.is_report(records.as_read(line)):
             file.write(answer.text + b"\n")
             file.flush()
             os.fsync(file.fileno())

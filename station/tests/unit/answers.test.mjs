@@ -1,9 +1,11 @@
 import assert from "node:assert/strict";
+import { createHash } from "node:crypto";
 import test from "node:test";
 import { SETUP } from "./page.mjs";
 
 const { said } = await import("../../say.js");
 const { readCode } = await import("../../names.js");
+const { modulesOf } = await import("../../datamatrix.js");
 const { lifeText } = await import("../../life.js");
 
 test("a number takes its plural, and is written as the language has it", () => {
@@ -27,4 +29,22 @@ test("floor life in words", () => {
   assert.equal(lifeText("0"), "EXPIRED");
   assert.equal(lifeText("61"), "1 h 1 min");
   assert.equal(lifeText(null), "no limit");
+});
+
+// zint --barcode=DATAMATRIX --square --dump -d TEXT | tr -d ' \n' | sha256sum
+const MATRICES = {
+  "K-1": "5bcd515bb6fc6540",
+  "B/anna": "e00f4b919402ea11",
+  [`${"Kx9-".repeat(11)}`]: "e7cb8ed859966b2b",
+  [`${"Kx9-".repeat(15)}`]: "b6f0e621d2b62513",
+};
+
+test("a Data Matrix is the one that zint makes, of one region and of four", () => {
+  for (const [text, hash] of Object.entries(MATRICES)) {
+    const rows = modulesOf(text).map((row) => row.join("").match(/.{1,4}/g)
+      .map((it) => parseInt(it.padEnd(4, "0"), 2).toString(16).toUpperCase()).join(""));
+    assert.equal(createHash("sha256").update(rows.join("")).digest("hex").slice(0, 16), hash, text);
+  }
+  assert.equal(modulesOf("~".repeat(64)).length, 36, "each name of the desk's range has one");
+  assert.equal(modulesOf("~".repeat(115)), null);
 });
