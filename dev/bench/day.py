@@ -89,29 +89,25 @@ def in_memory(asked: argparse.Namespace, folder: pathlib.Path, lines: Any) -> An
     ways: list[tuple[str, list[Any]]] = [("in memory", []), ("in a file", ["--db", file])]
     for _turn in range(asked.turns):
         for name, words in ways:
-            figures, given[name] = fed(asked, folder, lines, *words)
-            for what, value in zip(("seconds", "processor time, seconds", "memory, MB"), figures):
+            used_so, given[name] = fed(asked, folder, lines, *words)
+            for what, value in zip(("seconds", "processor time, seconds", "memory, MB"), used_so):
                 told.setdefault(f"{name}: {what}", []).append(value)
         if given["in memory"] != given["in a file"]:
             sys.exit("dev/bench/run day: in memory and in a file the answers differ")
     commands, pieces = counts(file)
     if not pieces:
         sys.exit(f"dev/bench/run day: the first {commands} commands place no piece: ask for more")
-    told = {
-        "commands": commands,
-        "pieces": pieces,
-        **{name: statistics.median(values) for name, values in told.items()},
-    }
+    figures = {name: statistics.median(values) for name, values in told.items()}
+    figures |= {"commands": commands, "pieces": pieces}
     for name in given:
-        told[f"{name}: processor time a piece, us"] = (
-            1e6 * told[f"{name}: processor time, seconds"] / pieces
-        )
+        seconds = figures[f"{name}: processor time, seconds"]
+        figures[f"{name}: processor time a piece, us"] = 1e6 * seconds / pieces
     print(
-        f"{commands} commands in memory: {told['in memory: seconds']:.2f} s",
+        f"{commands} commands in memory: {figures['in memory: seconds']:.2f} s",
         file=sys.stderr,
         flush=True,
     )
-    return told
+    return figures
 
 
 def one_by_one(lines: Any, sent: Any) -> list[float]:
@@ -133,8 +129,8 @@ def feed_latencies(asked: argparse.Namespace, folder: pathlib.Path, lines: Any) 
         stdout=subprocess.PIPE,
         bufsize=0,
     ) as process:
+        assert process.stdin and process.stdout
         into, out = process.stdin, process.stdout
-        assert into and out
         with os.fdopen(os.dup(out.fileno()), "rb", 65_536) as answers:
 
             def sent(text: bytes) -> bytes:

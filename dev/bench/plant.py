@@ -66,7 +66,7 @@ def since(server: Any, before: Any) -> Any:
 def loads(asked: argparse.Namespace, server: Any, room: pathlib.Path) -> Iterator[Any]:
     """Loads each archive by itself: its seconds, how many pieces it has, and its bytes."""
 
-    def folder_of(number: int):
+    def folder_of(number: int) -> pathlib.Path:
         at = room / f"archive-{number}"
         at.mkdir()
         return at
@@ -89,13 +89,9 @@ def loads(asked: argparse.Namespace, server: Any, room: pathlib.Path) -> Iterato
 
 def chain_of(asked: argparse.Namespace, at: Any) -> Any:
     """Makes the archives of one line that rolls over, and its catalogue; the path of each, and how many pieces there are."""
-    messages, files, pieces, ticks, end = (
-        starts.Line().messages(),
-        [],
-        0,
-        program.Ticks(),
-        time.monotonic() + 60 * asked.minutes,
-    )
+    messages, pieces, ticks = starts.Line().messages(), 0, program.Ticks()
+    files: list[Any] = []
+    end = time.monotonic() + 60 * asked.minutes
     for number in range(asked.archives):
         if time.monotonic() > end:
             break
@@ -309,7 +305,7 @@ def ask(server: Any) -> None:
         (SELECT min(reel) FROM plant.reel WHERE lot = '{LOT}')""",
     ).split()
     names = {"lot": LOT, "reel": reel, "board": board}
-    calls = {
+    calls: dict[str, tuple[Any, ...]] = {
         f"{kind}, its pieces": ("-v", f"{kind}={name}", "-f", postgres.SQL / "pieces.sql")
         for kind, name in names.items()
     }

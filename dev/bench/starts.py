@@ -182,7 +182,7 @@ def figures(asked: argparse.Namespace) -> Iterator[Figure]:
         for pieces in asked.pieces:
             grown(asked, file, messages, told, pieces)
             turns = [started(asked, file) for _ in range(asked.turns)]
-            start, processor, resident, most = map(statistics.median, zip(*turns))
+            start, processor, resident, most = (statistics.median(its) for its in zip(*turns))
             size = file.stat().st_size
             yield Figure(
                 told["pieces"], told["commands"], size, start, processor, int(resident), int(most)

@@ -44,7 +44,7 @@ import re
 import subprocess
 import tempfile
 import time
-from typing import Any, Iterable, Iterator
+from typing import Any, Callable, Iterable, Iterator
 
 from tracedesk_dev import program
 from tracedesk_dev.program import ROOT
@@ -105,12 +105,19 @@ PLANTED = {
         story, counts, f"sync 1 {EVER} lie", one_in
     ),
 }
-PARTS = {"wire": wire, "memory": memory, "disk": disk, "kill": kill, "power": power}
+PARTS: dict[str, Callable[..., Iterator[Any]]] = {
+    "wire": wire,
+    "memory": memory,
+    "disk": disk,
+    "kill": kill,
+    "power": power,
+}
 
 
 def judged(points: Any) -> Any:
     """Each point as how it is told and what judges it: what was seen, and what was found."""
-    seen, found = collections.Counter(), []
+    seen: collections.Counter[str] = collections.Counter()
+    found: list[str] = []
     for told, judging in points:
         try:
             judging(seen)
@@ -125,7 +132,7 @@ def one(story: Story, point: Any) -> Any:
     return judged([(told, lambda seen: cut(story, got, files, seen, again))])
 
 
-def many(story: Story, base: Story, points: Any) -> Any:
+def many(story: Story, base: str, points: Any) -> Any:
     """Points of one run."""
     try:
         gots = story.branched(base, [fail for _call, _kind, fail in points])
@@ -167,20 +174,20 @@ def tasks_of(story: Story, points: Any, until: Any) -> Iterator[Any]:
 
 def tried(asked: argparse.Namespace, points_of: Any, story: Story, until: Any) -> Any:
     """Fails each point of a story; gives how many, what was seen, and what was found."""
-    seen, found, count = collections.Counter(), [], 0
+    seen: collections.Counter[str] = collections.Counter()
+    found: list[str] = []
+    count = 0
     counts = story.failed().counts
     with concurrent.futures.ThreadPoolExecutor(asked.jobs) as pool:
-        tasks, running, ticks = (
-            tasks_of(story, points_of(story, counts), until),
-            set(),
-            program.Ticks(),
-        )
+        tasks = iter(tasks_of(story, points_of(story, counts), until))
+        running: set[concurrent.futures.Future[Any]] = set()
+        ticks = program.Ticks()
         while True:
             try:
                 while len(running) < 2 * asked.jobs and (task := next(tasks, None)) is not None:
                     running.add(pool.submit(*task))
-            except Found as it:
-                found.append(f"no further points: {it}")
+            except Found as fault:
+                found.append(f"no further points: {fault}")
                 tasks = iter(())
             if not running:
                 break
@@ -332,7 +339,8 @@ def main(asked: argparse.Namespace, reader: argparse.ArgumentParser) -> int:
             check=True,
         )
         asked.rooms = Rooms(os.path.realpath(folder))
-        points, ends = collections.Counter(), collections.Counter()
+        points: collections.Counter[str] = collections.Counter()
+        ends: collections.Counter[str] = collections.Counter()
         if asked.gate:
             gate(asked, points, ends)
         elif asked.planted:

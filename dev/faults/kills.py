@@ -63,12 +63,8 @@ from tracedesk_dev.fault_desks import (
 
 def killed(asked: argparse.Namespace, folder: pathlib.Path, take_for: Any) -> str:
     """Kills so many times, or for so long; says what was seen."""
-    chance, begun, seen, seed = (
-        random.Random(asked.seed),
-        time.monotonic(),
-        collections.Counter(),
-        asked.seed,
-    )
+    chance, begun, seed = random.Random(asked.seed), time.monotonic(), asked.seed
+    seen: collections.Counter[str] = collections.Counter()
     desk, ticks = Desk(asked.program, folder, seed, asked.boards), program.Ticks()
     while seen["kills"] < asked.kills and time.monotonic() - begun < asked.seconds:
         ticks.tell(f"{seen['kills']} of {asked.kills} kills")
@@ -107,9 +103,11 @@ CALLS = "write,writev,pwrite64,pwritev,sendto,sendmsg,fdatasync,fsync"
 CALL = re.compile(r"^(?:(\d+) +)?(?:<\.\.\. (\w+) resumed>|(\w+)\((\d+)<([^>]*)>)(.*)$")
 
 
-def ordered(log: Any, file: pathlib.Path) -> Any:
+def ordered(log: Any, file: str) -> int:
     """Goes through strace's calls: how many Accepted answers went out, each after the sync of its commit."""
-    open_writes, written, answered, calls = set(), False, set(), {}
+    open_writes: set[str] = set()
+    written, answered = False, set()
+    calls: dict[Any, Any] = {}
     for line in log:
         match = CALL.match(line.rstrip("\n"))
         if not match:
@@ -229,7 +227,7 @@ def disk(asked: argparse.Namespace, folder: pathlib.Path) -> str:
     talk(whole, plain)
     size = os.path.getsize(whole.file)
     for ignored in (True, False):
-        seen = collections.Counter()
+        seen: collections.Counter[str] = collections.Counter()
         for _turn in within(asked, asked.turns, begun):
             limit = chance.randint(0, size)
             failed(
@@ -254,7 +252,7 @@ def full(
     asked: argparse.Namespace, folder: pathlib.Path, size: int, chance: Any, begun: Any
 ) -> str:
     """A file system that is full, and has room later."""
-    seen = collections.Counter()
+    seen: collections.Counter[str] = collections.Counter()
     for _turn in within(asked, asked.turns, begun):
         room = small_disk(folder, chance.randint(65_536, 2 * size))
         if room is None:

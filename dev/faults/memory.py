@@ -142,7 +142,7 @@ def main(words: argparse.Namespace, reader: argparse.ArgumentParser) -> int:
             check=True,
         )
         for crate, word in GATE.items() if words.gate else [(words.crate, words.word)]:
-            tests = (
+            tests: str | pathlib.Path = (
                 built(crate) if words.gate else os.path.abspath(ready) if ready else proved(crate)
             )
             if not program.can_run(tests):

@@ -231,7 +231,7 @@ class Story:
             (room / "record").read_bytes() if record else b"",
         )
 
-    def branched(self, base: Story, points: Points) -> Any:
+    def branched(self, base: str, points: Points) -> Any:
         """One run in which the calls of `base` fail, and at each point a copy of it, in which the calls of the point
         fail: what each copy gave, in the order of the points; where the run came to no such point, what it gave itself.
         """
