@@ -1,4 +1,4 @@
-"""A PostgreSQL of its own folder, for ops/tests/plant-page-test and the tests of the plant's tables, and what psql prints.
+"""A PostgreSQL of its own folder, for the tests of the plant's tables, and what psql prints.
 
     with postgres.Server(folder):
         postgres.asked("-f", "ops/plant/schema.sql")

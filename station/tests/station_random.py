@@ -8,7 +8,7 @@ import threading
 import time
 from typing import Any
 
-from station_operator import Operator
+from station_operator import Operator, chain_of
 from station_plant import DISK, accepted, agrees, folder, plant
 from station_site import Site, free_ports, wait_for
 from tracedesk_dev.trial import Difference
@@ -164,7 +164,6 @@ class Hands:
 
     def touch(self) -> None:
         """A touch somewhere, or on a button that is seen; at times twice."""
-        from selenium.webdriver import ActionChains
 
         self.note("touch")
         place = self.it.script(
@@ -177,7 +176,7 @@ class Hands:
         if self.it.script(
             "return document.elementFromPoint(...arguments)?.closest('a') === null", *place
         ):
-            chain = ActionChains(self.it.page)
+            chain = chain_of(self.it.page)
             for _ in range(self.dice.choice([1, 1, 2])):
                 chain.w3c_actions.pointer_action.move_to_location(*place).click()
             chain.perform()
@@ -231,7 +230,7 @@ def judged(log: Any, scans: Any, desk: Any) -> Any:
             deeds.append(entry["deed"])
             continue
         if "load" in entry:
-            red = set()
+            red: set[str] = set()
             continue
         greens |= set(entry["green"])
         if (entry["kind"] == "accepted") and not entry["green"]:

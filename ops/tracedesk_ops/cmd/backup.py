@@ -244,8 +244,8 @@ class Backup:
             "missing": self.missing,
         }
         (self.room / backups.ABOUT).write_text(json.dumps(told) + "\n", encoding="utf-8")
-        files = sorted(it.relative_to(self.room) for it in self.room.rglob("*") if it.is_file())
-        sums = "".join(f"{catalogue.sha256_of(self.room / it)}  {it}\n" for it in files)
+        names = sorted(it.relative_to(self.room) for it in self.room.rglob("*") if it.is_file())
+        sums = "".join(f"{catalogue.sha256_of(self.room / it)}  {it}\n" for it in names)
         (self.room / backups.SUMS).write_text(sums, encoding="utf-8")
         for it in (*self.room.rglob("*"), self.room):
             files.keep(it)

@@ -799,16 +799,16 @@ def named(path):
         raise plant.Fault(f"{path}: {fault.strerror}") from fault
 
 
-def write_evidence(folder, files):
+def write_evidence(folder: pathlib.Path, contents: dict[str, bytes]) -> None:
     """A new folder with these files and their checksums, whole or not at all; one that has something in it stays."""
     sums = "".join(
         f"{hashlib.sha256(content).hexdigest()}  {name}\n"
-        for name, content in sorted(files.items())
+        for name, content in sorted(contents.items())
     )
     with named(folder):
         room = pathlib.Path(tempfile.mkdtemp(prefix=f".{folder.name}-", dir=folder.parent))
         try:
-            for name, content in {**files, "SHA256SUMS": bytes_of(sums)}.items():
+            for name, content in {**contents, "SHA256SUMS": bytes_of(sums)}.items():
                 write(room / name, content)
             files.keep(room)
             os.rename(room, folder)
