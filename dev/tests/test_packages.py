@@ -3,7 +3,7 @@
 Both packages are built twice, in two folders, under two time zones and masks for new files, and are compared byte by
 byte. Then their files are compared with each other and with the repository, lintian is asked, the man pages are rendered,
 and bash is asked for completions. Where root calls it, the .deb is installed and purged in a root laid over this one,
-which goes away. ops/tests/plant-test installs the packages, and takes them away.
+which goes away. `make plant-test` installs the packages, and takes them away.
 """
 import concurrent.futures
 import json
@@ -238,7 +238,7 @@ def test_it_is_installed_and_purged_in_a_root_that_goes_away(packages: Packages)
         "\nchanged\n",
         "tracedesk: /var/lib/tracedesk is kept",
         "tracedesk: /etc/tracedesk is kept",
-        "\nleft /etc/tracedesk /var/lib/tracedesk /var/lib/tracedesk/desk /var/lib/tracedesk/desk-wal\n",
+        "\nleft /etc/tracedesk /var/lib/tracedesk /var/lib/tracedesk/decided /var/lib/tracedesk/desk /var/lib/tracedesk/desk-wal /var/lib/tracedesk/scans\n",
         "\nlawful 0\n",
     ):
         if done.returncode or wanted not in done.stdout:

@@ -1,4 +1,4 @@
-"""A PostgreSQL of its own folder, for ops/tests/plant-page-test and the tests of the plant's tables, and what psql prints.
+"""A PostgreSQL of its own folder, for the tests of the plant's tables, and what psql prints.
 
     with postgres.Server(folder):
         postgres.asked("-f", "ops/plant/schema.sql")
@@ -102,7 +102,7 @@ class Server:
         self.stop()
 
 
-def asked(*words: str, status: int = 0) -> Any:
+def asked(*words: object, status: int = 0) -> Any:
     """What psql prints, on standard output and on standard error; it has to end with this status."""
     done = subprocess.run(
         ["psql", "-X", "-q", "-v", "ON_ERROR_STOP=1", *map(str, words)],
