@@ -16,7 +16,6 @@ from lab.recalls import last_minute, lot_of, recall, recalled
 from lab.tools import Word, run_changed
 from lab.waits import free_port
 from lab.world import RUNNING, World
-from tracedesk_ops.cmd import recall as tool
 
 pytestmark = [pytest.mark.xdist_group("recall_desks")]
 

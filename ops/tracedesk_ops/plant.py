@@ -6,6 +6,7 @@ import contextlib
 import ctypes
 import fcntl
 import http.client
+import io
 import os
 import pathlib
 import re
@@ -65,7 +66,8 @@ def write_out(text: str) -> None:
     if not sys.stdout:
         raise Fault("standard output is closed")
     try:
-        sys.stdout.reconfigure(errors="backslashreplace")  # type: ignore[attr-defined]
+        if isinstance(sys.stdout, io.TextIOWrapper):
+            sys.stdout.reconfigure(errors="backslashreplace")
         sys.stdout.write(text)
         sys.stdout.flush()
     except OSError as fault:

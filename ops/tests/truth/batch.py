@@ -12,7 +12,9 @@ from unittest import mock
 from lab.tools import Ended, run_tool
 from tracedesk import desk as desks
 from tracedesk_ops import catalogue, chains, doubtful, firstlook, untraced
-from tracedesk_ops.cmd import recall
+from tracedesk_ops.firstlook import Reel
+from tracedesk_ops.recalls.desk import Desk, Line, Question
+from tracedesk_ops.recalls.recall import Recall
 from truth.run import ROUNDS, SETTLE, SLOTS, Run
 from truth.world import BEGIN, Clock, Killed, Killer, Place
 
@@ -23,11 +25,11 @@ COMMANDS_OF = """SELECT number, own, effective, command FROM accepted
     WHERE command LIKE ? AND command NOT LIKE 'SheetDefined%'"""
 
 
-class Asking(recall.Desk):
+class Asking(Desk):
     """A running desk, which isn't asked what is left."""
 
-    def stock(self, *_: object) -> list[object]:
-        return []
+    def stock(self, *_: object) -> Iterator[Reel]:
+        return iter(())
 
 
 def wrong(run: Run, answer_of: Callable[[str], Any]) -> Iterator[str]:
@@ -174,7 +176,7 @@ class Batch:
     def compare(self) -> None:
         """Asks for each lot of each run. The desk stands still by now, so what is the same for all of them is looked at once."""
         path = self.place.catalogue
-        self.line = recall.Line(LINE, self.place.url, path)
+        self.line = Line(LINE, self.place.url, path)
         self.chain = AskedOnce(str(self.place.program))
         at = firstlook.at
         with contextlib.ExitStack() as held:
@@ -205,10 +207,8 @@ class Batch:
 
     def answer_of(self, lot: str) -> Any:
         """What tracedesk-recall says of a lot, in this process."""
-        question = recall.Question("lot", lot)
-        told = recall.Recall(
-            question, [self.line], lambda line: Asking(line, None, None), self.chain
-        )
+        question = Question("lot", lot)
+        told = Recall(question, [self.line], lambda line: Asking(line, None, None), self.chain)
         told.ask()
         faults = told.faults + told.breaks + told.doubts
         assert not faults, f"a recall of {lot}: {faults}"
@@ -278,7 +278,7 @@ class AskedOnce(chains.Asker):
     """tracedesk-chain, whose answer is the same for all lots."""
 
     def __init__(self, program: str) -> None:
-        super().__init__(program, recall.Question("lot", "no lot"))
+        super().__init__(program, Question("lot", "no lot"))
         self.told: Any = None
 
     def ask(self, *words: Any) -> Any:
