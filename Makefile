@@ -44,7 +44,7 @@ faults:        ## fails each call of the program, refuses its memory, cuts the p
 send-test:     ## the senders: 10,000 messages while tracedesk-send, nginx and `serve` are killed 200 times; a proxy that fails; TLS | 6 min | nginx openssl
 	$(say)
 	@clients/python/tests/send-test
-	@clients/python/tests/run
+	@/usr/bin/python3 -m pytest -q clients/python/tests
 bridge-test:   ## the bridge: its table, its sources, kills, and kills of RabbitMQ under it | 3 min | rabbitmq-server python3-qpid-proton
 	$(say)
 	@examples/bridge/test

@@ -138,14 +138,16 @@ export async function maySend(seconds = GET_SECONDS) {
 }
 
 /**
- * Puts a record of untraced work into the line's inbox: "had", or "forbidden", or "none" where
- * the inbox gave no answer. `authorization` is another log-in than the page's.
+ * Puts a record of untraced work into the line's inbox, or a decision about one: "had", or
+ * "forbidden", or "none" where the inbox gave no answer. `authorization` is another log-in than
+ * the page's.
  */
-export async function putRecord({ id, text }, authorization = null) {
+export async function putRecord({ id, text, isDecision = false }, authorization = null) {
   const log = authorization === null ? {} : { Authorization: authorization };
   const headers = { "Content-Type": "application/json", ...log };
   const how = { method: "PUT", body: text, headers };
-  const { status } = await asked(`/line/untraced/${id}.json`, how, POST_SECONDS);
+  const folder = isDecision ? "decided" : "untraced";
+  const { status } = await asked(`/line/${folder}/${id}.json`, how, POST_SECONDS);
   const isHad = [200, 201, 204].includes(status);
   return isHad ? "had" : session.isLoggedOut(status) ? "forbidden" : "none";
 }

@@ -45,8 +45,8 @@ export async function recordOf({ text, source }, answer, at) {
  * The record of a decision: the reel that was refused was taken off the slot, and nothing was
  * placed from it.
  */
-export function takenOff(id, by, at) {
-  return made({
+export async function takenOff(id, by, at) {
+  const record = await made({
     At: at,
     Became: "taken off",
     By: `station ${by}`,
@@ -54,4 +54,5 @@ export function takenOff(id, by, at) {
     Of: id,
     Reason: "nothing was placed from the reel, as was said at the station",
   });
+  return { ...record, isDecision: true };
 }

@@ -6,6 +6,7 @@ LITERAL = re.compile(
     re.S,
 )
 HEAD = re.compile(r"\bfn\s+(\w+)|\bimpl\b([^{;]*)")
+Span = tuple[int, int, "str | None", str]  # begin, end, name of a function, owner of an impl
 END = re.compile(r";(?![^\[\]{}]*\])")  # not that of an array
 
 
@@ -42,7 +43,7 @@ def code_of(source: str, no_code: re.Pattern[str]) -> tuple[str, dict[int, str]]
     return code, literals
 
 
-def spans_of(code: str) -> list[tuple[int, int, str | None, str]]:
+def spans_of(code: str) -> list[Span]:
     """Returns the functions and impls of a code: where each begins and ends, and its name."""
     spans = []
     for found in HEAD.finditer(code):

@@ -6,7 +6,7 @@ from typing import Any
 
 from station_line import real_line, shown_tiles, view
 from station_operator import Operator
-from station_plant import LABEL, SHEET, asks, plant, type_label
+from station_plant import folder, LABEL, SHEET, asks, plant, type_label
 from station_site import Site, wait_for
 from tracedesk_dev.trial import Difference
 
@@ -57,21 +57,21 @@ def set_up(it: Operator) -> None:
     it.keys("\ue00c")  # Escape: the verdict goes
 
 
-def taken(it: Operator, folder: pathlib.Path, name: str) -> None:
+def taken(it: Operator, into: pathlib.Path, name: str) -> None:
     """Takes a picture of the screen as it stands."""
     from selenium.common.exceptions import TimeoutException
 
     time.sleep(1.5)
     for _ in range(10):
         with contextlib.suppress(TimeoutException):  # of a machine that has much to do
-            it.page.save_screenshot(str(folder / f"station-{name}.png"))
+            it.page.save_screenshot(str(into / f"station-{name}.png"))
             return
     raise Difference(f"no picture of {name}")
 
 
-def pictures(program: str, folder: pathlib.Path) -> Any:
+def pictures(program: str, into: pathlib.Path) -> Any:
     """Takes each picture, 1080p and a tablet's; the exit status."""
-    folder.mkdir(parents=True, exist_ok=True)
+    into.mkdir(parents=True, exist_ok=True)
     with Site(program, folder()) as site:
         plant(site)
         for reel, part, level, pieces in (
@@ -106,30 +106,30 @@ def pictures(program: str, folder: pathlib.Path) -> Any:
                 )
                 site.say("WorkCompleted", {"Machine": "M1", "Board": board})
             it.does("S/M2/1", "K-11")
-            taken(it, folder, "accepted")
+            taken(it, into, "accepted")
             it.does("S/M2/3", "K-13", kind="refused")
             wait_for("the free reels", lambda: "K-12" in it.text("verdict"))
-            taken(it, folder, "refused")
+            taken(it, into, "refused")
             it.keys("\ue00c")
             it.go("scan")
             it.scan("S/M1/1")
-            taken(it, folder, "scan")
+            taken(it, into, "scan")
             it.keys("\ue00c")
             type_label(it, LABEL[0])
             it.scan("A/LEVEL-3")
-            taken(it, folder, "receive")
+            taken(it, into, "receive")
             it.go("changeover")
             it.script("document.querySelector('#main form button').click()")
             wait_for("the kit", lambda: it.rows())
-            taken(it, folder, "changeover")
+            taken(it, into, "changeover")
             asks(it, "lot", "L-1", "2")
-            taken(it, folder, "trace")
+            taken(it, into, "trace")
             it.page.get(f"{site.url}/station/codes.html?station=W1")
             wait_for(
                 "the codes",
                 lambda: it.script("return document.querySelectorAll('.cards').length > 3"),
             )
-            taken(it, folder, "codes")
+            taken(it, into, "codes")
     with Site(program, folder()) as site:
         told = real_line(site)
         site.say("MaterialsUnloaded", {"Machine": told.machines[0], "Slot": "3"})
@@ -137,12 +137,12 @@ def pictures(program: str, folder: pathlib.Path) -> Any:
             view(it, *SCREEN)
             it.ready()
             wait_for("the Line", lambda: len(shown_tiles(it)) > 2)
-            taken(it, folder, "line")
+            taken(it, into, "line")
             it.scan(f"S/{told.machines[0]}/3")
             wait_for("the slot is held", lambda: "is empty" in it.text("held"))
-            taken(it, folder, "held")
+            taken(it, into, "held")
             it.keys("\ue00c")
             view(it, *TABLET)
-            taken(it, folder, "tablet")
-    print("\n".join(sorted(str(it) for it in folder.glob("station-*.png"))))
+            taken(it, into, "tablet")
+    print("\n".join(sorted(str(it) for it in into.glob("station-*.png"))))
     return 0

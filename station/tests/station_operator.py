@@ -1,5 +1,6 @@
 """Somebody with a scanner at a station, in headless Chromium."""
 import contextlib
+import importlib
 import os
 import signal
 import subprocess
@@ -18,6 +19,11 @@ request.onsuccess = () => {
 """
 
 
+def chain_of(page: Any) -> Any:
+    """What hands do at a page, one after the other."""
+    return importlib.import_module("selenium.webdriver").ActionChains(page)
+
+
 class Operator:
     """Somebody with a scanner at a station."""
 
@@ -31,7 +37,7 @@ class Operator:
         begin: bool = True,
     ) -> None:
         self.site, self.name, self.user, self.size, self.setup = site, name, user, size, setup
-        self.page = None
+        self.page: Any = None
         self.last = "", 0.0  # the last code, and when it was scanned
         self.agrees = True  # whether its Line is compared with `report` at the end
         if begin:
@@ -107,9 +113,7 @@ class Operator:
 
     def keys(self, *keys: str) -> None:
         """What is typed, wherever the focus is."""
-        from selenium.webdriver import ActionChains
-
-        ActionChains(self.page).send_keys(*keys).perform()
+        chain_of(self.page).send_keys(*keys).perform()
 
     def scan(self, *codes: str) -> None:
         """Scans codes as a wedge does: letters and Enter; the same one not sooner than a hand does."""

@@ -8,7 +8,7 @@ import shutil
 import sqlite3
 from typing import Any, Sequence
 
-from station_operator import Operator
+from station_operator import Operator, chain_of
 from station_line import line_is_as_reported
 from station_site import SETUP, Site, wait_for
 from tracedesk_dev.trial import Difference
@@ -117,10 +117,9 @@ LABEL = [
 
 def type_label(operator: Operator, label: str) -> None:
     """A label as a wedge types it: separators as Ctrl and a letter."""
-    from selenium.webdriver import ActionChains
     from selenium.webdriver.common.keys import Keys
 
-    chain, keys = ActionChains(operator.page), {"\x1d": "]", "\x1e": "6", "\x04": "d"}
+    chain, keys = chain_of(operator.page), {"\x1d": "]", "\x1e": "6", "\x04": "d"}
     for letter in label:
         if letter in keys:
             chain.key_down(Keys.CONTROL).send_keys(keys[letter]).key_up(Keys.CONTROL)
@@ -176,10 +175,9 @@ def opened(site: Site, before: str, name: str = "W1") -> Operator:
 
 def touch(it: Operator, selector: str) -> None:
     """Touches the middle of an element, once as a mouse does."""
-    from selenium.webdriver import ActionChains
     from selenium.webdriver.common.by import By
 
-    ActionChains(it.page).move_to_element(
+    chain_of(it.page).move_to_element(
         it.page.find_element(By.CSS_SELECTOR, selector)
     ).click().perform()
 
@@ -195,7 +193,7 @@ def count_is(it: Operator, count: int, what: str) -> None:
 
 def long_line(site: Site) -> Any:
     """Twelve machines with 120 slots each, most of them loaded."""
-    lines = []
+    lines: list[bytes] = []
 
     def say(word: str, body: Any) -> None:
         at = datetime.datetime.now(datetime.timezone.utc) - datetime.timedelta(minutes=5)
@@ -231,21 +229,21 @@ def long_line(site: Site) -> Any:
             },
         )
         say("ProductSelected", {"Machine": machine, "Product": "LONG"})
-        for number, (slot, part) in enumerate(slots):
+        for index, (slot, part) in enumerate(slots):
             say(
                 "ReelReceived",
                 {
-                    "Reel": f"R{at:02}{number:03}",
+                    "Reel": f"R{at:02}{index:03}",
                     "PartNumber": part,
                     "Lot": "L",
                     "Level": "3",
-                    "Quantity": 20 if number % 40 == at else 5000,
+                    "Quantity": 20 if index % 40 == at else 5000,
                 },
             )
-            if number % 30 != 7 or at % 2:
+            if index % 30 != 7 or at % 2:
                 say(
                     "MaterialsLoaded",
-                    {"Machine": machine, "Slot": slot, "Reel": f"R{at:02}{number:03}"},
+                    {"Machine": machine, "Slot": slot, "Reel": f"R{at:02}{index:03}"},
                 )
     site.kill_desk()
     site.feed(lines)
@@ -330,8 +328,9 @@ def agrees(operator: Operator) -> None:
 
 
 def records(site: Site) -> list[dict[str, Any]]:
-    """The records of untraced work that were handed on."""
-    return [json.loads(file.read_bytes()) for file in (site.room / "line/untraced").glob("*.json")]
+    """The records of untraced work that were handed on, and the decisions about them."""
+    files = [*site.room.glob("line/untraced/*.json"), *site.room.glob("line/decided/*.json")]
+    return [json.loads(file.read_bytes()) for file in files]
 
 
 def machines_say(site: Site, period: float = 3_600, ago: float = 0, **machines: Any) -> None:

@@ -15,14 +15,14 @@ import subprocess
 import tempfile
 import time
 import uuid
-from typing import Any, Callable, Sequence, TypeVar
+from typing import Any, Callable, Sequence
 
 from tracedesk_dev.trial import Difference, wanting
 
 ROOT = pathlib.Path(__file__).resolve().parents[2]
 PEOPLE = {"op": "senders", "office": "readers", "qm": "deciders"}  # their passwords are their names
 CERTIFICATES = {"m2": "sender", "auditor": "reader"}
-SETUP = {
+SETUP: dict[str, Any] = {
     "title": "Line 1",
     "machines": [{"machine": "M1", "product": "CTRL-A"}, {"machine": "M2", "product": "CTRL-A"}],
     "boards": 50,
@@ -33,7 +33,7 @@ BOUNCE = 1.2  # seconds: the same action code within one is taken for one that w
 slower = 1  # each wait takes so many times as long: station-test --slower
 
 
-def missing() -> list[str]:
+def missing() -> Any:
     """The packages of Debian that are wanting here, or none."""
     found = wanting(
         {
@@ -50,16 +50,15 @@ def missing() -> list[str]:
     return found
 
 
-T = TypeVar("T")
-
-
-def wait_for(what: str, holds: Callable[[], T | None], seconds: float = PATIENCE) -> T:
+def wait_for(what: str, holds: Callable[[], Any], seconds: float = PATIENCE) -> Any:
     """What `holds` gives once it is true."""
     end, pause = time.monotonic() + seconds * slower, 0.02
     while True:
+        found = None
         with contextlib.suppress(OSError, http.client.HTTPException):
-            if it := holds():
-                return it
+            found = holds()
+        if found:
+            return found
         if time.monotonic() > end:
             raise Difference(f"after {seconds * slower} seconds: not {what}")
         time.sleep(pause)
@@ -71,13 +70,14 @@ def free_ports(count: int) -> list[int]:
         links = [held.enter_context(socket.socket()) for _ in range(count)]
         for it in links:
             it.bind(("127.0.0.1", 0))
-        return [it.getsockname()[1] for it in links]
+        ports = [it.getsockname()[1] for it in links]
+    return ports
 
 
 def certificate(folder: pathlib.Path, name: str, subject: str, by: str | None = None) -> None:
     """A key and a certificate for localhost; one that signs itself, or by another's key."""
     words = "openssl req -x509 -newkey ec -pkeyopt ec_paramgen_curve:P-256 -nodes -days 9 -addext subjectAltName=DNS:localhost"
-    signed = ["-CA", folder / f"{by}.crt", "-CAkey", folder / f"{by}.key"] if by else []
+    signed: list[Any] = ["-CA", folder / f"{by}.crt", "-CAkey", folder / f"{by}.key"] if by else []
     subprocess.run(
         [
             *words.split(),
@@ -101,8 +101,9 @@ class Site:
         self.program = program
         self.room = pathlib.Path(tempfile.mkdtemp(prefix="station-", dir=folder))
         self.port, self.desk_port, self.inner_port = free_ports(3)
-        self.desk = self.nginx = None
-        self.last_look = (
+        self.desk: Any = None
+        self.nginx: Any = None
+        self.last_look: Any = (
             lambda operator: None
         )  # what an operator looks at before the browser is closed
         self.agreed = 0
@@ -155,17 +156,17 @@ class Site:
         self.make_users()
 
     def make_users(self) -> None:
-        """Writes who may read and who may send, with the passwords."""
+        """Writes who may read, send and decide, with the passwords."""
         at = self.room / "etc"
-        lines = {
-            name: f"{name}:{subprocess.run(['openssl', 'passwd', '-6', name], check=True, capture_output=True, text=True).stdout}"
+        password = ["openssl", "passwd", "-6"]
+        self.lines = {
+            name: f"{name}:{subprocess.run([*password, name], check=True, capture_output=True, text=True).stdout}"
             for name in PEOPLE
         }
-        (at / "readers").write_text("".join(lines.values()))
-        (at / "deciders").write_text(lines["op"] + lines["qm"])
-        (at / "senders").write_text(
-            "".join(line for name, line in lines.items() if PEOPLE[name] == "senders")
-        )
+        (at / "readers").write_text("".join(self.lines.values()))
+        (at / "deciders").write_text(self.lines["op"] + self.lines["qm"])
+        senders = [line for name, line in self.lines.items() if PEOPLE[name] == "senders"]
+        (at / "senders").write_text("".join(senders))
 
     def sign(self, *how: str) -> None:
         certificate(self.room / "etc", *how)
@@ -216,7 +217,7 @@ class Site:
         wait_for(
             "nginx listens",
             lambda: self.nginx.poll() is None
-            and socket.create_connection(("127.0.0.1", self.port), 1).close() is None,
+            and not socket.create_connection(("127.0.0.1", self.port), 1).detach() < 0,
         )
 
     def stop_nginx(self) -> None:
@@ -314,15 +315,13 @@ class Site:
         link = http.client.HTTPSConnection("localhost", self.port, timeout=30, context=trust)
         if method == "POST":
             headers = {"Content_Type": "application/json", **headers}
-        headers = {
+        given = {
             name.replace("_", "-"): value for name, value in headers.items() if value is not None
         }
         if user:
-            headers["Authorization"] = (
-                "Basic " + base64.b64encode(f"{user}:{user}".encode()).decode()
-            )
+            given["Authorization"] = "Basic " + base64.b64encode(f"{user}:{user}".encode()).decode()
         try:
-            link.request(method, path, body, headers)
+            link.request(method, path, body, given)
             answer = link.getresponse()
             return answer.status, dict(answer.getheaders()), answer.read().decode()
         finally:
@@ -361,7 +360,7 @@ class Site:
             check=False,
         ).stdout
 
-    def report(self, target: str) -> list[dict[str, str]]:
+    def report(self, target: str) -> str:
         """What the program's `report` says of a copy of the file and its log, while the desk is stopped for that moment."""
         self.pause_desk()
         try:
@@ -383,7 +382,7 @@ def browser(room: pathlib.Path | str, name: str, size: tuple[int, int] = (1920, 
     from selenium.common.exceptions import SessionNotCreatedException
     from selenium.webdriver.chrome.service import Service
 
-    options = webdriver.ChromeOptions()
+    options: Any = webdriver.ChromeOptions()
     options.binary_location = shutil.which("chromium")
     for it in (
         "--headless=new",
@@ -405,7 +404,8 @@ def browser(room: pathlib.Path | str, name: str, size: tuple[int, int] = (1920, 
     ):  # a machine that has much to do may not begin it within the driver's minute
         try:
             page = webdriver.Chrome(
-                service=Service(shutil.which("chromedriver"), log_path=os.devnull), options=options
+                service=Service(str(shutil.which("chromedriver")), log_path=os.devnull),
+                options=options,
             )
             break
         except SessionNotCreatedException:

@@ -33,7 +33,7 @@ def test_a_plant_changes_texts_and_set_up(site: Site) -> None:
         it.does("~%M1.1!", "~K-1!", holds=("ANGENOMMEN", "slot 1"))
         it.does("~%M8.1!", kind="fault", holds=("slot of no machine",))
         it.does("~$NOPE!", kind="fault", holds=("no action",))
-    told = []
+    told: list[str] = []
     for text, holds in (
         ("[]", "no JSON object"),
         ('{"machines": []}', "list machines"),
@@ -220,7 +220,7 @@ def test_a_plants_own_texts(site: Site) -> None:
     """A file that has some texts only, one that has a fault, and none: each text that is not the plant's is ours; and none of ours is dead."""
     at = site.room / "etc/station/texts.js"
     some = 'export const TEXTS = { lang: "de", verdict: { accepted: "ANGENOMMEN: {done}" }, refusals: { UnknownReel: ["Rolle {at} ist unbekannt", "Noch einmal scannen."], Expired: ["nur eins"] }, screens: 7 };'
-    told = []
+    told: list[str] = []
     for text, yes, number in (
         (some, "ANGENOMMEN: SPLICED", "4.300"),
         ("export const TEXTS = {", "ACCEPTED: SPLICED", "4,300"),

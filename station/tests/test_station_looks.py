@@ -222,7 +222,7 @@ def dark_on_light(it: Operator, where: Any, seen: Any) -> None:
 
 def test_letters_stand_out(site: Site) -> None:
     """WCAG AA of each text, on each screen, of a verdict of each kind, and while the desk doesn't answer."""
-    seen = []
+    seen: list[Any] = []
     with Operator(site) as it:
         set_up(it)
         for screen in SCREENS:

@@ -16,7 +16,7 @@ pytestmark = pytest.mark.browser
 
 def test_each_refusal_in_words(site: Site) -> None:
     """Those that a scan can get, by a scan; and every one of docs/messages.md has its words."""
-    got = {}
+    got: dict[str, str] = {}
 
     def refused(refusal: str, *codes: str) -> None:
         text = it.does(*codes, kind="refused")

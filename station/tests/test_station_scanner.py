@@ -5,7 +5,7 @@ from typing import Any
 import pytest
 from station_line import report
 from station_looks import SCREENS
-from station_operator import Operator
+from station_operator import Operator, chain_of
 from station_plant import count_is, refused, touch, type_label, whole
 from station_site import SETUP, Site, wait_for
 from tracedesk_dev.trial import Difference
@@ -65,7 +65,6 @@ def test_a_name_is_no_number(site: Site) -> None:
 
 def test_typing_with_pauses_and_touches(site: Site) -> None:
     """A number in two parts, a touch in its midst, double touches, double Enters, a second label, the control keys of a wedge."""
-    from selenium.webdriver import ActionChains
     from selenium.webdriver.common.keys import Keys
 
     with Operator(site) as it:
@@ -87,7 +86,7 @@ def test_typing_with_pauses_and_touches(site: Site) -> None:
         it.go("changeover")
         it.seen()
         it.script("document.querySelector('form.changeover').elements.product.value = 'CTRL-A'")
-        ActionChains(it.page).double_click(
+        chain_of(it.page).double_click(
             it.page.find_elements("css selector", "form.changeover button")[1]
         ).perform()
         if "PRODUCT SELECTED" not in it.verdict()[1]:
@@ -95,7 +94,7 @@ def test_typing_with_pauses_and_touches(site: Site) -> None:
         time.sleep(1)
         count_is(it, 4, "a double touch")
         receipts(it, Keys)
-        control_keys(it, ActionChains, Keys)
+        control_keys(it, Keys)
         whole(site, it, 7)
     print(
         "2 numbers, a double touch of 2 buttons, a double Enter, a second label, Ctrl with J and M"
@@ -138,11 +137,11 @@ def receipts(it: Operator, Keys: Any) -> None:
     it.does("A/ENTER", holds=("RECEIVED", "R-6"))
 
 
-def control_keys(it: Operator, ActionChains: Any, Keys: Any) -> None:
+def control_keys(it: Operator, Keys: Any) -> None:
     it.script(
         "window.kept = []; window.addEventListener('keydown', (event) => event.ctrlKey && event.key !== 'Control' && window.kept.push(event.defaultPrevented))"
     )
-    chain = ActionChains(it.page)
+    chain = chain_of(it.page)
     for code in ("A/OPEN", "K-2"):
         chain.send_keys(code)
         for key in ("m", "j"):

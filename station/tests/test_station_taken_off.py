@@ -93,7 +93,7 @@ def test_it_is_asked_twice_and_can_be_undone(site: Site) -> None:
 
 
 def test_an_inbox_that_is_away_is_tried_again(site: Site) -> None:
-    folder = site.room / "line/untraced"
+    folder = site.room / "line/decided"
     with opened(site, CLOCKS) as it:
         it.ready().scan("B/anna")
         it.does("S/M1/3", "K-2", kind="refused")
@@ -105,3 +105,23 @@ def test_an_inbox_that_is_away_is_tried_again(site: Site) -> None:
         wait_for_text(it, "Not noted yet")
         folder.with_name("away").rename(folder)
         wait_for("it is noted", lambda: decided(site) == 1)
+
+
+def test_a_log_in_that_may_not_decide(site: Site) -> None:
+    """The log-in of somebody who may decide is asked for on the red screen, for this decision alone."""
+    (site.room / "etc/deciders").write_text(site.lines["qm"])
+    with opened(site, CLOCKS) as it:
+        it.ready().scan("B/anna")
+        it.does("S/M1/3", "K-2", kind="refused")
+        wait_for("the refusal is handed on", lambda: records(site))
+        press(it)
+        press(it)
+        it.script("window.later += 70_000")
+        wait_for_text(it, "NOT noted: this needs the log-in")
+        it.script(
+            """const form = document.querySelector('#verdict .off form'), [user, password] = form.querySelectorAll('input');
+            user.value = password.value = 'qm'; form.requestSubmit();"""
+        )
+        wait_for_text(it, "Noted: the reel was taken off")
+        if decided(site) != 1:
+            raise Difference(f"decisions: {records(site)}")

@@ -29,9 +29,10 @@ class Run:
         self.obeys = self.random.random() < 0.5
         self.inbox = places.Place(str(place.untraced), lambda _: desk)
         inbox = None if planted else self.inbox
+        machines: dict[str, list[str]] = {"machine": [name], "tablet": []}
         self.sources = {
-            its: Source(place.spools / f"{name}-{its}", f"{name}-{its}", desk, inbox, machines)
-            for its, machines in (("machine", [name]), ("tablet", []))
+            its: Source(place.spools / f"{name}-{its}", f"{name}-{its}", desk, inbox, those)
+            for its, those in machines.items()
         }
         self.is_out = {its: False for its in self.sources}
         self.told: list[tuple[Any, ...]] = []  # for who looks at a failed run
