@@ -52,9 +52,9 @@ bridge-test:   ## the bridge: its table, its sources, kills, and kills of Rabbit
 station-test:  ## the station in headless Chromium behind nginx: each flow, kills, looks: docs/station.md | 15 min | chromium chromium-driver python3-selenium nginx zbar-tools poppler-utils openssl
 	$(say)
 	@station/tests/station-test
-plant-test:    ## installs the packages on a fresh Debian 12 of its own, as root, follows docs/operations.md there, and runs the tests of ops/ | 20 min | debootstrap iproute2 pandoc binutils debhelper
+plant-test:    ## installs the packages on a fresh Debian 12 of its own, as root, follows docs/operations.md there, and runs the tests of ops/ | 20 min | debootstrap iproute2 pandoc binutils debhelper python3-pytest
 	$(say)
-	@ops/tests/plant-test
+	@/usr/bin/python3 -m pytest -q ops/tests/test_installed*.py
 
 #: measure
 bench:         ## what a day costs, beside stock SQLite | 5 min | time
