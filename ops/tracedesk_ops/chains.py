@@ -17,6 +17,7 @@ import pathlib
 import re
 import shutil
 import subprocess
+import sys
 import tempfile
 import time
 
@@ -162,7 +163,7 @@ def said_of(run, words, files, about):
                 ends.append(
                     End(int(found[2]), int(found[3]) if found[3] != "none" else 0, found[4] or "")
                 )
-                if time.monotonic() >= due:
+                if sys.stderr.isatty() and time.monotonic() >= due:
                     plant.tell(f"{about}{len(ends)} of {len(files)} files were read")
                     due = time.monotonic() + SECONDS_BETWEEN_NOTES
         out.seek(0)
