@@ -27,6 +27,7 @@ reading, so that is compared. tracedesk-chain is the one next to the program, or
 --minutes  nothing more is made after so many; the questions are about the files made by then
 --pieces   of each archive of --recall
 """
+import argparse
 import itertools
 import json
 import os
@@ -40,6 +41,7 @@ import tempfile
 import time
 
 import starts
+from typing import Any, Iterator
 from tracedesk_dev import postgres, program
 from tracedesk_dev.program import ROOT
 from tracedesk_ops import catalogue, plant
@@ -49,7 +51,7 @@ from tracedesk_dev.bench_archives import LOT, MEMORY, line_of, made, whole
 COLD, WARM = 3, 15  # turns
 
 
-def taken(server):
+def taken(server: Any) -> Any:
     """Seconds by the clock, and of the processor: of ended children of this tool and of ended sessions of the server, where there is one."""
     own = resource.getrusage(resource.RUSAGE_CHILDREN)
     return time.monotonic(), own.ru_utime + own.ru_stime + (
@@ -57,14 +59,14 @@ def taken(server):
     )
 
 
-def since(server, before):
+def since(server: Any, before: Any) -> Any:
     return tuple(round(now - then, 3) for now, then in zip(taken(server), before))
 
 
-def loads(asked, server, room):
+def loads(asked: argparse.Namespace, server: Any, room: pathlib.Path) -> Iterator[Any]:
     """Loads each archive by itself: its seconds, how many pieces it has, and its bytes."""
 
-    def folder_of(number):
+    def folder_of(number: int) -> pathlib.Path:
         at = room / f"archive-{number}"
         at.mkdir()
         return at
@@ -85,15 +87,11 @@ def loads(asked, server, room):
 # --- A line's chain of archives, by tracedesk-chain and by ops/tracedesk-recall
 
 
-def chain_of(asked, at):
+def chain_of(asked: argparse.Namespace, at: Any) -> Any:
     """Makes the archives of one line that rolls over, and its catalogue; the path of each, and how many pieces there are."""
-    messages, files, pieces, ticks, end = (
-        starts.Line().messages(),
-        [],
-        0,
-        program.Ticks(),
-        time.monotonic() + 60 * asked.minutes,
-    )
+    messages, pieces, ticks = starts.Line().messages(), 0, program.Ticks()
+    files: list[Any] = []
+    end = time.monotonic() + 60 * asked.minutes
     for number in range(asked.archives):
         if time.monotonic() > end:
             break
@@ -138,7 +136,7 @@ def chain_of(asked, at):
     return files, pieces
 
 
-def measured(*words):
+def measured(*words: Any) -> Any:
     """Seconds of a call by the clock and of the processor, the most memory that it had in bytes, and how many lines it printed."""
     with tempfile.NamedTemporaryFile(
         "r"
@@ -154,7 +152,7 @@ def measured(*words):
     return clock, round(user + system, 2), int(1024 * memory), done.stdout.count(b"\n")
 
 
-def recall_bench(asked, room):
+def recall_bench(asked: argparse.Namespace, room: pathlib.Path) -> None:
     """A lot of a reel that was carried over amid the chain, and a board, by each road; and the audit of each file, which reads the same."""
     at = room / "archive"
     at.mkdir()
@@ -171,7 +169,7 @@ def recall_bench(asked, room):
         }
     )
 
-    def of(name, measured):
+    def of(name: str, measured: Any) -> None:
         tell({f"{name}, by the clock, of the processor, bytes of memory, lines": measured})
 
     copies = [shutil.copy(it, room / it.name) for it in files]  # an audit leaves a log
@@ -215,7 +213,7 @@ def recall_bench(asked, room):
 # --- By PostgreSQL
 
 
-def out_of_cache(folder):
+def out_of_cache(folder: pathlib.Path) -> None:
     for at, _, names in os.walk(folder):
         for name in names:
             with open(os.path.join(at, name), "rb") as file:
@@ -223,7 +221,7 @@ def out_of_cache(folder):
                 os.posix_fadvise(file.fileno(), 0, 0, os.POSIX_FADV_DONTNEED)
 
 
-def timed(server, *words):
+def timed(server: Any, *words: Any) -> Any:
     """The seconds of one call of psql by the clock and of the processor, its start among them, and what it printed."""
     began = taken(server)
     told = postgres.asked("--csv", "-t", *words)
@@ -232,15 +230,15 @@ def timed(server, *words):
     return (clock, since(server, began)[1]), told
 
 
-def medians(pairs):
+def medians(pairs: Any) -> Any:
     return tuple(map(statistics.median, zip(*pairs)))
 
 
-def least(pairs):
+def least(pairs: Any) -> Any:
     return tuple(map(min, zip(*pairs)))
 
 
-def restarted(server, **options):
+def restarted(server: Any, **options: Any) -> None:
     """A new start of the server, with its files out of the system's cache; `options` are not its defaults."""
     postgres.asked("-c", "CHECKPOINT")
     server.stop()
@@ -271,7 +269,7 @@ SIZES = """SELECT json_build_object('pieces', (SELECT sum(pieces) FROM plant.fil
 RENAMED = "CREATE FUNCTION plant.renamed(name text, number integer) RETURNS text LANGUAGE sql AS $$ SELECT lpad(to_hex(number), 4, '0') || substr(name, 5) $$"
 
 
-def copied(asked, server, last):
+def copied(asked: argparse.Namespace, server: Any, last: Any) -> Any:
     """Lets SQL copy the first file until there are --files; how many there are."""
     template, ticks, end = (
         server.folder / "template",
@@ -296,7 +294,7 @@ def copied(asked, server, last):
     return last
 
 
-def ask(server):
+def ask(server: Any) -> None:
     """Asks for the lot, one of its reels and a board, cold and warm, and for no piece; and how many pages of 8,192 bytes are read, cold."""
     board, reel = postgres.asked(
         "-At",
@@ -307,7 +305,7 @@ def ask(server):
         (SELECT min(reel) FROM plant.reel WHERE lot = '{LOT}')""",
     ).split()
     names = {"lot": LOT, "reel": reel, "board": board}
-    calls = {
+    calls: dict[str, tuple[Any, ...]] = {
         f"{kind}, its pieces": ("-v", f"{kind}={name}", "-f", postgres.SQL / "pieces.sql")
         for kind, name in names.items()
     }
@@ -352,7 +350,7 @@ def ask(server):
         )
 
 
-def postgres_bench(asked):
+def postgres_bench(asked: argparse.Namespace) -> None:
     with tempfile.TemporaryDirectory(
         prefix="plant-", dir=asked.folder
     ) as room, tempfile.TemporaryDirectory(prefix="plant-", dir=asked.folder) as folder:
@@ -392,11 +390,11 @@ def postgres_bench(asked):
             )
 
 
-def tell(told):
+def tell(told: Any) -> None:
     print(json.dumps({**told, "load of the machine": round(os.getloadavg()[0], 1)}), flush=True)
 
 
-def words(reader):
+def words(reader: argparse.ArgumentParser) -> None:
     program.offer(reader)
     reader.add_argument("--folder", type=pathlib.Path)
     reader.add_argument("--recall", action="store_true")
@@ -407,7 +405,7 @@ def words(reader):
     reader.add_argument("--files", type=int, default=1_000)
 
 
-def main(asked, reader):
+def main(asked: argparse.Namespace, reader: argparse.ArgumentParser) -> None:
     asked.program = program.to_use(asked.program)
     asked.chain = plant.chain_of(asked.program)
     if asked.recall and not shutil.which("time"):

@@ -34,6 +34,7 @@ imports; `disk`, `kill` and `power` of `feed` with a file, and of `migrate`. Of 
 seed that is the commit's hash. Then the part of --planted for `feed`, which must be found. The last line is 'N passed,
 M failed', over the parts of each story and the planted faults. Without a C compiler it is reported as skipped, with status 0.
 """
+import argparse
 import collections
 import concurrent.futures
 import os
@@ -43,12 +44,13 @@ import re
 import subprocess
 import tempfile
 import time
+from typing import Any, Callable, Iterable, Iterator
 
 from tracedesk_dev import program
 from tracedesk_dev.program import ROOT
 from tracedesk_dev.trial import Difference as Found
 from tracedesk_dev.fault_judging import stopped
-from tracedesk_dev.fault_stories import EVER, Rooms
+from tracedesk_dev.fault_stories import EVER, Rooms, Story
 from tracedesk_dev.fault_points import cut, disk, kill, memory, power, wire
 from tracedesk_dev.fault_cases import stories
 
@@ -103,12 +105,19 @@ PLANTED = {
         story, counts, f"sync 1 {EVER} lie", one_in
     ),
 }
-PARTS = {"wire": wire, "memory": memory, "disk": disk, "kill": kill, "power": power}
+PARTS: dict[str, Callable[..., Iterator[Any]]] = {
+    "wire": wire,
+    "memory": memory,
+    "disk": disk,
+    "kill": kill,
+    "power": power,
+}
 
 
-def judged(points):
+def judged(points: Any) -> Any:
     """Each point as how it is told and what judges it: what was seen, and what was found."""
-    seen, found = collections.Counter(), []
+    seen: collections.Counter[str] = collections.Counter()
+    found: list[str] = []
     for told, judging in points:
         try:
             judging(seen)
@@ -117,13 +126,13 @@ def judged(points):
     return len(points), seen, found
 
 
-def one(story, point):
+def one(story: Story, point: Any) -> Any:
     """A power cut, which needs no run of the same calls."""
     _call, got, files, again, told = point
     return judged([(told, lambda seen: cut(story, got, files, seen, again))])
 
 
-def many(story, base, points):
+def many(story: Story, base: str, points: Any) -> Any:
     """Points of one run."""
     try:
         gots = story.branched(base, [fail for _call, _kind, fail in points])
@@ -146,7 +155,7 @@ def many(story, base, points):
     )
 
 
-def tasks_of(story, points, until):
+def tasks_of(story: Story, points: Any, until: Any) -> Iterator[Any]:
     """The runs for these points: for those that differ in what fails first alone, one run for many of them."""
     waiting = collections.defaultdict(list)
     for point in points:
@@ -163,22 +172,22 @@ def tasks_of(story, points, until):
         yield many, story, base, its
 
 
-def tried(asked, points_of, story, until):
+def tried(asked: argparse.Namespace, points_of: Any, story: Story, until: Any) -> Any:
     """Fails each point of a story; gives how many, what was seen, and what was found."""
-    seen, found, count = collections.Counter(), [], 0
+    seen: collections.Counter[str] = collections.Counter()
+    found: list[str] = []
+    count = 0
     counts = story.failed().counts
     with concurrent.futures.ThreadPoolExecutor(asked.jobs) as pool:
-        tasks, running, ticks = (
-            tasks_of(story, points_of(story, counts), until),
-            set(),
-            program.Ticks(),
-        )
+        tasks = iter(tasks_of(story, points_of(story, counts), until))
+        running: set[concurrent.futures.Future[Any]] = set()
+        ticks = program.Ticks()
         while True:
             try:
                 while len(running) < 2 * asked.jobs and (task := next(tasks, None)) is not None:
                     running.add(pool.submit(*task))
-            except Found as it:
-                found.append(f"no further points: {it}")
+            except Found as fault:
+                found.append(f"no further points: {fault}")
                 tasks = iter(())
             if not running:
                 break
@@ -194,7 +203,7 @@ def tried(asked, points_of, story, until):
     return count, +seen, found
 
 
-def points_for(asked, name, story):
+def points_for(asked: argparse.Namespace, name: str, story: Story) -> Any:
     """What makes the points of a part: all of them, or with --gate, outside of WHOLE, one in so many by the seed."""
     if not asked.gate or story.name in WHOLE[name]:
         return PARTS[name]
@@ -206,7 +215,7 @@ def points_for(asked, name, story):
     )
 
 
-def part_of(asked, name, story):
+def part_of(asked: argparse.Namespace, name: str, story: Story) -> Any:
     """Tries a part of a story, tells it in a line, and gives how many points there were and what was found."""
     begun = time.monotonic()
     if story.wanted is not None and story.known(story.all).answers != story.wanted:
@@ -234,7 +243,7 @@ def part_of(asked, name, story):
     return count, found
 
 
-def parts(asked, points, ends):
+def parts(asked: argparse.Namespace, points: Any, ends: Any) -> None:
     """Tries all parts; adds up the points of each, and how many stories of parts passed and failed."""
     its = list(stories(asked))
     for name in asked.parts or PARTS:
@@ -245,7 +254,9 @@ def parts(asked, points, ends):
                 ends["failed" if found else "passed" if count else "without a point"] += 1
 
 
-def planted(asked, names, points, ends, one_in=1):
+def planted(
+    asked: argparse.Namespace, names: Iterable[str], points: Any, ends: Any, one_in: Any = 1
+) -> None:
     """Lies, which have to be found out; of power cuts one in so many."""
     for story in stories(asked):
         for name, lies in PLANTED.items() if story.name in names else ():
@@ -260,7 +271,7 @@ def planted(asked, names, points, ends, one_in=1):
             )
 
 
-def gate(asked, points, ends):
+def gate(asked: argparse.Namespace, points: Any, ends: Any) -> None:
     """What `make test` tries."""
     begun = time.monotonic()
     parts(asked, points, ends)
@@ -272,7 +283,7 @@ def gate(asked, points, ends):
     print(f"{ends['passed']} passed, {ends['failed']} failed", flush=True)
 
 
-def words(reader):
+def words(reader: argparse.ArgumentParser) -> None:
     program.offer(reader)
     reader.add_argument("--cases", type=pathlib.Path, default=ROOT / "cases")
     reader.add_argument("--jobs", type=int, default=max(1, (os.cpu_count() or 2) // 2))
@@ -295,7 +306,7 @@ def words(reader):
     reader.add_argument("parts", nargs="*", metavar="PART")
 
 
-def main(asked, reader):
+def main(asked: argparse.Namespace, reader: argparse.ArgumentParser) -> int:
     if set(asked.parts) - set(PARTS):
         reader.error(f"the parts are {', '.join(PARTS)}")
     if asked.gate and not program.can_compile():
@@ -328,7 +339,8 @@ def main(asked, reader):
             check=True,
         )
         asked.rooms = Rooms(os.path.realpath(folder))
-        points, ends = collections.Counter(), collections.Counter()
+        points: collections.Counter[str] = collections.Counter()
+        ends: collections.Counter[str] = collections.Counter()
         if asked.gate:
             gate(asked, points, ends)
         elif asked.planted:

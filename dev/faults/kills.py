@@ -24,6 +24,7 @@ shift is done, each table is that of a run that nothing disturbed. A run or an a
 seconds (120, by the environment) counts as a hang: give more on a machine that is busy with other things. Wanted are
 strace.
 """
+import argparse
 import collections
 import contextlib
 import http.client
@@ -36,6 +37,7 @@ import socket
 import subprocess
 import tempfile
 import time
+from typing import Any, Iterator
 
 from tracedesk_dev import program
 from tracedesk_dev.program import ROOT
@@ -59,14 +61,10 @@ from tracedesk_dev.fault_desks import (
 # ---- kills -------------------------------------------------------------------------------------------------------
 
 
-def killed(asked, folder, take_for):
+def killed(asked: argparse.Namespace, folder: pathlib.Path, take_for: Any) -> str:
     """Kills so many times, or for so long; says what was seen."""
-    chance, begun, seen, seed = (
-        random.Random(asked.seed),
-        time.monotonic(),
-        collections.Counter(),
-        asked.seed,
-    )
+    chance, begun, seed = random.Random(asked.seed), time.monotonic(), asked.seed
+    seen: collections.Counter[str] = collections.Counter()
     desk, ticks = Desk(asked.program, folder, seed, asked.boards), program.Ticks()
     while seen["kills"] < asked.kills and time.monotonic() - begun < asked.seconds:
         ticks.tell(f"{seen['kills']} of {asked.kills} kills")
@@ -105,9 +103,11 @@ CALLS = "write,writev,pwrite64,pwritev,sendto,sendmsg,fdatasync,fsync"
 CALL = re.compile(r"^(?:(\d+) +)?(?:<\.\.\. (\w+) resumed>|(\w+)\((\d+)<([^>]*)>)(.*)$")
 
 
-def ordered(log, file):
+def ordered(log: Any, file: str) -> int:
     """Goes through strace's calls: how many Accepted answers went out, each after the sync of its commit."""
-    open_writes, written, answered, calls = set(), False, set(), {}
+    open_writes: set[str] = set()
+    written, answered = False, set()
+    calls: dict[Any, Any] = {}
     for line in log:
         match = CALL.match(line.rstrip("\n"))
         if not match:
@@ -134,13 +134,15 @@ def ordered(log, file):
     return len(answered)
 
 
-def traced(words, log, given=None, more=(), **how):
+def traced(
+    words: list[str], log: Any, given: Any = None, more: Any = (), **how: Any
+) -> subprocess.Popen[bytes]:
     """A process under strace."""
     trace = ["strace", "-f", "-qq", "-y", "-s", "400", "-e", f"trace={CALLS}", *more, "-o", log]
     return subprocess.Popen([*trace, *words], stdin=given, start_new_session=True, **how)
 
 
-def order(asked, folder):
+def order(asked: argparse.Namespace, folder: pathlib.Path) -> str:
     desk = Desk(asked.program, folder, asked.seed, 24)
     log, told = str(pathlib.Path(folder, "calls")), []
     with tempfile.TemporaryFile() as given, tempfile.TemporaryFile() as taken:
@@ -160,7 +162,7 @@ def order(asked, folder):
     return "; ".join(told)
 
 
-def order_of_serve(asked, folder, log):
+def order_of_serve(asked: argparse.Namespace, folder: pathlib.Path, log: Any) -> str:
     desk, port = Desk(asked.program, folder, asked.seed, 24), free_port()
     process = traced(
         [desk.program, "serve", "--db", desk.file, "--port", str(port), "--connections", "2"],
@@ -189,7 +191,7 @@ def order_of_serve(asked, folder, log):
 # ---- disks that stop ---------------------------------------------------------------------------------------------
 
 
-def failed(desk, how, start, seen):
+def failed(desk: Any, how: Any, start: Any, seen: Any) -> None:
     """One run that fails, what is found after it, and the next run, which doesn't fail."""
     status, told = talk(desk, start)
     if (
@@ -209,7 +211,7 @@ def failed(desk, how, start, seen):
     desk.end()
 
 
-def within(asked, turns, begun):
+def within(asked: argparse.Namespace, turns: Any, begun: float) -> Iterator[int]:
     """So many turns, and none once the time is up."""
     ticks = program.Ticks()
     for turn in range(turns):
@@ -219,13 +221,13 @@ def within(asked, turns, begun):
         yield turn
 
 
-def disk(asked, folder):
+def disk(asked: argparse.Namespace, folder: pathlib.Path) -> str:
     chance, begun, told = random.Random(asked.seed), time.monotonic(), []
     whole = Desk(asked.program, folder, asked.seed, 12)
     talk(whole, plain)
     size = os.path.getsize(whole.file)
     for ignored in (True, False):
-        seen = collections.Counter()
+        seen: collections.Counter[str] = collections.Counter()
         for _turn in within(asked, asked.turns, begun):
             limit = chance.randint(0, size)
             failed(
@@ -240,15 +242,17 @@ def disk(asked, folder):
     return "\n         ".join(told)
 
 
-def shown(seen):
+def shown(seen: Any) -> str:
     return f"{seen.pop('runs', 0)} runs; " + ", ".join(
         f"{count} {name}" for name, count in sorted(seen.items())
     )
 
 
-def full(asked, folder, size, chance, begun):
+def full(
+    asked: argparse.Namespace, folder: pathlib.Path, size: int, chance: Any, begun: Any
+) -> str:
     """A file system that is full, and has room later."""
-    seen = collections.Counter()
+    seen: collections.Counter[str] = collections.Counter()
     for _turn in within(asked, asked.turns, begun):
         room = small_disk(folder, chance.randint(65_536, 2 * size))
         if room is None:
@@ -279,7 +283,7 @@ PARTS = {
 }
 
 
-def parts(asked):
+def parts(asked: argparse.Namespace) -> int:
     """Runs the parts; a line for each. Says how many failed."""
     wrong = 0
     for name in asked.parts or PARTS:
@@ -295,7 +299,7 @@ def parts(asked):
     return wrong
 
 
-def words(reader):
+def words(reader: argparse.ArgumentParser) -> None:
     program.offer(reader)
     reader.add_argument("--kills", type=int, default=200)
     reader.add_argument(
@@ -311,7 +315,7 @@ def words(reader):
     reader.add_argument("parts", nargs="*", metavar="PART")
 
 
-def main(asked, reader):
+def main(asked: argparse.Namespace, reader: argparse.ArgumentParser) -> int:
     if set(asked.parts) - set(PARTS):
         reader.error(f"the parts are {', '.join(PARTS)}")
     if "order" in (asked.parts or PARTS):

@@ -173,8 +173,8 @@ def test_untraced_work_is_put_once(site: Site) -> None:
     path, file = f"/line/untraced/{name}.json", site.room / f"line/untraced/{name}.json"
     other = {"Origin": "https://elsewhere.example", "Sec_Fetch_Site": "cross-site"}
     worked = [
-        ("PUT", path, None, record, {}, 403),
-        ("PUT", path, "office", record, {}, 403),
+        ("PUT", path, None, record, {}, 401),
+        ("PUT", path, "office", record, {}, 401),
         ("PUT", path, "op", record, other, 403),
         ("PUT", path, "op", "x" * 3 * 2**20 + "x", {}, 413),
         ("PUT", path.replace(name[-1] + ".json", "G.json"), "op", record, {}, 404),
@@ -209,7 +209,7 @@ def test_untraced_work_is_put_once(site: Site) -> None:
     agree("by a certificate", 204, site.asked("PUT", path, None, record, "m2")[0])
     agree(
         "by a reader's",
-        403,
+        401,
         site.asked("PUT", path.replace(name, "0" * 32), None, record, "auditor")[0],
     )
 

@@ -1,4 +1,5 @@
 """A year's archives, made up for measurements."""
+import argparse
 import contextlib
 import os
 import pathlib
@@ -7,6 +8,7 @@ import sqlite3
 import subprocess
 import sys
 import tempfile
+from typing import Any, Iterator
 from tracedesk_dev import shift
 from tracedesk_ops import catalogue, plant
 
@@ -16,14 +18,14 @@ BASE = "ZQZQ"  # no part of another name, and longer than two numbers of a row: 
 LETTERS = "ABCDEFGHIJKLMNOPQRSTUVWXYZ"
 
 
-def whole(file):
+def whole(file: pathlib.Path) -> None:
     """A desk that stands whole, without a log."""
     with contextlib.closing(sqlite3.connect(file, isolation_level=None)) as database:
         database.execute("PRAGMA wal_checkpoint(TRUNCATE)")
     plant.without_log(file)
 
 
-def first_archive(asked, file):
+def first_archive(asked: argparse.Namespace, file: pathlib.Path) -> None:
     """Feeds the shift to a desk, in memory where there is a folder for that: no sync is waited for."""
     lines = [it.text for it in shift.Shift(1, asked.boards, BASE).lines]
     with tempfile.TemporaryDirectory(dir=MEMORY if os.path.isdir(MEMORY) else None) as room:
@@ -39,7 +41,7 @@ def first_archive(asked, file):
         shutil.move(desk, file)
 
 
-def another(first, number, file):
+def another(first: Any, number: int, file: pathlib.Path) -> None:
     """Writes the bytes of the first archive with names of its own; a name that lies on two pages is changed by a statement."""
     two = f"{LETTERS[number // 10]}{number % 10}"
     changes = (f"{BASE}-", f"{two}ZQ-"), ("LOT-", f"Z{two}-")
@@ -60,7 +62,7 @@ def another(first, number, file):
                 )
 
 
-def of_its_own(file, number):
+def of_its_own(file: pathlib.Path, number: int) -> None:
     """Makes the last command of an archive one of no other, by which it is told apart."""
     with contextlib.closing(sqlite3.connect(file, isolation_level=None)) as database:
         database.execute("PRAGMA journal_mode = DELETE")
@@ -70,7 +72,7 @@ def of_its_own(file, number):
         )
 
 
-def line_of(file, desk, before=""):
+def line_of(file: pathlib.Path, desk: Any, before: Any = "") -> Any:
     with catalogue.opened(file) as database:
         ((commands, first, last),) = database.execute(
             "SELECT count(*), min(effective), max(effective) FROM accepted"
@@ -81,7 +83,7 @@ def line_of(file, desk, before=""):
     )
 
 
-def made(asked, room, folder_of):
+def made(asked: argparse.Namespace, room: pathlib.Path, folder_of: Any) -> Iterator[Any]:
     """Makes each archive in its folder: its number and its file."""
     base = room / "first"
     first_archive(asked, base)

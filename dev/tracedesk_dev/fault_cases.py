@@ -1,24 +1,28 @@
 """The worked cases as runs for fault injection."""
+import argparse
 import contextlib
 import json
 import pathlib
 import re
 import sqlite3
 import tempfile
+from typing import Any, Callable, Iterator, Sequence
 from tracedesk_dev import reports
 from tracedesk_ops import copies
-from tracedesk_dev.fault_stories import Command, Served, Story
+from tracedesk_dev.fault_stories import Command, Files, Served, Story
 
 
-def steps_of(asked, case):
-    return json.loads((asked.cases / case / "case.json").read_text())["steps"]
+def steps_of(asked: argparse.Namespace, case: str) -> list[Any]:
+    steps: list[Any] = json.loads((asked.cases / case / "case.json").read_text())["steps"]
+    return steps
 
 
-def lines_of(asked, case, name):
-    return (asked.cases / case / name).read_bytes().splitlines()
+def lines_of(asked: argparse.Namespace, case: str, name: str) -> list[bytes]:
+    file: pathlib.Path = asked.cases / case / name
+    return file.read_bytes().splitlines()
 
 
-def fed(asked, case):
+def fed(asked: argparse.Namespace, case: str) -> Story:
     """`feed` of a case's messages into a file."""
     said = [line + b"\n" for line in lines_of(asked, case, "messages.jsonl")]
     return Story(
@@ -30,19 +34,20 @@ def fed(asked, case):
     )
 
 
-def in_memory(asked, case):
+def in_memory(asked: argparse.Namespace, case: str) -> Story:
     it = fed(asked, case)
     it.words, it.has_desk = ["feed"], False
     return it
 
 
-def fed_files(asked, case):
+def fed_files(asked: argparse.Namespace, case: str) -> Files:
     """The desk's files after a case's messages."""
     story = fed(asked, case)
-    return story.plainly(story.all, {})[2]
+    files: Files = story.plainly(story.all, {})[2]
+    return files
 
 
-def imported(asked, case):
+def imported(asked: argparse.Namespace, case: str) -> Story:
     """The first import of a case that is accepted, on the desk of its messages."""
     text = {}
     for step in steps_of(asked, case):
@@ -59,9 +64,10 @@ def imported(asked, case):
                 text,
                 [wanted],
             )
+    raise ValueError(f"the case {case} has no import that is accepted")
 
 
-def spelled(status, kind, body):
+def spelled(status: bytes, kind: bytes, body: bytes) -> bytes:
     return b"HTTP/1.1 %s\r\nContent-Type: %s\r\nContent-Length: %d\r\n\r\n%s" % (
         status,
         kind,
@@ -70,7 +76,7 @@ def spelled(status, kind, body):
     )
 
 
-def report_of(story, count, target):
+def report_of(story: Story, count: int, target: str) -> bytes:
     """What a GET is answered after so many lines of `feed`, by the queries of dev/ask."""
     _answers, _status, files = story.plainly(story.all[:count], {})
     with tempfile.TemporaryDirectory(dir=story.asked.rooms.folder) as folder:
@@ -83,13 +89,14 @@ def report_of(story, count, target):
     return spelled(b"200 OK", b"text/csv", text)
 
 
-def served(asked, case, targets):
+def served(asked: argparse.Namespace, case: str, targets: Sequence[str]) -> Story:
     """A case's messages as requests, a report after each of them, and the first message once more."""
     feeding = fed(asked, case)
     posts = [
         b"POST /messages HTTP/1.1\r\nContent-Length: %d\r\n\r\n%s" % (len(line) - 1, line[:-1])
         for line in feeding.parts
     ]
+    assert feeding.wanted
     told = [spelled(b"200 OK", b"application/json", answer) for answer in feeding.wanted]
     parts, wanted = [posts[0]], [told[0]]
     for number, post in enumerate(posts):
@@ -99,7 +106,7 @@ def served(asked, case, targets):
     return Served(asked, f"serve {case}", ["serve", "--db", "desk"], parts, wanted=wanted)
 
 
-def of_version_1(asked, case):
+def of_version_1(asked: argparse.Namespace, case: str) -> Files:
     """The file of version 1 that a case makes by SQL."""
     with tempfile.TemporaryDirectory(dir=asked.rooms.folder) as folder:
         file = pathlib.Path(folder, "desk")
@@ -122,7 +129,7 @@ REPORTS = {
 }
 
 
-def migrating(asked, case):
+def migrating(asked: argparse.Namespace, case: str) -> Story:
     return Command(
         asked,
         f"migrate {case}",
@@ -133,7 +140,7 @@ def migrating(asked, case):
     )
 
 
-def auditing(asked, case):
+def auditing(asked: argparse.Namespace, case: str) -> Story:
     count = sum(
         line.startswith(b'{"Answer":"Accepted"') for line in lines_of(asked, case, "answers.jsonl")
     )
@@ -147,7 +154,7 @@ def auditing(asked, case):
     )
 
 
-def reporting(name):
+def reporting(name: str) -> Callable[[argparse.Namespace, str], Story]:
     target, text = REPORTS[name]
     return lambda asked, case: Command(
         asked,
@@ -159,7 +166,7 @@ def reporting(name):
     )
 
 
-def serving(*targets):
+def serving(*targets: str) -> Callable[[argparse.Namespace, str], Story]:
     return lambda asked, case: served(asked, case, targets)
 
 
@@ -190,11 +197,11 @@ STORIES = (
 )
 
 
-def stories(asked):
+def stories(asked: argparse.Namespace) -> Iterator[Any]:
     """What is run."""
     for name, case, make in STORIES:
         if (
-            re.match("[a-z-]+", name)[0] in asked.commands
+            re.sub("[^a-z-].*", "", name) in asked.commands
             and (asked.only or "") in f"{name} {case}"
         ):
             it = make(asked, case)

@@ -15,6 +15,7 @@ import subprocess
 import tempfile
 import threading
 import time
+from typing import Any, Callable
 from tracedesk_dev import shift
 from tracedesk_dev.trial import Difference as Found
 from tracedesk_dev.trial import free_port, remove, rows_in
@@ -26,22 +27,23 @@ LOGS = ("", "-wal", "-journal")  # the desk's file, and what it is whole with
 class Desk:
     """A desk's file, the lines of its shift, and the answers that were given so far."""
 
-    def __init__(self, program, folder, seed, boards):
+    def __init__(self, program: str, folder: pathlib.Path, seed: int, boards: int) -> None:
         self.program, self.file = program, str(pathlib.Path(folder, "desk"))
         self.said = shift.Shift(seed, boards, f"L{seed}").lines
-        self.answers, self.audits, self.seconds = [], 0, 0.0
+        self.answers: list[Any] = []
+        self.audits, self.seconds = 0, 0.0
         numbers = [number for number, said in enumerate(self.said) if said.wanted == "Accepted"]
         self.uids = [json.loads(self.said[number].text)["UniqueID"] for number in numbers]
         self.clean = None
         remove(self.file)
 
-    def done(self):
+    def done(self) -> bool:
         return len(self.answers) == len(self.said)
 
-    def acknowledged(self):
+    def acknowledged(self) -> int:
         return sum(said.wanted == "Accepted" for said, _answer in zip(self.said, self.answers))
 
-    def take(self, first, answers):
+    def take(self, first: int, answers: list[bytes]) -> None:
         """Takes in the answers to the lines from this one on, of which the first may be known already."""
         for number, answer in enumerate(answers, first):
             if number < len(self.answers):
@@ -57,14 +59,14 @@ class Desk:
                 )
             self.answers.append(answer)
 
-    def audit(self):
+    def audit(self) -> Any:
         begun = time.monotonic()
         done = run([self.program, "audit", "--db", self.file])
         self.seconds = time.monotonic() - begun
         self.audits += 1
         return done
 
-    def look(self):
+    def look(self) -> int:
         """Says how many commands there are more than were acknowledged: 0 or 1."""
         done, acknowledged = self.audit(), self.acknowledged()
         if acknowledged == 0 and done.stderr == b"tracedesk: NotADesk\n":
@@ -88,7 +90,7 @@ class Desk:
             raise Found("an accepted command has not the answer that was given")
         return count - acknowledged
 
-    def end(self):
+    def end(self) -> None:
         """Compares the tables with those of a run that nothing disturbed."""
         clean = self.file + ".clean"
         remove(clean)
@@ -102,29 +104,29 @@ class Desk:
         remove(self.file)
 
 
-def run(words, given=b""):
+def run(words: list[str], given: bytes = b"") -> subprocess.CompletedProcess[bytes]:
     try:
         return subprocess.run(words, input=given, capture_output=True, timeout=PATIENCE)
     except subprocess.TimeoutExpired:
         raise Found(f"{' '.join(words[1:3])} had not ended after {PATIENCE} seconds")
 
 
-def read(file, look):
+def read(file: object, look: Callable[[sqlite3.Connection], Any]) -> Any:
     """What `look` finds in a copy of a file that no run has open."""
     with tempfile.TemporaryDirectory() as room, contextlib.closing(
-        sqlite3.connect(shutil.copy(file, room))
+        sqlite3.connect(shutil.copy(str(file), room))
     ) as database:
         return look(database)
 
 
-def kill(process):
+def kill(process: subprocess.Popen[bytes]) -> None:
     """Kills a process that was started with a session of its own, and what it started."""
     with contextlib.suppress(ProcessLookupError):
         os.killpg(process.pid, signal.SIGKILL)
     process.wait()
 
 
-def feed_for(desk, first, seconds):
+def feed_for(desk: Desk, first: int, seconds: float) -> list[bytes]:
     """Lets `feed` take the lines from this one on for a while, then kills it, and gives the whole answers."""
     with tempfile.TemporaryFile() as given, tempfile.TemporaryFile() as taken, tempfile.TemporaryFile() as told:
         given.writelines(said.text + b"\n" for said in desk.said[first:])
@@ -144,7 +146,7 @@ def feed_for(desk, first, seconds):
         return taken.read().split(b"\n")[:-1]
 
 
-def serve_for(desk, first, seconds):
+def serve_for(desk: Desk, first: int, seconds: float) -> list[bytes]:
     """Posts the lines from this one on to `serve` for a while, then kills it, and gives the whole answers."""
     port, answers = free_port(), []
     words = [
@@ -170,6 +172,8 @@ def serve_for(desk, first, seconds):
                     socket.create_connection(("127.0.0.1", port)).close()
                     connection = http.client.HTTPConnection("127.0.0.1", port, timeout=PATIENCE)
                 time.sleep(0.002)
+            if connection is None:
+                break  # the run has ended
             connection.request("POST", "/messages", said.text)
             answers.append(connection.getresponse().read())
     except (OSError, http.client.HTTPException, AttributeError):
@@ -180,7 +184,7 @@ def serve_for(desk, first, seconds):
     return answers
 
 
-def kill_audit(desk, seconds):
+def kill_audit(desk: Desk, seconds: float) -> None:
     process = subprocess.Popen(
         [desk.program, "audit", "--db", desk.file],
         stdout=subprocess.DEVNULL,
@@ -192,12 +196,13 @@ def kill_audit(desk, seconds):
     kill(process)
 
 
-def answer_of(process):
+def answer_of(process: subprocess.Popen[bytes]) -> Any:
     """One line of a pipe, or none where the program has ended."""
     line, end = b"", time.monotonic() + PATIENCE
     while not line.endswith(b"\n"):
         if not select.select([process.stdout], [], [], max(0, end - time.monotonic()))[0]:
             raise Found(f"no answer after {PATIENCE} seconds")
+        assert process.stdout
         byte = os.read(process.stdout.fileno(), 65_536)
         if not byte:
             return None
@@ -205,7 +210,7 @@ def answer_of(process):
     return line[:-1]
 
 
-def talk(desk, start):
+def talk(desk: Desk, start: Any) -> tuple[int, str]:
     """Sends the lines one by one to what `start` starts, one that is Unavailable three times; gives the end's status, and what was told."""
     with tempfile.TemporaryFile() as told:
         process = start(
@@ -238,14 +243,14 @@ def talk(desk, start):
         return process.returncode, told.read().decode(errors="replace").strip()
 
 
-def plain(words, **how):
+def plain(words: list[str], **how: Any) -> subprocess.Popen[bytes]:
     return subprocess.Popen(words, start_new_session=True, **how)
 
 
-def limited(size, ignored):
+def limited(size: int, ignored: Any) -> Callable[..., subprocess.Popen[bytes]]:
     """A start under a limit on the size of files, whose signal is ignored or not."""
 
-    def limit():
+    def limit() -> None:
         signal.signal(signal.SIGXFSZ, signal.SIG_IGN if ignored else signal.SIG_DFL)
         resource.setrlimit(resource.RLIMIT_FSIZE, (size, size))
 
@@ -254,7 +259,7 @@ def limited(size, ignored):
     )
 
 
-def small_disk(folder, size):
+def small_disk(folder: pathlib.Path, size: int) -> pathlib.Path | None:
     """A folder on a file system of this size, or none where this user may not mount."""
     room = pathlib.Path(folder, "small")
     room.mkdir()

@@ -1,8 +1,10 @@
 """How a run that met a fault is judged: by its answers, its status and its file."""
+from typing import Any
+from tracedesk_dev.fault_stories import Files, Got, Seen, Story, tables
 from tracedesk_dev.trial import Difference as Found
 
 
-def judge(story, got, files, seen, may_be_done=True):
+def judge(story: Story, got: Got, files: Files, seen: Seen, may_be_done: bool = True) -> None:
     """Judges what a run answered, and the files that it left; where it may be, a part at hand may be done in them."""
     done = tuple(
         part for part, answer in enumerate(got.answers) if not story.is_unavailable(answer)
@@ -28,7 +30,7 @@ def judge(story, got, files, seen, may_be_done=True):
         judge_files(story, files, may, seen)
 
 
-def at_hand(story, got):
+def at_hand(story: Story, got: Got) -> list[int]:
     """The parts of which one may be done without an answer that says so: the one behind the last answer, and those
     that were answered Unavailable since the last that was Accepted."""
     last = max(
@@ -44,25 +46,23 @@ def at_hand(story, got):
     ]
 
 
-def judge_files(story, files, may, seen):
+def judge_files(story: Story, files: Files, may: Any, seen: Seen) -> None:
     audit, after = story.audit(files)
     if not story.start and may[0] == () and audit == (b"", b"tracedesk: NotADesk\n", 3):
         order, files = (), {}
         seen["files: no desk was made yet"] += 1
     else:
-        order = next(
-            (
-                order
-                for order in may
-                if story.known(order).audit == audit
-                and story.known(order).tables == tables(after["desk"])
-            ),
-            None,
-        )
-        if order is None:
+        orders = [
+            order
+            for order in may
+            if story.known(order).audit == audit
+            and story.known(order).tables == tables(after["desk"])
+        ]
+        if not orders:
             raise Found(
                 f"audit says {audit!r}, and the rows are not those of any of the parts {may}"
             )
+        order = orders[0]
         seen[
             "files: no more was done than was answered"
             if order == may[0]
@@ -76,7 +76,7 @@ def judge_files(story, files, may, seen):
         raise Found(f"sent again after the parts {order}: other rows")
 
 
-def judge_status(story, got, kind):
+def judge_status(story: Story, got: Got, kind: str) -> None:
     """The status, and what was told, of a run whose answers are judged, and in which calls of this kind failed."""
     told = got.told.decode(errors="replace")
     if not told and story.is_whole(got) and got.status in story.statuses(got.answers):
@@ -85,7 +85,7 @@ def judge_status(story, got, kind):
         raise Found(f"status {got.status}, {told!r}")
 
 
-def stopped(story, kind, fail, seen, got=None):
+def stopped(story: Story, kind: str, fail: str, seen: Seen, got: Got | None = None) -> None:
     """A run in which calls fail."""
     got = got or story.failed(fail)
     judge(story, got, got.files, seen, kind not in ("memory", "input"))
@@ -97,13 +97,13 @@ def stopped(story, kind, fail, seen, got=None):
     seen[f"status {got.status}{' ' + got.told.decode().strip() if got.told else ''}"] += 1
 
 
-def is_refused_once(fail):
+def is_refused_once(fail: str) -> bool:
     """Whether one allocation fails, and nothing else."""
     words = fail.split()
     return len(words) == 4 and words[0] == "memory" and words[1] == words[2]
 
 
-def unchanged(story, kind, fail, seen, got=None):
+def unchanged(story: Story, kind: str, fail: str, seen: Seen, got: Got | None = None) -> None:
     """A run in which calls do less than was asked: its answers are those of an undisturbed one."""
     got, known = got or story.failed(fail), story.known(story.all)
     if (got.answers, got.rest, got.told, got.status) != (known.answers, b"", b"", known.status):
@@ -112,7 +112,7 @@ def unchanged(story, kind, fail, seen, got=None):
     seen["as undisturbed"] += 1
 
 
-def killed(story, kind, fail, seen, got=None):
+def killed(story: Story, kind: str, fail: str, seen: Seen, got: Got | None = None) -> None:
     """A run that is killed."""
     got = got or story.failed(fail)
     if got.status != -9:

@@ -1,15 +1,28 @@
 """The points at which a run fails: each call, allocation, change of the disk, kill and cut of the power."""
+import argparse
 import collections
 import random
+from typing import Any, Iterable, Iterator, Sequence
 from tracedesk_dev.trial import Difference as Found
 from tracedesk_dev.fault_judging import judge, killed, stopped, unchanged
-from tracedesk_dev.fault_stories import EINTR, EIO, ENOSPC, EPIPE, EVER, Command
+from tracedesk_dev.fault_stories import (
+    EINTR,
+    EIO,
+    ENOSPC,
+    EPIPE,
+    EVER,
+    Change,
+    Command,
+    Files,
+    Got,
+    Seen,
+    Story,
+)
 
 SECTOR = 512
-Change = collections.namedtuple("Change", "what name number text")
 
 
-def changes_in(record):
+def changes_in(record: bytes) -> Iterator[Change]:
     """The changes of the disk and the bytes that were put out, in their order, as dev/faults/calls.c records them."""
     at = 0
     while at < len(record):
@@ -19,7 +32,7 @@ def changes_in(record):
         yield Change(what, name, int(number), record[end + 1 : at])
 
 
-def apply(text, change):
+def apply(text: bytearray, change: Change) -> None:
     """Makes a change of a file's bytes."""
     end = change.number + len(change.text)
     text.extend(bytes(max(0, end - len(text))))
@@ -32,10 +45,12 @@ def apply(text, change):
 class Disk:
     """What a disk surely has of each file, the changes since that it may have, and the names that it may have."""
 
-    def __init__(self, files):
-        self.sure, self.open, self.names = dict(files), collections.defaultdict(list), set()
+    def __init__(self, files: Files) -> None:
+        self.sure = dict(files)
+        self.open: dict[str, list[Any]] = collections.defaultdict(list)
+        self.names: set[str] = set()
 
-    def take(self, change):
+    def take(self, change: Change) -> None:
         if change.what == "create":
             self.sure[change.name] = b""
             self.names.add(change.name)
@@ -49,7 +64,7 @@ class Disk:
             for it in self.open[change.name]:
                 it[2] = not it[1]
 
-    def settle(self, name):
+    def settle(self, name: str) -> None:
         """A sync that went well: all is there, but for what an earlier one may have dropped."""
         for it in self.open[name]:
             it[1] = it[1] or not it[2]
@@ -58,7 +73,7 @@ class Disk:
             apply(text, self.open[name].pop(0)[0])
             self.sure[name] = bytes(text)
 
-    def unsure(self):
+    def unsure(self) -> list[tuple[str, int]]:
         return [
             (name, at)
             for name in sorted(self.open)
@@ -66,7 +81,7 @@ class Disk:
             if not it[1]
         ]
 
-    def with_these(self, kept):
+    def with_these(self, kept: Iterable[tuple[str, int]]) -> Files:
         """The files where of the unsure changes these are kept, each whole."""
         files, kept = dict(self.sure), set(kept)
         for name, its in self.open.items():
@@ -77,7 +92,7 @@ class Disk:
             files[name] = bytes(text)
         return files
 
-    def pieces(self, name, size):
+    def pieces(self, name: str, size: int) -> Any:
         """Where the pieces of this size begin that an unsure write touches."""
         writes = [
             change
@@ -92,7 +107,7 @@ class Disk:
             }
         )
 
-    def mixed(self, size, chance):
+    def mixed(self, size: int, chance: random.Random) -> Files:
         """The files where each piece of this size is old or new by chance, and past the sure end of a file its length
         is anywhere, and any byte may be anything where pieces are of a byte."""
         old, new, share = (
@@ -114,7 +129,7 @@ class Disk:
             files[name] = bytes(both)
         return files
 
-    def outcomes(self, chance):
+    def outcomes(self, chance: random.Random) -> Iterator[Any]:
         """Files that a power cut may leave now."""
         unsure = self.unsure()
         few = (
@@ -145,7 +160,7 @@ class Disk:
             }
 
 
-def replayed(story, record, files):
+def replayed(story: Story, record: bytes, files: Files) -> Iterator[Any]:
     """Each change of a record, with what was put out until then, and what the disk has then."""
     disk, out = Disk(files), b""
     for change in changes_in(record):
@@ -156,7 +171,7 @@ def replayed(story, record, files):
         yield change, out, disk
 
 
-def recorded(story, fail="", files=None):
+def recorded(story: Story, fail: str = "", files: Files | None = None) -> Got:
     """A recorded run, whose record has to make the files that it left."""
     got, disk = story.failed(fail, True, files), Disk(story.start if files is None else files)
     for change in changes_in(got.record):
@@ -166,7 +181,7 @@ def recorded(story, fail="", files=None):
     return got
 
 
-def cut(story, got, files, seen, once_more):
+def cut(story: Story, got: Got, files: Files, seen: Seen, once_more: random.Random | None) -> None:
     """A power cut that left these files; and a second one, while the file is audited after the first."""
     judge(story, got, files, seen)
     seen["power cuts"] += 1
@@ -181,7 +196,7 @@ def cut(story, got, files, seen, once_more):
             seen["cuts while it was opened again"] += 1
 
 
-def chosen(asked, count):
+def chosen(asked: argparse.Namespace, count: int) -> Sequence[int]:
     """The numbers from 1 on, or a seeded choice where they are too many; the first and the last are in it."""
     if count <= asked.most:
         return range(1, count + 1)
@@ -190,7 +205,7 @@ def chosen(asked, count):
     )
 
 
-def wire(story, counts):
+def wire(story: Story, counts: dict[str, int]) -> Iterator[Any]:
     pieces = f"input 1 {EVER} short,output 1 {EVER} short"
     yield unchanged, "input", pieces
     for kind, errors in (("input", (EIO, EINTR)), ("output", (EIO, ENOSPC, EPIPE, EINTR))):
@@ -203,14 +218,14 @@ def wire(story, counts):
             yield stopped, kind, f"{kind} {number} {number} {EIO},{pieces}"
 
 
-def memory(story, counts):
+def memory(story: Story, counts: dict[str, int]) -> Iterator[Any]:
     for number in chosen(story.asked, counts["memory"]):
         yield stopped, "memory", f"memory {number} {number} 12"
     for number in chosen(story.asked, counts["memory"])[::5]:
         yield stopped, "memory", f"memory {number} {EVER} 12"
 
 
-def disk(story, counts):
+def disk(story: Story, counts: dict[str, int]) -> Iterator[Any]:
     for number in chosen(story.asked, counts["read"]):
         for way in (EIO, "short", "half"):
             yield stopped, "read", f"read {number} {number} {way}"
@@ -231,7 +246,7 @@ def disk(story, counts):
                 yield stopped, kind, f"{kind} {number} {number} late"
 
 
-def kill(story, counts):
+def kill(story: Story, counts: dict[str, int]) -> Iterator[Any]:
     for kind, ways in (
         ("write", ("kill", "killtorn")),
         ("sync", ("kill",)),
@@ -243,7 +258,7 @@ def kill(story, counts):
                 yield killed, kind, f"{kind} {number} {number} {way}"
 
 
-def power(story, counts, always="", one_in=1):
+def power(story: Story, counts: dict[str, int], always: Any = "", one_in: Any = 1) -> Iterator[Any]:
     """Power cuts at each change of a run, or at one in so many; and of runs in which a sync fails, at some changes behind it."""
     for number in range(1 if always else counts["sync"] + 1):
         chance = random.Random(f"{story.asked.seed} {number}")

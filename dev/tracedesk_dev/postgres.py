@@ -102,7 +102,7 @@ class Server:
         self.stop()
 
 
-def asked(*words: str, status: int = 0) -> Any:
+def asked(*words: object, status: int = 0) -> Any:
     """What psql prints, on standard output and on standard error; it has to end with this status."""
     done = subprocess.run(
         ["psql", "-X", "-q", "-v", "ON_ERROR_STOP=1", *map(str, words)],

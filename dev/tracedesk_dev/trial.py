@@ -74,7 +74,7 @@ def subcommand(about: str | None, names: Sequence[str]) -> int:
         module = importlib.import_module(sys.argv[1])
         reader = reader_of(module.__doc__)
         module.words(reader)
-        return int(module.main(reader.parse_args(sys.argv[2:]), reader))
+        return int(module.main(reader.parse_args(sys.argv[2:]), reader) or 0)
     reader.add_argument("what", choices=names, help=argparse.SUPPRESS)
     reader.parse_args(sys.argv[1:2])
     return 2

@@ -4,6 +4,7 @@ from typing import Any
 
 from station_operator import Operator
 from station_plant import REELS, accepted
+from station_random import losses_of
 from station_site import Site, wait_for
 from tracedesk_dev.trial import Difference
 
@@ -70,8 +71,8 @@ class Command:
 
     def message(self, held: str) -> Any:
         """The message that the operator expects; of a load the strip said before whether it loads or splices."""
-        on = {"Machine": self.machine, "Slot": self.slot}
-        return {
+        on: dict[str, Any] = {"Machine": self.machine, "Slot": self.slot}
+        messages: dict[str, Any] = {
             "LOAD": (LOADS["SPLICE" in held], {**on, "Reel": self.reel}),
             "UNLOAD": ("MaterialsUnloaded", on),
             "SCRAP": ("MaterialsScrapped", {**on, "Quantity": self.number}),
@@ -79,7 +80,8 @@ class Command:
             "SEAL": ("ReelSealed", {"Reel": self.reel}),
             "BAKE": ("ReelBaked", {"Reel": self.reel}),
             "COUNT": ("CountsTaken", {"Counts": [{"Reel": self.reel, "Quantity": self.number}]}),
-        }[self.deed]
+        }
+        return messages[self.deed]
 
     def about(self) -> set[Any]:
         """The slot and the reel that it is about."""
@@ -100,7 +102,9 @@ class Page:
     """The model: the messages that have no answer yet, as somebody knows them who saw each screen."""
 
     def __init__(self) -> None:
-        self.waiting = []  # of (command, word, body), the oldest first
+        self.waiting: list[
+            tuple[Command, str, Any]
+        ] = []  # of (command, word, body), the oldest first
 
     def is_same(self, command: Command, word: str, body: Any) -> Any:
         """Whether the last one about the same slot or reel is this very one."""
@@ -112,7 +116,7 @@ class Page:
             ),
             None,
         )
-        return bool(last) and last[2] == body and (last[1] == word or {last[1], word} == set(LOADS))
+        return last and last[2] == body and (last[1] == word or {last[1], word} == set(LOADS))
 
     def judged(self, command: Command, told: Any, is_away: bool) -> Any:
         """Looks whether a command made its message, or its loss was shown; gives the message or None. Only `is_away`, with nobody to answer, is known which of the two it has to be."""
@@ -152,11 +156,11 @@ def away(site: Site, outage: str) -> None:
         site.kill_nginx()
     elif outage == "slow":
         site.pause_desk()
-    site.losses.isOn = outage == "losses"
+    losses_of(site).isOn = outage == "losses"
 
 
 def back(site: Site, outage: str) -> None:
-    site.losses.isOn = False
+    losses_of(site).isOn = False
     if outage == "desk":
         site.start_desk()
     elif outage == "proxy":
@@ -198,7 +202,10 @@ def done(it: Operator, commands: Any) -> Any:
 
 def one_round(site: Site, it: Operator, dice: random.Random, outage: str, count: int) -> Any:
     """So many commands under an outage; then those that were lost once more, with the desk there. Gives how many messages were made, accepted and lost."""
-    commands, made, lost, page = [], [], [], Page()
+    commands: list[Command] = []
+    lost: list[Command] = []
+    made: list[str] = []
+    page = Page()
     for _ in range(count):
         commands.append(
             dice.choice(commands) if commands and dice.random() < 0.3 else Command(dice)

@@ -106,7 +106,7 @@ def each_scan(site: Site) -> Any:
 def measure(program: str, scans: Any) -> Any:
     """From scan to verdict on each screen, the tab's memory over so many scans, and the connections of a scan; the exit status."""
 
-    def say(name: str, value: str) -> None:
+    def say(name: str, value: Any) -> None:
         print(json.dumps({name: value}), flush=True)
 
     with Site(program, folder()) as site:

@@ -63,7 +63,7 @@ class Slot:
             for state, holds in (
                 ("EMPTY", not reels),
                 ("EXPIRED", self.life == 0),
-                ("LOW", reels and ends[0] > 0 and needed and self.boards < boards),
+                ("LOW", reels and ends[0] > 0 and needed and (self.boards or 0) < boards),
                 ("EXPIRES", 0 < self.life < expires),
                 ("OTHER", others),
                 ("OFF", not needed),
@@ -144,7 +144,7 @@ def slots_of(site: Site, machine: str, product: str, boards: int, expires: int) 
     ]
 
 
-def shown_rows(operator: Operator, machine: str) -> list[list[str]]:
+def shown_rows(operator: Operator, machine: str) -> Any:
     """The rows of a machine on the screen Line, over all its columns."""
     return operator.script(
         "return [...document.querySelectorAll('#main table')].filter((it) => it.dataset.machine === arguments[0]).flatMap((it) => [...it.tBodies[0].rows].map((row) => [...row.cells].map((cell) => cell.textContent)))",
@@ -152,7 +152,7 @@ def shown_rows(operator: Operator, machine: str) -> list[list[str]]:
     )
 
 
-def shown_tiles(operator: Operator) -> list[list[str]]:
+def shown_tiles(operator: Operator) -> Any:
     return operator.script(
         "return [...document.querySelectorAll('.urgent li:not(.more)')].map((it) => [...it.children].map((part) => part.textContent))"
     )
@@ -194,6 +194,11 @@ def line_is_as_reported(
     agreed(f"Line of {machine}", differs)
 
 
+def rank_of(found: Any) -> tuple[int, int]:
+    rank: tuple[int, int] = found[0]
+    return rank
+
+
 def tiles_are_as_reported(
     site: Site, operator: Operator, machines: Any, product: str, boards: int, expires: int
 ) -> Any:
@@ -206,7 +211,7 @@ def tiles_are_as_reported(
             for it in slots_of(site, machine, product, boards, expires)
             if (tile := it.tile())
         ]
-        return [tile for _, tile in sorted(found, key=lambda it: it[0])]
+        return [tile for _, tile in sorted(found, key=rank_of)]
 
     def differs() -> Any:
         wanted, got = tiles(), shown_tiles(operator)

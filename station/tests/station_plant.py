@@ -229,21 +229,21 @@ def long_line(site: Site) -> Any:
             },
         )
         say("ProductSelected", {"Machine": machine, "Product": "LONG"})
-        for number, (slot, part) in enumerate(slots):
+        for index, (slot, part) in enumerate(slots):
             say(
                 "ReelReceived",
                 {
-                    "Reel": f"R{at:02}{number:03}",
+                    "Reel": f"R{at:02}{index:03}",
                     "PartNumber": part,
                     "Lot": "L",
                     "Level": "3",
-                    "Quantity": 20 if number % 40 == at else 5000,
+                    "Quantity": 20 if index % 40 == at else 5000,
                 },
             )
-            if number % 30 != 7 or at % 2:
+            if index % 30 != 7 or at % 2:
                 say(
                     "MaterialsLoaded",
-                    {"Machine": machine, "Slot": slot, "Reel": f"R{at:02}{number:03}"},
+                    {"Machine": machine, "Slot": slot, "Reel": f"R{at:02}{index:03}"},
                 )
     site.kill_desk()
     site.feed(lines)

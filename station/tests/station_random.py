@@ -54,7 +54,7 @@ class Losses(threading.Thread):
         with link, contextlib.suppress(OSError, ValueError):
             request = b""
             while b"\r\n\r\n" not in request:
-                request += link.recv(65536) or exit_of(link)
+                request += received(link)
             head, _, body = request.partition(b"\r\n\r\n")
             length = next(
                 (
@@ -65,7 +65,7 @@ class Losses(threading.Thread):
                 0,
             )
             while len(body) < length:
-                body += link.recv(65536) or exit_of(link)
+                body += received(link)
             fate = (
                 self.dice.choice(["", "", "request", "answer", "half", "slow"])
                 if self.isOn and head.startswith(b"POST")
@@ -83,8 +83,17 @@ class Losses(threading.Thread):
                 link.sendall(answer[: len(answer) // 2] if fate == "half" else answer)
 
 
-def exit_of(link: Any) -> None:
-    raise OSError(f"{link} ended")
+def received(link: socket.socket) -> bytes:
+    """The next bytes of a request; one that is broken off is no request."""
+    got = link.recv(65536)
+    if not got:
+        raise ValueError("broken off")
+    return got
+
+
+def losses_of(site: Site) -> Any:
+    """What loses answers at a site."""
+    return getattr(site, "losses")
 
 
 class LossySite(Site):
@@ -103,8 +112,8 @@ class LossySite(Site):
             file.read_text().replace(f"127.0.0.1:{self.desk_port}", f"127.0.0.1:{self.lossy_port}")
         )
 
-    def __exit__(self, *why: str) -> None:
-        super().__exit__(*why)
+    def __exit__(self, *_: object) -> None:
+        super().__exit__(*_)
         self.losses.listener.close()
 
 
@@ -187,17 +196,20 @@ class Hands:
 
     def host(self) -> None:
         machine, slot = self.dice.choice(SLOTS[:4] + SLOTS[5:9])[2:].split("/")
-        word, body = self.dice.choice(
-            [("MaterialsLoaded", {"Reel": self.dice.choice(REELS)}), ("MaterialsUnloaded", {})]
-        )
+        load = {"Reel": self.dice.choice(REELS)}
+        words: list[tuple[str, dict[str, str]]] = [
+            ("MaterialsLoaded", load),
+            ("MaterialsUnloaded", {}),
+        ]
+        word, body = self.dice.choice(words)
         self.site.say(word, {"Machine": machine, "Slot": slot, **body})
 
     def sequence(self) -> None:
-        self.site.losses.isOn = self.dice.random() < 0.6
+        losses_of(self.site).isOn = self.dice.random() < 0.6
         for _ in range(self.dice.randint(6, 16)):
             deeds = self.deeds()
             self.dice.choices([deed for _, deed in deeds], [weight for weight, _ in deeds])[0]()
-        self.site.losses.isOn = False
+        losses_of(self.site).isOn = False
 
 
 def may_go(deeds: Any, about: Any) -> Any:
@@ -218,19 +230,16 @@ def about_of(scan: Any) -> Any:
 
 def judged(log: Any, scans: Any, desk: Any) -> Any:
     """Compares what the page showed with what the desk has; gives how many greens and reds were seen."""
-    by_uid, deeds, red, unseen, greens = (
-        {scan["uid"]: scan for scan in scans},
-        [],
-        set(),
-        set(),
-        set(),
-    )
+    by_uid, deeds = {scan["uid"]: scan for scan in scans}, []
+    red: set[str] = set()
+    unseen: set[str] = set()
+    greens: set[str] = set()
     for entry in log:
         if "deed" in entry:
             deeds.append(entry["deed"])
             continue
         if "load" in entry:
-            red: set[str] = set()
+            red = set()
             continue
         greens |= set(entry["green"])
         if (entry["kind"] == "accepted") and not entry["green"]:
@@ -292,7 +301,7 @@ def tried(site: Site, it: Operator, dice: random.Random) -> Any:
     return len(new), *judged(log, new, desk)
 
 
-def batch(program: str, seed: int, count: int, seconds: float = None) -> Any:
+def batch(program: str, seed: int, count: int, seconds: float | None = None) -> Any:
     """So many sequences at one desk; the sums of messages, greens and reds, sequences and losses."""
     dice, sums, done = random.Random(seed), [0, 0, 0], 0
     with LossySite(program, folder(), dice) as site:
@@ -314,7 +323,7 @@ def batch(program: str, seed: int, count: int, seconds: float = None) -> Any:
                 except Difference as fault:
                     raise Difference(f"seed {seed}, sequence {done}: {fault}") from None
                 done += 1
-        return [*sums, done, site.losses.lost]
+        return [*sums, done, losses_of(site).lost]
 
 
 def words(sums: Any) -> Any:

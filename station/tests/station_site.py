@@ -22,7 +22,7 @@ from tracedesk_dev.trial import Difference, wanting
 ROOT = pathlib.Path(__file__).resolve().parents[2]
 PEOPLE = {"op": "senders", "office": "readers", "qm": "deciders"}  # their passwords are their names
 CERTIFICATES = {"m2": "sender", "auditor": "reader"}
-SETUP = {
+SETUP: dict[str, Any] = {
     "title": "Line 1",
     "machines": [{"machine": "M1", "product": "CTRL-A"}, {"machine": "M2", "product": "CTRL-A"}],
     "boards": 50,
@@ -70,7 +70,8 @@ def free_ports(count: int) -> list[int]:
         links = [held.enter_context(socket.socket()) for _ in range(count)]
         for it in links:
             it.bind(("127.0.0.1", 0))
-        return [it.getsockname()[1] for it in links]
+        ports = [it.getsockname()[1] for it in links]
+    return ports
 
 
 def certificate(folder: pathlib.Path, name: str, subject: str, by: str | None = None) -> None:
@@ -102,7 +103,7 @@ class Site:
         self.port, self.desk_port, self.inner_port = free_ports(3)
         self.desk: Any = None
         self.nginx: Any = None
-        self.last_look = (
+        self.last_look: Any = (
             lambda operator: None
         )  # what an operator looks at before the browser is closed
         self.agreed = 0
@@ -216,7 +217,7 @@ class Site:
         wait_for(
             "nginx listens",
             lambda: self.nginx.poll() is None
-            and socket.create_connection(("127.0.0.1", self.port), 1).close() is None,
+            and not socket.create_connection(("127.0.0.1", self.port), 1).detach() < 0,
         )
 
     def stop_nginx(self) -> None:
@@ -314,15 +315,13 @@ class Site:
         link = http.client.HTTPSConnection("localhost", self.port, timeout=30, context=trust)
         if method == "POST":
             headers = {"Content_Type": "application/json", **headers}
-        headers = {
+        given = {
             name.replace("_", "-"): value for name, value in headers.items() if value is not None
         }
         if user:
-            headers["Authorization"] = (
-                "Basic " + base64.b64encode(f"{user}:{user}".encode()).decode()
-            )
+            given["Authorization"] = "Basic " + base64.b64encode(f"{user}:{user}".encode()).decode()
         try:
-            link.request(method, path, body, headers)
+            link.request(method, path, body, given)
             answer = link.getresponse()
             return answer.status, dict(answer.getheaders()), answer.read().decode()
         finally:
@@ -405,7 +404,8 @@ def browser(room: pathlib.Path | str, name: str, size: tuple[int, int] = (1920, 
     ):  # a machine that has much to do may not begin it within the driver's minute
         try:
             page = webdriver.Chrome(
-                service=Service(shutil.which("chromedriver"), log_path=os.devnull), options=options
+                service=Service(str(shutil.which("chromedriver")), log_path=os.devnull),
+                options=options,
             )
             break
         except SessionNotCreatedException:

@@ -183,7 +183,9 @@ def test_a_slow_desk_is_not_said_to_be_away(site: Site) -> None:
     with Operator(site) as it, concurrent.futures.ThreadPoolExecutor(40) as threads:
         it.ready()
         site.pause_desk()
-        asked, said, end = [], set(), time.monotonic() + 40
+        asked: list[Any] = []
+        said: set[str] = set()
+        end = time.monotonic() + 40
         while time.monotonic() < end and not any(text.startswith("SLOW") for text in said):
             if len(asked) < 36:
                 asked += [
@@ -199,7 +201,7 @@ def test_a_slow_desk_is_not_said_to_be_away(site: Site) -> None:
             "it is fresh again",
             lambda: it.script("return document.getElementById('state').className") == "fresh",
         )
-        ages = {}
+        ages: dict[Any, list[Any]] = {}
         for status, headers, _ in (one.result() for one in asked):
             ages.setdefault((status, headers["X-Station-Cache"]), []).append(
                 float(headers["X-Station-Now"]) - float(headers["X-Desk-Answered"])

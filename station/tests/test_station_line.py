@@ -7,6 +7,7 @@ from typing import Any
 
 import pytest
 from station_line import (
+    rank_of,
     line_is_as_reported,
     real_line,
     report,
@@ -182,7 +183,9 @@ def test_a_line_of_twelve_machines(site: Site) -> None:
             counts = {
                 state: sum(state in slot.states for slot in slots) for state in ("EMPTY", "LOW")
             }
-            worst = min((slot for slot in slots if slot.states), key=lambda slot: slot.tile()[0])
+            worst = min(
+                (slot for slot in slots if slot.states), key=lambda slot: rank_of(slot.tile())
+            )
             wanted = [f"{count} {state}" for state, count in counts.items() if count] + [
                 worst.slot,
                 *worst.tile()[1][1:],
@@ -294,15 +297,14 @@ def test_a_splice_is_called_for(site: Site) -> None:
             ) != wanted:
                 raise Difference(f"{name}: wanted {wanted}, got {got}")
         for board in range(5):
-            for word, more in (
-                ("WorkStarted", {}),
-                ("MaterialsInstalled", {"Designators": ["C1", "C2", "R1", "D1", "D2", "D3", "C3"]}),
-                ("WorkCompleted", {}),
+            at = {"Machine": "M1", "Board": f"SN-{board}"}
+            names = ["C1", "C2", "R1", "D1", "D2", "D3", "C3"]
+            for word, body in (
+                ("WorkStarted", at),
+                ("MaterialsInstalled", at | {"Designators": names}),
+                ("WorkCompleted", at),
             ):
-                if (
-                    site.say(word, {"Machine": "M1", "Board": f"SN-{board}", **more})["Answer"]
-                    != "Accepted"
-                ):
+                if site.say(word, body)["Answer"] != "Accepted":
                     raise Difference(f"{word} of board {board} was refused")
         it.script("window.later = 300")
         wait_for("the call", lambda: re.search(r"SPLICE M1 10 in \d min", it.text("ending")), 60)

@@ -97,7 +97,7 @@ def test_another_site_commands_nothing(site: Site) -> None:
         "TimeStamp": time.strftime("%Y-%m-%dT%H:%M:%SZ", time.gmtime()),
     }
     message = json.dumps({**plain, "UniqueID": "by-request", "MessageBody": {"Reel": "K-1"}})
-    wanted = [
+    wanted: list[tuple[dict[str, Any], int]] = [
         ({}, 200),
         ({"Content_Type": "application/json; charset=utf-8"}, 200),
         ({"Origin": site.url, "Sec_Fetch_Site": "same-origin"}, 200),
@@ -118,11 +118,12 @@ def test_another_site_commands_nothing(site: Site) -> None:
                 status != 200 and '"Proxy"' not in got[2]
             ):
                 raise Difference(f"{path} with {headers}: wanted {status}, got {got}")
-    for headers, status in (
+    imports: list[tuple[dict[str, Any], int]] = [
         ({"Content_Type": "text/csv"}, 409),
         ({}, 415),
         ({"Content_Type": "text/csv", "Sec_Fetch_Site": "cross-site"}, 403),
-    ):
+    ]
+    for headers, status in imports:
         if (
             got := site.asked(
                 "POST", IMPORT % "by-request", "op", "reel,quantity\nNO-SUCH,7\n", **headers
@@ -229,11 +230,9 @@ def test_ten_stations_ask_once(site: Site) -> None:
     time.sleep(0.5)
     before = site.connections()
     with concurrent.futures.ThreadPoolExecutor(20) as threads:
-        got = list(
-            threads.map(
-                lambda _: site.asked("GET", "/station/desk/slots?machine=M1", "op"), range(20)
-            )
-        )
+        path = "/station/desk/slots?machine=M1"
+        asked = [threads.submit(site.asked, "GET", path, "op") for _ in range(20)]
+        got = [one.result() for one in asked]
     used = site.connections() - before
     if used != 1 or {it[0] for it in got} != {200} or len({it[2] for it in got}) != 1:
         raise Difference(f"20 looks were {used} connections")

@@ -8,8 +8,11 @@ import pytest
 HERE = pathlib.Path(__file__).resolve().parent
 
 
+FILES = sorted((HERE / "unit").glob("*.test.mjs"))
+
+
 @pytest.mark.needs("node")
-@pytest.mark.parametrize("file", sorted((HERE / "unit").glob("*.test.mjs")), ids=lambda it: it.stem)
+@pytest.mark.parametrize("file", FILES, ids=[file.stem for file in FILES])
 def test_modules(file: pathlib.Path) -> None:
     done = subprocess.run(["node", "--test", file], capture_output=True, text=True)
     assert done.returncode == 0, done.stdout[-3_000:] + done.stderr[-1_000:]

@@ -21,9 +21,14 @@ class Line(Desk):
     quiet = QUIET
 
     def __init__(
-        self, program: pathlib.Path, folder: pathlib.Path, name: str = "L1", desk: str = "desk"
+        self,
+        program: pathlib.Path,
+        folder: pathlib.Path,
+        name: str = "L1",
+        desk: str = "desk",
+        port: int = 0,
     ) -> None:
-        super().__init__(program, folder / desk)
+        super().__init__(program, folder / desk, port)
         self.folder, self.name = folder, name
         self.archive, self.copies = folder / "archive", folder / "copies"
         self.catalogue = self.archive / catalogue.FILE_NAME

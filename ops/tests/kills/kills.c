@@ -1,5 +1,5 @@
-/* Counts the calls by which a process changes files, and kills it before the call of a given number. For
-   ops/tests/evidence-faults alone: it is loaded before the C library, whose functions it stands for. */
+/* Counts the calls by which a process changes files, and kills it before the call of a given number. It is loaded before
+   the C library, whose functions it stands for, by ops/tests/evidence-faults. */
 #define _GNU_SOURCE
 #include <dlfcn.h>
 #include <fcntl.h>
