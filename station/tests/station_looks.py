@@ -120,7 +120,10 @@ def pictures(program: str, into: pathlib.Path) -> Any:
             taken(it, into, "receive")
             it.go("changeover")
             it.script("document.querySelector('#main form button').click()")
-            wait_for("the kit", lambda: it.rows())
+            wait_for(
+                "the kit",
+                lambda: it.script("return document.querySelector('#main section.machine table')"),
+            )
             taken(it, into, "changeover")
             asks(it, "lot", "L-1", "2")
             taken(it, into, "trace")
