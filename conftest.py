@@ -22,6 +22,7 @@ MARKERS = {
     "whole": "takes minutes",
     "root": "is left out where root doesn't call it",
     "browser": "wants a browser",
+    "xdist_group(name)": "runs in one process with the others of this name",
     "needs(*commands)": "is left out where one of these commands is not there",
 }
 APART = ("whole", "root", "browser")
@@ -34,6 +35,7 @@ def pytest_addoption(parser: pytest.Parser) -> None:
         metavar="FILE",
         help="the program under test; else PROGRAM in the environment, else the repository's own",
     )
+    parser.addoption("--seed", type=int, default=1, metavar="N", help="of random tests (1)")
 
 
 def pytest_configure(config: pytest.Config) -> None:
@@ -75,3 +77,9 @@ def program() -> pathlib.Path:
 def chain(program: pathlib.Path) -> pathlib.Path:
     """tracedesk-chain."""
     return pathlib.Path(plant.chain_of(str(program)))
+
+
+@pytest.fixture(scope="session")
+def seed(request: pytest.FixtureRequest) -> int:
+    """That of --seed."""
+    return int(request.config.getoption("--seed"))

@@ -17,7 +17,7 @@ PLANTED = {
 
 
 def lint(*words: object) -> "subprocess.CompletedProcess[str]":
-    tool = [sys.executable, ROOT / "dev/lint", *map(str, words)]
+    tool = [sys.executable, str(ROOT / "dev/lint"), *map(str, words)]
     return subprocess.run(tool, capture_output=True, text=True)
 
 

@@ -3,6 +3,7 @@ import datetime
 import json
 import pathlib
 import re
+from typing import Any
 
 ROOT = pathlib.Path(__file__).resolve().parents[2]
 FILE = ROOT / "crates/desk_tests/src/tests/cases.rt"
@@ -20,7 +21,7 @@ NUMBERS = {"Quantity": (1, 10_000_000), "Counted": (0, 10_000_000), "LabelMinute
 FORMS = {"Designator": r"[A-Za-z0-9_.-]{1,16}", "Level": "1|2a?|3|4|5a?|6"}
 
 
-def fields_of(value, name):
+def fields_of(value: Any, name: str) -> list[str]:
     """Returns the fields that a member has in a stored text: a list's length, and then those of its elements. A value that
     no desk takes is a ValueError."""
     if name in (*LISTS, "Designators") and isinstance(value, list) and 0 < len(value) <= 5_000:
@@ -52,7 +53,7 @@ def fields_of(value, name):
     return [str(value)]
 
 
-def line_of(message, kinds):
+def line_of(message: str, kinds: dict[str, list[dict[str, Any]]]) -> str | None:
     """Returns the line of a message, or None if it isn't the desk's or has a member missing or of another kind."""
     try:
         envelope = json.loads(message)
@@ -77,11 +78,11 @@ def line_of(message, kinds):
     return line if minute >= 0 and not set(line) & set('"\\\n') else None
 
 
-def text():
+def text() -> str:
     """Returns the text of the table."""
     with open(ROOT / "docs/api/messages.json", encoding="utf-8") as it:
         kinds = {kind["word"]: kind["members"] for kind in json.load(it)["messages"]}
-    cases: dict = {}
+    cases: dict[str, None] = {}
     for folder in sorted(it for it in (ROOT / "cases").iterdir() if it.is_dir()):
         lines = [
             made
@@ -108,12 +109,12 @@ def text():
     return HEAD + "\n\n".join(texts).replace("\t", "\\t") + '";\n'
 
 
-def is_current():
+def is_current() -> bool:
     """Whether the table has the messages of the cases."""
     return FILE.is_file() and FILE.read_text(encoding="utf-8") == text()
 
 
-def write():
+def write() -> None:
     """Writes the table, whole or not at all."""
     made = FILE.with_suffix(".new")
     made.write_text(text(), encoding="utf-8")

@@ -90,7 +90,7 @@ class Gate:
         report = self.room / "report.xml"
         report.unlink(missing_ok=True)
         words = [python, "-m", "pytest", "-q", "-m", "gate", f"--junitxml={report}"]
-        words += ["-n", CORES] if python_with("xdist") == python else []
+        words += ["-n", CORES, "--dist=loadgroup"] if python_with("xdist") == python else []
         done = subprocess.run([*words, *step.words[1:]], cwd=ROOT, stdin=subprocess.DEVNULL)
         if not report.exists() or done.returncode not in (0, 1):
             print(f"{step.name}: pytest ended with status {done.returncode}", flush=True)

@@ -7,7 +7,7 @@ neither form stops the reader: a page that lacks something would not be noticed 
 import os
 import re
 import subprocess
-from typing import NamedTuple
+from typing import Any, NamedTuple, Sequence
 
 LISTS = {"commands:": "commands", "options:": "options", "positional arguments:": "arguments"}
 TOLD = re.compile(
@@ -26,7 +26,7 @@ class Entry(NamedTuple):
     text: str
 
     @property
-    def names(self):
+    def names(self) -> list[str]:
         """The words by which it is called: of `-h, --help` both, of `--db FILE` the first."""
         return (
             [it.split()[0] for it in self.head.split(", ")]
@@ -35,7 +35,7 @@ class Entry(NamedTuple):
         )
 
     @property
-    def value(self):
+    def value(self) -> str:
         """What stands behind it, or nothing."""
         return (
             self.head.split(", ")[-1].partition(" ")[2] if self.head.startswith("-") else self.head
@@ -45,17 +45,17 @@ class Entry(NamedTuple):
 class Help(NamedTuple):
     name: str
     summary: str
-    usage: list  # lines
-    body: list  # paragraphs, each a list of lines
-    examples: list  # lines
-    arguments: list
-    options: list
-    commands: list
-    statuses: list  # entries, and texts between them
-    below: list  # the Help of each command
+    usage: list[str]
+    body: list[list[str]]  # paragraphs, each a list of lines
+    examples: list[str]
+    arguments: list[Entry]
+    options: list[Entry]
+    commands: list[Entry]
+    statuses: list[Entry | str]  # texts stand between entries
+    below: "list[Help]"  # of each command
 
 
-def printed(words):
+def printed(words: Sequence[str]) -> str:
     """What the command prints for --help; so wide that argparse breaks no line of its lists."""
     environment = {**os.environ, "COLUMNS": "400", "LC_ALL": "C.UTF-8"}
     return subprocess.run(
@@ -68,7 +68,7 @@ def printed(words):
     ).stdout
 
 
-def entries(lines):
+def entries(lines: list[str]) -> list[Entry]:
     """A list in columns: a name, and behind two spaces what it is."""
     found = [it for line in lines if (it := re.fullmatch(r" {2,6}(\S.*?)(?: {2,}(\S.*))?", line))]
     if len(found) < len(lines):
@@ -76,11 +76,11 @@ def entries(lines):
     return [Entry(re.sub("[<>]", "", it[1]), it[2] or "") for it in found]
 
 
-def statuses(lines):
+def statuses(lines: list[str]) -> list[Entry | str]:
     """`0 done; 1 not done. Of --due: 0 not due` as entries, with `Of --due:` between them as a text."""
     if re.match(r"  \d+  ", lines[0]):
-        return entries(lines)
-    found = []
+        return [*entries(lines)]
+    found: list[Entry | str] = []
     for part in re.split(r"(?<=[.;]) (?=Of \S+: \d)", " ".join(" ".join(lines).split())):
         its = re.fullmatch(r"(?:(Of \S+:) )?(\d.*)", part)
         if not its:
@@ -91,14 +91,14 @@ def statuses(lines):
     return found
 
 
-def paragraphs(text):
+def paragraphs(text: str) -> list[list[str]]:
     return [it.split("\n") for it in re.split(r"\n{2,}", text.strip("\n")) if it]
 
 
-def read(words, name):
+def read(words: Sequence[str], name: str) -> Help:
     """The help of a command, with that of its own commands."""
     summary, *parts = paragraphs(printed(words))
-    got: dict = {it: [] for it in Help._fields[2:]}
+    got: dict[str, list[Any]] = {it: [] for it in Help._fields[2:] if it not in ("body", "below")}
     body = []
     for lines in parts:
         head = lines[0].lower()
@@ -115,15 +115,14 @@ def read(words, name):
     if not got["usage"] or not got["statuses"]:
         raise Unreadable(f"{name} --help has no usage, or no exit status")
     below = [read([*words, it.head], f"{name} {it.head}") for it in got["commands"]]
-    return with_what_is_told(
-        Help(**{**got, "name": name, "summary": " ".join(summary), "body": body, "below": below})
-    )
+    given: dict[str, Any] = {**got, "body": body, "below": below}
+    return with_what_is_told(Help(name=name, summary=" ".join(summary), **given))
 
 
-def with_what_is_told(page):
+def with_what_is_told(page: Help) -> Help:
     """What the paragraphs say of an option, in lines of columns, goes to the option: each has one text."""
     listed = {name: it for it in (*page.arguments, *page.options) for name in it.names}
-    told: dict = {}
+    told: dict[Entry, list[str]] = {}
     body = []
     for lines in page.body:
         of, left = None, []

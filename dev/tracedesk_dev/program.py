@@ -1,6 +1,7 @@
 """The program that the tools use: the file that PROGRAM in the environment names (so `make day PROGRAM=FILE`); without that,
 crates/tracedesk/out/tracedesk, where no file that it is built of is newer. Tools ask `to_use`, which proves nothing: dev/build does.
 """
+import argparse
 import os
 import pathlib
 import re
@@ -8,6 +9,7 @@ import shutil
 import subprocess
 import sys
 import time
+from typing import Iterator, NoReturn
 
 ROOT = pathlib.Path(__file__).resolve().parents[2]
 CRATES = ROOT / "crates"
@@ -29,19 +31,19 @@ SECONDS_A_LINE = 0.09
 LINES_THAT_SHOW = 1000
 
 
-def stop(why):
+def stop(why: str) -> NoReturn:
     """Ends the tool with a line on standard error: something that it needs is not there."""
     print(f"{NAME}: {why}", file=sys.stderr)
     sys.exit(2)
 
 
-def want(command, package):
+def want(command: str, package: str) -> None:
     """Stops where a command is not there that a package of Debian brings."""
     if shutil.which(command) is None:
         stop(f"there is no {command}: apt-get install {package}")
 
 
-def can_compile():
+def can_compile() -> bool:
     """Whether there is a C compiler, with the C library's headers."""
     if shutil.which("cc") is None:
         return False
@@ -53,13 +55,13 @@ def can_compile():
     )
 
 
-def seed_of_commit():
+def seed_of_commit() -> int:
     """The first digits of the commit's hash, as a number; 1 where there is no repository."""
     done = subprocess.run(["git", "-C", ROOT, "rev-parse", "HEAD"], capture_output=True, text=True)
     return int(done.stdout[:10], 16) if done.returncode == 0 else 1
 
 
-def want_kit():
+def want_kit() -> None:
     if shutil.which("rt") is None:
         older = (
             f"{BUILT.relative_to(ROOT)} is older than {newest().relative_to(ROOT)}, and "
@@ -72,12 +74,12 @@ def want_kit():
 # --- What the program is built of
 
 
-def built(crate):
+def built(crate: str) -> pathlib.Path:
     """Where a program is once it is built."""
     return CRATES / crate / "out" / crate
 
 
-def proved_in_turn(crate=CRATE):
+def proved_in_turn(crate: str = CRATE) -> list[str]:
     """The crates at and below the program, in the order in which rt proves them."""
     rows = [
         line.partition("#")[0].partition(":")
@@ -86,7 +88,7 @@ def proved_in_turn(crate=CRATE):
     named = {name.split()[0]: deps.split() for name, _, deps in rows if name.strip()}
     found = []
 
-    def add(name):
+    def add(name: str) -> None:
         for dep in named.get(name, ()):
             add(dep)
         if name in named and name not in found:
@@ -96,7 +98,7 @@ def proved_in_turn(crate=CRATE):
     return found
 
 
-def sources(program=CRATE):
+def sources(program: str = CRATE) -> Iterator[pathlib.Path]:
     """The files that the program is built of, and their folders, whose times tell of files that are gone."""
     yield CRATES.with_suffix(".txt")
     yield ROOT / "HANDLES"
@@ -109,12 +111,12 @@ def sources(program=CRATE):
             )
 
 
-def newest(crate=CRATE):
+def newest(crate: str = CRATE) -> pathlib.Path:
     """The source that was written last."""
     return max(sources(crate), key=lambda it: it.stat().st_mtime_ns)
 
 
-def is_built(crate=CRATE):
+def is_built(crate: str = CRATE) -> bool:
     """Whether a program is there that no source is newer than."""
     return (
         can_run(built(crate))
@@ -122,14 +124,14 @@ def is_built(crate=CRATE):
     )
 
 
-def can_run(file):
+def can_run(file: str | pathlib.Path) -> bool:
     return os.path.isfile(file) and os.access(file, os.X_OK)
 
 
 # --- The build
 
 
-def lines_of(crate):
+def lines_of(crate: str) -> int:
     """How many lines of code a crate has without its tests, which stand for the work of its proof."""
     files = [
         it
@@ -142,19 +144,19 @@ def lines_of(crate):
 class Progress:
     """What is told on standard error of the lines that rt prints."""
 
-    def __init__(self, crate):
+    def __init__(self, crate: str) -> None:
         self.crates = proved_in_turn(crate)
         self.lines = {it: lines_of(it) for it in self.crates}
-        self.began, self.done, self.crate = time.monotonic(), 0, None
+        self.began, self.done, self.crate = time.monotonic(), 0, ""
 
-    def minutes_left(self, at):
+    def minutes_left(self, at: int) -> int:
         left = sum(self.lines[it] for it in self.crates[at:])
         pace = SECONDS_A_LINE
         if self.done >= LINES_THAT_SHOW:
             pace = (time.monotonic() - self.began) / self.done
         return max(1, round(left * pace / 60))
 
-    def hear(self, line):
+    def hear(self, line: str) -> None:
         chosen = re.match(r"rt: chose --jobs \d+ for (\w+)$", line)
         if chosen and chosen[1] in self.lines and chosen[1] != self.crate:
             self.done += self.lines.get(self.crate, 0)
@@ -167,11 +169,11 @@ class Progress:
             tell(f"  {line.strip()}")
 
 
-def tell(text):
+def tell(text: str) -> None:
     print(text, file=sys.stderr, flush=True)
 
 
-def build(crate):
+def build(crate: str) -> None:
     """Proves and builds the program; where that fails, all that rt said is told, and the tool ends with its status."""
     tell(
         f"{NAME}: proving and building the program, some 40 minutes on four cores; `make demo` shows it at work before that"
@@ -199,7 +201,7 @@ def build(crate):
         os.utime(built(crate))
 
 
-def own(crate=CRATE):
+def own(crate: str = CRATE) -> str:
     """The repository's own program, built where that is wanting."""
     if not is_built(crate):
         want_kit()
@@ -210,7 +212,7 @@ def own(crate=CRATE):
 # --- For the tools
 
 
-def to_use(named=None):
+def to_use(named: str | None = None) -> str:
     """The path of the program: the named one, that of PROGRAM, or the repository's own."""
     named = named or os.environ.get("PROGRAM")
     if not named:
@@ -231,7 +233,7 @@ def to_use(named=None):
     return os.path.abspath(named)
 
 
-def offer(reader):
+def offer(reader: argparse.ArgumentParser) -> None:
     """Adds --program to a tool's words; what is then asked for goes to `to_use`."""
     reader.add_argument(
         "--program",
@@ -245,10 +247,10 @@ class Ticks:
 
     SECONDS = 20
 
-    def __init__(self):
+    def __init__(self) -> None:
         self.due = time.monotonic() + self.SECONDS
 
-    def tell(self, text):
+    def tell(self, text: str) -> None:
         if time.monotonic() >= self.due:
             tell(f"  {text}")
             self.due = time.monotonic() + self.SECONDS

@@ -4,6 +4,7 @@ dev/pages uses it. A finding is a place to look at: some of these words are righ
 any of them can still be bad. So a page may have some.
 """
 import re
+from typing import Iterator
 
 HABITS = {  # what is found: what to write in its place
     "tell, told": ("report, return, print, name", r"\b(?:tells?|told|telling)\b"),
@@ -39,7 +40,7 @@ HABITS = {  # what is found: what to write in its place
 }
 
 
-def running_text(page):
+def running_text(page: str) -> Iterator[tuple[int, str]]:
     """Yields each line of a page that isn't code, with its number. Link targets are left out, and names in backquotes are one word."""
     fenced = False
     for number, line in enumerate(page.splitlines(), 1):
@@ -49,11 +50,11 @@ def running_text(page):
             yield number, re.sub(r"\]\([^)]*\)", "]", re.sub(r"`[^`]*`", "CODE", line)).strip()
 
 
-def words_of(page):
+def words_of(page: str) -> int:
     return sum(len(text.split()) for _, text in running_text(page))
 
 
-def findings(page):
+def findings(page: str) -> Iterator[tuple[int, str, str]]:
     """Yields the number of a line, what was found there with the words around it, and what to write instead."""
     for number, text in running_text(page):
         for better, pattern in HABITS.values():

@@ -8,7 +8,9 @@ import csv
 import io
 import json
 import re
+import sqlite3
 import urllib.parse
+from typing import Any, Callable, Iterable, Sequence
 
 LIMITS = {"1": None, "2": 525_600, "2a": 40_320, "3": 10_080, "4": 4_320, "5": 2_880, "5a": 1_440}
 PLACED = "SELECT {} FROM placement JOIN reel USING (reel) WHERE {}"
@@ -27,30 +29,32 @@ class NotFound(Exception):
     pass
 
 
-def csv_text(header, rows):
+def csv_text(header: str, rows: Iterable[Sequence[object]]) -> str:
     text = io.StringIO()
     csv.writer(text, lineterminator="\n").writerows([header.split(","), *rows])
     return text.getvalue()
 
 
-def desk_minute(database):
-    return database.execute("SELECT coalesce(max(effective), 0) FROM accepted").fetchone()[0]
+def desk_minute(database: sqlite3.Connection) -> int:
+    (minute,) = database.execute("SELECT coalesce(max(effective), 0) FROM accepted").fetchone()
+    return int(minute)
 
 
-def minutes_left(database, reel):
+def minutes_left(database: sqlite3.Connection, reel: str) -> str | int:
     """What is left of a reel's floor life at the desk minute: a number, or a word."""
     level, label, used, since, baked = database.execute(
         "SELECT level, label, used, open_since, baked FROM reel WHERE reel = ?", [reel]
     ).fetchone()
     if level == "6" and not baked:
         return "unbaked"
-    limit = label if level == "6" else LIMITS[level]
+    limit: int | None = label if level == "6" else LIMITS[level]
     if limit is None:
         return "unlimited"
-    return max(0, limit - used - (desk_minute(database) - since if since >= 0 else 0))
+    out: int = used + (desk_minute(database) - since if since >= 0 else 0)
+    return max(0, limit - out)
 
 
-def exists(database, kind, table, **wanted):
+def exists(database: sqlite3.Connection, kind: str, table: str, **wanted: str) -> None:
     where = " AND ".join(f"{name} = ?" for name in wanted)
     if not database.execute(
         f"SELECT 1 FROM {table} WHERE {where} LIMIT 1", list(wanted.values())
@@ -58,7 +62,7 @@ def exists(database, kind, table, **wanted):
         raise NotFound(kind)
 
 
-def trace(database, by, name, detail):
+def trace(database: sqlite3.Connection, by: str, name: str, detail: str | None) -> str:
     exists(database, by.title(), "board" if by == "board" else "reel", **{by: name})
     if detail not in ("1", "2", "3", "4"):
         raise ValueError(detail)
@@ -69,7 +73,7 @@ def trace(database, by, name, detail):
     )
 
 
-def reel_card(database, reel):
+def reel_card(database: sqlite3.Connection, reel: str) -> str:
     exists(database, "Reel", "reel", reel=reel)
     columns = "reel,part,lot,level,received,placed,scrapped,remaining"
     row = database.execute(f"SELECT {columns} FROM reel WHERE reel = ?", [reel]).fetchone()
@@ -87,7 +91,7 @@ def reel_card(database, reel):
     )
 
 
-def slot_list(database, machine):
+def slot_list(database: sqlite3.Connection, machine: str) -> str:
     exists(database, "Machine", "sheet_row", machine=machine)
     query = "SELECT slot, row_number() OVER (PARTITION BY slot ORDER BY since), reel, part, lot, remaining FROM mount JOIN reel USING (reel) WHERE machine = ? ORDER BY slot, since"
     return csv_text(
@@ -96,7 +100,7 @@ def slot_list(database, machine):
     )
 
 
-def free_reels(database, part):
+def free_reels(database: sqlite3.Connection, part: str) -> list[tuple[Any, ...]]:
     """Reels that may stand where a sheet says this part, in the order in which a kit gives them: name, pieces, minutes left."""
     query = """SELECT reel, remaining FROM reel WHERE remaining > 0 AND reel NOT IN (SELECT reel FROM mount)
                AND (part = ?1 OR part IN (SELECT alternate FROM alternate WHERE part = ?1)) ORDER BY reel"""
@@ -110,7 +114,7 @@ def free_reels(database, part):
     )
 
 
-def kit_list(database, product, machine, boards):
+def kit_list(database: sqlite3.Connection, product: str, machine: str, boards: str) -> str:
     if not re.fullmatch("[0-9]{1,6}", boards) or not 1 <= int(boards) <= 100_000:
         raise ValueError(boards)
     exists(database, "Sheet", "sheet_row", product=product, machine=machine)
@@ -128,12 +132,12 @@ def kit_list(database, product, machine, boards):
     return csv_text("slot,part,needed,reel,pieces,minutes_left", rows)
 
 
-def overdue_list(database):
+def overdue_list(database: sqlite3.Connection) -> str:
     query = "SELECT board, designator, reel, effective FROM placement JOIN accepted USING (number) WHERE overdue ORDER BY number, place"
     return csv_text("board,designator,reel,minute", database.execute(query))
 
 
-REPORTS: dict = {
+REPORTS: dict[str, Callable[..., str]] = {
     "/trace/board": lambda base, board, detail: trace(base, "board", board, detail),
     "/trace/lot": lambda base, lot, detail: trace(base, "lot", lot, detail),
     "/reel": lambda base, reel: reel_card(base, reel),
@@ -143,7 +147,7 @@ REPORTS: dict = {
 }
 
 
-def report(database, target):
+def report(database: sqlite3.Connection, target: str) -> str:
     """The text of a report; a word that is missing or unknown is an error of the caller."""
     path, _, query = target.partition("?")
     words = dict(urllib.parse.parse_qsl(query, keep_blank_values=True))

@@ -12,13 +12,15 @@ Beside each message stands the answer that it has to get, byte for byte: this fi
 and the floor life of each reel, which are much simpler than a desk's, since it knows what it will do next.
 """
 import collections
+import dataclasses
 import datetime
-import json
 import random
-import uuid
+from typing import Any
 
-# a line without its end; whether it is Accepted, Refused, Ignored or a Repeat of an accepted one; its answer's bytes
-Said = collections.namedtuple("Said", "text wanted answer")
+from tracedesk_dev.messages import Messages, Said
+
+__all__ = ["MINUTES", "RECALLED", "Reel", "Said", "Shift"]
+Row = tuple[str, str, list[str]]  # of a sheet: slot, part, designators
 
 MINUTES = {"1": None, "2a": 40_320, "3": 10_080, "5a": 1_440, "6": 2_880}
 PASSIVES = [
@@ -44,134 +46,64 @@ EXPIRING, BAKED = "IC-104", "IC-107"  # the part whose reel expires on its slot,
 RECALLED = "LOT-C7731"
 
 
+@dataclasses.dataclass
 class Reel:
-    def __init__(self, name, part, lot, level, quantity):
-        self.name, self.part, self.lot, self.level, self.left = name, part, lot, level, quantity
-        self.used, self.since = (
-            0,
-            None,
-        )  # minutes out of the bag before it was last put back, and since when it is out
+    """`used` is the minutes out of the bag before it was last put back, and `since` is when it was taken out."""
 
-    def exposure(self, minute):
+    name: str
+    part: str
+    lot: str
+    level: str
+    left: int
+    used: int = 0
+    since: int | None = None
+
+    def exposure(self, minute: int) -> int:
         return self.used + (minute - self.since if self.since is not None else 0)
 
-    def minutes_left(self, minute):
+    def minutes_left(self, minute: int) -> int | None:
         limit = MINUTES[self.level]
         return None if limit is None else max(0, limit - self.exposure(minute))
 
-    def open(self, minute):
+    def open(self, minute: int) -> None:
         self.since = minute if self.since is None else self.since
 
-    def seal(self, minute):
+    def seal(self, minute: int) -> None:
         self.used, self.since = self.exposure(minute), None
 
-    def bake(self):
+    def bake(self) -> None:
         self.used, self.since = 0, None
 
 
-class Shift:
+class Shift(Messages):
     """`lines` are the messages in their order; `moments` says of some of them which line they are, from 0 on."""
 
-    def __init__(self, seed=1, boards=300, line="L1", serials=None, day="2026-03-03"):
-        self.random, self.line = random.Random(f"{seed} {line}"), line
+    def __init__(
+        self,
+        seed: int = 1,
+        boards: int = 300,
+        line: str = "L1",
+        serials: list[str] | None = None,
+        day: str = "2026-03-03",
+    ) -> None:
+        begin = datetime.datetime.fromisoformat(day)
+        super().__init__(f"{seed} {line}", begin, begin - datetime.timedelta(hours=18))
+        self.line = line
         self.serials = serials or [f"{line}-{number:06}" for number in range(1, boards + 1)]
         self.machines = [f"{line}-M1", f"{line}-M2"]
-        self.day = datetime.datetime.fromisoformat(day)
-        self.now = self.day - datetime.timedelta(hours=18)
-        self.lines, self.moments, self.facts = [], {}, {}
-        self.shelf, self.tapes, self.sheets = collections.defaultdict(list), {}, {}
-        self.reels = self.lots = self.accepted = self.minute = 0
-        self.due = []
+        self.moments: dict[str, int] = {}
+        self.facts: dict[str, Any] = {}  # what tests look for, by its name
+        self.shelf: dict[str, list[Reel]] = collections.defaultdict(list)
+        self.tapes: dict[tuple[str, str], list[Reel]] = {}
+        self.sheets: dict[tuple[str, str], list[Row]] = {}
+        self.reels = self.lots = 0
+        self.due: list[tuple[datetime.datetime, str]] = []
         self.host()
         self.store()
         self.work()
 
-    # ---- messages ------------------------------------------------------------------------------------------------
-    def at(self, clock):
-        """Goes on to a time of this day, where it is not past."""
-        hours, minutes, *seconds = map(int, clock.split(":"))
-        self.now = max(
-            self.now,
-            self.day + datetime.timedelta(hours=hours, minutes=minutes, seconds=sum(seconds)),
-        )
-
-    def later(self, seconds):
-        self.now += datetime.timedelta(seconds=seconds)
-
-    def say(self, word, body, source, when=None, refusal=None, **more):
-        """Says a message, which is accepted, or refused at a name; `more` is what an accepted one's answer tells besides."""
-        unique = str(uuid.UUID(int=self.random.getrandbits(128), version=4))
-        when = (when or self.now).replace(microsecond=0)
-        message = {
-            "MessageName": "TraceDesk." + word,
-            "UniqueID": unique,
-            "Source": source,
-            "TimeStamp": when.isoformat() + "Z",
-            "MessageBody": body,
-        }
-        self.add(json.dumps(message, separators=(",", ":")).encode(), unique, when, refusal, more)
-        return len(self.lines) - 1
-
-    def add(self, text, unique, when, refusal, more):
-        wanted, answer = "Accepted", {
-            "Answer": "Accepted",
-            "Number": self.accepted + 1,
-            "UniqueID": unique,
-            **more,
-        }
-        if refusal:
-            wanted, answer = "Refused", {
-                "Answer": "Refused",
-                "At": refusal[1],
-                "Refusal": refusal[0],
-                "UniqueID": unique,
-            }
-        else:
-            self.accepted += 1
-            self.minute = self.effective(when)
-        self.lines.append(Said(text, wanted, compact(answer)))
-
-    def ignored(self, word, body, source):
-        """Says a message that is none of the desk's."""
-        text = {
-            "MessageName": word,
-            "UniqueID": f"{source}-{len(self.lines)}",
-            "Source": source,
-            "TimeStamp": self.now.replace(microsecond=0).isoformat() + "Z",
-            "MessageBody": body,
-        }
-        self.lines.append(
-            Said(
-                json.dumps(text, separators=(",", ":")).encode(),
-                "Ignored",
-                compact({"Answer": "Ignored", "MessageName": word}),
-            )
-        )
-
-    def effective(self, when=None):
-        """The minute at which an accepted command takes effect."""
-        return max(
-            self.minute,
-            int((when or self.now).replace(tzinfo=datetime.timezone.utc).timestamp()) // 60,
-        )
-
-    def repeat(self, number):
-        """Says an accepted line again, byte for byte."""
-        self.lines.append(self.lines[number]._replace(wanted="Repeat"))
-
-    def say_again(self, number):
-        """Says a refused line again, byte for byte, which is accepted now."""
-        message = json.loads(self.lines[number].text)
-        self.add(
-            self.lines[number].text,
-            message["UniqueID"],
-            datetime.datetime.fromisoformat(message["TimeStamp"][:-1]),
-            None,
-            {},
-        )
-
     # ---- the day before ------------------------------------------------------------------------------------------
-    def host(self):
+    def host(self) -> None:
         self.say("ClockSet", {}, "host")
         for part in PASSIVES + ACTIVES:
             self.say("PartDefined", {"PartNumber": part}, "host")
@@ -192,8 +124,9 @@ class Shift:
                 self.sheet(product, self.machines[machine], row, most)
         self.select("CTRL-A")
 
-    def sheet(self, product, machine, parts, most):
-        taken, rows = self.facts.setdefault(product, collections.Counter()), []
+    def sheet(self, product: str, machine: str, parts: list[str], most: int) -> None:
+        taken = self.facts.setdefault(product, collections.Counter())
+        rows: list[Row] = []
         for slot, part in enumerate(parts, 1):
             letter = {"CAP": "C", "RES": "R", "IND": "L", "DIO": "D", "CON": "J", "IC-": "U"}[
                 part[:3]
@@ -209,17 +142,17 @@ class Shift:
         ]
         self.say("SheetDefined", {"Product": product, "Machine": machine, "Rows": told}, "host")
 
-    def select(self, product):
+    def select(self, product: str) -> None:
         self.product = product
         for machine in self.machines:
             self.say("ProductSelected", {"Machine": machine, "Product": product}, "host")
 
-    def level(self, part):
+    def level(self, part: str) -> str:
         return {EXPIRING: "5a", BAKED: "6"}.get(part) or (
             "3" if part.startswith("IC") else "2a" if part.startswith("DIO") else "1"
         )
 
-    def receive(self, part, quantity, lot=None):
+    def receive(self, part: str, quantity: int, lot: str | None = None) -> Reel:
         self.reels += 1
         self.lots += 1
         reel = Reel(
@@ -229,7 +162,7 @@ class Shift:
             self.level(part),
             quantity,
         )
-        body = {
+        body: dict[str, object] = {
             "Reel": reel.name,
             "PartNumber": part,
             "Lot": reel.lot,
@@ -242,7 +175,7 @@ class Shift:
         self.shelf[part].append(reel)
         return reel
 
-    def store(self):
+    def store(self) -> None:
         self.at("-14:05")
         old = self.receive(EXPIRING, 900)
         self.at("-14:10")
@@ -250,7 +183,7 @@ class Shift:
         old.open(self.minute)
         self.facts["expiring"] = old.name
         boards = len(self.serials)
-        needs: collections.Counter = collections.Counter()
+        needs: collections.Counter[str] = collections.Counter()
         for product, share in (("CTRL-A", 0.67), ("CTRL-B", 0.33)):
             for machine in self.machines:
                 for _slot, part, names in self.sheets[product, machine]:
@@ -271,7 +204,7 @@ class Shift:
         self.facts["recalled"] = rest.name
 
     # ---- the shift -----------------------------------------------------------------------------------------------
-    def work(self):
+    def work(self) -> None:
         boards, changeover = self.serials, len(self.serials) * 2 // 3
         self.at("05:40")
         for reel in self.shelf[BAKED]:
@@ -286,7 +219,7 @@ class Shift:
         self.happen(everything=True)
         self.end_of_shift()
 
-    def plan(self):
+    def plan(self) -> None:
         """What happens besides, each at its time."""
         hour = datetime.timedelta(hours=1)
         self.due = sorted(
@@ -309,11 +242,11 @@ class Shift:
             ]
         )
 
-    def happen(self, everything=False):
+    def happen(self, everything: bool = False) -> None:
         while self.due and (everything or self.due[0][0] <= self.now):
             getattr(self, self.due.pop(0)[1])()
 
-    def produce(self, names):
+    def produce(self, names: list[str]) -> None:
         """Boards one behind the other: while one is on the second machine, the next is on the first."""
         for turn in range(len(names) + 1):
             pairs = [
@@ -334,7 +267,7 @@ class Shift:
                 self.say("WorkCompleted", {"Machine": machine, "Board": board}, machine)
             self.later(self.pace * 0.25 + self.random.uniform(-1, 1) * self.pace * 0.05)
 
-    def expires_now(self):
+    def expires_now(self) -> bool:
         """The floor life of the 5a reel ends at 10:10: the board that is started just before gets its piece after it."""
         before = self.day.replace(hour=10, minute=9, second=10)
         if (
@@ -345,12 +278,10 @@ class Shift:
         self.facts["expired"], self.now = True, before
         return True
 
-    def start(self, machine, board):
+    def start(self, machine: str, board: str) -> None:
         body = {"Machine": machine, "Board": board}
-        slot = next(
-            (slot for slot, part, _names in self.sheets[self.product, machine] if part == EXPIRING),
-            None,
-        )
+        slots = [slot for slot, part, _ in self.sheets[self.product, machine] if part == EXPIRING]
+        slot = slots[0] if slots else ""
         tape = self.tapes.get((machine, slot), [])
         if (
             tape
@@ -367,7 +298,7 @@ class Shift:
             return
         self.say("WorkStarted", body, machine)
 
-    def install(self, machine, board):
+    def install(self, machine: str, board: str) -> None:
         """Each machine tells of its pieces in two messages, in the order of its program."""
         names = [name for _slot, _part, row in self.sheets[self.product, machine] for name in row]
         order = random.Random(f"{machine} {self.product}").sample(names, len(names))
@@ -384,9 +315,9 @@ class Shift:
                 Reels=reels,
             )
 
-    def take(self, machine, slot, pieces):
+    def take(self, machine: str, slot: str, pieces: int) -> str:
         """Takes pieces off a slot, reel after reel; the name of the last reel."""
-        tape, name = self.tapes[machine, slot], None
+        tape, name = self.tapes[machine, slot], ""
         while pieces:
             some, name = min(pieces, tape[0].left), tape[0].name
             tape[0].left -= some
@@ -395,21 +326,21 @@ class Shift:
                 tape.pop(0)
         return name
 
-    def left(self, machine, slot):
+    def left(self, machine: str, slot: str) -> int:
         return sum(reel.left for reel in self.tapes.get((machine, slot), []))
 
-    def next_reel(self, part):
+    def next_reel(self, part: str) -> Reel:
         if not self.shelf[part]:
             reel = self.receive(part, 2_000)
             if reel.level == "6":
                 self.bake(reel)
         return self.shelf[part].pop(0)
 
-    def bake(self, reel):
+    def bake(self, reel: Reel) -> None:
         self.say("ReelBaked", {"Reel": reel.name}, "oven")
         reel.bake()
 
-    def load(self, machine, slot, part, word="MaterialsLoaded"):
+    def load(self, machine: str, slot: str, part: str, word: str = "MaterialsLoaded") -> Reel:
         reel = self.next_reel(part)
         left = reel.minutes_left(self.effective())
         number = self.say(
@@ -421,7 +352,7 @@ class Shift:
             self.moments["recalled_spliced"] = number
         return reel
 
-    def fill_all(self, first=False):
+    def fill_all(self, first: bool = False) -> None:
         """Each slot has the pieces of two boards more: else a reel is loaded, or spliced to the tape that runs out."""
         for machine in self.machines:
             for slot, part, names in self.sheets[self.product, machine]:
@@ -439,7 +370,7 @@ class Shift:
                     self.later(8)
 
     # ---- what happens besides ------------------------------------------------------------------------------------
-    def wrong_reel(self, machine, slot):
+    def wrong_reel(self, machine: str, slot: str) -> None:
         """The operator takes the reel beside the right one."""
         other = self.shelf[self.sheets[self.product, machine][int(slot)][1]][0]
         body = {"Machine": machine, "Slot": slot, "Reel": other.name}
@@ -447,16 +378,16 @@ class Shift:
             "MaterialsLoaded", body, machine, refusal=("WrongPart", other.name)
         )
 
-    def scanned_twice(self):
+    def scanned_twice(self) -> None:
         machine, slot = self.machines[1], "5"
         reel = self.tapes[machine, slot][0]
         body = {"Machine": machine, "Slot": slot, "Reel": reel.name}
         self.say("MaterialsSpliced", body, machine, refusal=("ReelMounted", reel.name))
 
-    def heartbeat(self):
+    def heartbeat(self) -> None:
         self.ignored("CFX.Heartbeat", {"CFXHandle": self.machines[0]}, self.machines[0])
 
-    def scrap(self, when=None):
+    def scrap(self, when: datetime.datetime | None = None) -> None:
         machine = self.random.choice(self.machines)
         slot = str(self.random.randint(1, 38))
         pieces = min(self.random.randint(1, 4), self.left(machine, slot) - 1)
@@ -470,11 +401,11 @@ class Shift:
             )
             self.take(machine, slot, pieces)
 
-    def scrap_told_late(self):
+    def scrap_told_late(self) -> None:
         self.moments["late"] = len(self.lines)
         self.scrap(when=self.now - datetime.timedelta(minutes=12))
 
-    def count(self):
+    def count(self) -> None:
         """A shelf is counted: on one reel pieces are missing, on another some are found, on others all is right."""
         reels = [
             reel for part in sorted(self.shelf) for reel in self.shelf[part] if reel.left > 50
@@ -486,18 +417,18 @@ class Shift:
         for reel, count in zip(reels, counts):
             reel.left = count
 
-    def sealed(self):
+    def sealed(self) -> None:
         for reel in (
             reel for part in sorted(self.shelf) for reel in self.shelf[part] if reel.level == "3"
         ):
             self.seal(reel, "store")
             return
 
-    def seal(self, reel, source):
+    def seal(self, reel: Reel, source: str) -> None:
         self.say("ReelSealed", {"Reel": reel.name}, source)
         reel.seal(self.minute)
 
-    def network_break(self):
+    def network_break(self) -> None:
         """No answer came for a while, so the last lines are sent again."""
         last = [
             number
@@ -508,7 +439,7 @@ class Shift:
         for number in last:
             self.repeat(number)
 
-    def change_over(self, product):
+    def change_over(self, product: str) -> int:
         """The slots whose part is another are emptied; reels that count minutes go back into a bag."""
         begun = len(self.lines)
         for machine in self.machines:
@@ -522,7 +453,7 @@ class Shift:
         self.fill_all()
         return begun
 
-    def take_off(self, machine, slot):
+    def take_off(self, machine: str, slot: str) -> None:
         self.say("MaterialsUnloaded", {"Machine": machine, "Slot": slot}, machine)
         self.later(6)
         for reel in self.tapes.pop((machine, slot)):
@@ -530,7 +461,7 @@ class Shift:
             if reel.level != "1":
                 self.seal(reel, machine)
 
-    def end_of_shift(self):
+    def end_of_shift(self) -> None:
         """Reels that count minutes go back into their bags, and the store receives most of what tomorrow takes."""
         for machine in self.machines:
             for slot, _part, _names in self.sheets[self.product, machine]:
@@ -545,7 +476,3 @@ class Shift:
                         part, self.random.choice((500, 1_000, 2_000)) if len(names) < 3 else 2_000
                     )
         self.moments["end"] = len(self.lines)
-
-
-def compact(answer):
-    return json.dumps(answer, separators=(",", ":"), sort_keys=True).encode()

@@ -13,6 +13,7 @@ import sys
 import tempfile
 import time
 import types
+from typing import Any, Callable, Iterator, Sequence
 
 ROOT = pathlib.Path(__file__).resolve().parents[2]
 
@@ -24,7 +25,7 @@ class Difference(Exception):
 FAULTS = (Difference, OSError, sqlite3.Error, subprocess.SubprocessError)  # what fails a try
 
 
-def wanting(wanted):
+def wanting(wanted: dict[str, str]) -> list[str]:
     """The packages of Debian that are not here, of those that bring these commands."""
     path = os.environ["PATH"] + ":/usr/sbin"
     return [
@@ -32,7 +33,7 @@ def wanting(wanted):
     ]
 
 
-def tried(calls, *given, folder=None):
+def tried(calls: Sequence[Callable[..., object]], *given: object, folder: str | None = None) -> int:
     """Calls each with what is given and a fresh folder: a line with what it returns, or why it failed; the status of all."""
     failed = 0
     for call in calls:
@@ -47,7 +48,7 @@ def tried(calls, *given, folder=None):
     return 1 if failed else 0
 
 
-def loaded(path):
+def loaded(path: str) -> types.ModuleType:
     """A tool of the repository as a module, by its path from the top."""
     name = pathlib.Path(path).name.replace("-", "_")
     loader = importlib.machinery.SourceFileLoader(name, str(ROOT / path))
@@ -57,7 +58,7 @@ def loaded(path):
     return module
 
 
-def reader_of(about):
+def reader_of(about: str | None) -> argparse.ArgumentParser:
     """Reads the arguments of a tool whose docstring is its help."""
     return argparse.ArgumentParser(
         description=about,
@@ -66,31 +67,32 @@ def reader_of(about):
     )
 
 
-def subcommand(about, names):
+def subcommand(about: str | None, names: Sequence[str]) -> int:
     """Runs the module of that name in the tool's folder: its `words` adds arguments, its `main` gets them and returns the status."""
     reader = reader_of(about)
     if sys.argv[1:2] and sys.argv[1] in names:
         module = importlib.import_module(sys.argv[1])
         reader = reader_of(module.__doc__)
         module.words(reader)
-        return module.main(reader.parse_args(sys.argv[2:]), reader)
+        return int(module.main(reader.parse_args(sys.argv[2:]), reader) or 0)
     reader.add_argument("what", choices=names, help=argparse.SUPPRESS)
     reader.parse_args(sys.argv[1:2])
+    return 2
 
 
-def free_port():
-    with socket.socket() as it:
-        it.bind(("127.0.0.1", 0))
-        return it.getsockname()[1]
+def free_port() -> int:
+    with socket.socket() as link:
+        link.bind(("127.0.0.1", 0))
+        return int(link.getsockname()[1])
 
 
-def remove(file):
+def remove(file: object) -> None:
     """Removes a desk's file with all that may lie next to it."""
     for more in ("", "-wal", "-shm", "-journal", ".copy"):
         pathlib.Path(f"{file}{more}").unlink(missing_ok=True)
 
 
-def rows_in(database):
+def rows_in(database: sqlite3.Connection) -> dict[str, list[Any]]:
     """All rows of all tables."""
     names = [
         name
@@ -102,11 +104,13 @@ def rows_in(database):
 
 
 @contextlib.contextmanager
-def served(program, file, patience=60):
+def served(
+    program: str, file: object, patience: float = 60
+) -> Iterator[tuple[subprocess.Popen[bytes], http.client.HTTPConnection]]:
     """A run of `serve` for one connection, and that connection; the caller closes it, and then the run ends."""
     port = free_port()
     process = subprocess.Popen(
-        [program, "serve", "--db", file, "--port", str(port), "--connections", "1"],
+        [program, "serve", "--db", str(file), "--port", str(port), "--connections", "1"],
         stdin=subprocess.DEVNULL,
         stdout=subprocess.DEVNULL,
     )
@@ -127,7 +131,7 @@ def served(program, file, patience=60):
         process.wait()
 
 
-def memory_of(process, name):
+def memory_of(process: subprocess.Popen[bytes], name: str) -> int:
     """The memory of a run in bytes: VmRSS, what it has, or VmHWM, the most that it had."""
     status = pathlib.Path(f"/proc/{process.pid}/status").read_text()
     return 1_024 * next(
@@ -135,5 +139,5 @@ def memory_of(process, name):
     )
 
 
-def has_serve(program):
+def has_serve(program: str) -> bool:
     return b"serve" in subprocess.run([program, "--help"], capture_output=True).stdout

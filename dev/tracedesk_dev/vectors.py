@@ -1,19 +1,13 @@
-"""The messages of cases/ with their answers, for dev/api-test, and whole exchanges of cases/ for other languages, for dev/api.
+"""The messages of cases/ with their answers, for dev/tests/test_api.py, and whole exchanges of cases/ for other languages, for dev/api.
 They were worked out by hand, and no program is run for them."""
 import base64
 import contextlib
 import io
 import json
-import pathlib
-import tempfile
-from typing import NamedTuple
+from typing import Any, Iterable, Iterator, NamedTuple
 
-from tracedesk_dev import trial
-
-
-def tool_cases():
-    """dev/cases as a module: it knows how a case's files are made, and how a request and an answer are spelled."""
-    return trial.loaded("dev/cases")
+from tracedesk_dev import case_connections, case_files
+from tracedesk_dev.case_files import BytesOf, Step
 
 
 class Vector(NamedTuple):
@@ -21,17 +15,17 @@ class Vector(NamedTuple):
 
     case: str
     message: bytes | None
-    answer: dict
+    answer: dict[str, Any]
     status: int | None = None
 
 
-def lines_of(data):
+def lines_of(data: bytes) -> list[bytes]:
     """The lines that have an answer, without what ends them."""
     found = [it.removesuffix(b"\n").removesuffix(b"\r") for it in io.BytesIO(data).readlines()]
     return [it for it in found if it]
 
 
-def answers_in(data):
+def answers_in(data: bytes) -> list[dict[str, Any]]:
     """The answers among the lines of an output; none where it has other lines."""
     with contextlib.suppress(ValueError):
         told = [json.loads(it) for it in data.splitlines()]
@@ -40,7 +34,7 @@ def answers_in(data):
     return []
 
 
-def of_lines(case, asked, told):
+def of_lines(case: str, asked: bytes, told: bytes) -> list[Vector]:
     """Vectors of an input and an output: each line of the one has one of the other."""
     messages, answers = lines_of(asked), answers_in(told)
     if len(messages) == len(answers):
@@ -48,13 +42,15 @@ def of_lines(case, asked, told):
     return [Vector(case, None, it) for it in answers]
 
 
-def of_connection(case, sent, told, cases, bytes_of):
+def of_connection(
+    case: str, sent: list[Any], told: list[Any], bytes_of: BytesOf
+) -> Iterator[Vector]:
     """Vectors of the requests of a connection. A request that is spelled whole, and one of another route, has its answer alone."""
     for number, answer in enumerate(told):
         request = sent[number] if number < len(sent) else None
         body = None
         if isinstance(request, dict) and request.get("POST") == "/messages":
-            body = cases.spelled_request(request, bytes_of).partition(b"\r\n\r\n")[2]
+            body = case_connections.spelled_request(request, bytes_of).partition(b"\r\n\r\n")[2]
         if isinstance(answer, dict) and "json" in answer:
             yield Vector(case, body, answer["json"], answer.get("status", 200))
         elif isinstance(answer, str) and "application/json" in answer:
@@ -63,45 +59,27 @@ def of_connection(case, sent, told, cases, bytes_of):
                 yield Vector(case, None, json.loads(text), int(head.split()[1]))
 
 
-def of_step(case, step, cases, bytes_of):
+def of_step(case: str, step: Step, bytes_of: BytesOf) -> Iterator[Vector]:
     if "serve" in step:
         for sent, told in step["connections"]:
-            yield from of_connection(case, sent, told, cases, bytes_of)
+            yield from of_connection(case, sent, told, bytes_of)
     elif "cases" in step:
         yield from (Vector(case, None, told) for _, told in step["cases"] if isinstance(told, dict))
     elif "answer" in step:
-        yield from of_lines(case, bytes_of(step.get("input")), cases.object_line(step["answer"]))
+        yield from of_lines(
+            case, bytes_of(step.get("input")), case_files.object_line(step["answer"])
+        )
     elif "output" in step and {"run", "talk", "each"} & set(step):
         if "read_from" not in step and "write_to" not in step:
             yield from of_lines(case, bytes_of(step.get("input")), bytes_of(step["output"]))
 
 
-@contextlib.contextmanager
-def opened(cases, folder):
-    """A case, and a call that gives the bytes of a file of it, which its script may have made."""
-    with tempfile.TemporaryDirectory(prefix="vectors-") as room:
-        made = pathlib.Path(room)
-        cases.make(folder, made)
-
-        def bytes_of(name):
-            if name is None:
-                return b""
-            return next(
-                it for it in (made / name, folder / name) if it.exists() or it.parent == folder
-            ).read_bytes()
-
-        yield json.loads((folder / "case.json").read_text(encoding="utf-8")), bytes_of
-
-
-def all_of(names=()):
+def all_of(names: Iterable[str] = ()) -> Iterator[Vector]:
     """The vectors of all cases, or of these."""
-    cases = tool_cases()
-    for folder in sorted(it.parent for it in cases.CASES.glob("*/case.json")):
-        if names and folder.name not in names:
-            continue
-        with opened(cases, folder) as (case, bytes_of):
+    for folder in case_files.folders(names):
+        with case_files.opened(folder) as (case, bytes_of):
             for step in case["steps"]:
-                yield from of_step(folder.name, step, cases, bytes_of)
+                yield from of_step(folder.name, step, bytes_of)
 
 
 # --- Exchanges with a fresh desk, whole
@@ -112,7 +90,7 @@ class Exchange(NamedTuple):
     `greatest` is how many commands it may take, none for the usual number; `status` the exit status of `feed`.
     """
 
-    cases: tuple
+    cases: tuple[str, ...]
     shows: str
     form: str
     greatest: int | None
@@ -120,7 +98,7 @@ class Exchange(NamedTuple):
     request: bytes
     answer: bytes
 
-    def line(self):
+    def line(self) -> bytes:
         """It as a line of the file that docs/api.md describes."""
         told = {
             "Cases": list(self.cases),
@@ -138,7 +116,7 @@ class Exchange(NamedTuple):
         )
 
     @classmethod
-    def read(cls, line):
+    def read(cls, line: bytes) -> "Exchange":
         told = json.loads(line)
         request, answer = (
             base64.b64decode(told[f"{it}Base64"]) if f"{it}Base64" in told else told[it].encode()
@@ -155,7 +133,7 @@ class Exchange(NamedTuple):
         )
 
 
-def spelled(name, data):
+def spelled(name: str, data: bytes) -> tuple[str, str]:
     """Bytes as a member: as text where they are one."""
     try:
         return name, data.decode()
@@ -163,7 +141,7 @@ def spelled(name, data):
         return f"{name}Base64", base64.b64encode(data).decode()
 
 
-def asked_of(words):
+def asked_of(words: list[str]) -> tuple[str, str | None, int | None] | None:
     """The command, the file and the greatest number that the words of a command line name; none of others."""
     options = dict(zip(words[1::2], words[2::2]))
     if (
@@ -180,12 +158,12 @@ def asked_of(words):
     )
 
 
-def names_no_file(step):
+def names_no_file(step: Step) -> bool:
     asked = asked_of(step.get("run") or step.get("talk") or [])
     return asked is not None and asked[1] is None
 
 
-def of_fresh_desk(step, is_fresh, cases, bytes_of):
+def of_fresh_desk(step: Step, is_fresh: bool, bytes_of: BytesOf) -> Iterator[tuple[Any, ...]]:
     """The exchanges of a step: form, greatest, status, request and answer, and what is put behind the step's number."""
     kind = next((it for it in ("run", "talk", "serve") if it in step), None)
     asked = asked_of(step[kind]) if kind else None
@@ -206,25 +184,22 @@ def of_fresh_desk(step, is_fresh, cases, bytes_of):
             step.get("output")
         )
     for number, (sent, told) in enumerate(step.get("connections", ()), 1):
-        answer = b"".join(map(cases.spelled_answer, told))
+        answer = b"".join(map(case_connections.spelled_answer, told))
         if is_fresh:
             yield f"/{number}", "http", greatest, None, b"".join(
-                cases.spelled_request(it, bytes_of) for it in sent
+                case_connections.spelled_request(it, bytes_of) for it in sent
             ), answer
         is_fresh = is_fresh and b'"Answer":"Accepted"' not in answer
 
 
-def exchanges(names=()):
+def exchanges(names: Iterable[str] = ()) -> list[Exchange]:
     """All exchanges of cases, or of these, with a fresh desk, each once, in the order of their first cases."""
-    cases = tool_cases()
-    found: dict = {}
-    for folder in sorted(it.parent for it in cases.CASES.glob("*/case.json")):
-        if names and folder.name not in names:
-            continue
-        with opened(cases, folder) as (case, bytes_of):
+    found: dict[tuple[Any, ...], tuple[list[str], str]] = {}
+    for folder in case_files.folders(names):
+        with case_files.opened(folder) as (case, bytes_of):
             is_fresh = True  # no step before has named a file of the case
             for number, step in enumerate(case["steps"], 1):
-                for place, *exchange in of_fresh_desk(step, is_fresh, cases, bytes_of):
+                for place, *exchange in of_fresh_desk(step, is_fresh, bytes_of):
                     found.setdefault(tuple(exchange), ([], case["shows"]))[0].append(
                         f"{folder.name}/{number}{place}"
                     )

@@ -12,6 +12,7 @@ from lab import line as lines  # noqa: E402
 from lab import messages, world as worlds  # noqa: E402
 from lab.desk import Desk  # noqa: E402
 from lab.line import Line, NewLine  # noqa: E402
+from lab.shifted import Shifted  # noqa: E402
 from lab.world import World  # noqa: E402
 
 
@@ -66,6 +67,24 @@ def new_line(program: pathlib.Path, folder: pathlib.Path) -> Iterator[NewLine]:
 def line(new_line: NewLine) -> Line:
     """Line L1, served, whose reel K1 of lot L1 is on slot 1 of machine M."""
     return new_line()
+
+
+@pytest.fixture(scope="session")
+def shifted(program: pathlib.Path) -> Iterator[Shifted]:
+    """The messages of a shift, and what one desk makes of them."""
+    with tempfile.TemporaryDirectory(prefix="ops-") as name:
+        yield Shifted(program, pathlib.Path(name))
+
+
+@pytest.fixture
+def half(shifted: Shifted, folder: pathlib.Path) -> Iterator[Line]:
+    """Line L1, served, which has taken the first half of a shift; no board is in work."""
+    line = shifted.copy(folder / "half")
+    line.serve()
+    try:
+        yield line
+    finally:
+        line.end()
 
 
 @pytest.fixture(scope="session")

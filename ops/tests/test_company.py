@@ -15,6 +15,8 @@ from lab import databases
 from lab.databases import SQL, Database, Queried
 from lab.waits import wait_for
 
+pytestmark = [pytest.mark.xdist_group("company")]
+
 PLANTS = int(os.environ.get("PLANTS", "3"))
 NOW = """to_char(now() AT TIME ZONE 'UTC', 'YYYY-MM-DD"T"HH24MISS"Z"')"""
 GRANTS = "GRANT USAGE ON SCHEMA plant TO recall; GRANT EXECUTE ON FUNCTION plant.answer TO recall;"

@@ -16,7 +16,6 @@ import collections
 import contextlib
 import csv
 import datetime
-import fcntl
 import hashlib
 import io
 import json
@@ -27,7 +26,7 @@ import sqlite3
 import urllib.parse
 from typing import NamedTuple
 
-from tracedesk_ops import copies
+from tracedesk_ops import copies, files
 
 FILE_NAME = "catalogue.csv"
 RUNNING = "running desk"  # in the place of an archive's name
@@ -396,20 +395,9 @@ def take_out(path, archive):
 
 
 @contextlib.contextmanager
-def held(folder):
-    """Holds a folder, for one change in it at a time."""
-    it = os.open(folder, os.O_RDONLY | os.O_DIRECTORY)
-    try:
-        fcntl.flock(it, fcntl.LOCK_EX)
-        yield
-    finally:
-        os.close(it)
-
-
-@contextlib.contextmanager
 def changed(path):
     """The archives of a catalogue, which is written anew where they were changed."""
-    with held(pathlib.Path(path).parent):
+    with files.held(pathlib.Path(path).parent):
         before = read(path)
         archives = list(before)
         yield archives
@@ -421,41 +409,13 @@ def write(path, archives):
     """Puts a catalogue of these archives in the place of the one that is there."""
     text = csv_text([HEADER, *map(row_of, archives)])
     whole(survey_text(path, text.encode()))
-    put(path, text)
+    files.put(path, text)
 
 
 def csv_text(table):
     text = io.StringIO()
     csv.writer(text, lineterminator="\n").writerows(table)
     return text.getvalue()
-
-
-def put(path, text, mode=None):
-    """Puts a file of this text in the place of the one that is there, whole and on disk; where a link lies, nothing is written through it."""
-    beside = path.with_name(path.name + ".new")
-    beside.unlink(missing_ok=True)
-    try:
-        with open(beside, "x", encoding="utf-8", newline="") as file:
-            if mode is not None:
-                os.fchmod(file.fileno(), mode)
-            file.write(text)
-            file.flush()
-            os.fsync(file.fileno())
-        os.replace(beside, path)
-    except OSError:
-        with contextlib.suppress(OSError):
-            beside.unlink()
-        raise
-    keep(path.parent)
-
-
-def keep(path):
-    """Waits until a file or a folder is on disk."""
-    it = os.open(path, os.O_RDONLY)
-    try:
-        os.fsync(it)
-    finally:
-        os.close(it)
 
 
 def row_of(archive):

@@ -57,6 +57,7 @@ LATE, SHORT, LONG = (
     "the reel before it may have ended later",
 )
 AFTER, REFUSED = "after such an order, on the same tape", "a refused reel may be on the slot"
+DIFFERS = "the machine names another reel"
 TAKEN_OFF = "taken off"  # what became of a refused reel from which nothing was placed
 TRIES = 5  # of a copy of a running desk's file
 
@@ -347,6 +348,8 @@ class Story:
         refused may have been on the slot all the same."""
         if kind == "board":
             return piece.board == name
+        if DIFFERS in piece.why and piece.other_lots[0]:
+            return name in (piece.lot, *piece.other_lots, piece.reel, *piece.other_reels)
         parts, machines = self.looked_for(kind, name)
         return (
             name in (piece.lot, *piece.other_lots, piece.reel, *piece.other_reels)
@@ -457,6 +460,16 @@ class Story:
                         )
                     )
         return sorted(found, key=lambda it: (it.minute, it.board, it.designator))
+
+    def contradicted(self, record):
+        """The pieces of which a machine names another reel than the desk; the lot of one that the desk doesn't know is empty."""
+        told, minute = record.told, minute_of(record.told["At"]) or 0
+        desk, machine = told["DeskReel"], told["MachineReel"]
+        why = DIFFERS + (", which the desk doesn't know" if machine not in self.lots else "")
+        lots = self.lots.get(desk, ""), self.lots.get(machine, "")
+        for name in map(str, told["Designators"]):
+            at = told["Board"], name, told["Machine"], "", minute, desk, lots[0]
+            yield Piece(*at, (machine,), lots[1:], f"{why} ({record.id[:8]})", "")
 
     def moved(self):
         """The machines on which pieces were taken off a reel that may be another one, when, and how many; and by machine and slot the turns of those that are late."""
@@ -587,6 +600,7 @@ def look(path, archives, is_running=False, running=()):
     book, faults, pieces = untraced.read(path.parent), [], []
     refused, decided = untraced.refused(book.records), untraced.decisions(book.records)
     works = [it for it in refused if untraced.is_work(it)]
+    differing = untraced.differing(book.records)
     story = Story(
         map(work_of, works),
         [
@@ -615,10 +629,15 @@ def look(path, archives, is_running=False, running=()):
             for place, database in enumerate(files.values()):
                 story.place(place, database)
         pieces = story.pieces()
+        for record in differing:
+            pieces += story.contradicted(record) if record.id not in decided else ()
     except (catalogue.CatalogueError, OSError, sqlite3.Error) as fault:
         faults.append(f"{path}: whether pieces may be of other reels isn't known: {fault}")
     return Line(
-        [(it, decided.get(it.id), story.reels_of(work_of(it))) for it in works],
+        [
+            *((it, decided.get(it.id), story.reels_of(work_of(it))) for it in works),
+            *((it, decided[it.id], it.told["DeskReel"]) for it in differing if it.id in decided),
+        ],
         pieces,
         [*book.faults, *faults, *waiting(places.of_archive(path.parent).status)],
         notes,

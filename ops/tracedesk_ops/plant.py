@@ -38,7 +38,6 @@ TEXT: dict = {
     "errors": "surrogateescape",
 }  # of what a program prints: it may name files
 KILL_AFTER = "TRACEDESK_KILL_AFTER"  # a step of a tool, for its test
-keep = catalogue.keep
 
 
 class Fault(Exception):

@@ -8,7 +8,7 @@ import pathlib
 import shutil
 import time
 
-from tracedesk_ops import backups, catalogue, identity, plant
+from tracedesk_ops import backups, catalogue, files, identity, plant
 
 RESTORED = ".restored"  # beside the desk: what is to take its place
 
@@ -158,7 +158,7 @@ class Rolling:
         self.plan.unlink(missing_ok=True)
         end = time.monotonic() + plant.PATIENCE
         while self.room.exists():
-            plant.keep(self.room)
+            files.keep(self.room)
             try:
                 shutil.rmtree(self.room)
             except (
@@ -184,7 +184,7 @@ class Rolling:
             "commands": None,
             "fault": str(fault),
         }
-        catalogue.put(self.archives / f"lacks-{archive.file}.json", json.dumps(about) + "\n")
+        files.put(self.archives / f"lacks-{archive.file}.json", json.dumps(about) + "\n")
         for it in (
             it
             for tail in ("", *catalogue.LOGS)
@@ -204,14 +204,14 @@ class Rolling:
             self.archives.mkdir(mode=0o700)
         if not self.is_filed(filed):
             os.link(self.copy, filed)  # never over another file
-        plant.keep(self.archives)
+        files.keep(self.archives)
         catalogue.add(self.catalogue, archive)
         plant.reached("catalogue")
         plant.without_log(self.db)
-        plant.keep(self.db.parent)
+        files.keep(self.db.parent)
         plant.reached("log")
         os.rename(self.new, self.db)
-        plant.keep(self.db.parent)
+        files.keep(self.db.parent)
         if self.held:
             self.held.spoil()
         plant.tell(

@@ -21,7 +21,7 @@ import pathlib
 import re
 from typing import NamedTuple
 
-from tracedesk_ops import catalogue, places, plant
+from tracedesk_ops import files, places, plant
 
 FILE_NAME, INBOX, COLLECTED, STATUS = "untraced.csv", "untraced", "collected.json", "untraced.json"
 HEADER = (
@@ -45,7 +45,14 @@ RECORD = re.compile(r"[0-9a-f]{32}\.json")
 HANDLING = ("MaterialsLoaded", "MaterialsSpliced", "MaterialsUnloaded")
 BEGIN = "0" * 64
 MOST_DECIDED = 1_000  # ids that the status file names
-LONGEST = 2 << 20  # bytes of a record: a message has 1,048,576 at most
+LONGEST = (
+    4 << 20
+)  # bytes of a record: a message has 1,048,576 at most, and is there as read and as it came
+MOST_WAITING = 256 << 20  # bytes of an inbox, in which nginx keeps no more then
+DECIDED, FULL = (
+    "decided",
+    "full",
+)  # the folder of decisions beside the inbox, and the file that says so
 csv.field_size_limit(LONGEST)  # a row has its record as one field
 
 
@@ -73,13 +80,10 @@ def record_of(text):
         and isinstance(told.get("Message"), dict)
         and isinstance(told.get("Answer"), dict)
     )
-    is_decided = (
-        isinstance(told, dict)
-        and told.get("Kind") == "decided"
-        and all(isinstance(told.get(it), str) for it in ("Of", "By", "Reason", "Became"))
-    )
+    is_decided = has_texts(told, "decided", "Of", "By", "Reason", "Became")
+    is_differing = has_texts(told, "differs", "Board", "By", "DeskReel", "Machine", "MachineReel")
     if (
-        not (is_refused or is_decided)
+        not (is_refused or is_decided or is_differing and isinstance(told["Designators"], list))
         or not isinstance(told.get("At"), str)
         or not text.endswith(b"\n")
         or text.count(b"\n") != 1
@@ -88,14 +92,28 @@ def record_of(text):
     return Record(hashlib.sha256(text).hexdigest()[:32], told, text[:-1].decode("ascii"))
 
 
+def has_texts(told, kind, *names):
+    """Whether it is a record of this kind, with a text of each name."""
+    is_kind = isinstance(told, dict) and told.get("Kind") == kind
+    return is_kind and all(isinstance(told.get(it), str) for it in names)
+
+
 def inbox_of(archive):
     """The inbox of the line whose archives, and catalogue, are in that folder."""
     return places.of_archive(pathlib.Path(archive)).inbox
 
 
 def said(record):
-    """What a record says to a reader: the columns of its row up to `reason`."""
+    """What a record says to a reader: the columns of its row up to `reason`, of which half a letter is spelled."""
+    return [it.encode("utf-8", "backslashreplace").decode() for it in columns(record)]
+
+
+def columns(record):
     told = record.told
+    if told["Kind"] == "differs":
+        what = f"{' '.join(map(str, told['Designators']))} by the desk of reel {told['DeskReel']}"
+        its = [told["At"], told["Machine"], told["Board"], what, "Differs", told["MachineReel"]]
+        return [record.id, "differs", *its, "", told["By"], "", "", ""]
     if told["Kind"] == "decided":
         return [
             record.id,
@@ -136,11 +154,13 @@ def said(record):
 
 
 def body_of(record):
-    body = record.told["Message"].get("MessageBody")
+    body = record.told.get("Message", {}).get("MessageBody")
     return body if isinstance(body, dict) else {}
 
 
 def word_of(record):
+    if record.told["Kind"] == "differs":
+        return "MaterialsInstalled"
     return str(record.told["Message"].get("MessageName", "")).removeprefix("TraceDesk.")
 
 
@@ -247,23 +267,31 @@ def parsed(path, text):
 
 
 def waiting_in(inbox):
-    """The records in an inbox, and what is wrong there."""
+    """The records in an inbox, and in the folder of decisions beside it, and what is wrong there. A decision in the inbox is none: who
+    may send may put it there."""
     records, faults = [], []
-    for file in sorted(inbox.iterdir()) if inbox.is_dir() else ():
-        if not RECORD.fullmatch(file.name):
-            continue
+    for file in files_in(inbox):
         try:
             text = file.read_bytes()
             record = record_of(text) if len(text) <= LONGEST else None
             if record is None or record.id != file.stem:
                 raise ValueError("its name is not that of its bytes")
-            records.append(record)
+            if (record.told["Kind"] == "decided") == (file.parent != inbox):
+                records.append(record)
         except FileNotFoundError:
             continue  # collected meanwhile: its row is on disk
         except (ValueError, UnicodeDecodeError, RecursionError) as fault:
             faults.append(f"{file}: {fault}: look at what its sender has of it, then move it away")
     records.sort(key=lambda it: (it.told["At"], it.id))
     return records, faults
+
+
+def files_in(inbox):
+    """The files of records that wait, and of decisions."""
+    for folder in (inbox, inbox.parent / DECIDED):
+        for file in sorted(folder.iterdir()) if folder.is_dir() else ():
+            if RECORD.fullmatch(file.name):
+                yield file
 
 
 def decisions(records):
@@ -275,10 +303,15 @@ def refused(records):
     return [it for it in records if it.told["Kind"] == "refused"]
 
 
+def differing(records):
+    """The boards of which a machine names other reels than the desk."""
+    return [it for it in records if it.told["Kind"] == "differs"]
+
+
 def undecided(records):
-    """The reports of work about which nobody decided."""
-    decided = decisions(records)
-    return [it for it in refused(records) if is_work(it) and it.id not in decided]
+    """The reports of work, and the boards whose reels differ, about which nobody decided."""
+    decided, its = decisions(records), [*refused(records), *differing(records)]
+    return [it for it in its if is_work(it) and it.id not in decided]
 
 
 # --- Writing
@@ -287,7 +320,7 @@ def undecided(records):
 def collect(archive):
     """Appends what is in the inbox to the line's file. Returns its records, how many are new, and what is wrong in the inbox; a Fault where the file is damaged."""
     archive = pathlib.Path(archive)
-    with catalogue.held(archive):
+    with files.held(archive):
         records, faults = rows_of(archive)
         inbox, path = inbox_of(archive), archive / FILE_NAME
         if faults and not (records and not collected_in(inbox)[0] and inbox.is_dir()):
@@ -303,8 +336,25 @@ def collect(archive):
             note(inbox, records)
             plant.reached("noted")
         for it in waiting:
-            (inbox / f"{it.id}.json").unlink(missing_ok=True)
+            place_of(inbox, it).unlink(missing_ok=True)
+        limit(inbox)
     return records, len(new), wrong
+
+
+def place_of(inbox, record):
+    """Where a record waits."""
+    folder = inbox.parent / DECIDED if record.told["Kind"] == "decided" else inbox
+    return folder / f"{record.id}.json"
+
+
+def limit(inbox):
+    """Has nginx take no more where too much waits, and no record can be made of it."""
+    with contextlib.suppress(FileNotFoundError):
+        waiting = sum(it.stat().st_size for it in files_in(inbox))
+        if waiting > MOST_WAITING:
+            (inbox / FULL).touch()
+        else:
+            (inbox / FULL).unlink(missing_ok=True)
 
 
 def append(path, records, new):
@@ -328,16 +378,14 @@ def append(path, records, new):
         file.write(text.getvalue().encode())
         file.flush()
         os.fsync(file.fileno())
-    plant.keep(path.parent)
+    files.keep(path.parent)
 
 
 def note(inbox, records):
     chain = BEGIN
     for it in records:
         chain = chained(chain, it)
-    catalogue.put(
-        inbox / COLLECTED, json.dumps({"Rows": len(records), "Chain": chain}) + "\n", 0o644
-    )
+    files.put(inbox / COLLECTED, json.dumps({"Rows": len(records), "Chain": chain}) + "\n", 0o644)
 
 
 def now():
@@ -347,7 +395,7 @@ def now():
 def decide(archive, of, by, became, reason):
     """Puts a decision into the inbox and collects it. Returns its record; a Fault where there is no such report of work."""
     records, _, _ = collect(archive)
-    if of not in {it.id for it in refused(records)}:
+    if of not in {it.id for it in [*refused(records), *differing(records)]}:
         raise plant.Fault(f"there is no untraced work {of}: tracedesk-untraced list has the ids")
     told = {
         "At": now(),
@@ -359,7 +407,9 @@ def decide(archive, of, by, became, reason):
         "Version": 1,
     }
     record = record_of(json.dumps(told, sort_keys=True, separators=(",", ":")).encode() + b"\n")
-    catalogue.put(inbox_of(archive) / f"{record.id}.json", record.text + "\n", 0o644)
+    place = place_of(inbox_of(archive), record)
+    place.parent.mkdir(exist_ok=True)
+    files.put(place, record.text + "\n", 0o644)
     collect(archive)
     return record
 
@@ -378,7 +428,7 @@ def write_status(folder, records):
         "Undecided": open_ones,
         "Version": 1,
     }
-    catalogue.put(pathlib.Path(folder) / STATUS, json.dumps(told) + "\n", 0o644)
+    files.put(pathlib.Path(folder) / STATUS, json.dumps(told) + "\n", 0o644)
 
 
 def copy(archive, to, opened):
@@ -393,7 +443,10 @@ def copy(archive, to, opened):
         if inbox.is_dir()
         else []
     )
+    decided = inbox.parent / DECIDED
+    decisions_there = [it for it in files_in(inbox) if it.parent == decided]
     for file, copied in [
+        *((it, to / DECIDED / it.name) for it in decisions_there),
         *((inbox / it, to / INBOX / it) for it in names),
         (path, to / pathlib.Path(archive).name / FILE_NAME),
     ]:
@@ -417,5 +470,6 @@ def take_back(archive, records):
     inbox, known = inbox_of(archive), {it.id for it in read(archive).records}
     for it in records:
         if it.id not in known:
-            inbox.mkdir(exist_ok=True)
-            catalogue.put(inbox / f"{it.id}.json", it.text + "\n", 0o644)
+            place = place_of(inbox, it)
+            place.parent.mkdir(exist_ok=True)
+            files.put(place, it.text + "\n", 0o644)

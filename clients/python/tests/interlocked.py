@@ -132,10 +132,8 @@ class Plant:
         refused = self.wait_for(lambda: self.model.refused_at.get(uid))
 
         def stopped() -> Optional[float]:
-            return next(
-                (at for at, state, why in self.calls() if state == "stop" and "refused" in why),
-                None,
-            )
+            its = (at for at, state, _ in self.calls() if state == "stop" and at > refused)
+            return next(its, None)
 
         took = self.wait_for(stopped) - refused
         if from_tablet:

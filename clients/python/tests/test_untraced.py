@@ -1,14 +1,16 @@
 """A refused report of work: it is recorded once, and not sent again unless a person decides so."""
+import base64
 import hashlib
 import json
 import pathlib
 import tempfile
 import unittest
 
+import pytest
 import test_send
 import test_spool
 
-from tracedesk import answers, spool
+from tracedesk import answers, interlock, spool, untraced
 
 
 def work(uid, word="WorkStarted", **body):
@@ -53,6 +55,7 @@ class Untraced(test_send.Sending):
         self.server.slots, self.server.put = SLOTS, {}
         self.inbox, self.status = self.room / "inbox", self.room / "status"
         self.inbox.mkdir()
+        (self.room / "decided").mkdir()
         self.status.mkdir()
 
     def records(self, folder=None):
@@ -175,7 +178,7 @@ class Untraced(test_send.Sending):
         self.assertEqual((done.returncode, len(self.waits())), (0, 1), done)
         self.send("--untraced", self.inbox)
         self.assertEqual((self.uids(), list((self.spool / "untraced").iterdir())), (["bad1"], []))
-        decided = [it for it in self.records() if it["Kind"] == "decided"]
+        decided = self.records(self.room / "decided")
         self.assertEqual(
             [(it["Became"], it["By"], it["Reason"]) for it in decided],
             [("sent again", "A. Person", "the splice was late")],
@@ -261,6 +264,74 @@ class Untraced(test_send.Sending):
                 if not is_ended:
                     return
         self.fail("more calls than expected")
+
+
+UNREADABLE = {
+    "Latin-1": work("u1", Board="SN-1 Pr\u00fcf").replace(b"\\u00fc", b"\xfc"),
+    "cut": work("u1", Board="SN-2")[:-2],
+    "5,000 digits": work("u1", "MaterialsScrapped", Slot="1", Quantity=7).replace(
+        b"7}", b"7" * 5000 + b"}"
+    ),
+    "a raw tab": work("u1", Board="SN-3").replace(b"SN-3", b"SN-3\t"),
+    "NaN": work("u1", Board="N").replace(b'"N"', b"NaN"),
+    "no object": b"[]",
+    "a lone surrogate": work("u1", Board="SN-\ud83d"),
+}
+
+
+@pytest.mark.parametrize("what", UNREADABLE)
+def test_a_report_that_nobody_can_read_is_recorded(what, tmp_path):
+    """Byte for byte, and what can be read of it beside; and it isn't sent again."""
+    text, it = UNREADABLE[what], spool.Spool(tmp_path / "spool", name="m1")
+    faulty = answers.read(b'{"Answer":"Faulty","Fault":"NotJson"}')
+    with it.sending():
+        it.done(it.put(text), faulty, "2026-03-02T06:00:09Z")
+    (path,) = it.untraced.iterdir()
+    made = json.loads(path.read_bytes(), parse_constant=lambda text: pytest.fail(text))
+    assert base64.b64decode(made["Raw"]) == text
+    assert isinstance(made["Message"], dict)
+    board = made["Message"].get("MessageBody", {}).get("Board", "")
+    assert board.startswith("SN") == (what in ("Latin-1", "a raw tab", "a lone surrogate"))
+    assert it.is_report("000000000001")
+    with pytest.raises(spool.SpoolError):
+        it.again(["000000000001"])
+
+
+def test_a_report_that_is_too_long_has_a_record_that_is_not(tmp_path):
+    it, text = spool.Spool(tmp_path / "spool"), work("u1", Designators=["C1"] * 420_000)
+    with it.sending():
+        it.done(it.put(text), answers.LINE_TOO_LONG, "2026-03-02T06:00:09Z")
+    (path,) = it.untraced.iterdir()
+    made = json.loads(path.read_bytes())
+    assert path.stat().st_size < 100_000
+    assert (made["Size"], made["Sha256"]) == (len(text), hashlib.sha256(text).hexdigest())
+    assert made["Message"]["MessageBody"]["Board"] == "B1"
+
+
+class Inbox:
+    """A place that takes no record with a word in it."""
+
+    beside = None
+
+    def __init__(self, refused):
+        self.refused, self.names = refused, []
+
+    def put(self, name, text):
+        if self.refused in text:
+            raise untraced.NotPut("status 413")
+        self.names.append(name)
+
+
+def test_one_record_that_is_not_taken_holds_no_other_up(tmp_path):
+    it, told = spool.Spool(tmp_path / "spool"), []
+    for number in range(9):
+        it.keep_made(f"{number:032}", b'{"Kind":"refused","Board":%d}' % number)
+    it.keep_made("f" * 32, b'{"Kind":"decided"}')
+    line = untraced.Line(it, None, interlock.Interlock(it, []), Inbox(b"5"), None, told.append)
+    line.look()
+    assert len(line.inbox.names) == 8
+    assert sorted(path.stem[-1] for path in it.untraced.iterdir()) == ["5", "f"]
+    assert "2 records, the first" in told[0]
 
 
 for _name in [it for it in dir(test_send.Sending) if it.startswith("test_")]:

@@ -99,10 +99,14 @@ MEMBERS = {
 }
 
 
+def no_number(text: str) -> None:
+    raise ValueError(f"{text} is no number of JSON")
+
+
 def read_object(text: bytes) -> Dict[str, Any]:
-    """A JSON object; empty where the text is none."""
+    """A JSON object; empty where the text is none. NaN and Infinity are no JSON."""
     try:
-        told = json.loads(text)
+        told = json.loads(text, parse_constant=no_number)
     except (ValueError, RecursionError):
         return {}
     return told if isinstance(told, dict) else {}

@@ -42,7 +42,8 @@ whatever ended it, it goes on where it was. One sender has a spool at a time; an
                  Without it they are kept in the folder `untraced` of the spool, and are handed on once it is named
 --status         where NAME.json lists every few seconds the messages that wait or were set aside, and the state of machines: a folder, or
                  https://desk.plant/line/status
---name           the sender's name there (that of the spool's folder)
+                 The proxy takes it under the name of the log-in only
+--name           the sender's name there (that of --user, else of the spool's folder)
 --interlock      a command that is called as COMMAND MACHINE STATE REASON BOARD, at each change and every --every seconds (2). STATE is `go`
                  only while the desk says that the board is in work and the sheet's slots have good reels, nothing that was refused
                  is open, and no start of work waits; else `stop`. docs/interlock.md has the rules
@@ -99,6 +100,7 @@ from .console import NAME, ended, say, tell
 
 RATE = 40.0  # messages a second of one spool
 SHOWING = 20.0  # seconds of patience for what is shown before a decision
+NAMED = re.compile("[A-Za-z0-9_-][A-Za-z0-9._-]{0,63}")
 TIME = re.compile(r"\d{4}-\d\d-\d\d[Tt]\d\d:\d\d.*")
 
 
@@ -161,7 +163,7 @@ def send_all(
         if not is_stopped and isinstance(answer, answers.Ignored) and answer.is_mistyped:
             tell(answers.why(answer))
             mistyped += 1
-        if not is_stopped or records.is_report(answers.read_object(line)):
+        if not is_stopped or records.is_report(records.as_read(line)):
             file.write(answer.text + b"\n")
             file.flush()
             os.fsync(file.fileno())
@@ -188,7 +190,8 @@ def run_files(asked: argparse.Namespace, to: desk.Desk) -> int:
 
 
 def spool_of(asked: argparse.Namespace) -> spool.Spool:
-    return spool.Spool(asked.spool, asked.keep_days, round(asked.keep_mib * (1 << 20)), asked.name)
+    name = asked.name or (asked.user if NAMED.fullmatch(asked.user or "") else None)
+    return spool.Spool(asked.spool, asked.keep_days, round(asked.keep_mib * (1 << 20)), name)
 
 
 def put(into: spool.Spool, file: str) -> int:
@@ -418,7 +421,7 @@ def words() -> argparse.Namespace:
         reader.error(f"--scans: {asked.scans} is no folder: name that of the proxy's list of scans")
     if asked.silence <= 0 or asked.every <= 0:
         reader.error("--silence and --every are numbers of seconds above 0")
-    if asked.name is not None and not re.fullmatch("[A-Za-z0-9_-][A-Za-z0-9._-]{0,63}", asked.name):
+    if asked.name is not None and not NAMED.fullmatch(asked.name):
         reader.error("--name is 1 to 64 letters, digits, '.', '_' and '-'")
     if asked.follow not in (None, "-") and not pathlib.Path(asked.follow).is_dir():
         reader.error(f"--follow: {asked.follow} is no folder: make it, or name another")

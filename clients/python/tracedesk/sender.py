@@ -58,7 +58,7 @@ class Sender:
         if (size := patiently(place.stat, self.tell).st_size) > forms.LONGEST_MESSAGE:
             return answers.LINE_TOO_LONG, self.spool.message(name) if size <= MOST_READ else {}
         text = patiently(lambda: self.spool.text(name), self.tell)
-        told = answers.read_object(text)
+        told = records.as_read(text)
         if answers.word_of(told) == "WorkStarted":
             self.asker.look(str(answers.body_of(told).get("Machine")))
         try:

@@ -11,7 +11,7 @@ import pytest
 from lab import TESTS
 from lab.line import table
 from lab.tools import Ended, Word, run, run_tool
-from tracedesk_dev import postgres
+from tracedesk_dev import packages, postgres
 
 SQL = postgres.SQL
 EXTENSIONS = pathlib.Path("/usr/share/postgresql")
@@ -21,12 +21,12 @@ OLDER = TESTS / "plant-0.3.0.tar.xz"
 
 def skip_without(*extensions: str) -> None:
     """Skips the test if there is no PostgreSQL, or none with these extensions."""
-    wanted = [] if postgres.is_here() else ["postgresql"]
+    why = packages.lacking("initdb", "psql", "python:psycopg")
     for name in extensions:
         if not list(EXTENSIONS.glob(f"*/extension/{name}.control")):
-            wanted.append(f"postgresql-15-{name}")
-    if wanted:
-        pytest.skip(f"apt-get install {' '.join(wanted)}")
+            why = why or f"there is no {name}: apt-get install postgresql-15-{name}"
+    if why:
+        pytest.skip(why)
 
 
 @contextlib.contextmanager
@@ -91,7 +91,7 @@ class Database:
         told = self.psql("--csv", "-c", f"SET search_path TO plant; {query}").out
         return [tuple(row.values()) for row in table(told)]
 
-    def query(self, name: str, status: int = 0, **values: object) -> Queried:
+    def query(self, name: str, status: int = 0, /, **values: object) -> Queried:
         """Runs a query of the package as a reader does."""
         words = ["psql", "-X", "--csv", *variables(values), "-f", SQL / f"{name}.sql"]
         done = run(words, env=self.environment).expect(status)

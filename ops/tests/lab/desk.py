@@ -26,10 +26,10 @@ TAILS = ("", "-wal")  # of a desk's file, and of its log
 class Desk:
     """A desk in a file. Its service is started by a script beside it, as tools that stop it do too."""
 
-    def __init__(self, program: pathlib.Path, file: pathlib.Path) -> None:
+    def __init__(self, program: pathlib.Path, file: pathlib.Path, port: int = 0) -> None:
         self.program, self.file = program, file
         file.parent.mkdir(parents=True, exist_ok=True)
-        self.port = free_port()
+        self.port = port or free_port()
         self.start_script = file.with_name(f"{file.name}-start")
         self.pid_file = file.with_name(f"{file.name}-pid")
         self.write_start()

@@ -18,10 +18,17 @@ OWN_COMMANDS = """SELECT uid FROM accepted WHERE source <> 'tracedesk' AND numbe
 class Line(Desk):
     """A line in a folder. `desk` is the name of its desk's file; several lines may share a folder."""
 
+    quiet = QUIET
+
     def __init__(
-        self, program: pathlib.Path, folder: pathlib.Path, name: str = "L1", desk: str = "desk"
+        self,
+        program: pathlib.Path,
+        folder: pathlib.Path,
+        name: str = "L1",
+        desk: str = "desk",
+        port: int = 0,
     ) -> None:
-        super().__init__(program, folder / desk)
+        super().__init__(program, folder / desk, port)
         self.folder, self.name = folder, name
         self.archive, self.copies = folder / "archive", folder / "copies"
         self.catalogue = self.archive / catalogue.FILE_NAME
@@ -59,7 +66,7 @@ class Line(Desk):
         limit: int = 0,
         env: Optional[Mapping[str, str]] = None,
     ) -> Ended:
-        own = {"TRACEDESK_QUIET": QUIET, KILL_AFTER: kill_after}
+        own = {"TRACEDESK_QUIET": self.quiet, KILL_AFTER: kill_after}
         if program:  # of `wrapped`: tracedesk-chain lies next to it
             own["CHAIN"] = str(program.with_name("tracedesk-chain"))
         return run(words, env={**own, **(env or {})}, limit=limit)
@@ -104,9 +111,10 @@ class Line(Desk):
 
     def uids(self) -> "collections.Counter[str]":
         """The UniqueIDs of all accepted commands that no roll-over made, with how many desks have each."""
-        return collections.Counter(
-            uid for file in self.files() for (uid,) in rows_of(file, OWN_COMMANDS)
-        )
+        return sum(map(self.uids_of, self.files()), collections.Counter())
+
+    def uids_of(self, file: pathlib.Path) -> "collections.Counter[str]":
+        return collections.Counter(uid for (uid,) in rows_of(file, OWN_COMMANDS))
 
     def lawful_now(self) -> int:
         """How many commands the desk has that is served."""
@@ -115,7 +123,7 @@ class Line(Desk):
 
     def expect_tidy(self, *also: str, answers: bool = True) -> None:
         """Looks for what holds whenever no tool is on its way: nothing else lies there, and the desk answers."""
-        own = {self.archive.name, self.copies.name, "aside", "program", "tracedesk-chain", *also}
+        own = {self.archive.name, self.copies.name, "aside", *also}
         own |= {f"{self.file.name}{tail}" for tail in ("", "-wal", "-start", "-pid")}
         others = {path.name for path in self.folder.iterdir()} - own
         assert not others, f"there are also {others}"

@@ -24,6 +24,14 @@ def wait_for(what: str, holds: Callable[[], T], patience: float = PATIENCE) -> T
     return found
 
 
+def stays(what: str, holds: Callable[[], object], seconds: float) -> None:
+    """Looks for this time whether something goes on. A busy machine makes it less sharp, and never wrong."""
+    end = time.monotonic() + seconds
+    while time.monotonic() < end:
+        assert holds(), f"no more: {what}"
+        time.sleep(PAUSE)
+
+
 def free_port() -> int:
     """A port on which nobody listens, and which no other call of this function gets while this process runs."""
     first, last = map(int, PORTS.split("-"))

@@ -48,6 +48,7 @@ from tracedesk_ops import (
     catalogue,
     chains,
     copies,
+    files,
     identity,
     plant,
     reader_of,
@@ -108,7 +109,7 @@ class Backup:
             ).exists():  # another desk's, or the clock was set back
                 taken += datetime.timedelta(seconds=1)
             os.rename(self.room, copy)
-            plant.keep(self.to)
+            files.keep(self.to)
         except BaseException:
             shutil.rmtree(self.room, ignore_errors=True)
             raise
@@ -243,11 +244,11 @@ class Backup:
             "missing": self.missing,
         }
         (self.room / backups.ABOUT).write_text(json.dumps(told) + "\n", encoding="utf-8")
-        files = sorted(it.relative_to(self.room) for it in self.room.rglob("*") if it.is_file())
-        sums = "".join(f"{catalogue.sha256_of(self.room / it)}  {it}\n" for it in files)
+        names = sorted(it.relative_to(self.room) for it in self.room.rglob("*") if it.is_file())
+        sums = "".join(f"{catalogue.sha256_of(self.room / it)}  {it}\n" for it in names)
         (self.room / backups.SUMS).write_text(sums, encoding="utf-8")
         for it in (*self.room.rglob("*"), self.room):
-            plant.keep(it)
+            files.keep(it)
 
     def want_newest(self, path, chain):
         """Tells where the last command of the newest copy is neither in this desk nor in an archive of it, and no restore says so: somebody put an older file in its place."""
@@ -341,7 +342,7 @@ def noted(asked):
         return (status := check(asked))
     finally:
         with contextlib.suppress(OSError):  # who calls may not write there
-            catalogue.put(
+            files.put(
                 backups.note_of(asked.to, asked.db),
                 json.dumps({"At": f"{now():%Y-%m-%dT%H:%M:%SZ}", "Status": status}) + "\n",
             )
@@ -452,7 +453,7 @@ class Restore(unfinished.Restoring):
             ):
                 commands = self.owner.audit(self.desk)
             plant.without_log(self.desk)
-            plant.keep(self.desk)
+            files.keep(self.desk)
             with plant.as_caller():
                 untraced_work = untraced.records_of(self.copy)
             aside, gone, fault = self.exchanged()
@@ -544,9 +545,9 @@ class Restore(unfinished.Restoring):
             catalogue.write(self.archive / catalogue.FILE_NAME, self.listed)
         for it in itertools.chain.from_iterable(map(self.live.parent.glob, catalogue.STAY)):
             os.link(it, self.archive / it.name)
-        catalogue.put(self.archive / self.entry, self.said(None, None, None))
+        files.put(self.archive / self.entry, self.said(None, None, None))
         for it in (self.archive, *self.archive.rglob("*")):
-            plant.keep(it)
+            files.keep(it)
 
     def put(self, source, to):
         """A file of the copy, as the owner's; no file is overwritten, and no link followed."""
@@ -611,7 +612,7 @@ class Restore(unfinished.Restoring):
         os.link(self.desk, self.asked.db)  # this fails where a file is there after all
         os.rename(self.archive, self.asked.archive)
         self.desk.unlink()
-        plant.keep(self.asked.db.parent)
+        files.keep(self.asked.db.parent)
         plant.reached("in place")
 
     def said(self, aside, archives, commands, entry=""):
@@ -639,10 +640,10 @@ class Restore(unfinished.Restoring):
             if (aside / catalogue.LACKS).exists()
             else self.entry
         )  # none up to 0.3.0
-        catalogue.put(aside / catalogue.LACKS, self.said(aside, archives, commands, entry))
+        files.put(aside / catalogue.LACKS, self.said(aside, archives, commands, entry))
         if archives is not None and entry and (there := self.asked.archive / entry).exists():
             if archives or commands != 0:
-                catalogue.put(there, self.said(aside, archives, commands, entry))
+                files.put(there, self.said(aside, archives, commands, entry))
             else:
                 there.unlink()
 

@@ -22,7 +22,7 @@ import sys
 import tempfile
 import time
 
-from tracedesk_ops import catalogue, plant, reader_of, stored
+from tracedesk_ops import catalogue, files, plant, reader_of, stored
 
 URL = f"http://127.0.0.1:{plant.PORT}"
 SYNCED = "timedatectl show --property=NTPSynchronized --value"
@@ -137,7 +137,7 @@ def main():
         sys.stdout.write(answer)
         return 0
     try:
-        catalogue.put(pathlib.Path(asked.answer).absolute(), answer, 0o644)
+        files.put(pathlib.Path(asked.answer).absolute(), answer, 0o644)
         return 0
     except OSError as fault:
         plant.tell(

@@ -63,6 +63,7 @@ import re
 import shutil
 import sqlite3
 import ssl
+import stat
 import subprocess
 import sys
 import tempfile
@@ -74,6 +75,7 @@ from tracedesk_ops import (
     catalogue,
     chains,
     doubtful,
+    files,
     firstlook,
     identity,
     plant,
@@ -792,23 +794,23 @@ def named(path):
     """Gives a whole answer its name on the disk; a Fault where that fails."""
     try:
         yield
-        plant.keep(path.parent)
+        files.keep(path.parent)
     except OSError as fault:
         raise plant.Fault(f"{path}: {fault.strerror}") from fault
 
 
-def write_evidence(folder, files):
+def write_evidence(folder: pathlib.Path, contents: dict[str, bytes]) -> None:
     """A new folder with these files and their checksums, whole or not at all; one that has something in it stays."""
     sums = "".join(
         f"{hashlib.sha256(content).hexdigest()}  {name}\n"
-        for name, content in sorted(files.items())
+        for name, content in sorted(contents.items())
     )
     with named(folder):
         room = pathlib.Path(tempfile.mkdtemp(prefix=f".{folder.name}-", dir=folder.parent))
         try:
-            for name, content in {**files, "SHA256SUMS": bytes_of(sums)}.items():
+            for name, content in {**contents, "SHA256SUMS": bytes_of(sums)}.items():
                 write(room / name, content)
-            plant.keep(room)
+            files.keep(room)
             os.rename(room, folder)
         finally:
             shutil.rmtree(room, ignore_errors=True)
@@ -923,7 +925,7 @@ def lines_of(words):
                 f"the line {name} has no catalogue: name the path that it has, or will have, as archive/catalogue.csv beside the desk's file"
             )
         at = pathlib.Path(os.path.abspath(folder / path))  # a link stays one, as in each tool
-        if at.is_dir():
+        if is_folder(at):
             stop(
                 f"{at} is a folder: name the catalogue of the line {name}, as {at}/{catalogue.FILE_NAME}"
             )
@@ -951,6 +953,14 @@ def lines_of(words):
     return lines or stop(
         f"no line is named, and none is set up in {plant.SET_UP}: --line NAME URL CATALOGUE, or --lines FILE"
     )
+
+
+def is_folder(path: pathlib.Path) -> bool:
+    """Whether a folder is there. What no path can be, as links in a circle, is an OSError or a ValueError."""
+    try:
+        return stat.S_ISDIR(os.stat(path).st_mode)
+    except (FileNotFoundError, NotADirectoryError):
+        return False
 
 
 def place_of(url):

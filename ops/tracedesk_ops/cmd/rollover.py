@@ -32,15 +32,7 @@ import sqlite3
 import subprocess
 import time
 
-from tracedesk_ops import (
-    carry,
-    catalogue,
-    copies,
-    identity,
-    plant,
-    reader_of,
-    unfinished,
-)
+from tracedesk_ops import carry, catalogue, copies, files, identity, plant, reader_of, unfinished
 
 DUE_PIECES = 1_000_000  # docs/operations.md, "The file grows"
 FULL = 0.9  # of the greatest number of commands
@@ -330,10 +322,10 @@ class RollOver(unfinished.Rolling):
     def planned(self, archive):
         """Writes down what is to be put in place, once all of it is on disk."""
         for it in (self.copy, self.new):
-            plant.keep(it)
+            files.keep(it)
         if catalogue.sha256_of(self.copy) != archive.sha256:
             raise plant.Fault(f"{self.copy} was changed: something else writes to it")
-        catalogue.put(self.plan, json.dumps({**archive._asdict(), "seal": self.seal(archive)}))
+        files.put(self.plan, json.dumps({**archive._asdict(), "seal": self.seal(archive)}))
 
 
 def line_of(archives):

@@ -64,7 +64,7 @@ def show(asked):
     book = untraced.read(asked.archive)
     decided, rows = untraced.decisions(book.records), []
     for it in book.records:
-        if it.told["Kind"] == "refused" and (
+        if it.told["Kind"] != "decided" and (
             asked.all or untraced.is_work(it) and it.id not in decided
         ):
             by = decided.get(it.id)
@@ -108,7 +108,8 @@ def show(asked):
 def decide(asked):
     try:
         records, _, _ = untraced.collect(asked.archive)
-        ids = [it.id for it in untraced.refused(records) if it.id.startswith(asked.id)]
+        known = [*untraced.refused(records), *untraced.differing(records)]
+        ids = [it.id for it in known if it.id.startswith(asked.id)]
         if len(ids) != 1:
             raise plant.Fault(
                 f"{len(ids) or 'no'} ids begin with {asked.id}: tracedesk-untraced list has them"

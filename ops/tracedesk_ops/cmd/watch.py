@@ -38,6 +38,7 @@ import urllib.parse
 from tracedesk_ops import (
     backups,
     catalogue,
+    files,
     identity,
     places,
     plant,
@@ -601,8 +602,8 @@ def main():
         return 0
     try:
         path = pathlib.Path(asked.to).absolute()
-        with catalogue.held(path.parent):  # one watch at a time
-            catalogue.put(path, text, 0o644)
+        with files.held(path.parent):  # one watch at a time
+            files.put(path, text, 0o644)
         return 0
     except OSError as fault:
         plant.tell(
