@@ -2,6 +2,7 @@
 import contextlib
 import pathlib
 import time
+from typing import Any
 
 from station_line import real_line, shown_tiles, view
 from station_looks import SCREEN, set_up
@@ -119,7 +120,8 @@ def pictures(program: str, into: pathlib.Path) -> int:
         told = real_line(site)
         site.say("MaterialsUnloaded", {"Machine": told.machines[0], "Slot": "3"})
         first, second = told.machines[:2]
-        machines_say(site, **{first: STOP, second: {"State": "go", "Board": "SN-2041"}})
+        said: dict[str, Any] = {first: STOP, second: {"State": "go", "Board": "SN-2041"}}
+        machines_say(site, **said)
         with Operator(site) as it:
             view(it, *SCREEN)
             it.ready()
