@@ -2,7 +2,7 @@
 # wants beside Python 3: rt is Rattle's kit, and the others are packages of Debian 12. A line of #: begins a group.
 # The program is that of PROGRAM=FILE, else crates/tracedesk/out/tracedesk as long as no source is newer. Where neither is there,
 # make build and make test prove and build it, make demo runs it before its proof, and the others say so and end.
-.PHONY: help demo build day plant-recall test wrong-bodies faults send-test bridge-test station-test plant-test bench pictures dist
+.PHONY: help demo build day plant-recall test ops-test wrong-bodies faults send-test bridge-test station-test plant-test bench pictures dist
 row = sed -n 's/^\($(1)\):\( *\)\#\# /make \1\2/p; s/^\#: /\n/p' $(firstword $(MAKEFILE_LIST))
 say = @$(call row,$@) | grep make >&2
 
@@ -17,21 +17,21 @@ build:         ## proves and builds the program, and prints its path | 35 min, t
 	@dev/build
 day:           ## feeds a made-up shift to a desk, and prints what is asked of it: docs/day.md | 10 s
 	@examples/day
-plant-recall:  ## three lines in one PostgreSQL, and a recall over them, compared with docs/plant.md; the same recalls three ways, what a load can meet, and a company of three plants | 5 min | postgresql
+plant-recall:  ## three lines in one PostgreSQL, and a recall over them, compared with docs/plant.md; the same recalls three ways, what a load can meet, and a company of three plants | 6 min | postgresql postgresql-15-plproxy python3-psycopg python3-pytest
 	$(say)
-	@ops/tests/plant-page-test
-	@ops/tests/three-ways-test >&2
-	@ops/tests/plant-load-test >&2
-	@ops/tests/company-test >&2
+	@/usr/bin/python3 -m pytest -q ops/tests/test_plant_*.py ops/tests/test_three_ways.py ops/tests/test_company.py
 
 #: test
 test:          ## the tests: proves everything from nothing, tries wrong bodies, runs the tests and the worked cases, fails calls | 1 h | rt curl, and gcc libc6-dev, or failing calls are skipped
 	$(say)
 	@dev/test
+ops-test:      ## all tests of the tools in ops/, also those that take minutes or want root, but for make plant-test | 30 min | postgresql postgresql-15-plproxy python3-psycopg python3-pytest nginx openssl
+	$(say)
+	@/usr/bin/python3 -m pytest -q ops/tests --ignore-glob='*installed*'
 wrong-bodies:  ## tries all wrong bodies, those outside the tests too, and the wrong programs: each has to be refused; and asks another validator about all messages | 1 h, and up to 40 min for each of the programs | rt
 	$(say)
 	@dev/wrong-bodies
-	@dev/api-test --all
+	@/usr/bin/python3 -m pytest -q -m whole dev/tests/test_api.py
 faults:        ## fails each call of the program, refuses its memory, cuts the power, kills it, fills its disk, damages its file, and makes it large | 25 min | gcc libc6-dev strace
 	$(say)
 	@dev/faults/run calls
@@ -44,7 +44,7 @@ faults:        ## fails each call of the program, refuses its memory, cuts the p
 send-test:     ## the senders: 10,000 messages while tracedesk-send, nginx and `serve` are killed 200 times; a proxy that fails; TLS | 6 min | nginx openssl
 	$(say)
 	@clients/python/tests/send-test
-	@clients/python/tests/run
+	@/usr/bin/python3 -m pytest -q clients/python/tests
 bridge-test:   ## the bridge: its table, its sources, kills, and kills of RabbitMQ under it | 3 min | rabbitmq-server python3-qpid-proton
 	$(say)
 	@examples/bridge/test

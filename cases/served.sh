@@ -1,5 +1,5 @@
 # For scripts of cases that a step of the kind `tool` runs: sourced by them, in the folder where the case runs. The desk in `desk` is
-# served at a free port, and `here` are the words by which ops/rollover and ops/backup know that service.
+# served at a free port, and `here` are the words by which ops/tracedesk-rollover and ops/tracedesk-backup know that service.
 set -u
 export PYTHONDONTWRITEBYTECODE=1
 ops="$(cd "$(dirname "$0")/../../ops" && pwd)"

@@ -1,6 +1,7 @@
 // The time is the server's, as its last answer said it.
 
-const APART = 5_000; // milliseconds: so far the tablet's two clocks are apart only after it slept, or after somebody set one
+const APART = 5_000; // milliseconds: so far the tablet's two clocks are apart only after it
+                      // slept, or after somebody set one
 
 let server = null; // milliseconds since 1970, by the server
 let at = 0; // of this page's steady clock, when it was said
@@ -17,7 +18,10 @@ export function hear(headers) {
   }
 }
 
-/** The server's milliseconds since 1970; null where it never answered, or not since the tablet slept: the steady clock stands still then. */
+/**
+ * The server's milliseconds since 1970; null where it never answered, or not since the tablet
+ * slept: the steady clock stands still then.
+ */
 export function now() {
   const passed = performance.now() - at;
   return server === null || Math.abs(Date.now() - wall - passed) > APART ? null : server + passed;
@@ -36,5 +40,6 @@ export function stamp(milliseconds) {
 /** Hours and minutes of the day where the tablet stands. */
 export function shown(milliseconds) {
   const time = new Date(milliseconds);
-  return `${String(time.getHours()).padStart(2, "0")}:${String(time.getMinutes()).padStart(2, "0")}`;
+  return `${String(time.getHours()).padStart(2, "0")}:${
+    String(time.getMinutes()).padStart(2, "0")}`;
 }

@@ -3,19 +3,21 @@
 /** The rows of a CSV text, each a list of fields; the header is the first. */
 export function fieldsOf(text) {
   const rows = [];
-  let row = [], field = "", quoted = false;
+  let row = [];
+  let field = "";
+  let quoted = false;
   for (let at = 0; at < text.length; at += 1) {
     const letter = text[at];
     if (quoted) {
-      if (letter === '"' && text[at + 1] === '"') {
-        field += '"';
+      if (letter === "\"" && text[at + 1] === "\"") {
+        field += "\"";
         at += 1;
-      } else if (letter === '"') {
+      } else if (letter === "\"") {
         quoted = false;
       } else {
         field += letter;
       }
-    } else if (letter === '"') {
+    } else if (letter === "\"") {
       quoted = true;
     } else if (letter === ",") {
       row.push(field);

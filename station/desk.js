@@ -1,25 +1,46 @@
 // What is asked of the desk, through the proxy that gave this page.
 import { hear, now as serverNow } from "./clock.js";
 import { rowsOf } from "./csv.js";
+import * as session from "./session.js";
 
 const GET_SECONDS = 25;
 const POST_SECONDS = 30; // then the same bytes are sent again: a message acts once
-const ANEW = 300, ANEW_TIMES = 8; // milliseconds, and how often an answer of before is asked for again while the desk makes a new one
-const CACHE = 3_000; // milliseconds after which the proxy asks the desk anew: it counts two whole seconds
-const DECIDED = { 200: ["Accepted"], 202: ["Ignored"], 400: ["Faulty"], 409: ["Refused"], 422: ["Faulty"] };
+const ANEW = 300; // milliseconds until an answer of before is asked for again
+const ANEW_TIMES = 8; // and how often that is done while the desk makes a new one
+const CACHE = 3_000; // milliseconds after which the proxy asks the desk anew: two whole seconds
+const MOST_FILES = 50; // of senders: so many are read
+const DECIDED = {
+  200: ["Accepted"],
+  202: ["Ignored"],
+  400: ["Faulty"],
+  409: ["Refused"],
+  422: ["Faulty"],
+};
 const OF_THE_REQUEST = ["BadHead", "BadLength", "BadQuery"];
-let answered = 0; // the server's moment of the last answer to a scan: a report of before may lack what that scan did
+
+// The server's moment of the last answer to a scan: a report of before may lack what it did.
+let answered = 0;
 
 /** The desk has answered a scan: reports that are asked for from now on are no older. */
 export function heardAnswer() {
   answered = serverNow() ?? 0;
 }
 
-/** No report: `status` 0 is no answer at all; `body` is what was said, and `isDesk` that the desk itself said it, of the moment `had`. */
+/**
+ * No report: `status` 0 is no answer at all; `body` is what was said, and `isDesk` that the desk
+ * itself said it, of the moment `had`.
+ */
 export class NotHad extends Error {
   constructor({ status, body, had, age, old }) {
     super(`status ${status}`);
-    Object.assign(this, { status, body, had, age, old, isDesk: status === 404 && body.Answer === "NotFound" && had !== null });
+    Object.assign(this, {
+      status,
+      body,
+      had,
+      age,
+      old,
+      isDesk: status === 404 && body.Answer === "NotFound" && had !== null,
+    });
   }
 }
 
@@ -34,7 +55,14 @@ function objectOf(text) {
 
 async function asked(target, how, seconds) {
   try {
-    const answer = await fetch(target, { ...how, cache: "no-store", credentials: "same-origin", redirect: "error", signal: AbortSignal.timeout(seconds * 1000) });
+    const answer = await fetch(target, {
+      ...how,
+      headers: { ...session.headers(), ...how.headers },
+      cache: "no-store",
+      credentials: "same-origin",
+      redirect: "error",
+      signal: AbortSignal.timeout(seconds * 1000),
+    });
     hear(answer.headers); // before the body, which may take a while
     const text = await answer.text();
     return { status: answer.status, text, headers: answer.headers };
@@ -43,23 +71,42 @@ async function asked(target, how, seconds) {
   }
 }
 
-/** An answer of the proxy's cache: of which moment of the server it is, whether the desk didn't answer, and whether it is asked anew at this moment. */
+/**
+ * An answer of the proxy's cache: of which moment of the server it is, whether the desk didn't
+ * answer, and whether it is asked anew at this moment.
+ */
 async function looked(target) {
-  const { status, text, headers } = await asked(target, {}, GET_SECONDS), cached = headers.get("X-Station-Cache");
-  const had = Number(headers.get("X-Desk-Answered")) * 1000, now = Number(headers.get("X-Station-Now")) * 1000;
-  return { status, text, now, had: had > 0 ? had : null, age: had > 0 && now > 0 ? Math.max(0, now - had) : null, old: cached === "STALE", anew: cached === "UPDATING" };
+  const { status, text, headers } = await asked(target, {}, GET_SECONDS);
+  const cached = headers.get("X-Station-Cache");
+  const had = Number(headers.get("X-Desk-Answered")) * 1000;
+  const now = Number(headers.get("X-Station-Now")) * 1000;
+  return {
+    status,
+    text,
+    now,
+    had: had > 0 ? had : null,
+    age: had > 0 && now > 0 ? Math.max(0, now - had) : null,
+    old: cached === "STALE",
+    anew: cached === "UPDATING",
+  };
 }
 
 /**
- * A report: its text, and of which moment of the server it is. It is asked for again while the cache has only one from before the last
- * answer to a scan, or another station asks the desk: its answer is ours too. A report that isn't had is a NotHad.
+ * A report: its text, and of which moment of the server it is. It is asked for again while the
+ * cache has only one from before the last answer to a scan, or another station asks the desk: its
+ * answer is ours too. A report that isn't had is a NotHad.
  */
 export async function report(path, query = {}) {
-  const words = new URLSearchParams(query).toString(), target = `/station/desk/${path}${words ? `?${words}` : ""}`, since = answered;
-  const isBefore = ({ had, now, old }) => !old && had !== null && had < since && since <= now; // later than now is a clock that was set back
+  const words = new URLSearchParams(query).toString();
+  const target = `/station/desk/${path}${words ? `?${words}` : ""}`;
+  const since = answered;
+  const isBefore = ({ had, now, old }) => !old && had !== null && had < since &&
+    since <= now; // later than now is a clock that was set back
   let told = await looked(target);
   for (let turn = 0; turn < ANEW_TIMES && (told.anew || isBefore(told)); turn += 1) {
-    await new Promise((resolve) => setTimeout(resolve, told.anew ? ANEW : Math.max(ANEW, CACHE - told.age)));
+    await new Promise(
+      (resolve) => setTimeout(resolve, told.anew ? ANEW : Math.max(ANEW, CACHE - told.age)),
+    );
     told = await looked(target);
   }
   if (told.status !== 200) {
@@ -77,39 +124,81 @@ export async function rows(path, query) {
 /** A file of the station itself as JSON, or null; `since` is when it was last changed. */
 export async function file(name) {
   const { status, text, headers } = await asked(`/station/${name}`, {}, GET_SECONDS);
-  return { status, told: status === 200 ? objectOf(text) : null, since: Date.parse(headers.get("Last-Modified") ?? "") || null };
+  return {
+    status,
+    told: status === 200 ? objectOf(text) : null,
+    since: Date.parse(headers.get("Last-Modified") ?? "") || null,
+  };
 }
 
 /** Whether this log-in may send; null where nothing said so. It hears the server's time too. */
 export async function maySend(seconds = GET_SECONDS) {
   const { status } = await asked("/station/may-send.json", {}, seconds);
-  return status === 200 ? true : status === 401 || status === 403 ? false : null;
+  return status === 200 ? true : session.isLoggedOut(status) ? false : null;
 }
 
-/** Puts a record of untraced work into the line's inbox; false where it isn't there yet. */
-export async function putRecord({ id, text }) {
-  const { status } = await asked(`/line/untraced/${id}.json`, { method: "PUT", body: text, headers: { "Content-Type": "application/json" } }, POST_SECONDS);
-  return status === 200 || status === 201 || status === 204;
+/**
+ * Puts a record of untraced work into the line's inbox, or a decision about one: "had", or
+ * "forbidden", or "none" where the inbox gave no answer. `authorization` is another log-in than
+ * the page's.
+ */
+export async function putRecord({ id, text, isDecision = false }, authorization = null) {
+  const log = authorization === null ? {} : { Authorization: authorization };
+  const headers = { "Content-Type": "application/json", ...log };
+  const how = { method: "PUT", body: text, headers };
+  const folder = isDecision ? "decided" : "untraced";
+  const { status } = await asked(`/line/${folder}/${id}.json`, how, POST_SECONDS);
+  const isHad = [200, 201, 204].includes(status);
+  return isHad ? "had" : session.isLoggedOut(status) ? "forbidden" : "none";
 }
 
-/** What a sender's or the collector's file of the line's status says, or null; `""` is the list of those files. */
-export async function lineStatus(name) {
-  const { status, text } = await asked(`/line/status/${name}`, {}, GET_SECONDS);
+/**
+ * A file of the line's status: {name, told, changed}; what is told is null where it is no JSON.
+ */
+async function lineFile(name) {
+  const target = `/line/status/${encodeURIComponent(name)}`;
+  const { status, text, headers } = await asked(target, {}, GET_SECONDS);
+  const changed = Date.parse(headers.get("Last-Modified") ?? "");
   try {
-    return status === 200 ? JSON.parse(text) : null;
+    return { name, told: status === 200 ? JSON.parse(text) : undefined, changed };
   } catch {
-    return null;
+    return { name, told: null, changed };
   }
 }
 
-/** Sends a message once. `answer` is the desk's, where there is one; `again` says that sending again may bring one. */
+/** What senders and the collector say of themselves, a file each; null where it isn't had. */
+export async function lineStatus() {
+  const { told: list } = await lineFile("");
+  if (!Array.isArray(list)) {
+    return null;
+  }
+  const isStatus = (it) => it?.type === "file" && String(it.name).endsWith(".json");
+  const files =
+    await Promise.all(list.filter(isStatus).slice(0, MOST_FILES).map(({ name }) => lineFile(name)));
+  return files.filter(({ told }) => told !== undefined);
+}
+
+/**
+ * Sends a message once. `answer` is the desk's, where there is one; `again` says that sending
+ * again may bring one.
+ */
 export async function post(text, uid) {
-  const { status, text: body, headers } = await asked("/station/messages", { method: "POST", body: text, headers: { "Content-Type": "application/json" } }, POST_SECONDS);
+  const { status, text: body, headers } = await asked(
+    "/station/messages",
+    { method: "POST", body: text, headers: { "Content-Type": "application/json" } },
+    POST_SECONDS,
+  );
   const told = objectOf(body);
   const isAnswer = DECIDED[status]?.includes(told.Answer) && !OF_THE_REQUEST.includes(told.Fault);
   if (isAnswer && (!["Accepted", "Refused"].includes(told.Answer) || told.UniqueID === uid)) {
     return { answer: told, status };
   }
   const again = status === 0 || status === 408 || status === 429 || status >= 500 || isAnswer;
-  return { answer: null, status, told, again, wait: Math.max(0, Number(headers.get("Retry-After")) || 0) };
+  return {
+    answer: null,
+    status,
+    told,
+    again,
+    wait: Math.max(0, Number(headers.get("Retry-After")) || 0),
+  };
 }

@@ -1,15 +1,35 @@
-// What a wedge types leads to a scan, whatever has the focus: a button, a radio, a field that is filled. A field keeps what is meant
-// for it: names and numbers, while the station waits for neither a reel nor a number.
+// What a wedge types leads to a scan, whatever has the focus: a button, a radio, a field that is
+// filled. A field keeps what is meant for it: names and numbers, while the station waits for
+// neither a reel nor a number.
+import { isName, readCode, stripped } from "./names.js";
+import { said } from "./say.js";
 import { TEXTS } from "./words.js";
-import { filled, isName, readCode, stripped } from "./names.js";
 
-const CONTROLS = { "]": "\x1d", "^": "\x1e", 6: "\x1e", d: "\x04" }; // what a wedge types for the separators of a label
-const ENDS = ["m", "j"]; // with Ctrl: carriage return and line feed of a wedge that types control characters; browsers open something at one
+const CONTROLS = {
+  "]": "\x1d",
+  "^": "\x1e",
+  6: "\x1e",
+  d: "\x04",
+}; // what a wedge types for the separators of a label
+const ENDS = [
+  "m",
+  "j",
+]; // with Ctrl: carriage return and line feed of a wedge that types control characters; browsers
+    // open something at one
 const TYPED = ["text", "search", "tel", "url", "email", "password"];
-const OF_THEIR_FORM = ["slot", "action", "badge", "label", "foreign"]; // codes that are told from a name by how they are written
+const OF_THEIR_FORM = [
+  "slot",
+  "action",
+  "badge",
+  "label",
+  "foreign",
+]; // codes that are told from a name by how they are written
 const PAUSE = 300; // milliseconds: keys that are further apart are of two scans
-const FORGOTTEN = 10_000; // milliseconds after which letters in the scan field are the rest of nothing
-const SILENT = 700, FAST = 60; // milliseconds: so long after letters that come so fast, one behind the other, a scanner that ends its codes with nothing is done
+const FORGOTTEN =
+  10_000; // milliseconds after which letters in the scan field are the rest of nothing
+const SILENT = 700;
+const FAST = 60; // milliseconds: so long after letters that come so fast, one behind the other,
+                  // a scanner that ends its codes with nothing is done
 const LEAST = 3; // letters of a code that ends with nothing
 
 /** Whether letters can be typed into an element. */
@@ -25,12 +45,17 @@ export function letterOf(event) {
 
 /** Whether a key ends a scan. A Tab does where `isTyped`; else it goes to the next field. */
 export function isEnd(event, isTyped) {
-  const isTab = event.key === "Tab" && !event.shiftKey && !event.ctrlKey && !event.altKey && isTyped;
-  return event.key === "Enter" || isTab || (event.ctrlKey && !event.altKey && !event.metaKey && ENDS.includes(event.key.toLowerCase()));
+  const isTab =
+    event.key === "Tab" && !event.shiftKey && !event.ctrlKey && !event.altKey && isTyped;
+  return event.key === "Enter" || isTab ||
+    (event.ctrlKey && !event.altKey && !event.metaKey && ENDS.includes(event.key.toLowerCase()));
 }
 
 export class Keys {
-  /** `field` is the scan field. `station` says what is waited for and whether a verdict is over the page; it takes scans and cancels. */
+  /**
+   * `field` is the scan field. `station` says what is waited for and whether a verdict is over
+   * the page; it takes scans and cancels.
+   */
   constructor(station, field) {
     this.station = station;
     this.field = field;
@@ -49,28 +74,36 @@ export class Keys {
     });
   }
 
-  /** The text of a form's field is selected once it has the focus: what is scanned there takes its place. */
+  /**
+   * The text of a form's field is selected once it has the focus: what is scanned there takes
+   * its place.
+   */
   focused(target) {
     this.clicked = target;
     this.whole = null;
-    if (isField(target) && target !== this.field && !(this.run?.into === target && performance.now() - this.last <= PAUSE)) {
+    const isTyped = this.run?.into === target && performance.now() - this.last <= PAUSE;
+    if (isField(target) && target !== this.field && !isTyped) {
       target.select();
     }
   }
 
-  /** Empties the scan field of letters that nobody ended, but where a number is asked for: that stays to be seen. */
+  /**
+   * Empties the scan field of letters that nobody ended, but where a number is asked for: that
+   * stays to be seen.
+   */
   tidy() {
     const { value } = this.field;
     if (value !== "" && !this.station.scan.asking && performance.now() - this.last > FORGOTTEN) {
       this.forget();
       this.field.value = "";
-      this.station.fault(filled(TEXTS.fault.unended, { text: value }));
+      this.station.fault(said(TEXTS.fault.unended, { text: value }));
     }
   }
 
   /** Whether what is typed since the last pause came as a scanner types. */
   isFast() {
-    return this.run !== null && this.run.count >= LEAST && this.last - this.run.since <= FAST * (this.run.count - 1);
+    return this.run !== null && this.run.count >= LEAST &&
+      this.last - this.run.since <= FAST * (this.run.count - 1);
   }
 
   /** Takes the code of a scanner that ends none with a key. */
@@ -80,7 +113,10 @@ export class Keys {
     }
   }
 
-  /** Ends what is typed. Each is {into, text, begin, end}: a field, and its text and selection before. */
+  /**
+   * Ends what is typed. Each is {into, text, begin, end}: a field, and its text and selection
+   * before.
+   */
   forget() {
     this.run = null; // since the last pause
     this.whole = null; // since the field got the focus: a slow scanner may pause within a code
@@ -92,7 +128,9 @@ export class Keys {
     if (this.run?.into === target && event.timeStamp - this.last <= PAUSE) {
       return target; // no scan is torn, whatever came over the page meanwhile
     }
-    return isField(target) && !this.station.isCovered() && !this.station.scan.waits() ? target : this.field;
+    return isField(target) && !this.station.isCovered() && !this.station.scan.waits()
+      ? target
+      : this.field;
   }
 
   key(event) {
@@ -107,22 +145,36 @@ export class Keys {
     }
   }
 
-  /** Whether a Tab ends a scan: in the scan field behind letters, in another one behind a code of its own form. */
+  /**
+   * Whether a Tab ends a scan: in the scan field behind letters, in another one behind a code of
+   * its own form.
+   */
   isTabEnd() {
     const { activeElement } = document;
-    return activeElement === this.field ? this.field.value !== "" : isField(activeElement) && this.scanIn(activeElement) !== null;
+    return activeElement === this.field
+      ? this.field.value !== ""
+      : isField(activeElement) && this.scanIn(activeElement) !== null;
   }
 
   letter(event, letter) {
-    const { activeElement } = document, into = this.place(event);
-    if (event.key === " " && into !== activeElement && into.value === "" && (!this.station.isCovered() || activeElement.closest("#verdict"))) {
+    const { activeElement } = document;
+    const into = this.place(event);
+    const isUsable = !this.station.isCovered() || activeElement.closest("#verdict");
+    if (event.key === " " && into !== activeElement && into.value === "" && isUsable) {
       return; // it presses a button, or chooses a radio
     }
     if (into !== activeElement) {
       into.focus();
     }
     if (this.run?.into !== into || event.timeStamp - this.last > PAUSE) {
-      this.run = { into, text: into.value, begin: into.selectionStart, end: into.selectionEnd, since: event.timeStamp, count: 0 };
+      this.run = {
+        into,
+        text: into.value,
+        begin: into.selectionStart,
+        end: into.selectionEnd,
+        since: event.timeStamp,
+        count: 0,
+      };
       this.whole = this.whole?.into === into ? this.whole : this.run;
     }
     this.last = event.timeStamp;
@@ -135,13 +187,26 @@ export class Keys {
     }
   }
 
-  /** What was typed into a field, since the last pause and since it got the focus, each with the field's text before. */
+  /**
+   * What was typed into a field, since the last pause and since it got the focus, each with the
+   * field's text before.
+   */
   typed(field) {
-    return [this.run, this.whole].filter((it) => it?.into === field).map(({ text, begin, end }) => {
-      const before = text.slice(0, begin), after = text.slice(end), now = field.value;
-      const isPlain = now.startsWith(before) && now.endsWith(after) && now.length >= before.length + after.length;
-      return { scan: isPlain ? now.slice(before.length, now.length - after.length) : "", rest: text };
-    });
+    return [this.run, this.whole]
+      .filter(
+        (it) => it?.into === field,
+      )
+      .map(({ text, begin, end }) => {
+        const before = text.slice(0, begin);
+        const after = text.slice(end);
+        const now = field.value;
+        const isPlain = now.startsWith(before) && now.endsWith(after) &&
+          now.length >= before.length + after.length;
+        return {
+          scan: isPlain ? now.slice(before.length, now.length - after.length) : "",
+          rest: text,
+        };
+      });
   }
 
   hasForm(text) {
@@ -149,28 +214,44 @@ export class Keys {
     return read !== "" && OF_THEIR_FORM.includes(readCode(read, this.station.setup).kind);
   }
 
-  /** The scan in the scan field: all of it, but where only its end is a code of its own form. The field is empty then. */
+  /**
+   * The scan in the scan field: all of it, but where only its end is a code of its own form. The
+   * field is empty then.
+   */
   scanned() {
-    const { value } = this.field, [found] = this.hasForm(value) ? [] : this.typed(this.field).filter((it) => this.hasForm(it.scan));
+    const { value } = this.field;
+    const [found] =
+      this.hasForm(value) ? [] : this.typed(this.field).filter((it) => this.hasForm(it.scan));
     this.forget();
     this.field.value = "";
     return found ? found.scan : value;
   }
 
-  /** The scan in a field of a form, and what stands in that field without it; null where it is the field's own. */
+  /**
+   * The scan in a field of a form, and what stands in that field without it; null where it is
+   * the field's own.
+   */
   scanIn(field) {
-    const typed = this.typed(field), found = [...typed, { scan: field.value, rest: "" }].find((it) => this.hasForm(it.scan));
+    const typed = this.typed(field);
+    const found =
+      [...typed, { scan: field.value, rest: "" }].find((it) => this.hasForm(it.scan));
     if (found || field.inputMode !== "numeric") {
       return found ?? null;
     }
-    return typed.find(({ scan }) => isName(stripped(scan, this.station.setup.scanner)) && /[^0-9]/.test(scan)) ?? null;
+    const { scanner } = this.station.setup;
+    const isReel = ({ scan }) => isName(stripped(scan, scanner)) && /[^0-9]/.test(scan);
+    return typed.find(isReel) ?? null;
   }
 
   enter(event) {
-    const { activeElement } = document, isCovered = this.station.isCovered(), isOwn = activeElement === this.field || (isCovered && activeElement.closest("#verdict"));
+    const { activeElement } = document;
+    const isCovered = this.station.isCovered();
+    const isOwn =
+      activeElement === this.field || (isCovered && activeElement.closest("#verdict"));
     const found = !isOwn && isField(activeElement) ? this.scanIn(activeElement) : null;
     clearTimeout(this.timer);
-    if (event.key !== "Enter" || found || (isCovered && !isOwn)) { // what lies beneath the verdict isn't seen
+    if (event.key !== "Enter" || found || (isCovered && !isOwn)) { // what lies beneath the
+                                                                    // verdict isn't seen
       event.preventDefault();
       event.stopPropagation();
     }

@@ -1,27 +1,33 @@
-// Where the page knows a thing from, in words: which product a machine makes, and of when a sheet is.
-import { TEXTS } from "./words.js";
-import { filled } from "./names.js";
+// Where the page knows a thing from, in words: which product a machine makes, and of when a sheet
+// is.
 import * as clock from "./clock.js";
+import { said } from "./say.js";
+import { TEXTS } from "./words.js";
 
 /** The time of day, of another day with its date. */
 export function dayAnd(time) {
-  const day = new Date(time).toDateString() === new Date(clock.now() ?? time).toDateString() ? "" : `${new Date(time).toISOString().slice(0, 10)} `;
+  const day = new Date(time).toDateString() === new Date(clock.now() ?? time).toDateString()
+    ? ""
+    : `${new Date(time).toISOString().slice(0, 10)} `;
   return `${day}${clock.shown(time)}`;
 }
 
 /** Where the product is known from: the set-up of the page, of when, or a selection here. */
 export function sourceText({ from, at, number }) {
   const texts = TEXTS.line.productFrom;
-  return from === "station" ? filled(texts.station, { time: dayAnd(at), number }) : at ? filled(texts.setupAt, { time: dayAnd(at) }) : texts.setup;
+  return from === "station" ? said(texts.station, { time: dayAnd(at), number })
+    : at ? said(texts.setupAt, { time: dayAnd(at) })
+                            : texts.setup;
 }
 
 /** The product of a machine, and where this page has it from. */
 export function productText(model, machine) {
   const known = model.product(machine);
-  return known ? [filled(TEXTS.line.product, known), sourceText(known)] : [TEXTS.line.productNone, TEXTS.line.notTold];
+  return known ? [said(TEXTS.line.product, known), sourceText(known)]
+               : [TEXTS.line.productNone, TEXTS.line.notTold];
 }
 
 /** Of when the sheet of a machine is, or that it is not had. */
 export function sheetText(line) {
-  return line.kitHad ? filled(TEXTS.line.sheetAt, { time: dayAnd(line.kitHad) }) : "";
+  return line.kitHad ? said(TEXTS.line.sheetAt, { time: dayAnd(line.kitHad) }) : "";
 }

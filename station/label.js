@@ -1,13 +1,20 @@
-// A supplier's label: ISO/IEC 15434, form 06, with data identifiers of ANSI MH10.8.2, as EIGP 114 has them.
+// A supplier's label: ISO/IEC 15434, form 06, with data identifiers of ANSI MH10.8.2, as EIGP 114
+// has them.
 
 const IDENTIFIER = /^([0-9]{0,3}[A-Z])(.*)$/s;
 
-/** The fields of a label by their identifiers, or null where it is none. `separators` are what the scanner makes of a group separator. */
+/**
+ * The fields of a label by their identifiers, or null where it is none. `separators` are what
+ * the scanner makes of a group separator.
+ */
 export function fieldsOf(text, separators) {
   let read = text;
-  for (const [wedge, control] of [...separators.map((it) => [it, "\x1d"]), ["{RS}", "\x1e"], ["{EOT}", "\x04"]]) {
+  for (const [wedge, control] of
+         [...separators.map((it) => [it, "\x1d"]), ["{RS}", "\x1e"], ["{EOT}", "\x04"]]) {
     read = read.split(wedge).join(control);
   }
+  // its separators are control characters
+  // eslint-disable-next-line no-control-regex
   const envelope = /^\[\)>\x1e?06\x1d?(.*?)\x1e?\x04?$/s.exec(read);
   if (!envelope || !envelope[1].includes("\x1d")) {
     return null;
@@ -22,8 +29,16 @@ export function fieldsOf(text, separators) {
   return Object.keys(found).length ? found : null;
 }
 
-/** What is received, as far as the label says it. `names` are the identifiers of part and reel in this plant. */
+/**
+ * What is received, as far as the label says it. `names` are the identifiers of part and reel in
+ * this plant.
+ */
 export function receiptOf(fields, names) {
   const quantity = /^[0-9]+/.exec(fields.Q ?? "")?.[0] ?? "";
-  return { part: fields[names.part] ?? fields["1P"] ?? "", lot: fields["1T"] ?? "", quantity, reel: fields[names.reel] ?? "" };
+  return {
+    part: fields[names.part] ?? fields["1P"] ?? "",
+    lot: fields["1T"] ?? "",
+    quantity,
+    reel: fields[names.reel] ?? "",
+  };
 }

@@ -1,8 +1,6 @@
 // Floor lives and pieces as an operator reads them.
+import { numberText, said } from "./say.js";
 import { TEXTS } from "./words.js";
-import { filled } from "./names.js";
-
-const numbers = new Intl.NumberFormat(TEXTS.lang);
 
 /** The floor life that a report or an answer says: minutes, or a word. */
 export function lifeText(minutes) {
@@ -16,15 +14,17 @@ export function lifeText(minutes) {
   if (left === 0) {
     return TEXTS.life.expired;
   }
-  const days = Math.floor(left / 1440), hours = Math.floor((left % 1440) / 60);
-  return days ? filled(TEXTS.life.days, { days, hours }) : filled(TEXTS.life.hours, { hours, minutes: left % 60 });
+  const days = Math.floor(left / 1440);
+  const hours = Math.floor((left % 1440) / 60);
+  return days ? said(TEXTS.life.days, { days, hours })
+              : said(TEXTS.life.hours, { hours, minutes: left % 60 });
 }
 
 /** A number to order floor lives by: the first to end is the least. */
 export function lifeOrder(minutes) {
-  return minutes === "unlimited" || minutes === null ? 1e9 : minutes === "unbaked" ? 2e9 : Number(minutes);
+  return minutes === "unlimited" || minutes === null ? 1e9
+    : minutes === "unbaked" ? 2e9
+                                                     : Number(minutes);
 }
 
-export function piecesText(number) {
-  return numbers.format(Number(number));
-}
+export const piecesText = numberText;

@@ -1,17 +1,22 @@
-// The screen Line: what needs a person on top, in letters for two metres, and below it all slots of each machine. Of many slots
-// there is a tile for each machine, and a touch shows its slots.
-import { TEXTS } from "./words.js";
+// The screen Line: what needs a person on top, in letters for two metres, and below it all slots
+// of each machine. Of many slots there is a tile for each machine, and a touch shows its slots.
+import { isLoad } from "./answers.js";
+import * as clock from "./clock.js";
 import { button, el, put, table } from "./dom.js";
-import { filled } from "./names.js";
-import { lifeText, piecesText } from "./life.js";
 import { dayAnd, productText, sheetText } from "./known.js";
-import { WORDS } from "./scan.js";
+import { lifeText, piecesText } from "./life.js";
+import { isFresh } from "./machines.js";
+import { said } from "./say.js";
+import { TEXTS } from "./words.js";
 
 const URGENT = ["EXPIRED", "EMPTY", "LOW", "EXPIRES"]; // a person has to come
 const COUNTED = [...URGENT, "OTHER", "OFF", "NOSHEET"];
-const MOST_TILES = 10, MOST_ABOVE = 4; // of what needs a person: above the slots, and above the overview, which names the worst slot of each machine
+const MOST_TILES = 10;
+const MOST_ABOVE = 4; // of what needs a person: above the slots, and above the overview, which
+                        // names the worst slot of each machine
 const MOST_ROWS = 100; // slots that are all shown; of more there is an overview
-const SIZES = [30, 28, 26, 24, 22, 20, 19, 18, 17, 16, 15, 14]; // of the slots' letters, in pixels of a screen of 1080 lines
+// of the slots' letters, in pixels of a screen of 1080 lines
+const SIZES = [54, 48, 42, 38, 34, 30, 28, 26, 24, 22, 20, 19, 18, 17, 16, 15, 14];
 const SCROLLED = 17; // the letters if the slots don't fit anyway, as on a tablet
 const SORTS = {
   sheet: () => 0,
@@ -20,18 +25,32 @@ const SORTS = {
 };
 const rank = (row) => URGENT.findIndex((it) => row.states.includes(it));
 
-/** The slots that need a person, the most urgent first: expired, empty, then the next to run out, then the next to expire. */
+/**
+ * The slots that need a person, the most urgent first: expired, empty, then the next to run out,
+ * then the next to expire.
+ */
 export function urgentOf(lines) {
-  const rows = lines.flatMap(({ line, rows: all }) => all.filter((it) => rank(it) >= 0).map((row) => ({ ...row, machine: line.machine })));
-  const runsOut = (a, b) => (a.minutes ?? Infinity) - (b.minutes ?? Infinity) || a.boards - b.boards;
-  return rows.sort((a, b) => rank(a) - rank(b) || (rank(a) === 2 ? runsOut(a, b) : rank(a) === 3 ? a.life - b.life : 0));
+  const rows = lines.flatMap(
+    ({ line, rows: all }) =>
+      all.filter((it) => rank(it) >= 0).map((row) => ({ ...row, machine: line.machine })),
+  );
+  const runsOut = (a, b) =>
+    (a.minutes ?? Infinity) - (b.minutes ?? Infinity) || a.boards - b.boards;
+  return rows.sort(
+    (a, b) => rank(a) - rank(b) ||
+      (rank(a) === 2 ? runsOut(a, b)
+         : rank(a) === 3 ? a.life - b.life
+                         : 0),
+  );
 }
 
 export class LineScreen {
   constructor(station) {
     this.station = station;
     this.sort = "sheet";
-    new ResizeObserver(() => this.machines?.isConnected && this.fit(true)).observe(document.getElementById("main"));
+    new ResizeObserver(
+      () => this.machines?.isConnected && this.fit(true),
+    ).observe(document.getElementById("main"));
   }
 
   parts() {
@@ -44,13 +63,29 @@ export class LineScreen {
     this.overview = el("div", { class: "overview" });
     this.machines = el("div", { class: "slots" });
     this.fitted = null;
-    return [this.first, el("div", { class: "top" }, this.alarms, this.orders), this.urgent, this.overview, this.machines, el("p", { class: "legend" }, filled(TEXTS.line.low, { boards, minutes: expires, splice }))];
+    return [
+      this.first,
+      el("div", { class: "top" }, this.alarms, this.orders),
+      this.urgent,
+      this.overview,
+      this.machines,
+      el("p", { class: "legend" }, said(TEXTS.line.low, { boards, minutes: expires, splice })),
+    ];
   }
 
   /** Shows what is known; what has not changed is not touched. */
   update() {
-    const { model } = this.station, lines = model.lines.map((line) => ({ line, rows: model.rows(line), head: [...productText(model, line.machine), sheetText(line)], notes: this.notes(line) }));
-    const isMany = lines.length > 1 && lines.reduce((sum, { rows }) => sum + rows.length, 0) > MOST_ROWS, shown = isMany ? lines.filter(({ line }) => line.machine === this.open) : lines;
+    const { model } = this.station;
+    const lines =
+      model.lines.map((line) => ({
+                        line,
+                        rows: model.rows(line),
+                        head: [...productText(model, line.machine), sheetText(line)],
+                        notes: this.notes(line),
+                      }));
+    const isMany =
+      lines.length > 1 && lines.reduce((sum, { rows }) => sum + rows.length, 0) > MOST_ROWS;
+    const shown = isMany ? lines.filter(({ line }) => line.machine === this.open) : lines;
     put(this.first, ...this.firstTiles());
     this.counts(lines);
     this.order(isMany && shown.length > 0);
@@ -60,31 +95,103 @@ export class LineScreen {
     this.fit();
   }
 
-  /** What goes before all else: refused reports of work that nobody has decided about, and loads without an answer. */
+  /**
+   * What goes before all else: work that was refused or that a machine contradicts and that
+   * nobody has decided about, and loads without an answer.
+   */
   firstTiles() {
-    const { model, waiting } = this.station, texts = TEXTS.line, of = (what, todo) => el("li", { class: "EMPTY" }, el("b", null, what), el("span", null, todo));
-    const words = ({ Machine: machine, MessageName, Board, Refusal, Place, At }) => filled(texts.untraced, { machine, message: MessageName?.replace("TraceDesk.", ""), board: Board || "", refusal: Refusal, place: Place ?? "", time: dayAnd(Date.parse(At)) });
-    return [...model.refused.map((it) => of(words(it), texts.untracedDo)), ...waiting.filter((it) => [WORDS.LOAD, WORDS.SPLICE].includes(it.word)).map(({ body }) => of(filled(texts.unverified, { machine: body.Machine, slot: body.Slot, reel: body.Reel }), texts.unverifiedDo))];
+    const { model, waiting } = this.station;
+    const texts = TEXTS.line;
+    const of = ([what, todo]) =>
+      el("li", { class: "EMPTY" }, el("b", null, what), el("span", null, todo));
+    const open = model.machines.open.map((it) => this.openTexts(it));
+    const unread =
+      model.machines.unread.map((name) => [said(texts.unread, { name }), texts.unreadDo]);
+    const unverified = waiting.filter(isLoad).map(({ body }) => {
+      const values = { machine: body.Machine, slot: body.Slot, reel: body.Reel };
+      return [said(texts.unverified, values), texts.unverifiedDo];
+    });
+    return [...open, ...unverified, ...unread].map(of);
+  }
+
+  /** What is said of work that nobody has decided about, and what to do. */
+  openTexts(it) {
+    const texts = TEXTS.line;
+    const { machine, kind, at } = it;
+    const place = this.station.model.place(it.place ?? it.desk);
+    const slot = it.slot ?? (place?.machine === machine ? place.slot : null);
+    const where = slot === null ? machine : said(texts.urgent.where, { machine, slot });
+    const values = { where, board: it.board ?? "", time: at === null ? "" : dayAnd(at) };
+    if (kind === "differs") {
+      const what = {
+        desk: it.desk ?? "?",
+        took: it.took ?? "?",
+        designators: it.designators.join(" "),
+      };
+      const known = it.isKnown ? "" : ` ${texts.differsUnknown}`;
+      return [`${said(texts.witnesses, { ...values, ...what })}${known}`, texts.witnessesDo];
+    }
+    const [title] = TEXTS.refusals[it.refusal] ?? [`${it.refusal ?? ""} {at}`];
+    const message = it.message?.replace("TraceDesk.", "") ?? "";
+    const refusal = said(title, { at: it.place ?? "" });
+    return [said(texts.untraced, { ...values, message, refusal }), texts.untracedDo];
   }
 
   /** How many slots are in each state that needs somebody, as marks. */
   marks(lines) {
-    const counts = COUNTED.map((state) => [state, lines.reduce((sum, { rows }) => sum + rows.filter((it) => it.states.includes(state)).length, 0)]).filter(([, count]) => count);
-    return counts.map(([state, count]) => el("span", { class: `mark ${state}` }, filled(TEXTS.line.alarms, { count, state: TEXTS.line.states[state] })));
+    const counts =
+      COUNTED
+        .map(
+          (state) =>
+            [state,
+             lines.reduce(
+               (sum, { rows }) => sum + rows.filter((it) => it.states.includes(state)).length,
+               0,
+             )],
+        )
+        .filter(([, count]) => count);
+    return counts.map(
+      ([state, count]) => el(
+        "span",
+        { class: `mark ${state}` },
+        said(TEXTS.line.alarms, { count, state: TEXTS.line.states[state] }),
+      ),
+    );
   }
 
   counts(lines) {
-    const marks = this.marks(lines), isKnown = lines.every(({ line }) => line.slots && line.kit), { overdue, overdueHad } = this.station.model;
-    const late = overdue ? [el("span", { class: "mark LATE" }, filled(TEXTS.line.overdue, { count: overdue, time: overdueHad ? dayAnd(overdueHad) : "" }))] : [];
-    put(this.alarms, ...(marks.length || !isKnown ? marks : [el("span", null, TEXTS.line.calm)]), ...late);
+    const marks = this.marks(lines);
+    const isKnown = lines.every(({ line }) => line.slots && line.kit);
+    const { overdue, overdueHad } = this.station.model;
+    const late = overdue ? [el("span", { class: "mark LATE" }, said(TEXTS.line.overdue, {
+                                  count: overdue,
+                                  time: overdueHad ? dayAnd(overdueHad) : "",
+                                }))]
+                         : [];
+    put(
+      this.alarms,
+      ...(marks.length || !isKnown ? marks : [el("span", null, TEXTS.line.calm)]),
+      ...late,
+    );
   }
 
   order(isOpen) {
     const back = isOpen ? [button(TEXTS.line.allMachines, () => this.show(null))] : [];
-    put(this.orders, ...back, `${TEXTS.line.sort}: `, ...Object.keys(SORTS).map((name) => button(TEXTS.line.sorts[name], () => {
-      this.sort = name;
-      this.update();
-    }, { "aria-pressed": String(this.sort === name) })));
+    put(
+      this.orders,
+      ...back,
+      `${TEXTS.line.sort}: `,
+      ...Object.keys(SORTS).map(
+        (name) => button(
+          TEXTS.line.sorts[name],
+          () => {
+            this.sort = name;
+            this.update();
+          },
+          { "aria-pressed": String(this.sort === name) },
+        ),
+      ),
+    );
   }
 
   /** Shows the slots of one machine, or of `null` the overview. */
@@ -95,75 +202,178 @@ export class LineScreen {
   }
 
   tiles(urgent, most) {
-    const count = urgent.length > most ? Math.max(0, most - 1) : urgent.length, rest = most ? urgent.length - count : 0;
-    put(this.urgent, ...urgent.slice(0, count).map((it) => el("li", { class: it.states[0] }, this.tile(it, filled(TEXTS.line.urgent.where, it)))), ...(rest ? [el("li", { class: "more" }, filled(TEXTS.line.more, { count: rest }))] : []));
+    const count = urgent.length > most ? Math.max(0, most - 1) : urgent.length;
+    const rest = most ? urgent.length - count : 0;
+    put(
+      this.urgent,
+      ...urgent.slice(0, count).map(
+        (it) =>
+          el("li", { class: it.states[0] }, this.tile(it, said(TEXTS.line.urgent.where, it))),
+      ),
+      ...(rest ? [el("li", { class: "more" }, said(TEXTS.line.more, { count: rest }))] : []),
+    );
   }
 
   /** A slot that needs a person: where, what is wrong, and with which reel. */
   tile({ part, front, worst, boards, minutes, states }, where) {
-    const texts = TEXTS.line.urgent, isFront = worst === front || worst?.reel === front?.reel, isSoon = minutes !== null && states.includes("LOW");
-    const words = states.filter((it) => it !== "OTHER").map((it) => filled(texts[it === "EXPIRED" && !isFront ? "BEHIND" : it] ?? TEXTS.line.states[it], { boards, life: worst ? lifeText(worst.minutes_left) : "" }));
-    const reel = states.includes("EXPIRED") || states.includes("EXPIRES") ? worst.reel : front ? front.reel : part;
-    return [el("b", null, where), el("b", null, [...words, ...(isSoon ? [filled(texts.soon, { minutes })] : [])].join(" · ")), el("span", null, reel)];
+    const texts = TEXTS.line.urgent;
+    const isFront = worst === front || worst?.reel === front?.reel;
+    const values = { boards, life: worst ? lifeText(worst.minutes_left) : "" };
+    const textOf = (it) =>
+      texts[it === "EXPIRED" && !isFront ? "BEHIND" : it] ?? TEXTS.line.states[it];
+    const words = states.filter((it) => it !== "OTHER").map((it) => said(textOf(it), values));
+    const soon =
+      minutes !== null && states.includes("LOW") ? [said(texts.soon, { minutes })] : [];
+    const isOld = states.includes("EXPIRED") || states.includes("EXPIRES");
+    const reel = isOld ? worst.reel : front?.reel ?? part;
+    return [
+      el("b", null, where),
+      el("b", null, [...words, ...soon].join(" · ")),
+      el("span", null, reel),
+    ];
   }
 
-  /** A machine of the overview: its product, the board in work if a sender reports one, what is wrong, and the worst slot. */
+  /**
+   * A machine of the overview: its product, the board in work if a sender reports one, what is
+   * wrong, and the worst slot.
+   */
   machineTile({ line, rows, head, notes }) {
-    const [worst] = urgentOf([{ line, rows }]), board = this.station.model.boards.get(line.machine), texts = TEXTS.line;
-    const marks = this.marks([{ rows }]), state = worst?.states[0] ?? (marks.length || notes.length ? "OTHER" : "OK"), calm = line.slots && line.kit ? texts.states.OK : "";
-    return button([el("span", { class: "head" }, el("b", { class: "name" }, line.machine), el("span", { class: "product" }, [head[0], board ? filled(texts.board, { board }) : ""].filter(Boolean).join(" · "))),
-      el("span", { class: "marks" }, marks.length ? marks : calm), ...notes.map((it) => el("span", { class: "wrong" }, it)), worst ? el("span", { class: "worst" }, this.tile(worst, worst.slot)) : null], () => this.show(line.machine), { class: `machine ${state}` });
+    const [worst] = urgentOf([{ line, rows }]);
+    const known = this.station.model.machines.states.get(line.machine);
+    const board = known && isFresh(known, clock.now()) ? known.board : null;
+    const texts = TEXTS.line;
+    const marks = this.marks([{ rows }]);
+    const state = worst?.states[0] ?? (marks.length || notes.length ? "OTHER" : "OK");
+    const calm = line.slots && line.kit ? texts.states.OK : "";
+    return button(
+      [
+        el(
+          "span",
+          { class: "head" },
+          el("b", { class: "name" }, line.machine),
+          el(
+            "span",
+            { class: "product" },
+            [head[0], board ? said(texts.board, { board }) : ""].filter(Boolean).join(" · "),
+          ),
+        ),
+        el("span", { class: "marks" }, marks.length ? marks : calm),
+        ...notes.map((it) => el("span", { class: "wrong" }, it)),
+        worst ? el("span", { class: "worst" }, this.tile(worst, worst.slot)) : null,
+      ],
+      () => this.show(line.machine),
+      { class: `machine ${state}` },
+    );
   }
 
   notes(line) {
-    const texts = TEXTS.line, notes = [];
+    const texts = TEXTS.line;
+    const notes = [];
     if (line.missing) {
       notes.push(texts.unknownMachine);
     } else if (line.noSheet) {
-      notes.push(filled(texts.unknownSheet, this.station.model.product(line.machine)));
+      notes.push(said(texts.unknownSheet, this.station.model.product(line.machine)));
     }
-    const rows = line.kit ? this.station.model.rows(line) : [], odd = rows.filter((it) => it.others.length || it.off).length;
+    const rows = line.kit ? this.station.model.rows(line) : [];
+    const odd = rows.filter((it) => it.others.length || it.off).length;
     if (odd > rows.length / 4) {
-      notes.push(filled(texts.differs, { count: odd }));
+      notes.push(said(texts.differs, { count: odd }));
     }
     return notes;
   }
 
-  /** A machine with all its slots. Its name stands in the table's head, which is repeated in each column. */
+  /**
+   * A machine with all its slots. Its name stands in the table's head, which is repeated in each
+   * column.
+   */
   machine({ line, rows, head: [product, ...from], notes }) {
-    const { head } = TEXTS.line, columns = [[head.slot], [head.part], [head.reel], [head.left, "n"], [head.all, "n"], [head.boards, "n"], [head.behind], [head.life, "n"], [head.state]];
-    const name = [el("b", null, line.machine), ` ${product} `, el("small", null, from.filter(Boolean).join(", "))], sorted = [...rows].sort(SORTS[this.sort]);
-    const made = table(line.machine, columns, sorted.map((it) => this.cells(it)), (at) => sorted[at].states[0] ?? "OK");
+    const { head } = TEXTS.line;
+    const columns = [
+      [head.slot],
+      [head.part],
+      [head.reel],
+      [head.left, "n"],
+      [head.all, "n"],
+      [head.boards, "n"],
+      [head.behind],
+      [head.life, "n"],
+      [head.state],
+    ];
+    const name = [
+      el("b", null, line.machine),
+      ` ${product} `,
+      el("small", null, from.filter(Boolean).join(", ")),
+    ];
+    const sorted = [...rows].sort(SORTS[this.sort]);
+    const made = table(
+      line.machine,
+      columns,
+      sorted.map((it) => this.cells(it)),
+      (at) => sorted[at].states[0] ?? "OK",
+    );
     made.dataset.machine = line.machine;
-    made.tHead.prepend(el("tr", null, el("th", { class: "machine", colspan: "9", scope: "colgroup" }, name)));
-    return el("section", { class: "machine" }, notes.map((it) => el("p", { class: "note wrong" }, it)), made);
+    made.tHead.prepend(
+      el("tr", null, el("th", { class: "machine", colspan: "9", scope: "colgroup" }, name)),
+    );
+    const wrong = notes.map((it) => el("p", { class: "note wrong" }, it));
+    return el("section", { class: "machine" }, wrong, made);
   }
 
   cells({ slot, part, front, behind, pieces, boards, worst, others, states }) {
-    const texts = TEXTS.line, waits = behind.map((it) => filled(texts.behind, { reel: it.reel, left: piecesText(it.remaining) })).join(", ");
-    const words = states.length ? states.map((it) => texts.states[it]).join(" · ") : texts.states.OK, life = front ? lifeText(worst.minutes_left) : "";
-    return [[slot, "slot"], [others.length ? `${part} (${others.join(", ")})` : part, "name"], [front?.reel ?? "", "name"], front ? piecesText(front.remaining) : "", behind.length ? piecesText(pieces) : "",
-      boards === null ? "" : piecesText(boards), [waits, "name"], worst && worst !== front ? filled(texts.lifeOf, { life, reel: worst.reel }) : life, [words, "state"]];
+    const texts = TEXTS.line;
+    const waits = behind
+                    .map(
+                      (it) => said(texts.behind, { reel: it.reel, left: Number(it.remaining) }),
+                    )
+                    .join(", ");
+    const words =
+      states.length ? states.map((it) => texts.states[it]).join(" · ") : texts.states.OK;
+    const life = front ? lifeText(worst.minutes_left) : "";
+    return [
+      [slot, "slot"],
+      [others.length ? `${part} (${others.join(", ")})` : part, "name"],
+      [front?.reel ?? "", "name"],
+      front ? piecesText(front.remaining) : "",
+      behind.length ? piecesText(pieces) : "",
+      boards === null ? "" : piecesText(boards),
+      [waits, "name"],
+      worst && worst !== front ? said(texts.lifeOf, { life, reel: worst.reel }) : life,
+      [words, "state"],
+    ];
   }
 
-  /** The slots in the largest letters in which all are on the screen: anew if the room or the number of rows is another, or they no longer fit. The columns are the style's. */
+  /**
+   * The slots in the largest letters in which all are on the screen: anew if the room or the
+   * number of rows is another, or they no longer fit. The columns are the style's.
+   */
   fit(isResized = false) {
-    const { machines } = this, main = machines.parentElement, fitted = [machines.querySelectorAll("tr").length, this.urgent.childElementCount, this.first.childElementCount].join();
-    const set = (size) => machines.style.setProperty("--letters", `${size / 16}rem`), isNarrow = () => main.scrollWidth <= main.clientWidth;
+    const { machines } = this;
+    const main = machines.parentElement;
+    const fitted = [
+      machines.querySelectorAll("tr").length,
+      this.urgent.childElementCount,
+      this.first.childElementCount,
+    ].join();
+    const set = (size) => machines.style.setProperty("--letters", `${size / 16}rem`);
+    const isNarrow = () => main.scrollWidth <= main.clientWidth;
     const fits = (size) => {
       set(size);
       return main.scrollHeight <= main.clientHeight + 1 && isNarrow();
     };
-    if (!machines.hasChildNodes() || (!isResized && fitted === this.fitted && main.scrollHeight <= main.clientHeight + 1)) {
+    const isHigh = main.scrollHeight > main.clientHeight + 1;
+    if (!machines.hasChildNodes() || (!isResized && fitted === this.fitted && !isHigh)) {
       return;
     }
     this.fitted = fitted;
     set(SIZES[0]);
     machines.classList.add("measured");
-    const width = Math.max(...[...machines.querySelectorAll("table")].map((it) => it.offsetWidth)) / parseFloat(getComputedStyle(machines).fontSize);
+    const width =
+      Math.max(...[...machines.querySelectorAll("table")].map((it) => it.offsetWidth)) /
+      parseFloat(getComputedStyle(machines).fontSize);
     machines.classList.remove("measured");
     machines.style.setProperty("--width", `${width}em`);
-    let least = 0, most = SIZES.length - 1;
+    let least = 0;
+    let most = SIZES.length - 1;
     while (least < most) { // to the first that fits
       const middle = (least + most) >> 1;
       [least, most] = fits(SIZES[middle]) ? [least, middle] : [middle + 1, most];

@@ -1,18 +1,26 @@
-// What the page knows of the line: the desk's reports, each with its moment. It asks at the same moments of the server's clock
-// as every other station, so that the proxy's cache makes one request of all theirs.
+// What the page knows of the line: the desk's reports, each with its moment. It asks at the same
+// moments of the server's clock as every other station, so that the proxy's cache makes one
+// request of all theirs.
 import * as clock from "./clock.js";
-import * as desk from "./desk.js";
-import * as store from "./store.js";
 import { rowsOf } from "./csv.js";
+import * as desk from "./desk.js";
 import { lifeOrder } from "./life.js";
+import { readMachines } from "./machines.js";
+import { sheetOf, shownRows } from "./reckon.js";
+import * as store from "./store.js";
 
 const LEAST_PERIOD = 3; // seconds
 const KIT_PERIOD = 300; // of sheets, free reels and the overdue list, which seldom change
 const ALL_BOARDS = "100000";
-const PACE_WINDOW = 20 * 60_000, PACE_LEAST = 2 * 60_000; // milliseconds over which a machine's pace is reckoned
-const ENOUGH = 6, CARDS = 24; // free reels that are enough to choose from, and cards that are asked for at most to find more
+const PACE_WINDOW = 20 * 60_000; // milliseconds over which a machine's pace is reckoned
+const STATUS_PERIOD = 3_000; // milliseconds: of what senders say of their machines
+const ENOUGH = 6; // free reels to choose from
+const CARDS = 24; // that are asked for at most to find more
 
-/** Every how many seconds the slots are asked for, so that all stations together use up so many connections a day at most. */
+/**
+ * Every how many seconds the slots are asked for, so that all stations together use up so many
+ * connections a day at most.
+ */
 export function period(machines, connections) {
   const rest = connections - kitsADay(machines);
   return rest <= 0 ? 600 : Math.max(LEAST_PERIOD, (machines * 86_400) / rest);
@@ -23,13 +31,32 @@ export function kitsADay(machines) {
   return ((machines + 1) * 86_400) / KIT_PERIOD;
 }
 
+/** Does something; a fault in it stops nothing but that. */
+async function survived(act) {
+  try {
+    await act();
+  } catch (fault) {
+    console.error(fault);
+  }
+}
+
 export class Model {
   /** `changed` is called after each report. */
   constructor(setup, changed) {
     this.setup = setup;
     this.changed = changed;
     this.period = period(setup.machines.length, setup.connectionsADay) * 1000;
-    this.lines = setup.machines.map(({ machine, product }) => ({ machine, configured: product ?? null, slots: null, text: null, kit: null, kitHad: null, missing: null, looks: [], rows: null }));
+    this.lines = setup.machines.map(({ machine, product }) => ({
+                                      machine,
+                                      configured: product ?? null,
+                                      slots: null,
+                                      text: null,
+                                      kit: null,
+                                      kitHad: null,
+                                      missing: null,
+                                      looks: [],
+                                      rows: null,
+                                    }));
     this.overdue = null;
     this.overdueHad = null;
     this.parts = new Map(); // of reels, as the desk's reports told them
@@ -37,20 +64,33 @@ export class Model {
     this.unfit = new Set(); // own parts of reels that were refused for a slot's part
     this.selected = {}; // of each machine: what this station's accepted selection said
     this.state = { had: null, age: null, at: 0, old: false, ok: false, status: 0 };
-    this.boards = new Map(); // of each machine: the board in work, as a sender reports it
-    this.refused = []; // reports of work that were refused and that nobody has decided about: {Id, Machine, MessageName, Board, Place, Refusal, At}
+    this.machines = readMachines([], null); // as their senders say it
+    this.known = new Map(); // of each machine: what a sender said of it last
+    this.loads = new Map(); // of slots that stop a machine: the free reel to load, or null
     this.kitTurn = null; // which of the server's periods the kits are of
   }
 
   async begin() {
     this.selected = (await store.note("selected")) ?? {};
+    this.watch();
     for (;;) {
       if (!document.hidden) {
-        await this.all();
+        await survived(() => this.all());
         document.body.dataset.asked = "all";
       }
-      const now = clock.now() ?? Date.now(), next = (Math.floor(now / this.period) + 1) * this.period;
+      const now = clock.now() ?? Date.now();
+      const next = (Math.floor(now / this.period) + 1) * this.period;
       await new Promise((resolve) => setTimeout(resolve, next - now + 50));
+    }
+  }
+
+  /** Reads how the machines are, for good: the proxy has that, and the desk isn't asked. */
+  async watch() {
+    for (;;) {
+      if (!document.hidden) {
+        await survived(() => this.lookAtMachines());
+      }
+      await new Promise((resolve) => setTimeout(resolve, STATUS_PERIOD));
     }
   }
 
@@ -60,11 +100,19 @@ export class Model {
 
   /** The product of a machine, and where this page has it from. */
   product(machine) {
-    const configured = this.line(machine)?.configured, chosen = this.selected[machine], said = configured && this.setup.since > chosen?.at ? null : chosen; // the later of the two
-    return said ? { product: said.product, from: "station", number: said.number, at: said.at } : configured ? { product: configured, from: "setup", at: this.setup.since } : null;
+    const configured = this.line(machine)?.configured;
+    const chosen = this.selected[machine];
+    const said =
+      configured && this.setup.since > chosen?.at ? null : chosen; // the later of the two
+    return said ? { product: said.product, from: "station", number: said.number, at: said.at }
+      : configured ? { product: configured, from: "setup", at: this.setup.since }
+                   : null;
   }
 
-  /** What this page's sheet says of a slot that is scanned: its part, by which sheet, known from where. */
+  /**
+   * What this page's sheet says of a slot that is scanned: its part, by which sheet, known from
+   * where.
+   */
   wanted({ machine, slot }) {
     const part = slot ? this.slot(machine, slot).part : null;
     return part === null ? { part } : { part, ...this.product(machine) };
@@ -82,26 +130,49 @@ export class Model {
     for (const line of this.lines) {
       await this.slots(line);
     }
-    await this.untraced();
     if (this.kitTurn === null || this.kitTurn !== this.turn()) {
       await this.kits();
     }
   }
 
-  /** Reads what the senders and the collector say of refused reports of work: of each machine the last one that nobody has decided about. */
-  async untraced() {
-    const files = await desk.lineStatus(""), told = Array.isArray(files) ? await Promise.all(files.filter((it) => it.type === "file" && it.name.endsWith(".json")).map((it) => desk.lineStatus(it.name))) : [];
-    this.boards = new Map(told.flatMap((it) => Object.entries(it?.Machines ?? {}).filter(([, { Board }]) => typeof Board === "string").map(([machine, { Board }]) => [machine, Board])));
-    const decided = new Set(told.flatMap((it) => it?.Decided ?? [])), found = new Map();
-    const last = told.flatMap((it) => Object.entries(it?.Machines ?? {}).filter(([, { LastRefused }]) => LastRefused).map(([Machine, { LastRefused: { Id, At, Answer, Message } }]) => ({
-      Id, At, Machine, MessageName: Message.MessageName, Board: Message.MessageBody?.Board, Place: Answer.At, Refusal: Answer.Refusal ?? Answer.Fault })));
-    for (const it of [...told.flatMap((file) => file?.Undecided ?? []), ...last]) {
-      if (!decided.has(it.Id) && !(found.get(it.Machine)?.At >= it.At)) {
-        found.set(it.Machine, it);
+  /**
+   * Reads what the senders and the collector say, and which reel to load where a slot stops one.
+   */
+  async lookAtMachines() {
+    const files = await desk.lineStatus();
+    if (files === null) {
+      return;
+    }
+    this.machines = readMachines(files, clock.now());
+    this.machines.states.forEach((it) => this.known.set(it.machine, it));
+    this.changed();
+    await this.findLoads();
+  }
+
+  /** Asks once for a free reel for each slot that stops a machine. */
+  async findLoads() {
+    const stops = [...this.machines.states.values()].filter(
+      (it) => it.slot !== null && this.line(it.machine),
+    );
+    const keys = stops.map((it) => JSON.stringify([it.machine, it.slot, it.cause, it.reel]));
+    [...this.loads.keys()]
+      .filter(
+        (key) => !keys.includes(key),
+      )
+      .forEach((key) => this.loads.delete(key));
+    for (const [at, key] of keys.entries()) {
+      if (!this.loads.has(key)) {
+        const free = await this.freeFor(stops[at].machine, stops[at].slot);
+        this.loads.set(key, { part: free?.part ?? null, reel: free?.reels[0]?.reel ?? null });
+        this.changed();
       }
     }
-    this.refused = [...found.values()];
-    this.changed();
+  }
+
+  /** What to load on the slot that stops a machine: {part, reel}, each of which may be null. */
+  loadFor({ machine, slot, cause, reel }) {
+    return this.loads.get(JSON.stringify([machine, slot, cause, reel])) ??
+      { part: this.slot(machine, slot).part, reel: null };
   }
 
   /** The number of the server's period: it changes at the same moment at every station. */
@@ -110,7 +181,8 @@ export class Model {
   }
 
   async kits() {
-    const turn = this.turn(), areHad = [];
+    const turn = this.turn();
+    const areHad = [];
     for (const line of this.lines) {
       areHad.push(await this.kit(line));
     }
@@ -118,12 +190,25 @@ export class Model {
       this.overdue = told.rows.length;
       this.overdueHad = told.had;
     }));
-    this.kitTurn = areHad.every(Boolean) ? turn : null; // else they are asked for again at the next look
+    this.kitTurn =
+      areHad.every(Boolean) ? turn : null; // else they are asked for again at the next look
   }
 
-  /** Takes a report where it is had, and notes how the desk is; false where it isn't had. That a thing is unknown is the desk's answer too. */
+  /**
+   * Takes a report where it is had, and notes how the desk is; false where it isn't had. That a
+   * thing is unknown is the desk's answer too.
+   */
   async had(asking, take, without = () => {}) {
-    const heard = (told) => { this.state = { had: told.had, age: told.age, at: performance.now(), old: told.old, ok: true, status: 200 }; };
+    const heard = (told) => {
+      this.state = {
+        had: told.had,
+        age: told.age,
+        at: performance.now(),
+        old: told.old,
+        ok: true,
+        status: 200,
+      };
+    };
     let isHad = true;
     try {
       const told = await asking;
@@ -146,16 +231,24 @@ export class Model {
   }
 
   async slots(line) {
-    await this.had(desk.report("slots", { machine: line.machine }), (told) => {
-      if (told.text !== line.text) {
-        line.slots = rowsOf(told.text);
-        line.slots.forEach((it) => this.parts.set(it.reel, it.part));
-      }
-      Object.assign(line, { text: told.text, had: told.had, missing: null, rows: null });
-      if (told.had !== null) {
-        line.looks = [...line.looks.filter((it) => told.had - it.at < PACE_WINDOW), { at: told.had, slots: line.slots }];
-      }
-    }, (kind, had) => Object.assign(line, { slots: [], text: null, had, missing: kind, rows: null }));
+    await this.had(
+      desk.report("slots", { machine: line.machine }),
+      (told) => {
+        if (told.text !== line.text) {
+          line.slots = rowsOf(told.text);
+          line.slots.forEach((it) => this.parts.set(it.reel, it.part));
+        }
+        Object.assign(line, { text: told.text, had: told.had, missing: null, rows: null });
+        if (told.had !== null) {
+          line.looks = [
+            ...line.looks.filter((it) => told.had - it.at < PACE_WINDOW),
+            { at: told.had, slots: line.slots },
+          ];
+        }
+      },
+      (kind, had) =>
+        Object.assign(line, { slots: [], text: null, had, missing: kind, rows: null }),
+    );
   }
 
   async kit(line) {
@@ -164,9 +257,16 @@ export class Model {
       line.kit = line.rows = null;
       return true;
     }
-    return this.had(desk.rows("kit", { product, machine: line.machine, boards: "1" }), (told) => {
-      Object.assign(line, { kit: sheetOf(told.rows), kitHad: told.had, noSheet: false, rows: null });
-    }, (kind, had) => Object.assign(line, { kit: null, kitHad: had, noSheet: true, rows: null }));
+    return this.had(
+      desk.rows("kit", { product, machine: line.machine, boards: "1" }),
+      (told) => {
+        Object.assign(
+          line,
+          { kit: sheetOf(told.rows), kitHad: told.had, noSheet: false, rows: null },
+        );
+      },
+      (kind, had) => Object.assign(line, { kit: null, kitHad: had, noSheet: true, rows: null }),
+    );
   }
 
   /** A machine's rows as they are shown: reckoned once for each report. */
@@ -182,7 +282,13 @@ export class Model {
 
   /** The slots whose reels end within the minutes of the set-up, the next one first. */
   ending() {
-    const rows = this.lines.flatMap((line) => this.rows(line).filter((it) => it.isEnding).map((row) => ({ ...row, machine: line.machine })));
+    const rows = this.lines.flatMap(
+      (line) => this.rows(line)
+                  .filter(
+                    (it) => it.isEnding,
+                  )
+                  .map((row) => ({ ...row, machine: line.machine })),
+    );
     return rows.sort((a, b) => a.minutes - b.minutes);
   }
 
@@ -194,17 +300,25 @@ export class Model {
     }
   }
 
-  /** The part that a slot wants by the sheet that is shown, and the reels on it, the front first. */
+  /**
+   * The part that a slot wants by the sheet that is shown, and the reels on it, the front first.
+   */
   slot(machine, slot) {
     const line = this.line(machine);
     const wanted = line?.kit?.find((it) => it.slot === slot) ?? null;
-    return { known: Boolean(line?.slots), sheet: Boolean(line?.kit), part: wanted?.part ?? null, reels: (line?.slots ?? []).filter((it) => it.slot === slot) };
+    return {
+      known: Boolean(line?.slots),
+      sheet: Boolean(line?.kit),
+      part: wanted?.part ?? null,
+      reels: (line?.slots ?? []).filter((it) => it.slot === slot),
+    };
   }
 
   /** The slot that a reel is on, by the slot lists; or null. */
   place(reel) {
     const line = this.lines.find((it) => it.slots?.some((on) => on.reel === reel));
-    return line ? { machine: line.machine, slot: line.slots.find((it) => it.reel === reel).slot } : null;
+    return line ? { machine: line.machine, slot: line.slots.find((it) => it.reel === reel).slot }
+                : null;
   }
 
   /** Takes what an answer to a scan says of a slot: it holds until a later slot list says it. */
@@ -212,7 +326,9 @@ export class Model {
     if (answer.Refusal === "WrongPart" && about?.part) {
       this.unfit.add(JSON.stringify([this.parts.get(body.Reel), about.part]));
     }
-    const isLive = answer.Answer === "Accepted" ? { MaterialsLoaded: true, MaterialsSpliced: true, MaterialsUnloaded: false }[word] : { SlotTaken: true, SlotEmpty: false }[answer.Refusal];
+    const isLive = answer.Answer === "Accepted"
+      ? { MaterialsLoaded: true, MaterialsSpliced: true, MaterialsUnloaded: false }[word]
+      : { SlotTaken: true, SlotEmpty: false }[answer.Refusal];
     if (body.Slot && isLive !== undefined) {
       this.answers.set(JSON.stringify([body.Machine, body.Slot]), { isLive, at: clock.now() });
     }
@@ -221,7 +337,9 @@ export class Model {
   /** Whether a slot has a live reel: by the last slot list, or by an answer after it. */
   isLive(machine, slot) {
     const said = this.answers.get(JSON.stringify([machine, slot]));
-    return said && !(this.line(machine).had > said.at) ? said.isLive : this.slot(machine, slot).reels.length > 0;
+    return said && !(this.line(machine).had > said.at)
+      ? said.isLive
+      : this.slot(machine, slot).reels.length > 0;
   }
 
   /** The card of a reel, or null where the desk does not tell it. */
@@ -235,9 +353,14 @@ export class Model {
     }
   }
 
-  /** The free reels that the kit list names for a slot or another one of the same part, the first to end first, and alternates that it has at earlier slots; null where it isn't had. */
+  /**
+   * The free reels that the kit list names for a slot or another one of the same part, the first
+   * to end first, and alternates that it has at earlier slots; null where it isn't had.
+   */
   async freeFor(machine, slot) {
-    const product = this.product(machine)?.product, found = new Map(), earlier = new Map();
+    const product = this.product(machine)?.product;
+    const found = new Map();
+    const earlier = new Map();
     if (!product) {
       return null;
     }
@@ -251,14 +374,31 @@ export class Model {
       }
       part = told.rows.find((it) => it.slot === slot)?.part ?? null;
       const first = told.rows.findIndex((it) => it.part === part);
-      told.rows.forEach((it, at) => it.reel !== "" && (it.part === part ? found : at < first ? earlier : new Map()).set(it.reel, it));
+      told.rows.forEach(
+        (it, at) => it.reel !== "" &&
+          (it.part === part ? found
+             : at < first ? earlier
+                            : new Map()
+          ).set(it.reel, it),
+      );
     }
     found.forEach((_, reel) => earlier.delete(reel));
-    const sorted = (reels) => [...reels].sort((a, b) => lifeOrder(a.minutes_left) - lifeOrder(b.minutes_left) || (a.reel < b.reel ? -1 : 1));
-    return { part, reels: sorted(found.values()), alternates: part !== null && found.size < ENOUGH ? sorted(await this.alternates(earlier, part)) : [] };
+    const sorted = (reels) => [...reels].sort(
+      (a, b) =>
+        lifeOrder(a.minutes_left) - lifeOrder(b.minutes_left) || (a.reel < b.reel ? -1 : 1),
+    );
+    return {
+      part,
+      reels: sorted(found.values()),
+      alternates:
+        part !== null && found.size < ENOUGH ? sorted(await this.alternates(earlier, part)) : [],
+    };
   }
 
-  /** Those of some rows' reels whose own part is another than the row's: the kit has an alternate at one slot only, whatever parts it stands for. One that was refused for this part is none. */
+  /**
+   * Those of some rows' reels whose own part is another than the row's: the kit has an alternate
+   * at one slot only, whatever parts it stands for. One that was refused for this part is none.
+   */
   async alternates(rows, part) {
     const found = [];
     let cards = 0;
@@ -268,68 +408,13 @@ export class Model {
         await this.card(row.reel);
       }
       const own = this.parts.get(row.reel);
-      if (own !== undefined && own !== row.part && !this.unfit.has(JSON.stringify([own, part]))) {
+      if (own !== undefined && own !== row.part && !this.unfit.has(JSON.stringify([
+            own,
+            part,
+          ]))) {
         found.push({ ...row, own });
       }
     }
     return found;
   }
-}
-
-/** The rows of a sheet, in its order, as the kit list of one board tells them. */
-function sheetOf(rows) {
-  const found = new Map();
-  rows.forEach(({ slot, part, needed }) => found.set(slot, { slot, part, needed: Number(needed) }));
-  return [...found.values()];
-}
-
-/** How many boards of a slot's pieces were used between two slot lists. A reel that is gone was used up. */
-function usedOf({ slot, needed }, before, now) {
-  const left = new Map(now.filter((it) => it.slot === slot).map((it) => [it.reel, it.remaining]));
-  return sumOf(before.filter((it) => it.slot === slot).map((it) => ({ remaining: it.remaining - (left.get(it.reel) ?? 0) }))) / needed;
-}
-
-/** How many boards a machine makes a minute: that of the slot in the middle, so that no count, scrap or unloading decides. 0 if it isn't known. */
-function paceOf({ looks, kit }) {
-  const first = looks[0], last = looks.at(-1), minutes = (last?.at - first?.at) / 60_000, of = (list) => list.sort((a, b) => a - b)[list.length >> 1] ?? 0;
-  if (!kit || !(last?.at - first?.at >= PACE_LEAST) || first.slots === last.slots) {
-    return 0;
-  }
-  return Math.max(0, of(kit.filter((it) => it.needed && first.slots.some(({ slot }) => slot === it.slot)).map((it) => usedOf(it, first.slots, last.slots)))) / minutes;
-}
-
-/** The rows of a machine as they are shown: its sheet's, then the slots that are on no row of it. Without a slot list there are none. */
-function shownRows(line, setup) {
-  if (!line.slots) {
-    return [];
-  }
-  const bySlot = new Map(), pace = paceOf(line);
-  line.slots.forEach((it) => bySlot.set(it.slot, [...(bySlot.get(it.slot) ?? []), it]));
-  const sheet = (line.kit ?? []).map((row) => rowOf(row, bySlot.get(row.slot) ?? [], setup, pace));
-  const named = new Set(sheet.map((it) => it.slot)), off = line.kit ? "OFF" : "NOSHEET";
-  const rest = [...bySlot].filter(([slot]) => !named.has(slot)).sort(([a], [b]) => a.localeCompare(b, "en", { numeric: true }));
-  return [...sheet, ...rest.map(([slot, reels]) => rowOf({ slot, part: reels[0].part, needed: 0 }, reels, setup, 0, off))];
-}
-
-/**
- * A slot as it is shown. `boards` are those of the reels before the first that is expired, and `minutes` how long they last at
- * the machine's pace; `worst` is the reel whose floor life ends first, wherever it is on the tape; `off` says that no row of the
- * sheet names the slot, or that no sheet is known.
- */
-function rowOf({ slot, part, needed }, reels, setup, pace, off = null) {
-  const front = reels[0] ?? null, pieces = sumOf(reels), expired = reels.findIndex((it) => it.minutes_left === "0");
-  const boards = needed ? Math.floor(sumOf(expired < 0 ? reels : reels.slice(0, expired)) / needed) : null, minutes = pace && boards !== null ? Math.floor(boards / pace) : null;
-  const worst = reels.reduce((least, it) => (least === null || lifeOrder(it.minutes_left) < lifeOrder(least.minutes_left) ? it : least), null);
-  const life = worst && lifeOrder(worst.minutes_left), others = [...new Set(reels.map((it) => it.part).filter((it) => it !== part))], states = [];
-  const isUsed = front && expired !== 0 && boards !== null, isEnding = Boolean(isUsed && minutes !== null && minutes < setup.splice);
-  [["EMPTY", !front], ["EXPIRED", expired >= 0], ["LOW", isEnding || (isUsed && boards < setup.boards)], ["EXPIRES", expired < 0 && front && life < setup.expires], ["OTHER", others.length], [off, off]].forEach(([state, holds]) => {
-    if (holds) {
-      states.push(state);
-    }
-  });
-  return { slot, part, front, behind: reels.slice(1), pieces, boards, minutes, isEnding, worst, life, others, off, states };
-}
-
-function sumOf(reels) {
-  return reels.reduce((sum, it) => sum + Number(it.remaining), 0);
 }

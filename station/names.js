@@ -1,11 +1,15 @@
-// What the desk takes as a name or a number (docs/messages.md, "Values"), and how codes of the plant are read.
+// What the desk takes as a name or a number (docs/messages.md, "Values"), and how codes of the
+// plant are read.
 
 export const MOST_PIECES = 10_000_000;
 export const MOST_MINUTES = 525_600;
 export const MOST_BOARDS = 100_000;
 export const LEVELS = ["1", "2", "2a", "3", "4", "5", "5a", "6"];
 
-/** Whether a text is a name: 1 to 64 printable ASCII letters and spaces, with no space at its ends. */
+/**
+ * Whether a text is a name: 1 to 64 printable ASCII letters and spaces, with no space at its
+ * ends.
+ */
 export function isName(text) {
   return /^[!-~](?:[ -~]{0,62}[!-~])?$/.test(text);
 }
@@ -21,7 +25,10 @@ export function numberIn(text, least, most) {
 
 /** The text with its {name} places filled. */
 export function filled(text, values) {
-  return text.replace(/\{(\w+)\}/g, (whole, name) => (name in values ? String(values[name]) : whole));
+  return text.replace(
+    /\{(\w+)\}/g,
+    (whole, name) => (name in values ? String(values[name]) : whole),
+  );
 }
 
 /** What the scanner read, without what it is set to put before and behind it. */
@@ -42,17 +49,36 @@ export function around(pattern, values) {
   return [filled(pattern.slice(0, at), values), pattern.slice(pattern.indexOf("}", at) + 1)];
 }
 
-/** What stands in a text where the pattern has its last {place}; null where the text is of another form. */
+/**
+ * What stands in a text where the pattern has its last {place}; null where the text is of
+ * another form.
+ */
 function placed(text, pattern, values) {
   const [before, after] = around(pattern, values);
-  const isOfForm = text.startsWith(before) && text.endsWith(after) && text.length > before.length + after.length;
+  const isOfForm =
+    text.startsWith(before) && text.endsWith(after) && text.length > before.length + after.length;
   return isOfForm ? text.slice(before.length, text.length - after.length) : null;
 }
 
-/** What a code is: a slot with its machine, an action, a badge, a supplier's label, or else a reel. */
+/** Whether a text is only the beginning of a code: what its pattern has before a place. */
+function isFragment(text, { machines, codes }) {
+  const begins = [
+    ...machines.map(({ machine }) => around(codes.slot, { machine })[0]),
+    ...[codes.slot, codes.action, codes.badge].map((it) => it.slice(0, it.indexOf("{"))),
+  ];
+  return begins.includes(text);
+}
+
+/**
+ * What a code is: a slot with its machine, an action, a badge, a supplier's label, or else a
+ * reel.
+ */
 export function readCode(text, setup) {
   if (text.startsWith("[)>")) {
     return { kind: "label", text };
+  }
+  if (isFragment(text, setup)) {
+    return { kind: "fragment", text };
   }
   for (const { machine } of setup.machines) {
     const slot = placed(text, setup.codes.slot, { machine });

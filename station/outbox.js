@@ -1,13 +1,18 @@
-// Scans go out one at a time, in their order, until each has the desk's answer. A scan is on disk with its UniqueID before it
-// is sent, and is sent again with the same bytes: so it acts once, over a reload, a crash and a day without network.
+// Scans go out one at a time, in their order, until each has the desk's answer. A scan is on disk
+// with its UniqueID before it is sent, and is sent again with the same bytes: so it acts once,
+// over a reload, a crash and a day without network.
 import * as clock from "./clock.js";
 import * as desk from "./desk.js";
 import * as store from "./store.js";
 import { recordOf } from "./untraced.js";
 
-const FIRST_PAUSE = 250, LONGEST_PAUSE = 5000; // milliseconds
+const FIRST_PAUSE = 250;
+const LONGEST_PAUSE = 5000; // milliseconds
 const ANSWERED_BETWEEN_TIDYINGS = 50;
-const TAB = crypto.randomUUID(), BEFORE = sessionStorage.getItem("page"); // while this page is there it holds a lock of this name; the one before it was loaded is gone
+const TAB = crypto.randomUUID();
+const BEFORE = sessionStorage.getItem(
+  "page",
+); // while this page is there it holds a lock of this name; the one before it was loaded is gone
 sessionStorage.setItem("page", TAB);
 
 /** Whether the page that made a scan is still there. */
@@ -16,9 +21,14 @@ async function isThere(tab) {
   return held.some((it) => it.name === `tracedesk-tab ${tab}`);
 }
 
-/** Asks whether the desk's archive has this very message. Only after IdReused: any other desk would take it as a ClockSet. */
+/**
+ * Asks whether the desk's archive has this very message. Only after IdReused: any other desk
+ * would take it as a ClockSet.
+ */
 function question(text) {
-  return JSON.stringify({ ...JSON.parse(text), MessageName: "TraceDesk.ClockSet", MessageBody: {} });
+  return JSON.stringify(
+    { ...JSON.parse(text), MessageName: "TraceDesk.ClockSet", MessageBody: {} },
+  );
 }
 
 export class Outbox {
@@ -72,8 +82,15 @@ export class Outbox {
 
   /** Makes a scan of a message and keeps it; it is sent once it is on disk. */
   async add(word, body, source, about) {
-    const at = clock.now(), uid = crypto.randomUUID();
-    const text = JSON.stringify({ MessageName: `TraceDesk.${word}`, UniqueID: uid, Source: source, TimeStamp: clock.stamp(at), MessageBody: body });
+    const at = clock.now();
+    const uid = crypto.randomUUID();
+    const text = JSON.stringify({
+      MessageName: `TraceDesk.${word}`,
+      UniqueID: uid,
+      Source: source,
+      TimeStamp: clock.stamp(at),
+      MessageBody: body,
+    });
     const scan = { uid, word, body, source, text, at, about, tab: TAB };
     scan.seq = await store.keep(scan);
     this.channel.postMessage({ kept: uid });
@@ -82,7 +99,10 @@ export class Outbox {
     return scan;
   }
 
-  /** Sends for good. Where the tablet's disk fails it begins anew: a message that was answered already has the same answer again. */
+  /**
+   * Sends for good. Where the tablet's disk fails it begins anew: a message that was answered
+   * already has the same answer again.
+   */
   async sendAll() {
     for (;;) {
       try {
@@ -97,12 +117,15 @@ export class Outbox {
     }
   }
 
-  /** Hands on the records of untraced work; what the line's inbox didn't take is tried again later. */
+  /**
+   * Hands on the records of untraced work; what the line's inbox didn't take is tried again
+   * later.
+   */
   async handOn() {
     if (this.mayHold) {
       const areHad = [];
       for (const { uid, record } of await store.unrecorded()) {
-        areHad.push(await desk.putRecord(record));
+        areHad.push((await desk.putRecord(record)) === "had");
         if (areHad.at(-1)) {
           await store.recorded(uid);
         }
@@ -132,7 +155,8 @@ export class Outbox {
 
   async send(scan) {
     let { answer, status } = await this.asked(scan.text, scan.uid);
-    if (answer.Refusal === "IdReused") { // the desk was begun anew, and its archive may have this scan
+    if (answer.Refusal === "IdReused") { // the desk was begun anew, and its archive may have
+                                          // this scan
       const known = await this.asked(question(scan.text), scan.uid);
       if (known.answer.Answer === "Accepted") {
         answer = { ...known.answer, Archived: true };
@@ -154,7 +178,7 @@ export class Outbox {
 
   /** Sends the same bytes until they are answered. */
   async asked(text, uid) {
-    for (let pause = FIRST_PAUSE; ; pause = Math.min(2 * pause, LONGEST_PAUSE)) {
+    for (let pause = FIRST_PAUSE;; pause = Math.min(2 * pause, LONGEST_PAUSE)) {
       const told = await desk.post(text, uid);
       if (told.answer) {
         return told;

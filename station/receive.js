@@ -1,10 +1,12 @@
-// The screen Receive: a supplier's label or fields by hand, and one ReelReceived. What was filled in stays until the desk accepted it.
-import { TEXTS } from "./words.js";
+// The screen Receive: a supplier's label or fields by hand, and one ReelReceived. What was filled
+// in stays until the desk accepted it.
+import { wordsOf } from "./answers.js";
 import { button, el, field, isTwice } from "./dom.js";
-import { filled, isName, LEVELS, MOST_MINUTES, MOST_PIECES, numberIn } from "./names.js";
 import { fieldsOf, receiptOf } from "./label.js";
+import { isName, LEVELS, MOST_MINUTES, MOST_PIECES, numberIn } from "./names.js";
+import { said } from "./say.js";
 import { bodyOf, WORDS } from "./scan.js";
-import { wordsOf } from "./verdict.js";
+import { TEXTS } from "./words.js";
 
 const FIELDS = ["reel", "part", "lot", "quantity"];
 const ALL = [...FIELDS, "level", "minutes"];
@@ -24,10 +26,40 @@ export class ReceiveScreen {
 
   parts() {
     const texts = TEXTS.receive;
-    const levels = el("fieldset", { class: "levels" }, el("legend", null, texts.level), LEVELS.map((it) => el("label", null, el("input", { type: "radio", name: "level", value: it }), el("span", null, it))));
-    this.form = el("form", { class: "receive", on: { submit: (event) => this.submit(event), input: () => this.keep() } }, el("h2", null, texts.title), this.said,
-      FIELDS.map((name) => field(name, texts[name], { inputmode: name === "quantity" ? "numeric" : "text", maxlength: "200" })), levels, field("minutes", texts.minutes, { inputmode: "numeric" }),
-      el("p", { class: "buttons" }, el("button", { type: "submit" }, texts.go), button(texts.clear, () => this.clear(), { class: "away" })));
+    const levels = el(
+      "fieldset",
+      { class: "levels" },
+      el("legend", null, texts.level),
+      LEVELS.map(
+        (it) => el(
+          "label",
+          null,
+          el("input", { type: "radio", name: "level", value: it }),
+          el("span", null, it),
+        ),
+      ),
+    );
+    this.form = el(
+      "form",
+      {
+        class: "receive",
+        on: { submit: (event) => this.submit(event), input: () => this.keep() },
+      },
+      el("h2", null, texts.title),
+      this.said,
+      FIELDS.map((name) => field(name, texts[name], {
+                   inputmode: name === "quantity" ? "numeric" : "text",
+                   maxlength: "200",
+                 })),
+      levels,
+      field("minutes", texts.minutes, { inputmode: "numeric" }),
+      el(
+        "p",
+        { class: "buttons" },
+        el("button", { type: "submit" }, texts.go),
+        button(texts.clear, () => this.clear(), { class: "away" }),
+      ),
+    );
     this.fill(this.kept);
     return [this.form];
   }
@@ -45,7 +77,9 @@ export class ReceiveScreen {
 
   fill(values) {
     this.form.reset();
-    Object.entries(values).forEach(([name, value]) => { this.form.elements[name].value = value; });
+    Object.entries(values).forEach(([name, value]) => {
+      this.form.elements[name].value = value;
+    });
     this.keep();
   }
 
@@ -60,16 +94,29 @@ export class ReceiveScreen {
     this.said.className = isWrong ? "note wrong" : "note";
   }
 
-  /** Takes a label. What another one filled in and nobody sent is not replaced without a question. */
+  /**
+   * Takes a label. What another one filled in and nobody sent is not replaced without a
+   * question.
+   */
   read(text) {
     const found = fieldsOf(text, this.station.setup.scanner.separators);
     if (!found) {
       this.say(TEXTS.fault.label, true);
       return;
     }
-    const receipt = receiptOf(found, this.station.setup.label), held = this.held(), isOther = FIELDS.some((name) => held[name] !== "" && receipt[name] !== "" && held[name] !== receipt[name]);
+    const receipt = receiptOf(found, this.station.setup.label);
+    const held = this.held();
+    const isOther = FIELDS.some(
+      (name) => held[name] !== "" && receipt[name] !== "" && held[name] !== receipt[name],
+    );
     if (isOther && !this.isSent) {
-      this.station.verdict.ask(filled(TEXTS.ask.label, { held: FIELDS.map((name) => held[name]).filter(Boolean).join(", ") }), () => this.take(found, receipt));
+      this.station.verdict.ask(
+        said(
+          TEXTS.ask.label,
+          { held: FIELDS.map((name) => held[name]).filter(Boolean).join(", ") },
+        ),
+        () => this.take(found, receipt),
+      );
     } else {
       this.take(found, receipt);
     }
@@ -77,8 +124,12 @@ export class ReceiveScreen {
 
   /** Fills the fields from a label. */
   take(found, receipt) {
-    const read = filled(TEXTS.receive.read, { fields: Object.entries(found).map(([name, value]) => `${name} ${value}`).join(", ") });
-    this.fill(receipt); // the level is on each bag: another one of the part may have another level
+    const read = said(TEXTS.receive.read, {
+      fields: Object.entries(found).map(([name, value]) => `${name} ${value}`).join(", "),
+    });
+    this.fill(
+      receipt,
+    ); // the level is on each bag: another one of the part may have another level
     this.moveOn();
     this.say(`${read}. ${this.wanted()}`, false);
   }
@@ -86,34 +137,52 @@ export class ReceiveScreen {
   /** The first field that is empty, or undefined. */
   empty() {
     const { elements } = this.form;
-    return [...FIELDS, ...(elements.level.value === "6" ? ["minutes"] : [])].map((name) => elements[name]).find((it) => it.value.trim() === "");
+    return [...FIELDS, ...(elements.level.value === "6" ? ["minutes"] : [])]
+      .map((name) => elements[name])
+      .find((it) => it.value.trim() === "");
   }
 
   /** What is wanted next, in words. */
   wanted() {
-    const texts = TEXTS.receive, next = this.empty();
-    return next ? filled(texts.next, { field: texts[next.name] }) : this.form.elements.level.value ? texts.ready : texts.levelWanted;
+    const texts = TEXTS.receive;
+    const next = this.empty();
+    return next ? said(texts.next, { field: texts[next.name] })
+      : this.form.elements.level.value ? texts.ready
+                                       : texts.levelWanted;
   }
 
   /** To the first empty field, or to the level. */
   moveOn() {
-    (this.empty() ?? this.form.querySelector("input[type=radio]:checked") ?? this.form.querySelector("input[type=radio]")).focus();
+    (this.empty() ?? this.form.querySelector("input[type=radio]:checked") ??
+     this.form.querySelector("input[type=radio]")
+    ).focus();
     this.moved = performance.now();
   }
 
-  /** The field of a digit that is scanned: the one that has others of its kind, else the first that is empty, else the last. */
+  /**
+   * The field of a digit that is scanned: the one that has others of its kind, else the first
+   * that is empty, else the last.
+   */
   fieldOfDigit() {
-    const { elements } = this.form, names = elements.level.value === "6" ? NUMBERS : NUMBERS.slice(0, 1);
-    return this.digits?.name ?? names.find((name) => elements[name].value.trim() === "") ?? names.at(-1);
+    const { elements } = this.form;
+    const names = elements.level.value === "6" ? NUMBERS : NUMBERS.slice(0, 1);
+    return this.digits?.name ?? names.find((name) => elements[name].value.trim() === "") ??
+      names.at(-1);
   }
 
-  /** Takes an action code: a level, a digit of the pieces or of a label's minutes, or that all is filled in. */
+  /**
+   * Takes an action code: a level, a digit of the pieces or of a label's minutes, or that all is
+   * filled in.
+   */
   coded(action) {
-    const { elements } = this.form, level = /^LEVEL-(.+)$/.exec(action)?.[1];
+    const { elements } = this.form;
+    const level = /^LEVEL-(.+)$/.exec(action)?.[1];
     if (LEVELS.includes(level)) {
       elements.level.value = level;
     } else if (/^[0-9]$/.test(action)) {
-      const name = this.fieldOfDigit(), digits = `${this.digits?.text ?? ""}${action}`; // the first one takes the place of what stood there
+      const name = this.fieldOfDigit();
+      const digits = `${this.digits?.text ?? ""}${
+        action}`; // the first one takes the place of what stood there
       elements[name].value = digits;
       this.keep();
       this.digits = { name, text: digits };
@@ -137,14 +206,22 @@ export class ReceiveScreen {
   /** The field that the desk would not take, or null. */
   wrongField(values) {
     const name = ["reel", "part", "lot"].find((it) => !isName(values[it]));
-    return name ?? (values.quantity === null || this.form.elements.quantity.value.trim() === values.reel ? "quantity" : values.level === "6" && values.minutes === null ? "minutes" : null);
+    return name ??
+      (values.quantity === null || this.form.elements.quantity.value.trim() === values.reel
+         ? "quantity"
+         : values.level === "6" && values.minutes === null ? "minutes"
+                                                           : null);
   }
 
-  /** Enter in a field goes on to the next one, since a wedge ends each scan with it. The button, Enter on a level and the code of ENTER send. */
+  /**
+   * Enter in a field goes on to the next one, since a wedge ends each scan with it. The button,
+   * Enter on a level and the code of ENTER send.
+   */
   submit(event) {
     event.preventDefault();
     const { activeElement } = document;
-    if (activeElement?.form === this.form && activeElement.tagName === "INPUT" && activeElement.type !== "radio") {
+    const isInput = activeElement?.form === this.form && activeElement.tagName === "INPUT";
+    if (isInput && activeElement.type !== "radio") {
       this.moveOn();
       this.say(this.wanted(), false);
     } else if (performance.now() - this.moved > UNMEANT && !isTwice(event, this.last)) {
@@ -153,14 +230,24 @@ export class ReceiveScreen {
   }
 
   values() {
-    const { elements } = this.form, text = (name) => elements[name].value.trim();
-    return { reel: text("reel"), part: text("part"), lot: text("lot"), quantity: numberIn(text("quantity"), 1, MOST_PIECES), level: elements.level.value, minutes: numberIn(text("minutes"), 1, MOST_MINUTES) };
+    const { elements } = this.form;
+    const text = (name) => elements[name].value.trim();
+    return {
+      reel: text("reel"),
+      part: text("part"),
+      lot: text("lot"),
+      quantity: numberIn(text("quantity"), 1, MOST_PIECES),
+      level: elements.level.value,
+      minutes: numberIn(text("minutes"), 1, MOST_MINUTES),
+    };
   }
 
   async send() {
-    const texts = TEXTS.receive, values = this.values(), wrong = this.wrongField(values);
+    const texts = TEXTS.receive;
+    const values = this.values();
+    const wrong = this.wrongField(values);
     if (wrong || !values.level) {
-      this.say(wrong ? filled(texts.bad, { field: texts[wrong] }) : texts.levelWanted, true);
+      this.say(wrong ? said(texts.bad, { field: texts[wrong] }) : texts.levelWanted, true);
       (wrong ? this.form.elements[wrong] : this.form.querySelector("input[type=radio]")).focus();
       return;
     }
@@ -170,16 +257,24 @@ export class ReceiveScreen {
     }
   }
 
-  /** Takes the answer to a receipt: where it is the one that the fields hold they are cleared once it is accepted. */
+  /**
+   * Takes the answer to a receipt: where it is the one that the fields hold they are cleared
+   * once it is accepted.
+   */
   answered({ word, body, answer }) {
-    if (word !== WORDS.RECEIVE || !this.form || JSON.stringify(bodyOf("RECEIVE", this.values())) !== JSON.stringify(body)) {
+    const isReceipt = word === WORDS.RECEIVE && Boolean(this.form);
+    const held = isReceipt ? JSON.stringify(bodyOf("RECEIVE", this.values())) : null;
+    if (held !== JSON.stringify(body)) {
       return;
     }
     if (answer.Answer === "Accepted") {
       this.fill({});
       this.say(TEXTS.receive.hint, false);
     } else {
-      this.say(filled(TEXTS.receive.notTaken, { title: wordsOf({ word, body, answer }).title }), true);
+      this.say(
+        said(TEXTS.receive.notTaken, { title: wordsOf({ word, body, answer }).title }),
+        true,
+      );
     }
   }
 }

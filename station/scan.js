@@ -1,31 +1,53 @@
-// What a scan does: codes in, a message out. It holds at most a slot or a reel, an action that waits for one, and a number.
-import { TEXTS } from "./words.js";
-import { filled, LEVELS, MOST_PIECES, numberIn, readCode, stripped } from "./names.js";
-import { piecesText } from "./life.js";
+// What a scan does: codes in, a message out. It holds at most a slot or a reel, an action that
+// waits for one, and a number.
 import * as desk from "./desk.js";
+import { LEVELS, MOST_PIECES, numberIn, readCode, stripped } from "./names.js";
+import { said } from "./say.js";
+import { TEXTS } from "./words.js";
 
-const OF_SLOT = ["UNLOAD", "SCRAP"], OF_REEL = ["OPEN", "SEAL", "BAKE", "COUNT"], WITH_NUMBER = { SCRAP: 1, COUNT: 0 };
+const OF_SLOT = ["UNLOAD", "SCRAP"];
+const OF_REEL = ["OPEN", "SEAL", "BAKE", "COUNT"];
+const WITH_NUMBER = {
+  SCRAP: 1,
+  COUNT: 0,
+};
 export const ACTIONS = [...OF_SLOT, ...OF_REEL, "CANCEL"];
 export const OF_RECEIVE = [...LEVELS.map((it) => `LEVEL-${it}`), "ENTER"];
 export const WORDS = {
-  LOAD: "MaterialsLoaded", SPLICE: "MaterialsSpliced", UNLOAD: "MaterialsUnloaded", SCRAP: "MaterialsScrapped", OPEN: "ReelOpened", SEAL: "ReelSealed", BAKE: "ReelBaked",
-  COUNT: "CountsTaken", RECEIVE: "ReelReceived", SELECT: "ProductSelected",
+  LOAD: "MaterialsLoaded",
+  SPLICE: "MaterialsSpliced",
+  UNLOAD: "MaterialsUnloaded",
+  SCRAP: "MaterialsScrapped",
+  OPEN: "ReelOpened",
+  SEAL: "ReelSealed",
+  BAKE: "ReelBaked",
+  COUNT: "CountsTaken",
+  RECEIVE: "ReelReceived",
+  SELECT: "ProductSelected",
 };
 const isOfReceive = (action) => OF_RECEIVE.includes(action) || /^[0-9]$/.test(action);
 const FRESH = 3_000; // milliseconds: what is known of a slot is asked for again when it is older
 const CARD_WAIT = 4_000; // milliseconds that a count waits for the reel's card
-const BOUNCE = 1_000; // milliseconds: the same action code within them is one that was read twice
-const RISE = { pieces: 100, part: 0.1 }; // a count may be so much above what the desk has of a reel without a question
+const BOUNCE = 1_000; // milliseconds: the same action code within them was read twice
+const RISE = {
+  pieces: 100,
+  part: 0.1,
+}; // so much a count may be above the desk's, unasked
 
 export class Scan {
-  /** `station` is the page: its set-up, its model, and what it does with a message, a screen, a badge or a fault. */
+  /**
+   * `station` is the page: its set-up, its model, and what it does with a message, a screen, a
+   * badge or a fault.
+   */
   constructor(station) {
     this.station = station;
     this.turn = Promise.resolve(); // scans are taken one behind the other
-    this.touched = 0; // when the last one came, by the tablet's own clock: that goes on while it sleeps
+    this.touched = 0; // when the last one came, by the tablet's own clock, which never sleeps
     this.at = 0; // and when the one came that is taken now, by the page's
     this.isForgotten = false;
     this.last = { text: "", at: -Infinity }; // the last code, and when it came
+    this.isRepeat =
+      false; // whether the code that is taken now is an action, and the last one again
     this.dropped = ""; // what became of it, where it wasn't taken
     this.clear();
   }
@@ -50,21 +72,33 @@ export class Scan {
     }
   }
 
-  /** Whether the next scan is a reel, a slot or a number that belongs to what is held, whatever has the focus. */
+  /**
+   * Whether the next scan is a reel, a slot or a number that belongs to what is held, whatever
+   * has the focus.
+   */
   waits() {
     return Boolean(this.slot || this.action || this.asking);
   }
 
-  /** Takes what the scanner or the keyboard read, or a button, which `isPressed`, behind what came before. */
+  /**
+   * Takes what the scanner or the keyboard read, or a button, which `isPressed`, behind what
+   * came before.
+   */
   take(text, isPressed = false) {
-    const at = performance.now(), { dataset } = document.body;
+    const at = performance.now();
+    const { dataset } = document.body;
     dataset.untaken = Number(dataset.untaken ?? 0) + 1;
-    this.turn = this.turn.then(() => this.taken(text, at, isPressed)).catch((fault) => this.station.fault(fault.message)).finally(() => { dataset.untaken -= 1; });
+    this.turn = this.turn.then(() => this.taken(text, at, isPressed))
+                  .catch((fault) => this.station.fault(fault.message))
+                  .finally(() => {
+                    dataset.untaken -= 1;
+                  });
     return this.turn;
   }
 
   async taken(text, at, isPressed) {
-    const { station } = this, read = stripped(text, station.setup.scanner);
+    const { station } = this;
+    const read = stripped(text, station.setup.scanner);
     if (read === "") {
       return;
     }
@@ -72,16 +106,20 @@ export class Scan {
     this.touched = Date.now();
     this.at = at;
     this.isForgotten = false;
-    const code = readCode(read, station.setup), isNumber = this.asking && code.kind !== "action" && code.kind !== "badge";
-    const isBounce = !isPressed && code.kind === "action" && read === this.last.text && at - this.last.at < BOUNCE;
+    const code = readCode(read, station.setup);
+    const isNumber = this.asking && code.kind !== "action" && code.kind !== "badge";
+    this.isRepeat = !isPressed && code.kind === "action" && read === this.last.text;
+    const isBounce = this.isRepeat && at - this.last.at < BOUNCE;
     this.last = isBounce ? this.last : { text: read, at };
-    this.dropped = isBounce ? filled(TEXTS.strip.once, { text: read }) : "";
+    this.dropped = isBounce ? said(TEXTS.strip.once, { text: read }) : "";
     if (isBounce) {
       station.scanned();
       return;
     }
     if (station.verdict.isAsking()) {
-      this.dropped = ["ENTER", "CANCEL"].includes(code.action) ? "" : filled(TEXTS.strip.dropped, { text: read });
+      this.dropped = ["ENTER", "CANCEL"].includes(code.action)
+        ? ""
+        : said(TEXTS.strip.dropped, { text: read });
       await station.verdict.answer(code.action);
     } else if (code.action === "CANCEL") {
       station.cancel();
@@ -93,11 +131,15 @@ export class Scan {
   }
 
   noneScanned({ text }) {
-    this.station.fault(filled(TEXTS.fault.none, { text }));
+    this.station.fault(said(TEXTS.fault.none, { text }));
+  }
+
+  fragmentScanned({ text }) {
+    this.station.fault(said(TEXTS.fault.fragment, { text }));
   }
 
   foreignScanned({ text }) {
-    this.station.fault(filled(TEXTS.fault.foreign, { text }));
+    this.station.fault(said(TEXTS.fault.foreign, { text }));
   }
 
   labelScanned({ text }) {
@@ -111,7 +153,8 @@ export class Scan {
   slotHeld(code) {
     this.clear();
     this.slot = { machine: code.machine, slot: code.slot };
-    const line = this.station.model.line(code.machine), known = this.station.model.state;
+    const line = this.station.model.line(code.machine);
+    const known = this.station.model.state;
     if (!line.slots || !known.ok || performance.now() - known.at > FRESH) {
       this.station.model.refresh(code.machine);
     }
@@ -123,7 +166,7 @@ export class Scan {
     if (this.action && OF_SLOT.includes(this.action)) {
       return this.act(this.action, { machine: code.machine, slot: code.slot });
     } else if (this.action) {
-      this.station.fault(filled(TEXTS.strip.actionReel, { action: TEXTS.actions[this.action] }));
+      this.station.fault(said(TEXTS.strip.actionReel, { action: TEXTS.actions[this.action] }));
     } else {
       this.slotHeld(code);
     }
@@ -136,7 +179,7 @@ export class Scan {
     if (this.action && OF_REEL.includes(this.action)) {
       return this.act(this.action, { reel });
     } else if (this.action) {
-      this.station.fault(filled(TEXTS.strip.actionSlot, { action: TEXTS.actions[this.action] }));
+      this.station.fault(said(TEXTS.strip.actionSlot, { action: TEXTS.actions[this.action] }));
     } else if (this.slot) {
       return this.act(this.isLive(this.slot) ? "SPLICE" : "LOAD", { ...this.slot, reel });
     } else {
@@ -146,9 +189,13 @@ export class Scan {
     }
   }
 
-  /** Whether a slot has a live reel: by what the desk said last, and by the scans that it has not answered. */
+  /**
+   * Whether a slot has a live reel: by what the desk said last, and by the scans that it has not
+   * answered.
+   */
   isLive({ machine, slot }) {
-    const about = this.station.waiting.filter((it) => it.body.Machine === machine && it.body.Slot === slot);
+    const about =
+      this.station.waiting.filter((it) => it.body.Machine === machine && it.body.Slot === slot);
     for (const it of about.reverse()) {
       if (["MaterialsLoaded", "MaterialsSpliced", "MaterialsUnloaded"].includes(it.word)) {
         return it.word !== "MaterialsUnloaded";
@@ -185,7 +232,10 @@ export class Scan {
     } else if (OF_REEL.includes(action)) {
       return this.begin(action, this.reel && { reel: this.reel });
     } else if (!this.station.coded(action)) {
-      this.station.fault(filled(isOfReceive(action) ? TEXTS.fault.receiveFirst : TEXTS.fault.action, { text: action }));
+      this.station.fault(said(
+        isOfReceive(action) ? TEXTS.fault.receiveFirst : TEXTS.fault.action,
+        { text: action },
+      ));
     }
   }
 
@@ -194,28 +244,44 @@ export class Scan {
     if (values) {
       return this.act(action, values);
     }
+    if (this.isRepeat && this.action !== action) { // it acted, and isn't for the next slot or
+                                                    // reel
+      this.dropped = said(TEXTS.strip.twice, { action: TEXTS.actions[action] });
+      return null;
+    }
     this.clear();
     this.action = action;
     return null;
   }
 
   async number(text) {
-    const { asking } = this, { action, values, card } = asking, quantity = numberIn(text, WITH_NUMBER[action], MOST_PIECES), { fault } = TEXTS;
+    const { asking } = this;
+    const { action, values, card } = asking;
+    const quantity = numberIn(text, WITH_NUMBER[action], MOST_PIECES);
+    const { fault } = TEXTS;
     this.digits = "";
-    const names = [values.reel, ...(values.slot ? this.station.model.slot(values.machine, values.slot).reels.map((it) => it.reel) : [])];
+    const { model } = this.station;
+    const reels = values.slot ? model.slot(values.machine, values.slot).reels : [];
+    const names = [values.reel, ...reels.map((it) => it.reel)];
     if (quantity === null || names.includes(text)) {
-      this.station.fault(filled(quantity === null ? fault.number : fault.numberIsName, { text, least: WITH_NUMBER[action], most: piecesText(MOST_PIECES) }));
+      this.station.fault(said(
+        quantity === null ? fault.number : fault.numberIsName,
+        { text, least: WITH_NUMBER[action], most: MOST_PIECES },
+      ));
       return;
     }
-    const had = action === "COUNT" ? await Promise.race([card, new Promise((resolve) => setTimeout(resolve, CARD_WAIT))]) : null, left = Number(had?.remaining ?? 0);
+    const had = action === "COUNT"
+      ? await Promise.race([card, new Promise((resolve) => setTimeout(resolve, CARD_WAIT))])
+      : null;
+    const left = Number(had?.remaining ?? 0);
     if (this.asking !== asking) {
       return; // somebody cancelled meanwhile
     }
     this.clear();
     const send = () => this.station.act(action, { ...values, quantity });
     if (action === "COUNT" && quantity > left + Math.max(RISE.pieces, left * RISE.part)) {
-      const told = { ...values, quantity: piecesText(quantity), left: piecesText(left) };
-      this.station.verdict.ask(filled(had?.known ? TEXTS.ask.rise : TEXTS.ask.count, told), send);
+      const told = { ...values, left };
+      this.station.verdict.ask(said(had?.known ? TEXTS.ask.rise : TEXTS.ask.count, told), send);
     } else {
       await send();
     }
@@ -230,53 +296,91 @@ export class Scan {
     return this.station.act(action, values);
   }
 
-  /** What is held, in words: the first says what, the others what comes next, and what wasn't taken. */
+  /**
+   * What is held, in words: the first says what, the others what comes next, and what wasn't
+   * taken.
+   */
   held() {
-    return [...(this.station.verdict.isAsking() ? [TEXTS.strip.question] : this.heldNow()), this.dropped].filter((it, at) => at === 0 || it !== "");
+    return [
+      ...(this.station.verdict.isAsking() ? [TEXTS.strip.question] : this.heldNow()),
+      this.dropped,
+    ].filter((it, at) => at === 0 || it !== "");
   }
 
   heldNow() {
     const { strip, actions } = TEXTS;
     if (this.asking) {
-      const { action, values } = this.asking, what = values.reel ?? filled(strip.slot, values);
-      return [filled(strip.number, { action: actions[action], what }), this.digits];
+      const { action, values } = this.asking;
+      const what = values.reel ?? said(strip.slot, values);
+      return [said(strip.number, { action: actions[action], what }), this.digits];
     }
     if (this.action) {
-      return [filled(OF_SLOT.includes(this.action) ? strip.actionSlot : strip.actionReel, { action: actions[this.action] })];
+      return [said(OF_SLOT.includes(this.action) ? strip.actionSlot : strip.actionReel, {
+        action: actions[this.action],
+      })];
     }
     if (this.slot) {
-      return [filled(strip.slot, this.slot), this.slotText()];
+      return [said(strip.slot, this.slot), this.slotText()];
     }
     if (this.reel) {
-      const { card } = this, texts = [filled(strip.reel, { reel: this.reel })];
+      const { card } = this;
+      const texts = [said(strip.reel, { reel: this.reel })];
       if (card) {
-        texts.push(card.known ? filled(strip.reelCard, { ...card, left: piecesText(card.remaining) }) : card.none ? strip.reelNone : strip.slotUnknown);
+        texts.push(
+          card.known ? said(strip.reelCard, { ...card, left: Number(card.remaining) })
+            : card.none ? strip.reelNone
+                        : strip.slotUnknown,
+        );
       }
       return [...texts, strip.reelAsk];
     }
-    return [this.isForgotten ? strip.forgotten : this.station.badgeName === null ? strip.idleNoBadge : strip.idle];
+    return [
+      this.isForgotten ? strip.forgotten
+        : this.station.badgeName === null ? strip.idleNoBadge
+                                          : strip.idle,
+    ];
   }
 
   slotText() {
-    const { strip } = TEXTS, known = this.station.model.slot(this.slot.machine, this.slot.slot);
+    const { strip } = TEXTS;
+    const known = this.station.model.slot(this.slot.machine, this.slot.slot);
     if (!known.known) {
       return strip.slotUnknown;
     }
-    const part = known.part ?? "?", [front] = known.reels, all = piecesText(known.reels.reduce((sum, it) => sum + Number(it.remaining), 0));
-    const does = this.isLive(this.slot) ? filled(known.reels.length > 1 ? strip.slotSpliceMore : strip.slotSplice, { part, reel: front?.reel ?? "?", left: piecesText(front?.remaining ?? 0), all }) : filled(strip.slotLoad, { part });
-    return known.sheet && !known.part ? strip.slotNoSheet : does;
+    if (known.sheet && !known.part) {
+      return strip.slotNoSheet;
+    }
+    const [front] = known.reels;
+    const all = known.reels.reduce((sum, it) => sum + Number(it.remaining), 0);
+    const part = known.part ?? "?";
+    const left = Number(front?.remaining ?? 0);
+    const splice = known.reels.length > 1 ? strip.slotSpliceMore : strip.slotSplice;
+    const text = this.isLive(this.slot) ? splice : strip.slotLoad;
+    return said(text, { part, reel: front?.reel ?? "?", left, all });
   }
 }
 
 /** The body of a message of an action. */
-export function bodyOf(action, { machine, slot, reel, quantity, product, part, lot, level, minutes }) {
+export function bodyOf(
+  action,
+  { machine, slot, reel, quantity, product, part, lot, level, minutes },
+) {
   switch (action) {
-    case "LOAD": case "SPLICE": return { Machine: machine, Slot: slot, Reel: reel };
+    case "LOAD":
+    case "SPLICE": return { Machine: machine, Slot: slot, Reel: reel };
     case "UNLOAD": return { Machine: machine, Slot: slot };
     case "SCRAP": return { Machine: machine, Slot: slot, Quantity: quantity };
     case "COUNT": return { Counts: [{ Reel: reel, Quantity: quantity }] };
     case "SELECT": return { Machine: machine, Product: product };
-    case "RECEIVE": return { Reel: reel, PartNumber: part, Lot: lot, Level: level, ...(level === "6" ? { LabelMinutes: minutes } : {}), Quantity: quantity };
+    case "RECEIVE":
+      return {
+        Reel: reel,
+        PartNumber: part,
+        Lot: lot,
+        Level: level,
+        ...(level === "6" ? { LabelMinutes: minutes } : {}),
+        Quantity: quantity,
+      };
     default: return { Reel: reel };
   }
 }

@@ -1,17 +1,19 @@
-// What whoever installs the station says of it: /etc/tracedesk/station/setup.json (docs/station.md).
-import { TEXTS } from "./words.js";
-import { around, filled, isName, MOST_BOARDS } from "./names.js";
+// What whoever installs the station says of it: /etc/tracedesk/station/setup.json
+// (docs/station.md).
 import * as desk from "./desk.js";
+import { around, filled, isName, MOST_BOARDS } from "./names.js";
+import { TEXTS } from "./words.js";
 
 export const USUAL = {
   title: "Line",
   boards: 10,
   expires: 60,
   splice: 10, // minutes before the end of a slot's reels at which somebody is called
-  heldSeconds: 120, // without a scan: then a slot, a reel or an action that is held is forgotten
+  heldSeconds: 120, // without a scan: then a slot, a reel or an action is forgotten
   badgeMinutes: 60, // without a message: then the badge is
   badgeWanted: false, // whether nothing is sent without a badge
-  connectionsADay: 26_000, // of the desk's, which all stations of this line may use up together by looking
+  connectionsADay: 26_000, // of the desk's, which all stations together may use up by looking
+  places: {}, // where a part or a reel is in the store
   scanner: { prefix: "", suffix: "", separators: ["{GS}"] },
   codes: { slot: "S/{machine}/{slot}", badge: "B/{badge}", action: "A/{action}" },
   label: { part: "P", reel: "S" },
@@ -19,12 +21,20 @@ export const USUAL = {
 
 /** Whether a pattern has these places, each once and in this order. */
 function hasPlaces(pattern, ...names) {
-  const found = typeof pattern === "string" ? [...pattern.matchAll(/\{(\w+)\}/g)].map((it) => it[1]) : [];
-  return found.join() === names.join() && /^[^{]+\{/.test(pattern) && (names.length > 1 || !/^[A-Za-z0-9]\{/.test(pattern)); // one letter alone begins many a reel's name
+  const text = typeof pattern === "string" ? pattern : "";
+  const found = [...text.matchAll(/\{(\w+)\}/g)].map((it) => it[1]);
+  const isLetter = /^[A-Za-z0-9]\{/.test(text); // one letter alone begins many a reel's name
+  return found.join() === names.join() && /^[^{]+\{/.test(text) &&
+    (names.length > 1 || !isLetter);
 }
 
 function isText(it) {
   return typeof it === "string" && it.length <= 200;
+}
+
+/** Whether a group has a text for each of its names. */
+function areTexts(group) {
+  return group !== null && typeof group === "object" && Object.values(group).every(isText);
 }
 
 /** The member that is not as it has to be, or null. */
@@ -39,23 +49,48 @@ function faultOf(setup) {
     badgeMinutes: whole(setup.badgeMinutes, 1_440),
     badgeWanted: typeof setup.badgeWanted === "boolean",
     connectionsADay: whole(setup.connectionsADay, 1_000_000),
-    scanner: isText(setup.scanner.prefix) && isText(setup.scanner.suffix) && Array.isArray(setup.scanner.separators) && setup.scanner.separators.every((it) => isText(it) && it !== ""),
-    codes: hasPlaces(setup.codes.slot, "machine", "slot") && hasPlaces(setup.codes.badge, "badge") && hasPlaces(setup.codes.action, "action"),
-    label: /^[0-9]{0,3}[A-Z]$/.test(setup.label.part) && /^[0-9]{0,3}[A-Z]$/.test(setup.label.reel),
+    language: setup.language === undefined || isText(setup.language),
+    places: areTexts(setup.places),
+    scanner: isText(setup.scanner.prefix) && isText(setup.scanner.suffix) &&
+      Array.isArray(setup.scanner.separators) &&
+      setup.scanner.separators.every((it) => isText(it) && it !== ""),
+    codes: hasPlaces(setup.codes.slot, "machine", "slot") &&
+      hasPlaces(setup.codes.badge, "badge") && hasPlaces(setup.codes.action, "action"),
+    label:
+      /^[0-9]{0,3}[A-Z]$/.test(setup.label.part) && /^[0-9]{0,3}[A-Z]$/.test(setup.label.reel),
   };
   return Object.keys(tests).find((name) => !tests[name]) ?? null;
 }
 
 function areMachines(machines) {
-  return Array.isArray(machines) && machines.length > 0 && machines.length <= 20
-    && machines.every((it) => it && isName(it.machine ?? "") && (it.product === undefined || isName(it.product)));
+  return Array.isArray(machines) && machines.length > 0 && machines.length <= 20 &&
+    machines.every(
+      (it) => it && isName(it.machine ?? "") && (it.product === undefined || isName(it.product)),
+    );
 }
 
-/** Two kinds of code of which one may be read as the other, or none: slots of each machine, actions, badges, labels. */
+/**
+ * Two kinds of code of which one may be read as the other, or none: slots of each machine,
+ * actions, badges, labels.
+ */
 function alike({ machines, codes }) {
-  const { slot, kinds } = TEXTS.setup, begins = [...machines.map(({ machine }) => ({ kind: filled(slot, { machine }), before: around(codes.slot, { machine })[0] })),
-    ...["action", "badge"].map((it) => ({ kind: kinds[it], before: around(codes[it], {})[0] })), { kind: kinds.label, before: "[)>" }];
-  return begins.flatMap((it, at) => begins.filter((other, place) => place !== at && other.before.startsWith(it.before)).map((other) => [it.kind, other.kind]))[0];
+  const { slot, kinds } = TEXTS.setup;
+  const ofSlots = (machine) => {
+    const [before] = around(codes.slot, { machine });
+    return { kind: filled(slot, { machine }), before };
+  };
+  const begins = [
+    ...machines.map(({ machine }) => ofSlots(machine)),
+    ...["action", "badge"].map((it) => ({ kind: kinds[it], before: around(codes[it], {})[0] })),
+    { kind: kinds.label, before: "[)>" },
+  ];
+  return begins.flatMap(
+    (it, at) => begins
+                  .filter(
+                    (other, place) => place !== at && other.before.startsWith(it.before),
+                  )
+                  .map((other) => [it.kind, other.kind]),
+  )[0];
 }
 
 /** Reads the set-up: {setup}, or {fault} with the name of its text and what that text names. */
@@ -74,6 +109,9 @@ export async function read() {
   if (!areMachines(setup.machines)) {
     return { status, fault: "machines" };
   }
-  const member = faultOf(setup), [one, other] = member ? [] : alike(setup) ?? [];
-  return member ? { status, fault: "member", member } : one ? { status, fault: "alike", one, other } : { status, setup };
+  const member = faultOf(setup);
+  const [one, other] = member ? [] : alike(setup) ?? [];
+  return member ? { status, fault: "member", member }
+    : one ? { status, fault: "alike", one, other }
+                : { status, setup };
 }

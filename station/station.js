@@ -1,62 +1,98 @@
 // The page at the line: its screens, its scanner, and what goes on whatever screen is shown.
-import { TEXTS } from "./words.js";
-import { button, el, field, put } from "./dom.js";
-import { filled, isName } from "./names.js";
+import { whatOf } from "./answers.js";
+import { ChangeoverScreen } from "./changeover.js";
 import * as clock from "./clock.js";
 import * as desk from "./desk.js";
-import * as setup from "./setup.js";
-import * as store from "./store.js";
+import { button, el, put } from "./dom.js";
+import { Head } from "./head.js";
+import { ScanScreen } from "./history.js";
 import { Keys } from "./keys.js";
+import { dayAnd } from "./known.js";
+import { LineScreen } from "./line.js";
+import { MachineLines } from "./machine_lines.js";
 import { Model } from "./model.js";
 import { Outbox } from "./outbox.js";
-import { bodyOf, Scan, WORDS } from "./scan.js";
-import { play } from "./sound.js";
-import { dayAnd } from "./known.js";
-import { Verdict, whatOf } from "./verdict.js";
-import { takenOff } from "./untraced.js";
-import { LineScreen } from "./line.js";
-import { ScanScreen } from "./history.js";
 import { ReceiveScreen } from "./receive.js";
-import { ChangeoverScreen } from "./changeover.js";
+import { said } from "./say.js";
+import { bodyOf, Scan, WORDS } from "./scan.js";
+import { isLoggedOut } from "./session.js";
+import { play } from "./sound.js";
+import * as store from "./store.js";
+import { TakenOff } from "./taken_off.js";
 import { TraceScreen } from "./trace.js";
+import { takenOff } from "./untraced.js";
+import { Verdict } from "./verdict.js";
+import { TEXTS } from "./words.js";
+import { keepLarge } from "./zoom.js";
 
-const SCREENS = { line: LineScreen, scan: ScanScreen, receive: ReceiveScreen, changeover: ChangeoverScreen, trace: TraceScreen };
-const JUMP = 3_600_000; // milliseconds: so far the server's clock may move against the tablet's without a question
+const SCREENS = {
+  line: LineScreen,
+  scan: ScanScreen,
+  receive: ReceiveScreen,
+  changeover: ChangeoverScreen,
+  trace: TraceScreen,
+};
+const JUMP = 3_600_000; // milliseconds that the server's clock may move without a question
 const SOON = 3; // seconds that a scan waits for the server's time
-const ANEW = 5; // seconds: so often it is asked whether this log-in may send, until that is known, and looked for refusals that no page shows
+const ANEW = 5; // seconds: so often refusals are looked for that no page shows
+const RIGHT_ANEW =
+  30; // seconds: so often it is asked whether a log-in that may not send now may
 const TAKES = [WORDS.SCRAP, WORDS.COUNT]; // a second one does another thing than the first
 const LOADS = [WORDS.LOAD, WORDS.SPLICE]; // the same two codes, by what is on the slot
-const MINUTE = 60_000, TOGETHER = 100, UNDER = 2_000; // milliseconds
+const MINUTE = 60_000;
+const TOGETHER = 100; // milliseconds: reports that come within them are drawn once
+const UNDER = 2_000; // milliseconds that a screen under a verdict is drawn later
 const at = (id) => document.getElementById(id);
 
 /** What a message is about: its slot, its reel, and of a selection its machine. */
 function aboutOf({ Machine, Slot, Reel, Counts, Product }) {
   const reel = Reel ?? Counts?.[0].Reel;
-  return [Slot && `slot ${Machine} ${Slot}`, reel && `reel ${reel}`, Product && `machine ${Machine}`].filter(Boolean);
+  return [
+    Slot && `slot ${Machine} ${Slot}`,
+    reel && `reel ${reel}`,
+    Product && `machine ${Machine}`,
+  ].filter(Boolean);
 }
 
-class Station {
+export class Station {
   constructor(read, name) {
     this.setup = read;
     this.name = name;
     this.maySend = null; // null where nothing said so yet
     this.badge = { name: null, at: 0 }; // and when it was used last, by the tablet's own clock
-    this.ahead = 0; // how far the server's clock is ahead of the tablet's, as far as somebody knows
+    this.ahead = 0; // how far the server's clock was ahead of the tablet's when somebody knew
     this.seconds = 0;
     this.waiting = [];
-    this.drawing = this.since = null; // the timer that draws a screen anew, and since when that is wanted
+    this.drawing = null; // the timer that draws a screen anew
+    this.since = null; // when that was wanted first
     this.problem = null;
     this.mine = new Set(); // scans of this page without an answer
     this.called = new Set(); // slots whose end somebody was called for
     this.model = new Model(read, () => this.changed());
     this.outbox = new Outbox((told) => this.told(told));
-    this.verdict = new Verdict(this.model, at("verdict"), (scan) => store.see(scan.uid).catch(() => {}), (scan) => this.outbox.keepNotSent(scan).catch(() => {}), () => this.scanned(), (scan) => this.takenOff(scan));
+    this.takenOff = new TakenOff({
+      made: (scan) => this.decision(scan),
+      put: desk.putRecord,
+      keep: (held) => store.setNote("takenOff", held).catch(() => {}),
+      changed: () => this.verdict.redrawOff(),
+    });
+    this.verdict = new Verdict(this.model, at("verdict"), {
+      isSeen: (scan) => store.see(scan.uid).catch(() => {}),
+      keep: (scan) => this.outbox.keepNotSent(scan).catch(() => {}),
+      changed: () => this.scanned(),
+      takenOff: this.takenOff,
+    });
+    this.machines = new MachineLines(this.model, at("machines"));
+    this.head = new Head(this, () => this.loggedIn());
     this.scan = new Scan(this);
-    this.screens = Object.fromEntries(Object.entries(SCREENS).map(([screen, Kind]) => [screen, new Kind(this)]));
+    const screens = Object.entries(SCREENS).map(([screen, Kind]) => [screen, new Kind(this)]);
+    this.screens = Object.fromEntries(screens);
   }
 
   async begin() {
-    const [badge, ahead] = await Promise.all([store.note("badge"), store.note("ahead")]);
+    const [badge, ahead, held] =
+      await Promise.all(["badge", "ahead", "takenOff"].map(store.note));
+    this.takenOff.begin(held);
     this.badge = badge?.name ? badge : this.badge;
     this.ahead = ahead ?? 0;
     await this.askMaySend(SOON);
@@ -68,6 +104,7 @@ class Station {
       this.scan.take(this.keys.scanned());
     });
     this.keys = new Keys(this, at("scan"));
+    keepLarge(at("main"));
     window.addEventListener("hashchange", () => this.go(location.hash.slice(1)));
     setInterval(() => this.tick(), 1000);
     this.go(location.hash.slice(1));
@@ -85,33 +122,49 @@ class Station {
 
   async askMaySend(seconds) {
     this.maySend = (await desk.maySend(seconds)) ?? this.maySend;
+    this.head.update();
+  }
+
+  /** Somebody logged in on the page: what waited for that goes on. */
+  async loggedIn() {
+    await this.askMaySend(SOON);
+    this.outbox.wake();
+    await this.model.all();
+    at("scan").focus();
   }
 
   /** Shows each refusal that nobody has seen and that no other page shows. */
   async showUnseen() {
     for (const scan of (await store.unseen()).reverse()) {
-      if (!this.verdict.wasShown(scan.uid) && (await this.outbox.isOurs(scan)) && !this.mine.has(scan.uid)) {
+      const isNew = !this.verdict.wasShown(scan.uid) && (await this.outbox.isOurs(scan));
+      if (isNew && !this.mine.has(scan.uid)) {
         this.verdict.answered(scan, scan.state !== "notSent");
       }
     }
   }
 
-  /** What goes by the clock: what is held and a badge end, and what isn't known yet is asked again. */
+  /**
+   * What goes by the clock: what is held and a badge end, and what isn't known yet is asked
+   * again.
+   */
   tick() {
     this.seconds += 1;
     this.keys.tidy();
     this.scan.forget();
-    if (this.badgeName !== null && Math.abs(Date.now() - this.badge.at) > this.setup.badgeMinutes * MINUTE) {
+    const unused = Math.abs(Date.now() - this.badge.at);
+    if (this.badgeName !== null && unused > this.setup.badgeMinutes * MINUTE) {
       this.setBadge(null);
       this.scanned();
     }
     if (this.seconds % ANEW === 0) {
       this.showUnseen().catch(() => {});
-      if (this.maySend === null) {
-        this.askMaySend();
-      }
     }
-    this.head();
+    if (this.seconds % (this.maySend === null ? ANEW : RIGHT_ANEW) === 0 && this.maySend !== true) {
+      this.askMaySend();
+    }
+    this.takenOff.tick();
+    this.machines.update();
+    this.head.update();
   }
 
   /** Whether something lies over the page, so that what has the focus isn't seen. */
@@ -142,8 +195,13 @@ class Station {
       history.replaceState(null, "", `#${this.screen}`);
     }
     const names = Object.keys(SCREENS);
-    at("screens").replaceChildren(...names.map((it) => button(TEXTS.screens[it], () => this.go(it), { "aria-current": it === this.screen ? "page" : "false" })),
-      el("a", { href: "codes.html" }, TEXTS.codes));
+    at("screens").replaceChildren(
+      ...names.map((it) => button(TEXTS.screens[it], () => this.go(it), {
+                     "aria-current": it === this.screen ? "page" : "false",
+                   })),
+      el("a", { href: "codes.html" }, TEXTS.codes),
+      this.head.languages(),
+    );
     at("main").className = this.screen;
     at("main").replaceChildren(...this.screens[this.screen].parts());
     this.screens[this.screen].update?.();
@@ -151,9 +209,13 @@ class Station {
     at("scan").focus();
   }
 
-  /** What the desk's reports say has changed. Reports that come together are drawn once, and under a verdict a little later: a scan is answered first. */
+  /**
+   * What the desk's reports say has changed. Reports that come together are drawn once, and
+   * under a verdict a little later: a scan is answered first.
+   */
   changed() {
-    this.head();
+    this.head.update();
+    this.machines.update();
     this.scanned();
     this.since ??= performance.now();
     this.drawing ??= setTimeout(() => this.draw(), TOGETHER);
@@ -171,37 +233,36 @@ class Station {
 
   /** Says which slot's reels end soon, with a tone once for each. */
   ending() {
-    const ending = this.model.ending(), names = ending.map(({ machine, slot }) => `${machine} ${slot}`), texts = TEXTS.line;
-    put(at("ending"), ending.length ? filled(texts.splice, ending[0]) : "", ending.length > 1 ? ` ${filled(texts.spliceMore, { count: ending.length - 1 })}` : "");
+    const ending = this.model.ending();
+    const names = ending.map(({ machine, slot }) => `${machine} ${slot}`);
+    const texts = TEXTS.line;
+    put(
+      at("ending"),
+      ending.length ? said(texts.splice, ending[0]) : "",
+      ending.length > 1 ? ` ${said(texts.spliceMore, { count: ending.length - 1 })}` : "",
+    );
     if (names.some((it) => !this.called.has(it))) {
       play("splice");
     }
     this.called = new Set(names);
   }
 
-  head() {
-    const { state } = this.model, texts = TEXTS.head;
-    const seconds = state.had === null ? null : Math.round((state.age + performance.now() - state.at) / 1000);
-    const isSlow = seconds * 1000 > 3 * this.model.period + 5000, isFresh = state.ok && state.had !== null && !state.old && !isSlow;
-    const kind = state.status === 401 ? "loggedOut" : state.had === null ? "none" : isFresh ? "fresh" : state.ok && !state.old ? "slow" : "old";
-    at("state").className = isFresh ? "fresh" : "old";
-    const right = this.maySend === false ? [el("span", { class: "read-only" }, texts.readOnly), el("a", { href: "log-in" }, texts.logIn)] : this.maySend === null ? [el("span", { class: "read-only" }, texts.rightUnknown)] : [];
-    put(at("state"), el("span", null, filled(texts[kind], { seconds, time: state.had === null ? "" : clock.shown(state.had) })), right);
-    put(at("news"), isFresh ? "" : texts.news[kind], ...right.map((it) => it.textContent)); // what is read aloud: it changes where the state does, and not with each second
-    put(at("who"), filled(TEXTS.who, { station: this.name, badge: this.badgeName ?? TEXTS.noBadge }));
-  }
 
   /** What is held, and how many scans wait. */
   scanned() {
     const [what, ...rest] = this.scan.held();
     put(at("held"), el("b", null, what), ...rest.map((it) => el("span", null, it)));
     at("strip").className = this.scan.asking ? "number" : "";
-    const count = this.waiting.length, { strip } = TEXTS, { problem } = this;
-    let text = count > 1 ? filled(strip.waiting, { count }) : count ? strip.waitingOne : "";
+    const count = this.waiting.length;
+    const { strip } = TEXTS;
+    const { problem } = this;
+    let text = count ? said(strip.waiting, { count }) : "";
     if (problem?.disk) {
-      text = filled(strip.disk, { fault: problem.disk });
+      text = said(strip.disk, { fault: problem.disk });
+    } else if (count && problem && isLoggedOut(problem.status)) {
+      text = said(strip.loggedOut, { count });
     } else if (count && problem && !problem.again) {
-      text = filled(strip.stuck, { status: problem.status, count });
+      text = said(strip.stuck, { status: String(problem.status), count });
     }
     put(at("waiting"), text, count && store.isKept() === false ? ` ${strip.unsafe}` : "");
     this.screens[this.screen].held?.();
@@ -213,7 +274,7 @@ class Station {
     if (name !== null) {
       play("waiting");
     }
-    this.head();
+    this.head.update();
   }
 
   label(text) {
@@ -227,15 +288,17 @@ class Station {
 
   /** Who sends: the station and the badge, in the range of names. */
   source() {
-    return (this.badgeName === null ? this.name : `${this.name} ${this.badgeName}`).slice(0, 64).trim();
+    return (this.badgeName === null ? this.name : `${this.name} ${this.badgeName}`)
+      .slice(0, 64)
+      .trim();
   }
 
-  /** Somebody says of a refused reel that it was taken off: "noted" once the line's inbox has that, or why it hasn't. */
-  async takenOff(scan) {
+  /** The record of a decision that a refused reel was taken off; null without a badge. */
+  async decision(scan) {
     if (this.badgeName === null) {
-      return "badge";
+      return null;
     }
-    return (await desk.putRecord(await takenOff(scan.recordId, this.source(), clock.stamp(clock.now() ?? Date.now())))) ? "noted" : "failed";
+    return takenOff(scan.recordId, this.source(), clock.stamp(clock.now() ?? Date.now()));
   }
 
   /** An action, with its values. */
@@ -246,23 +309,37 @@ class Station {
   /** Why nothing can be sent now, or nothing. */
   whyNot() {
     const { fault } = TEXTS;
-    return [[this.maySend === false, fault.readOnly], [this.maySend === null, fault.rightUnknown], [clock.now() === null, fault.noTime], [this.setup.badgeWanted && this.badgeName === null, fault.badge]].find(([holds]) => holds)?.[1];
+    const isBadgeWanted = this.setup.badgeWanted && this.badgeName === null;
+    const reasons = [
+      [this.head.isLoggedOut(), fault.loggedOut],
+      [this.maySend === false, fault.readOnly],
+      [this.maySend === null, fault.rightUnknown],
+      [clock.now() === null, fault.noTime],
+      [isBadgeWanted, fault.badge],
+    ];
+    return reasons.find(([holds]) => holds)?.[1];
   }
 
   /** Whether the last scan without an answer about the same slot or reel is this very one. */
   isAsked(word, body) {
-    const about = aboutOf(body), last = this.waiting.findLast((it) => aboutOf(it.body).some((what) => about.includes(what)));
+    const about = aboutOf(body);
+    const last =
+      this.waiting.findLast((it) => aboutOf(it.body).some((what) => about.includes(what)));
     const isSame = last?.word === word || (LOADS.includes(last?.word) && LOADS.includes(word));
     return isSame && JSON.stringify(last.body) === JSON.stringify(body);
   }
 
-  /** Keeps a message and has it sent; its answer comes to `told`. False where it isn't kept. `isMeant` is one that was asked for a second time. */
+  /**
+   * Keeps a message and has it sent; its answer comes to `told`. False where it isn't kept.
+   * `isMeant` is one that was asked for a second time.
+   */
   async send(word, body, values, isMeant = false) {
     this.verdict.pass();
     if (this.maySend === null || clock.now() === null) {
       await this.askMaySend(SOON);
     }
-    const why = this.whyNot(), ahead = clock.ahead();
+    const why = this.whyNot();
+    const ahead = clock.ahead();
     if (why) {
       this.verdict.notSent(word, body, why);
       return false;
@@ -270,17 +347,23 @@ class Station {
     if (!isMeant && this.isAsked(word, body)) {
       const what = whatOf({ word, body });
       if (TAKES.includes(word)) {
-        this.verdict.ask(filled(TEXTS.ask.again, { what }), () => this.send(word, body, values, true));
+        this.verdict.ask(
+          said(TEXTS.ask.again, { what }),
+          () => this.send(word, body, values, true),
+        );
       } else {
-        this.fault(filled(TEXTS.fault.kept, { what }));
+        this.fault(said(TEXTS.fault.kept, { what }));
       }
       return false;
     }
     if (Math.abs(ahead - this.ahead) > JUMP) {
-      this.verdict.ask(filled(TEXTS.ask.time, { server: dayAnd(clock.now()), tablet: dayAnd(Date.now()) }), () => {
-        this.setAhead(clock.ahead());
-        return this.send(word, body, values, isMeant);
-      });
+      this.verdict.ask(
+        said(TEXTS.ask.time, { server: dayAnd(clock.now()), tablet: dayAnd(Date.now()) }),
+        () => {
+          this.setAhead(clock.ahead());
+          return this.send(word, body, values, isMeant);
+        },
+      );
       return false;
     }
     try {
@@ -291,7 +374,7 @@ class Station {
       this.used(ahead);
       return true;
     } catch (fault) {
-      this.verdict.notSent(word, body, filled(TEXTS.fault.notKept, { fault: fault.message }));
+      this.verdict.notSent(word, body, said(TEXTS.fault.notKept, { fault: fault.message }));
       return false;
     }
   }
@@ -301,7 +384,10 @@ class Station {
     store.setNote("ahead", ahead).catch(() => {});
   }
 
-  /** A message was made: the badge is used, and where the clocks go apart little by little nobody is asked. */
+  /**
+   * A message was made: the badge is used, and where the clocks go apart little by little nobody
+   * is asked.
+   */
   used(ahead) {
     if (Math.abs(ahead - this.ahead) > MINUTE) {
       this.setAhead(ahead);
@@ -317,13 +403,21 @@ class Station {
     if (waiting) {
       this.waiting = waiting;
       this.problem = problem;
+      if (isLoggedOut(problem?.status) && this.maySend === true) {
+        this.askMaySend();
+      }
       this.changed();
     }
     if (answered) {
       desk.heardAnswer();
       const isMine = this.mine.delete(answered.uid);
-      if (!this.verdict.wasShown(answered.uid) && (isMine || (await this.outbox.isOurs(answered)))) {
-        this.verdict.answered(answered, !isMine || (this.verdict.current !== null && this.verdict.current.scan?.uid !== answered.uid));
+      const isOurs = isMine || (await this.outbox.isOurs(answered));
+      if (isOurs && !this.verdict.wasShown(answered.uid)) {
+        this.verdict.answered(
+          answered,
+          !isMine ||
+            (this.verdict.current !== null && this.verdict.current.scan?.uid !== answered.uid),
+        );
       }
       this.model.heard(answered);
       this.screens.receive.answered(answered);
@@ -346,47 +440,3 @@ class Station {
     }
   }
 }
-
-/** The station's name: from the address, from this tablet, or from whoever stands before it. */
-async function nameOf() {
-  const said = new URLSearchParams(location.search).get("station") ?? (await store.note("station"));
-  if (said && isName(said) && said.length <= 40) {
-    await store.setNote("station", said);
-    return said;
-  }
-  return new Promise((resolve) => {
-    const texts = TEXTS.begin, wrong = el("p", { class: "wrong", role: "alert" });
-    const form = el("form", { class: "begin", on: { submit: async (event) => {
-      event.preventDefault();
-      const name = at("name").value.trim();
-      wrong.textContent = isName(name) && name.length <= 40 ? "" : texts.bad;
-      if (!wrong.textContent) {
-        await store.setNote("station", name);
-        resolve(name);
-      }
-    } } }, el("h2", null, texts.title), el("p", null, texts.why), field("name", texts.label, { maxlength: "40" }), wrong, el("button", { type: "submit" }, texts.go));
-    at("main").replaceChildren(form);
-    at("name").focus();
-  });
-}
-
-async function begin() {
-  const { setup: read, fault, ...told } = await setup.read();
-  if (!read) {
-    const why = filled(TEXTS.setup[fault], told);
-    at("main").replaceChildren(el("p", { class: "note wrong" }, filled(TEXTS.setup.wanting, { fault: why })));
-    return;
-  }
-  try {
-    await store.open();
-    if (!navigator.locks || !crypto.randomUUID) {
-      throw new Error("no locks");
-    }
-  } catch {
-    at("main").replaceChildren(el("p", { class: "note wrong" }, TEXTS.setup.noStore));
-    return;
-  }
-  await new Station(read, await nameOf()).begin();
-}
-
-begin();

@@ -1,4 +1,5 @@
-// What outlives a reload, a crash of the browser and a day without network: the scans and a few notes.
+// What outlives a reload, a crash of the browser and a day without network: the scans and a few
+// notes.
 
 const NAME = "tracedesk-station";
 const KEPT = 200; // answered scans that are kept to be looked at
@@ -15,14 +16,16 @@ function done(request) {
 function ended(transaction) {
   return new Promise((resolve, reject) => {
     transaction.oncomplete = () => resolve();
-    transaction.onabort = transaction.onerror = () => reject(transaction.error ?? new Error("the store broke off"));
+    transaction.onabort = transaction.onerror = () =>
+      reject(transaction.error ?? new Error("the store broke off"));
   });
 }
 
 async function opened() {
   const request = indexedDB.open(NAME, 1);
   request.onupgradeneeded = () => {
-    const scans = request.result.createObjectStore("scans", { keyPath: "seq", autoIncrement: true });
+    const scans =
+      request.result.createObjectStore("scans", { keyPath: "seq", autoIncrement: true });
     scans.createIndex("uid", "uid", { unique: true });
     scans.createIndex("state", "state");
     request.result.createObjectStore("notes");
@@ -30,7 +33,10 @@ async function opened() {
   return done(request);
 }
 
-/** A transaction; where the browser has closed the store after a fault of the disk, in the store opened anew. */
+/**
+ * A transaction; where the browser has closed the store after a fault of the disk, in the store
+ * opened anew.
+ */
 async function begun(names, ...how) {
   try {
     return database.transaction(names, ...how);
@@ -46,10 +52,15 @@ async function begun(names, ...how) {
 /** Opens the store; a browser that has none can't be a station. */
 export async function open() {
   database = await opened();
-  navigator.storage?.persist?.().then((it) => { isSafe = it; });
+  navigator.storage?.persist?.().then((it) => {
+    isSafe = it;
+  });
 }
 
-/** Whether the browser may not throw the store away where its disk is full; null where it hasn't said. */
+/**
+ * Whether the browser may not throw the store away where its disk is full; null where it hasn't
+ * said.
+ */
 export function isKept() {
   return isSafe;
 }
@@ -70,7 +81,14 @@ async function put(scan) {
 
 /** Keeps the answer to a scan. One that isn't a yes is unseen until somebody has seen it. */
 export function settle(scan, answer, status, record = null) {
-  return put({ ...scan, state: "answered", answer, status, unseen: answer.Answer !== "Accepted", ...(record ? { record, recordId: record.id } : {}) });
+  return put({
+    ...scan,
+    state: "answered",
+    answer,
+    status,
+    unseen: answer.Answer !== "Accepted",
+    ...(record ? { record, recordId: record.id } : {}),
+  });
 }
 
 async function inState(state) {
@@ -84,7 +102,10 @@ export function waiting() {
 
 /** The scans with an answer that is no yes and that no one has seen, the newest first. */
 export async function unseen() {
-  return [...(await inState("answered")).filter((it) => it.unseen), ...(await inState("notSent"))].sort((a, b) => b.seq - a.seq);
+  return [
+    ...(await inState("answered")).filter((it) => it.unseen),
+    ...(await inState("notSent")),
+  ].sort((a, b) => b.seq - a.seq);
 }
 
 /** The refused reports of work whose record isn't handed on yet. */
@@ -94,7 +115,8 @@ export async function unrecorded() {
 
 /** Notes that the record of a refused report of work is handed on. */
 export async function recorded(uid) {
-  const { record, ...scan } = await byUid(uid);
+  const scan = await byUid(uid);
+  delete scan.record;
   await put(scan);
 }
 
@@ -114,7 +136,8 @@ export async function see(uid) {
 
 /** The latest scans, the newest first. */
 export async function latest(count) {
-  const request = (await begun("scans")).objectStore("scans").openCursor(null, "prev"), found = [];
+  const request = (await begun("scans")).objectStore("scans").openCursor(null, "prev");
+  const found = [];
   return new Promise((resolve, reject) => {
     request.onerror = () => reject(request.error);
     request.onsuccess = () => {
@@ -130,7 +153,8 @@ export async function latest(count) {
 
 /** Drops the oldest answered scans beyond those that are kept. */
 export async function tidy() {
-  const answered = (await inState("answered")).filter((it) => !it.unseen && !it.record), transaction = await begun("scans", "readwrite");
+  const answered = (await inState("answered")).filter((it) => !it.unseen && !it.record);
+  const transaction = await begun("scans", "readwrite");
   answered.slice(0, -KEPT).forEach(({ seq }) => transaction.objectStore("scans").delete(seq));
   await ended(transaction);
 }

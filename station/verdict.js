@@ -1,71 +1,32 @@
-// The answer to a scan, over the whole screen: what the desk said, in words, and what to do. Only what it accepted is green.
-import { TEXTS } from "./words.js";
-import { button, el } from "./dom.js";
-import { filled } from "./names.js";
-import { lifeText, piecesText } from "./life.js";
-import { sourceText } from "./known.js";
+// The answer to a scan, over the whole screen: what the desk said, in words, and what to do. Only
+// what it accepted is green.
+import { aboutOf, isLoad, refusalWord, whatOf, whereOf, wordsOf } from "./answers.js";
 import * as clock from "./clock.js";
+import { button, el } from "./dom.js";
+import { explained } from "./explain.js";
+import { lifeText } from "./life.js";
+import { said } from "./say.js";
 import { play } from "./sound.js";
-import { WORDS } from "./scan.js";
+import { TEXTS } from "./words.js";
 
-const FREE_SHOWN = 4;
-const GREEN_SECONDS = 25; // then the screen behind it is seen again; a refusal stays until somebody has seen it
-const UNMEANT = 600; // milliseconds: a touch so soon is the end of one before
+const GREEN_SECONDS = 25; // then the screen behind it is seen again; a refusal stays until seen
+const UNMEANT = {
+  refused: 1_000,
+  other: 600,
+}; // milliseconds: a touch so soon was for another screen
 const BRIEF_SHOWN = 3; // refusals that are shown in a line each
 const LEAST_SIZE = 30; // percent of the letters
-const LOADS = ["LOAD", "SPLICE"];
-const BY_ANOTHER_SHEET = ["WrongPart", "SlotNotOnSheet"]; // where the page's sheet and the desk's may be two
 
-/** The action of a message. */
-export function actionOf(scan) {
-  return Object.keys(WORDS).find((it) => WORDS[it] === scan.word);
-}
-
-/** What was asked, in words. */
-export function whatOf(scan) {
-  const { Machine: machine, Slot: slot, Reel, Product: product, PartNumber: part, Counts } = scan.body;
-  const reel = Reel ?? Counts?.[0].Reel, quantity = piecesText(scan.body.Quantity ?? Counts?.[0].Quantity ?? 0);
-  return filled(TEXTS.what[actionOf(scan)], { machine, slot, reel, product, part, quantity });
-}
-
-/** The machine, the slot and the reel of a scan, or what else it is of: what an operator looks for first. */
-function whereOf(scan) {
-  const { Machine: machine, Slot: slot, Reel, Product: product, Counts } = scan.body, reel = Reel ?? Counts?.[0].Reel, texts = TEXTS.verdict.where;
-  return filled(slot && reel ? texts.both : slot ? texts.slot : reel ? texts.reel : texts.product, { machine, slot, reel, product });
-}
-
-/** What a message is about: its slot, else its reel or its machine. */
-function aboutOf({ Machine, Slot, Reel, Counts }) {
-  return JSON.stringify(Slot ? [Machine, Slot] : [Reel ?? Counts?.[0].Reel ?? Machine]);
-}
-
-/** The kind of an answer, the words for it, and what to do. */
-export function wordsOf(scan) {
-  const { answer } = scan;
-  if (answer.Answer === "Accepted") {
-    return { kind: "accepted", title: TEXTS.done[actionOf(scan)], todo: "" };
-  }
-  if (answer.Answer === "NotSent") { // the page's own
-    return { kind: "refused", title: answer.text, todo: "" };
-  }
-  if (answer.Answer === "Refused") {
-    const [title, todo] = TEXTS.refusals[answer.Refusal] ?? TEXTS.otherRefusal;
-    const values = { at: answer.At ?? "", refusal: answer.Refusal };
-    return { kind: "refused", title: filled(title, values), todo: filled(todo, values) };
-  }
-  const [title, todo] = answer.Answer === "Ignored" ? TEXTS.ignored : TEXTS.faulty;
-  return { kind: "refused", title: filled(title, { fault: answer.Fault, member: answer.Member ?? "", name: answer.MessageName }), todo };
-}
+const line = (mark, text) => el("p", { class: mark }, text);
+const lineOrNot = (mark, text) => (text ? line(mark, text) : null);
 
 export class Verdict {
-  /** `isSeen` is called with each refusal that somebody has seen. */
-  constructor(model, place, isSeen, keep, changed, takenOff) {
-    this.model = model;
-    this.place = place;
-    this.isSeen = isSeen;
-    this.keep = keep; // what wasn't sent
-    this.changed = changed; // another thing is shown
-    this.takenOff = takenOff; // keeps that a refused reel was taken off
+  /**
+   * `isSeen` is called with each refusal that somebody has seen, `keep` with what wasn't sent,
+   * `changed` when another thing is shown. `takenOff` offers to say that a reel was taken off.
+   */
+  constructor(model, place, { isSeen, keep, changed, takenOff }) {
+    Object.assign(this, { model, place, isSeen, keep, changed, takenOff });
     this.current = null; // what the operator did last: {scan}, {fault} or {question, yes}
     this.late = []; // accepted answers to earlier scans that no one has seen yet
     this.shown = []; // those of them that are shown
@@ -75,9 +36,23 @@ export class Verdict {
     this.turn = 0; // how much that is new was shown
     this.shownAt = 0;
     this.timer = null;
-    place.addEventListener("mousedown", (event) => event.preventDefault()); // what has the focus keeps it
-    place.addEventListener("click", ({ timeStamp, target }) => !target.closest(".answers") && timeStamp - this.shownAt > UNMEANT && this.dismiss());
+    // what has the focus keeps it
+    place.addEventListener(
+      "mousedown",
+      (event) => event.target.closest("input") ?? event.preventDefault(),
+    );
+    place.addEventListener("click", (event) => this.guard(event), true);
+    place.addEventListener("click", ({ target }) => target.closest(".answers") ?? this.dismiss());
     new ResizeObserver(() => this.fit()).observe(place);
+  }
+
+  /** A touch so soon was for the screen before: nothing takes it. */
+  guard(event) {
+    const unmeant = this.kind() === "refused" ? UNMEANT.refused : UNMEANT.other;
+    if (event.timeStamp - this.shownAt <= unmeant) {
+      event.stopPropagation();
+      event.preventDefault();
+    }
   }
 
   /** The next scan comes: a green, a fault and a wait end, a refusal and a question stay. */
@@ -111,9 +86,14 @@ export class Verdict {
     }
   }
 
-  /** At that moment somebody scanned the same slot, or the same reel where there is no slot, and knew what was refused until then. */
+  /**
+   * At that moment somebody scanned the same slot, or the same reel where there is no slot, and
+   * knew what was refused until then.
+   */
   seeAll(body, moment = performance.now()) {
-    this.see(this.refused.filter((it) => it.since < moment && aboutOf(it.body) === aboutOf(body)));
+    this.see(
+      this.refused.filter((it) => it.since < moment && aboutOf(it.body) === aboutOf(body)),
+    );
   }
 
   /** Shows what is new. */
@@ -135,7 +115,13 @@ export class Verdict {
 
   /** A message that was wanted and not sent: it stays as a refusal does. */
   notSent(word, body, text) {
-    const told = { uid: crypto.randomUUID(), word, body, at: clock.now(), answer: { Answer: "NotSent", text } };
+    const told = {
+      uid: crypto.randomUUID(),
+      word,
+      body,
+      at: clock.now(),
+      answer: { Answer: "NotSent", text },
+    };
     this.keep(told);
     this.known.add(told.uid);
     this.refused.unshift({ ...told, since: performance.now() });
@@ -165,9 +151,13 @@ export class Verdict {
     return action === "ENTER" ? yes() : null;
   }
 
-  /** Takes an answer; `isLate` is one of a scan before the last one, or of before the page was loaded. */
+  /**
+   * Takes an answer; `isLate` is one of a scan before the last one, or of before the page was
+   * loaded.
+   */
   answered(scan, isLate) {
-    const { kind } = wordsOf(scan), told = { ...scan, isLate, since: performance.now() };
+    const { kind } = wordsOf(scan);
+    const told = { ...scan, isLate, since: performance.now() };
     this.known.add(scan.uid);
     if (kind === "refused") {
       this.refused.unshift(told);
@@ -180,26 +170,72 @@ export class Verdict {
     }
   }
 
+  /** Of which kind the screen is. */
+  kind() {
+    const { scan, question, fault } = this.current ?? {};
+    if (question || fault) {
+      return question ? "ask" : "fault";
+    }
+    if (scan) {
+      return scan.answer ? "accepted" : "asked";
+    }
+    return this.refused.length ? "refused" : "accepted";
+  }
+
+  /** What is in front, in full. */
+  front() {
+    const { scan, question, fault } = this.current ?? {};
+    const texts = TEXTS.verdict;
+    switch (this.kind()) {
+      case "ask": return this.question(question);
+      case "fault": return [line("word", texts.faulty), el("h2", null, fault)];
+      case "asked":
+        return [
+          line("word", texts.asked),
+          el("h2", null, whatOf(scan)),
+          line("todo", isLoad(scan) ? texts.askedLoad : ""),
+          line("todo", texts.askedWhat),
+        ];
+      default: {
+        const shown = scan ?? this.refused[0];
+        return shown ? [this.one(shown)] : [];
+      }
+    }
+  }
+
+  question(text) {
+    const texts = TEXTS.verdict;
+    const yes = button(texts.yes, () => this.answer("ENTER"));
+    const no = button(texts.no, () => this.answer("CANCEL"));
+    return [
+      line("word", texts.question),
+      el("h2", null, text),
+      el("p", { class: "answers" }, yes, no),
+    ];
+  }
+
+  /** The refusals that aren't in front, a line each. */
+  brief() {
+    const texts = TEXTS.verdict;
+    const brief = this.current ? this.refused : this.refused.slice(1);
+    const count = brief.slice(BRIEF_SHOWN).length;
+    const text = (it) => `\u2717 ${texts.refused}: ${whereOf(it)}: ${wordsOf(it).title}`;
+    const of = (it) => el("p", { class: "brief", data: { scan: it.uid } }, text(it));
+    return [
+      ...brief.slice(0, BRIEF_SHOWN).map(of),
+      ...(count ? [line("brief", said(texts.moreRefused, { count }))] : []),
+    ];
+  }
+
   /** Shows what is in front in full, and below it what else nobody has seen. */
   show() {
-    const { current, place } = this, { scan } = current ?? {}, [first, ...others] = this.refused, texts = TEXTS.verdict, line = (mark, text) => el("p", { class: mark }, text);
-    const waits = scan && !scan.answer, parts = [], front = current ? scan : first;
-    this.shown = current && !scan?.answer ? [] : this.late;
-    if (current?.question) {
-      parts.push(line("word", texts.question), el("h2", null, current.question), el("p", { class: "answers" },
-        button(texts.yes, () => this.answer("ENTER")), button(texts.no, () => this.answer("CANCEL"))));
-    } else if (current?.fault) {
-      parts.push(line("word", texts.faulty), el("h2", null, current.fault));
-    } else if (waits) {
-      parts.push(line("word", texts.asked), el("h2", null, whatOf(scan)), line("todo", LOADS.includes(actionOf(scan)) ? texts.askedLoad : ""), line("todo", texts.askedWhat));
-    } else if (front) {
-      parts.push(this.one(front));
-    }
-    parts.push(...this.shown.map((it) => this.one(it)));
-    const brief = current ? this.refused : others, rest = brief.slice(BRIEF_SHOWN).length;
-    parts.push(...brief.slice(0, BRIEF_SHOWN).map((it) => el("p", { class: "brief", data: { scan: it.uid } }, `\u2717 ${texts.refused}: ${whereOf(it)}: ${wordsOf(it).title}`)),
-      ...(rest ? [line("brief", filled(texts.moreRefused, { count: rest }))] : []));
-    const kind = current?.question ? "ask" : current?.fault ? "fault" : waits ? "asked" : !scan && first ? "refused" : "accepted";
+    const { current, place } = this;
+    const texts = TEXTS.verdict;
+    const kind = this.kind();
+    this.shown = current && !current.scan?.answer ? [] : this.late;
+    const parts = [...this.front(), ...this.shown.map((it) => this.one(it)), ...this.brief()];
+    const text = kind === "refused" ? texts.seen : texts.close;
+    const close = button(text, () => {}, { class: "close" });
     clearTimeout(this.timer);
     if (kind === "accepted" && !this.shown.length && parts.length) {
       this.timer = setTimeout(() => this.pass(), GREEN_SECONDS * 1000);
@@ -208,14 +244,11 @@ export class Verdict {
     place.dataset.turn = this.turn;
     place.hidden = parts.length === 0;
     place.className = parts.length ? kind : "";
-    place.replaceChildren(...parts, ...(parts.length && kind !== "ask" ? [button(kind === "refused" ? texts.seen : texts.close, () => {}, { class: "close" })] : []));
+    place.replaceChildren(...parts, ...(parts.length && kind !== "ask" ? [close] : []));
     this.fit();
     this.more.forEach((_, uid) => this.isShown(uid) || this.more.delete(uid));
     this.changed();
-    if (front?.answer && !this.more.has(front.uid)) {
-      this.more.set(front.uid, []);
-      this.explain(front);
-    }
+    this.explain(current ? current.scan : this.refused[0]);
   }
 
   wasShown(uid) {
@@ -238,84 +271,83 @@ export class Verdict {
   }
 
   one(scan) {
-    const { kind, title } = wordsOf(scan), todo = this.todoOf(scan), { answer } = scan, isGreen = kind === "accepted", texts = TEXTS.verdict;
-    const word = isGreen ? filled(texts.accepted, { done: title }) : answer.Answer === "Refused" ? texts.refused : answer.Answer === "NotSent" ? texts.notSent : texts.faulty;
-    const line = (mark, text) => (text ? el("p", { class: mark }, text) : null);
-    const life = "MinutesLeft" in answer ? filled(texts.minutes, { life: lifeText(answer.MinutesLeft) }) : "Taken" in answer ? filled(texts.taken, { taken: piecesText(answer.Taken) }) : "";
+    const { kind, title } = wordsOf(scan);
+    const isGreen = kind === "accepted";
+    const word =
+      isGreen ? said(TEXTS.verdict.accepted, { done: title }) : refusalWord(scan.answer);
+    const sign = el("span", { class: "sign" }, isGreen ? "\u2713 " : "\u2717 ");
+    const late = scan.isLate ? said(TEXTS.verdict.again, { time: clock.shown(scan.at) }) : "";
     const more = el("div", { class: "more" }, this.more.get(scan.uid));
-    const late = line("late", scan.isLate ? filled(texts.again, { time: clock.shown(scan.at) }) : "");
-    const parts = isGreen ? [line("where", whereOf(scan)), line("life", life), more, line("facts", `${whatOf(scan)} · ${filled(answer.Archived ? texts.archived : texts.number, { number: answer.Number })}`)]
-      : [el("h2", null, title), line("todo", todo), line("where", whereOf(scan)), more, line("facts", whatOf(scan)), this.off(scan)];
-    return el("div", { class: `one ${kind}`, data: { scan: scan.uid } }, late, el("p", { class: "word" }, el("span", { class: "sign" }, isGreen ? "\u2713 " : "\u2717 "), word), parts);
+    return el(
+      "div",
+      { class: `one ${kind}`, data: { scan: scan.uid } },
+      lineOrNot("late", late),
+      el("p", { class: "word" }, sign, word),
+      isGreen ? this.green(scan, more) : this.red(scan, title, more),
+    );
   }
 
-  /** By what somebody says that a refused reel was taken off, and whether that is noted: then no recall doubts pieces because of it. */
-  off(scan) {
-    if (!scan.recordId || !LOADS.includes(actionOf(scan))) {
-      return null;
-    }
-    const texts = TEXTS.verdict.off, note = async () => {
-      scan.off = await this.takenOff(scan);
-      this.show();
-    };
-    return el("div", { class: "answers off" }, scan.off === "noted" ? null : button(texts.button, note), scan.off ? el("p", { class: "todo" }, texts[scan.off]) : null);
+  green(scan, more) {
+    const { answer } = scan;
+    const texts = TEXTS.verdict;
+    const life = "MinutesLeft" in answer
+      ? said(texts.minutes, { life: lifeText(answer.MinutesLeft) })
+      : "Taken" in answer ? said(texts.taken, { taken: Number(answer.Taken) })
+                          : "";
+    const number =
+      said(answer.Archived ? texts.archived : texts.number, { number: String(answer.Number) });
+    const facts = line("facts", `${whatOf(scan)} \u00b7 ${number}`);
+    return [line("where", whereOf(scan)), lineOrNot("life", life), more, facts];
+  }
+
+  red(scan, title, more) {
+    return [
+      el("h2", null, title),
+      this.takenOff.parts(scan),
+      lineOrNot("todo", this.todoOf(scan)),
+      line("where", whereOf(scan)),
+      more,
+      line("facts", whatOf(scan)),
+    ];
   }
 
   /** What to do: of a reel that is on a slot the page says where. */
   todoOf(scan) {
-    const { answer } = scan, place = answer.Refusal === "ReelMounted" ? this.model.place(answer.At) : null;
-    return place ? filled(TEXTS.verdict.isOn, { reel: answer.At, ...place }) : wordsOf(scan).todo;
+    const { answer } = scan;
+    const place = answer.Refusal === "ReelMounted" ? this.model.place(answer.At) : null;
+    return place ? said(TEXTS.verdict.isOn, { reel: answer.At, ...place }) : wordsOf(scan).todo;
   }
 
-  /** Puts to an answer what the desk's reports say of it: of a load that is accepted the reel's own part, of one that is refused what to bring. */
+  /** Puts to an answer what the desk's reports say of it, once. */
   async explain(scan) {
-    const { answer } = scan, { Machine: machine, Slot: slot, Reel: reel, PartNumber: part } = scan.body, isLoad = LOADS.includes(actionOf(scan)), more = [];
-    if (answer.Refusal === "ReelMounted") {
-      await Promise.all(this.model.lines.map((it) => this.model.refresh(it.machine))); // what the page knew before may be why the reel was scanned here
+    if (!scan?.answer || this.more.has(scan.uid)) {
+      return;
     }
-    if (answer.Answer === "Accepted") {
-      more.push(...(part ? [this.own({ part, lot: scan.body.Lot })] : isLoad ? this.stood(await this.model.card(reel), scan.about) : []));
-    } else if (isLoad && answer.Answer === "Refused") {
-      if (answer.Refusal === "NoProduct") {
-        await this.model.refresh(machine);
-      }
-      const isUnknown = answer.Refusal === "NoProduct" && this.model.line(machine)?.missing;
-      more.push(isUnknown ? el("p", { class: "todo" }, TEXTS.unknownMachine) : this.toBring(slot, this.model.product(machine), await this.model.freeFor(machine, slot)));
-      if (BY_ANOTHER_SHEET.includes(answer.Refusal)) {
-        more.push(el("p", { class: "from" }, filled(TEXTS.verdict.otherSheet, { machine })));
-      }
-    }
+    this.more.set(scan.uid, []);
+    const more = await explained(scan, this.model);
     if (this.isShown(scan.uid)) {
       this.more.set(scan.uid, more);
-      [...this.place.querySelectorAll(".one")].find((it) => it.dataset.scan === scan.uid)?.replaceWith(this.one(scan));
+      this.redraw(scan.uid);
+    }
+  }
+
+  /** Draws a scan anew where it is shown. */
+  redraw(uid) {
+    const scan =
+      [this.current?.scan, ...this.late, ...this.refused].find((it) => it?.uid === uid);
+    const ones = [...this.place.querySelectorAll(".one")];
+    ones.find((it) => it.dataset.scan === uid)?.replaceWith(this.one(scan));
+    this.fit();
+  }
+
+  /** Draws anew what is said of reels that were taken off. */
+  redrawOff() {
+    const [scan] = this.current ? [] : this.refused;
+    const was = this.place.querySelector(".off");
+    const now = scan ? this.takenOff.parts(scan) : null;
+    if (was && now && !was.isEqualNode(now) && !was.contains(document.activeElement)) {
+      was.replaceWith(now);
       this.fit();
     }
-  }
-
-  own(card) {
-    return el("p", { class: "part" }, filled(TEXTS.verdict.own, card));
-  }
-
-  /** A reel's own part, by its card, and where the sheet that the page knows names another one. */
-  stood(card, about) {
-    if (!card) {
-      return [el("p", { class: "from" }, TEXTS.verdict.ownUnknown)];
-    }
-    const differs = about?.part && about.part !== card.part;
-    return [this.own(card), ...(differs ? [el("p", { class: "from" }, filled(TEXTS.verdict.alternate, { part: about.part, product: about.product, source: sourceText(about) }))] : [])];
-  }
-
-  /** The part that a slot wants, by which sheet, and the free reels for it. */
-  toBring(slot, known, free) {
-    const texts = TEXTS.verdict;
-    if (!known || free === null) {
-      return el("p", { class: "todo" }, known ? texts.freeUnknown : texts.noSheet);
-    }
-    const row = (it) => el("li", null, filled(it.own ? texts.otherRow : texts.freeRow, { reel: it.reel, own: it.own, slot: it.slot, pieces: piecesText(it.pieces), life: lifeText(it.minutes_left) }));
-    const shown = free.reels.slice(0, FREE_SHOWN), others = free.alternates.slice(0, FREE_SHOWN - shown.length), rest = free.reels.length - shown.length;
-    const list = (title, rows) => (rows.length ? [el("p", { class: "from" }, title), el("ol", null, rows.map(row))] : []);
-    return el("div", { class: "free" }, el("p", { class: "part" }, filled(free.part ? texts.wants : texts.notOnSheet, { slot, part: free.part })),
-      el("p", { class: "from" }, filled(texts.bySheet, { product: known.product, source: sourceText(known) })), list(texts.free, shown), list(texts.freeOthers, others),
-      free.part && !shown.length && !others.length ? el("p", { class: "todo" }, texts.freeNone) : null, rest > 0 ? el("p", { class: "from" }, filled(texts.freeMore, { count: rest })) : null);
   }
 }

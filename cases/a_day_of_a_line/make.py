@@ -1,4 +1,4 @@
-"""A shift of dev/lib/tracedesk_dev/shift.py, with the answers that it says its messages have to get."""
+"""A shift of dev/tracedesk_dev/shift.py, with the answers that it says its messages have to get."""
 import pathlib
 import sys
 

@@ -99,7 +99,7 @@ def own(number):
 
 
 def begun(uid, minute, word, body, source="begin"):
-    """A message of ops/begin."""
+    """A message of ops/tracedesk-begin."""
     envelope = {
         "MessageName": "TraceDesk." + word,
         "UniqueID": uid,

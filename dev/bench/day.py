@@ -6,7 +6,7 @@ examples:
   dev/bench/run day --boards 60 --turns 1                    both tables (make bench)
   dev/bench/run day --boards '' --commands 1000,3000,10000   the second table alone
 
-The messages are those of dev/lib/tracedesk_dev/shift.py. Figures are medians of --turns turns, one after the other. Rates
+The messages are those of dev/tracedesk_dev/shift.py. Figures are medians of --turns turns, one after the other. Rates
 of `feed --db` are of all lines at once. Latencies are of lines that are sent one by one, to `feed` over a pipe and to
 `serve` over one connection, from the last byte of the message to the last byte of its answer; the rates of `serve` are by
 the sum of these. Opening is a run on the finished file without a line. SQLite is Python's sqlite3 in WAL mode with
@@ -17,6 +17,7 @@ is measured. It wants Debian's package time, for the memory.
 The second table is `feed` without a file, over the first N commands of the line, and with one over the same lines:
 both have to give the same answers. It has the processor time a piece, which should not grow with the history.
 """
+import argparse
 import contextlib
 import os
 import pathlib
@@ -27,11 +28,12 @@ import subprocess
 import sys
 import tempfile
 import time
+from typing import Any
 
 from tracedesk_dev import program, shift, trial
 
 
-def used(folder, words, given=subprocess.DEVNULL, **how):
+def used(folder: pathlib.Path, words: Any, given: Any = subprocess.DEVNULL, **how: Any) -> Any:
     """Seconds of a run, seconds of processor time, and the most memory that it had, in MB."""
     usage, begun = folder / "usage", time.perf_counter()
     done = subprocess.run(
@@ -44,7 +46,7 @@ def used(folder, words, given=subprocess.DEVNULL, **how):
     return seconds, float(user) + float(system), int(memory) * 1024 / 1e6
 
 
-def fed(asked, folder, lines, *words):
+def fed(asked: argparse.Namespace, folder: pathlib.Path, lines: Any, *words: Any) -> Any:
     """All lines at once: what `used` gives, and the answers."""
     (folder / "messages").write_bytes(b"".join(said.text + b"\n" for said in lines))
     trial.remove(folder / "desk")
@@ -55,13 +57,13 @@ def fed(asked, folder, lines, *words):
     return told, answers
 
 
-def compare(answers, lines):
+def compare(answers: Any, lines: Any) -> None:
     accepted = sum(it.startswith(b'{"Answer":"Accepted"') for it in answers)
     if accepted != sum(said.wanted in ("Accepted", "Repeat") for said in lines):
         sys.exit("dev/bench/run day: not each command was accepted")
 
 
-def counts(file):
+def counts(file: pathlib.Path) -> Any:
     with contextlib.closing(sqlite3.connect(file)) as database:
         return [
             database.execute(f"SELECT count(*) FROM {name}").fetchone()[0]
@@ -69,7 +71,7 @@ def counts(file):
         ]
 
 
-def first_commands(lines, commands):
+def first_commands(lines: Any, commands: int) -> Any:
     """The lines up to the one that is accepted as this command."""
     accepted = 0
     for at, said in enumerate(lines, 1):
@@ -79,37 +81,36 @@ def first_commands(lines, commands):
     sys.exit(f"dev/bench/run day: the line has {accepted} commands alone")
 
 
-def in_memory(asked, folder, lines):
+def in_memory(asked: argparse.Namespace, folder: pathlib.Path, lines: Any) -> Any:
     """The figures of `feed` without a file and with one, over the same lines, each a median; the answers have to be the same."""
-    file, told, given = folder / "desk", {}, {}
+    file = folder / "desk"
+    told: dict[str, list[float]] = {}
+    given: dict[str, Any] = {}
+    ways: list[tuple[str, list[Any]]] = [("in memory", []), ("in a file", ["--db", file])]
     for _turn in range(asked.turns):
-        for name, words in (("in memory", []), ("in a file", ["--db", file])):
-            figures, given[name] = fed(asked, folder, lines, *words)
-            for what, value in zip(("seconds", "processor time, seconds", "memory, MB"), figures):
+        for name, words in ways:
+            used_so, given[name] = fed(asked, folder, lines, *words)
+            for what, value in zip(("seconds", "processor time, seconds", "memory, MB"), used_so):
                 told.setdefault(f"{name}: {what}", []).append(value)
         if given["in memory"] != given["in a file"]:
             sys.exit("dev/bench/run day: in memory and in a file the answers differ")
     commands, pieces = counts(file)
     if not pieces:
         sys.exit(f"dev/bench/run day: the first {commands} commands place no piece: ask for more")
-    told = {
-        "commands": commands,
-        "pieces": pieces,
-        **{name: statistics.median(values) for name, values in told.items()},
-    }
+    figures = {name: statistics.median(values) for name, values in told.items()}
+    figures |= {"commands": commands, "pieces": pieces}
     for name in given:
-        told[f"{name}: processor time a piece, us"] = (
-            1e6 * told[f"{name}: processor time, seconds"] / pieces
-        )
+        seconds = figures[f"{name}: processor time, seconds"]
+        figures[f"{name}: processor time a piece, us"] = 1e6 * seconds / pieces
     print(
-        f"{commands} commands in memory: {told['in memory: seconds']:.2f} s",
+        f"{commands} commands in memory: {figures['in memory: seconds']:.2f} s",
         file=sys.stderr,
         flush=True,
     )
-    return told
+    return figures
 
 
-def one_by_one(lines, sent):
+def one_by_one(lines: Any, sent: Any) -> list[float]:
     """The seconds of each line that is sent alone, and the answers."""
     times, answers = [], []
     for said in lines:
@@ -120,36 +121,39 @@ def one_by_one(lines, sent):
     return sorted(times)
 
 
-def feed_latencies(asked, folder, lines):
+def feed_latencies(asked: argparse.Namespace, folder: pathlib.Path, lines: Any) -> Any:
     trial.remove(folder / "desk")
     with subprocess.Popen(
         [asked.program, "feed", "--db", folder / "desk"],
         stdin=subprocess.PIPE,
         stdout=subprocess.PIPE,
         bufsize=0,
-    ) as process, os.fdopen(os.dup(process.stdout.fileno()), "rb", 65_536) as answers:
+    ) as process:
+        assert process.stdin and process.stdout
+        into, out = process.stdin, process.stdout
+        with os.fdopen(os.dup(out.fileno()), "rb", 65_536) as answers:
 
-        def sent(text):
-            process.stdin.write(text + b"\n")
-            return answers.readline()
+            def sent(text: bytes) -> bytes:
+                into.write(text + b"\n")
+                return bytes(answers.readline())
 
-        times = one_by_one(lines, sent)
-        process.stdin.close()
+            times = one_by_one(lines, sent)
+        into.close()
     return times, None
 
 
-def serve_latencies(asked, folder, lines):
+def serve_latencies(asked: argparse.Namespace, folder: pathlib.Path, lines: Any) -> Any:
     trial.remove(folder / "desk")
     with trial.served(asked.program, folder / "desk") as (process, connection):
 
-        def sent(text):
+        def sent(text: bytes) -> bytes:
             connection.request("POST", "/messages", text)
             return connection.getresponse().read()
 
         return one_by_one(lines, sent), trial.memory_of(process, "VmHWM") / 1e6
 
 
-def by_sqlite(folder, desk):
+def by_sqlite(folder: pathlib.Path, desk: Any) -> Any:
     """Seconds in which stock SQLite writes the rows of a desk, a transaction a command, and its file's size."""
     copy = folder / "sqlite"
     trial.remove(copy)
@@ -158,7 +162,8 @@ def by_sqlite(folder, desk):
             sql for (sql,) in source.execute("SELECT sql FROM sqlite_schema WHERE sql IS NOT NULL")
         ]
         accepted = source.execute("SELECT * FROM accepted ORDER BY number").fetchall()
-        placed, others = {}, {}
+        placed: dict[int, list[Any]] = {}
+        others: dict[str, Any] = {}
         for row in source.execute("SELECT * FROM placement ORDER BY number, place"):
             placed.setdefault(row[0], []).append(row)
         for name in ("part", "alternate", "sheet_row", "selected", "board", "found", "reel"):
@@ -194,7 +199,7 @@ def by_sqlite(folder, desk):
     return seconds, os.path.getsize(copy)
 
 
-def measured(asked, folder, boards):
+def measured(asked: argparse.Namespace, folder: pathlib.Path, boards: int) -> Any:
     """The figures of one size, each a median."""
     lines, file, turns = shift.Shift(asked.seed, boards).lines, folder / "desk", []
     for turn in range(asked.turns):
@@ -235,11 +240,11 @@ def measured(asked, folder, boards):
     return {name: statistics.median(it[name] for it in turns) for name in turns[0]}
 
 
-def number(value):
+def number(value: float) -> str:
     return f"{value:,.0f}" if value >= 100 else f"{value:.3g}"
 
 
-def sync(folder):
+def sync(folder: pathlib.Path) -> float:
     """Microseconds of a write of 4,096 bytes and its sync, the median of 200."""
     times = []
     with open(folder / "probe", "wb", buffering=0) as it:
@@ -251,18 +256,18 @@ def sync(folder):
     return 1e6 * statistics.median(times)
 
 
-def table(heads, told):
+def table(heads: Any, told: Any) -> None:
     """Prints a table of the figures under these heads."""
     print("| | " + " | ".join(heads) + " |", "|---|" + "---:|" * len(heads), sep="\n")
     for name in told[0]:
         print(f"| {name} | " + " | ".join(number(it[name]) for it in told) + " |")
 
 
-def sizes_in(text):
+def sizes_in(text: str) -> list[int]:
     return [int(it) for it in text.split(",") if it]
 
 
-def words(reader):
+def words(reader: argparse.ArgumentParser) -> None:
     program.offer(reader)
     reader.add_argument("--boards", type=sizes_in, default="60,300,1500")
     reader.add_argument("--commands", type=sizes_in, default="1000,3000,10000")
@@ -271,7 +276,7 @@ def words(reader):
     reader.add_argument("--folder")
 
 
-def main(asked, _reader):
+def main(asked: argparse.Namespace, _reader: argparse.ArgumentParser) -> None:
     program.want("/usr/bin/time", "time")
     asked.program = program.to_use(asked.program)
     with tempfile.TemporaryDirectory(prefix="bench-", dir=asked.folder) as room:

@@ -6,18 +6,18 @@ usage: dev/bench/run plant [--program FILE] [--folder FOLDER] [--archives N] [--
 examples:
   dev/bench/run plant                                       1,000 files of 200,000 pieces: 25 GB of disk, and an hour
   dev/bench/run plant --boards 1 --files 10000              10,000 files of 178 pieces: 3 GB
-  dev/bench/run plant --archives 41 --boards 5180 --files 40    40 archives of a million pieces, all loaded by ops/plant-load
+  dev/bench/run plant --archives 41 --boards 5180 --files 40    40 archives of a million pieces, all loaded by ops/tracedesk-plant-load
   dev/bench/run plant --recall                              52 archives of 810,000 pieces: 10 GB of disk, and an hour
 
-One shift of dev/lib/tracedesk_dev/shift.py is fed to the program: that is the first archive. The others, each of a line of its own, are its
+One shift of dev/tracedesk_dev/shift.py is fed to the program: that is the first archive. The others, each of a line of its own, are its
 bytes with other names of boards, machines, reels and lots of the same length; the audit of the second must be lawful.
-Each archive is loaded by ops/plant-load, by a catalogue of its own, and then removed. SQL then copies the rows of
+Each archive is loaded by ops/tracedesk-plant-load, by a catalogue of its own, and then removed. SQL then copies the rows of
 the first one, by the same statements and with other names, until there are --files. Two reels in five of the files become the lot.
 PostgreSQL has its default settings, and fsync is on; while SQL copies, it is off, and no log is written. Cold is after a
 new start of it, with its files out of the system's cache.
 
-With --recall they are the archives of one line that rolls over, each begun by ops/begin from the one before. A lot with
-pieces in two of them is asked for, and a board, by tracedesk-chain and by ops/recall, and each file is audited: the same
+With --recall they are the archives of one line that rolls over, each begun by ops/tracedesk-begin from the one before. A lot with
+pieces in two of them is asked for, and a board, by tracedesk-chain and by ops/tracedesk-recall, and each file is audited: the same
 reading, so that is compared. tracedesk-chain is the one next to the program, or that of CHAIN. PostgreSQL isn't needed then.
 
 --folder   where all of it lies; it is new, and is removed at the end
@@ -27,14 +27,13 @@ reading, so that is compared. tracedesk-chain is the one next to the program, or
 --minutes  nothing more is made after so many; the questions are about the files made by then
 --pieces   of each archive of --recall
 """
-import contextlib
+import argparse
 import itertools
 import json
 import os
 import pathlib
 import resource
 import shutil
-import sqlite3
 import statistics
 import subprocess
 import sys
@@ -42,101 +41,17 @@ import tempfile
 import time
 
 import starts
-from tracedesk_dev import postgres, program, shift
+from typing import Any, Iterator
+from tracedesk_dev import postgres, program
 from tracedesk_dev.program import ROOT
 from tracedesk_ops import catalogue, plant
+from tracedesk_dev.bench_archives import LOT, MEMORY, line_of, made, whole
+
 
 COLD, WARM = 3, 15  # turns
-MEMORY = "/dev/shm"
-LOT = "LOT-RECALL"
-BASE = "ZQZQ"  # no part of another name, and longer than two numbers of a row: so its bytes in a file are those of the names that begin with it
-LETTERS = "ABCDEFGHIJKLMNOPQRSTUVWXYZ"
 
 
-def whole(file):
-    """A desk that stands whole, without a log."""
-    with contextlib.closing(sqlite3.connect(file, isolation_level=None)) as database:
-        database.execute("PRAGMA wal_checkpoint(TRUNCATE)")
-    plant.without_log(file)
-
-
-def first_archive(asked, file):
-    """Feeds the shift to a desk, in memory where there is a folder for that: no sync is waited for."""
-    lines = [it.text for it in shift.Shift(1, asked.boards, BASE).lines]
-    with tempfile.TemporaryDirectory(dir=MEMORY if os.path.isdir(MEMORY) else None) as room:
-        desk = pathlib.Path(room, "desk")
-        done = subprocess.run(
-            [asked.program, "feed", "--db", desk],
-            input=b"\n".join(lines) + b"\n",
-            stdout=subprocess.PIPE,
-        )
-        if done.returncode not in (0, 1):
-            sys.exit(f"{plant.NAME}: feed ended with status {done.returncode}")
-        whole(desk)
-        shutil.move(desk, file)
-
-
-def another(first, number, file):
-    """Writes the bytes of the first archive with names of its own; a name that lies on two pages is changed by a statement."""
-    two = f"{LETTERS[number // 10]}{number % 10}"
-    changes = (f"{BASE}-", f"{two}ZQ-"), ("LOT-", f"Z{two}-")
-    for old, new in changes:
-        first = first.replace(old.encode(), new.encode())
-    file.write_bytes(first)
-    with contextlib.closing(sqlite3.connect(file, isolation_level=None)) as database:
-        database.execute("PRAGMA journal_mode = DELETE")
-        for table, column in (
-            ("accepted", "command"),
-            ("accepted", "detail"),
-            ("sheet_row", "designators"),
-        ):  # no other text goes beyond a page
-            for old, new in changes:
-                database.execute(
-                    f"UPDATE {table} SET {column} = replace({column}, ?1, ?2) WHERE instr({column}, ?1)",
-                    [old, new],
-                )
-
-
-def of_its_own(file, number):
-    """Makes the last command of an archive one of no other, by which it is told apart."""
-    with contextlib.closing(sqlite3.connect(file, isolation_level=None)) as database:
-        database.execute("PRAGMA journal_mode = DELETE")
-        database.execute(
-            "UPDATE accepted SET uid = ?1, detail = replace(detail, uid, ?1) WHERE number = (SELECT max(number) FROM accepted)",
-            [f"last-{number}"],
-        )
-
-
-def line_of(file, desk, before=""):
-    with catalogue.opened(file) as database:
-        ((commands, first, last),) = database.execute(
-            "SELECT count(*), min(effective), max(effective) FROM accepted"
-        )
-        ((pieces,),) = database.execute("SELECT count(*) FROM placement")
-    return catalogue.Archive(
-        file.name, catalogue.sha256_of(file), desk, first, last, commands, pieces, before
-    )
-
-
-def made(asked, room, folder_of):
-    """Makes each archive in its folder: its number and its file."""
-    base = room / "first"
-    first_archive(asked, base)
-    first = base.read_bytes()
-    for number in range(asked.archives):
-        file = folder_of(number) / f"archive-{number}"
-        another(first, number, file)
-        of_its_own(file, number)
-        if number == 1:
-            audited = shutil.copy(file, room / "audited")
-            subprocess.run(
-                [asked.program, "audit", "--db", audited], check=True, stdout=subprocess.DEVNULL
-            )
-            os.unlink(audited)
-        yield number, file
-
-
-def taken(server):
+def taken(server: Any) -> Any:
     """Seconds by the clock, and of the processor: of ended children of this tool and of ended sessions of the server, where there is one."""
     own = resource.getrusage(resource.RUSAGE_CHILDREN)
     return time.monotonic(), own.ru_utime + own.ru_stime + (
@@ -144,14 +59,14 @@ def taken(server):
     )
 
 
-def since(server, before):
+def since(server: Any, before: Any) -> Any:
     return tuple(round(now - then, 3) for now, then in zip(taken(server), before))
 
 
-def loads(asked, server, room):
+def loads(asked: argparse.Namespace, server: Any, room: pathlib.Path) -> Iterator[Any]:
     """Loads each archive by itself: its seconds, how many pieces it has, and its bytes."""
 
-    def folder_of(number):
+    def folder_of(number: int) -> pathlib.Path:
         at = room / f"archive-{number}"
         at.mkdir()
         return at
@@ -161,7 +76,7 @@ def loads(asked, server, room):
         catalogue.add(at / catalogue.FILE_NAME, its)
         began = taken(server)
         subprocess.run(
-            [ROOT / "ops/plant-load", at / catalogue.FILE_NAME],
+            [ROOT / "ops/tracedesk-plant-load", at / catalogue.FILE_NAME],
             check=True,
             stdout=subprocess.DEVNULL,
         )
@@ -169,18 +84,14 @@ def loads(asked, server, room):
         shutil.rmtree(at)
 
 
-# --- A line's chain of archives, by tracedesk-chain and by ops/recall
+# --- A line's chain of archives, by tracedesk-chain and by ops/tracedesk-recall
 
 
-def chain_of(asked, at):
+def chain_of(asked: argparse.Namespace, at: Any) -> Any:
     """Makes the archives of one line that rolls over, and its catalogue; the path of each, and how many pieces there are."""
-    messages, files, pieces, ticks, end = (
-        starts.Line().messages(),
-        [],
-        0,
-        program.Ticks(),
-        time.monotonic() + 60 * asked.minutes,
-    )
+    messages, pieces, ticks = starts.Line().messages(), 0, program.Ticks()
+    files: list[Any] = []
+    end = time.monotonic() + 60 * asked.minutes
     for number in range(asked.archives):
         if time.monotonic() > end:
             break
@@ -190,7 +101,7 @@ def chain_of(asked, at):
             desk = pathlib.Path(room, "desk")
             if files:
                 subprocess.run(
-                    [ROOT / "ops/begin", files[-1]],
+                    [ROOT / "ops/tracedesk-begin", files[-1]],
                     check=True,
                     stdout=given,
                     stderr=subprocess.DEVNULL,
@@ -225,7 +136,7 @@ def chain_of(asked, at):
     return files, pieces
 
 
-def measured(*words):
+def measured(*words: Any) -> Any:
     """Seconds of a call by the clock and of the processor, the most memory that it had in bytes, and how many lines it printed."""
     with tempfile.NamedTemporaryFile(
         "r"
@@ -241,7 +152,7 @@ def measured(*words):
     return clock, round(user + system, 2), int(1024 * memory), done.stdout.count(b"\n")
 
 
-def recall_bench(asked, room):
+def recall_bench(asked: argparse.Namespace, room: pathlib.Path) -> None:
     """A lot of a reel that was carried over amid the chain, and a board, by each road; and the audit of each file, which reads the same."""
     at = room / "archive"
     at.mkdir()
@@ -258,7 +169,7 @@ def recall_bench(asked, room):
         }
     )
 
-    def of(name, measured):
+    def of(name: str, measured: Any) -> None:
         tell({f"{name}, by the clock, of the processor, bytes of memory, lines": measured})
 
     copies = [shutil.copy(it, room / it.name) for it in files]  # an audit leaves a log
@@ -294,15 +205,15 @@ def recall_bench(asked, room):
         ["board", board],
     ):
         of(
-            "ops/recall " + " ".join((words[0], *words[2:])),
-            measured(ROOT / "ops/recall", *words, *line),
+            "ops/tracedesk-recall " + " ".join((words[0], *words[2:])),
+            measured(ROOT / "ops/tracedesk-recall", *words, *line),
         )
 
 
 # --- By PostgreSQL
 
 
-def out_of_cache(folder):
+def out_of_cache(folder: pathlib.Path) -> None:
     for at, _, names in os.walk(folder):
         for name in names:
             with open(os.path.join(at, name), "rb") as file:
@@ -310,7 +221,7 @@ def out_of_cache(folder):
                 os.posix_fadvise(file.fileno(), 0, 0, os.POSIX_FADV_DONTNEED)
 
 
-def timed(server, *words):
+def timed(server: Any, *words: Any) -> Any:
     """The seconds of one call of psql by the clock and of the processor, its start among them, and what it printed."""
     began = taken(server)
     told = postgres.asked("--csv", "-t", *words)
@@ -319,15 +230,15 @@ def timed(server, *words):
     return (clock, since(server, began)[1]), told
 
 
-def medians(pairs):
+def medians(pairs: Any) -> Any:
     return tuple(map(statistics.median, zip(*pairs)))
 
 
-def least(pairs):
+def least(pairs: Any) -> Any:
     return tuple(map(min, zip(*pairs)))
 
 
-def restarted(server, **options):
+def restarted(server: Any, **options: Any) -> None:
     """A new start of the server, with its files out of the system's cache; `options` are not its defaults."""
     postgres.asked("-c", "CHECKPOINT")
     server.stop()
@@ -338,7 +249,7 @@ def restarted(server, **options):
     server.start()
 
 
-# a copy of what ops/plant-load made of the first archive, with other names, as that makes it
+# a copy of what ops/tracedesk-plant-load made of the first archive, with other names, as that makes it
 COPIES = """DO $$ DECLARE its text; BEGIN FOR it IN {first} .. {last} LOOP
     its := 'placement_' || it;
     INSERT INTO file SELECT it, 'C' || it % 10, 'archive-' || it, md5(it::text), first_minute, last_minute, commands, last_uid, pieces, '', false, 0, said, md5(it::text) FROM file WHERE id = 1;
@@ -358,7 +269,7 @@ SIZES = """SELECT json_build_object('pieces', (SELECT sum(pieces) FROM plant.fil
 RENAMED = "CREATE FUNCTION plant.renamed(name text, number integer) RETURNS text LANGUAGE sql AS $$ SELECT lpad(to_hex(number), 4, '0') || substr(name, 5) $$"
 
 
-def copied(asked, server, last):
+def copied(asked: argparse.Namespace, server: Any, last: Any) -> Any:
     """Lets SQL copy the first file until there are --files; how many there are."""
     template, ticks, end = (
         server.folder / "template",
@@ -383,7 +294,7 @@ def copied(asked, server, last):
     return last
 
 
-def ask(server):
+def ask(server: Any) -> None:
     """Asks for the lot, one of its reels and a board, cold and warm, and for no piece; and how many pages of 8,192 bytes are read, cold."""
     board, reel = postgres.asked(
         "-At",
@@ -394,7 +305,7 @@ def ask(server):
         (SELECT min(reel) FROM plant.reel WHERE lot = '{LOT}')""",
     ).split()
     names = {"lot": LOT, "reel": reel, "board": board}
-    calls = {
+    calls: dict[str, tuple[Any, ...]] = {
         f"{kind}, its pieces": ("-v", f"{kind}={name}", "-f", postgres.SQL / "pieces.sql")
         for kind, name in names.items()
     }
@@ -439,7 +350,7 @@ def ask(server):
         )
 
 
-def postgres_bench(asked):
+def postgres_bench(asked: argparse.Namespace) -> None:
     with tempfile.TemporaryDirectory(
         prefix="plant-", dir=asked.folder
     ) as room, tempfile.TemporaryDirectory(prefix="plant-", dir=asked.folder) as folder:
@@ -479,11 +390,11 @@ def postgres_bench(asked):
             )
 
 
-def tell(told):
+def tell(told: Any) -> None:
     print(json.dumps({**told, "load of the machine": round(os.getloadavg()[0], 1)}), flush=True)
 
 
-def words(reader):
+def words(reader: argparse.ArgumentParser) -> None:
     program.offer(reader)
     reader.add_argument("--folder", type=pathlib.Path)
     reader.add_argument("--recall", action="store_true")
@@ -494,7 +405,7 @@ def words(reader):
     reader.add_argument("--files", type=int, default=1_000)
 
 
-def main(asked, reader):
+def main(asked: argparse.Namespace, reader: argparse.ArgumentParser) -> None:
     asked.program = program.to_use(asked.program)
     asked.chain = plant.chain_of(asked.program)
     if asked.recall and not shutil.which("time"):

@@ -10,6 +10,7 @@ message is a ClockSet, which a desk judges without a search: measured is the rea
 answer. SQLite is Python's sqlite3 with the same table, a transaction for each row, in WAL mode with synchronous FULL,
 so one sync a row as in the program. Printed are medians of the turns, in microseconds a row.
 """
+import argparse
 import contextlib
 import pathlib
 import sqlite3
@@ -18,6 +19,7 @@ import subprocess
 import sys
 import tempfile
 import time
+from typing import Any
 
 from tracedesk_dev import program
 
@@ -27,7 +29,7 @@ MESSAGE = '{{"MessageName":"TraceDesk.ClockSet","UniqueID":"u{}","Source":"S","T
 ANSWER = '{{"Answer":"Accepted","Number":{0},"UniqueID":"u{0}"}}'
 
 
-def feed(program, rows, *words):
+def feed(program: str, rows: int, *words: Any) -> float:
     """Seconds from start to end of a run over so many messages; each has to be accepted."""
     given, begun = "".join(map(MESSAGE.format, range(1, rows + 1))).encode(), time.perf_counter()
     taken = subprocess.run(
@@ -39,7 +41,7 @@ def feed(program, rows, *words):
     return seconds
 
 
-def sqlite(path, rows):
+def sqlite(path: pathlib.Path, rows: int) -> float:
     """Seconds of so many rows, each in a transaction of its own."""
     with contextlib.closing(sqlite3.connect(path, isolation_level=None)) as base:
         base.execute("PRAGMA journal_mode = WAL")
@@ -54,16 +56,18 @@ def sqlite(path, rows):
         return time.perf_counter() - begun
 
 
-def words(reader):
+def words(reader: argparse.ArgumentParser) -> None:
     program.offer(reader)
     reader.add_argument("--rows", type=int, default=10_000)
     reader.add_argument("--turns", type=int, default=3)
     reader.add_argument("folder", nargs="?")
 
 
-def main(asked, _reader):
+def main(asked: argparse.Namespace, _reader: argparse.ArgumentParser) -> None:
     asked.program = program.to_use(asked.program)
-    told = {name: [] for name in ("in memory", "in a file", "SQLite, the row alone", "a repeat")}
+    told: dict[str, list[float]] = {
+        name: [] for name in ("in memory", "in a file", "SQLite, the row alone", "a repeat")
+    }
     for _ in range(asked.turns):
         with tempfile.TemporaryDirectory(dir=asked.folder) as room:
             desk = pathlib.Path(room, "desk")

@@ -2,18 +2,20 @@
 
 usage: dev/bench/run sizes
 """
+import argparse
 import re
+from typing import Any
 
 from tracedesk_dev.program import CRATES
 
 
-def names():
+def names() -> list[str]:
     """The crates, each before those that stand on it."""
     with open(f"{CRATES}.txt", encoding="utf-8") as it:
         rows = [line.partition("#")[0].partition(":") for line in it]
     below, found = {name.strip(): deps.split() for name, _, deps in rows if name.strip()}, []
 
-    def add(name):
+    def add(name: str) -> None:
         if name in below and name not in found:
             for dep in below[name]:
                 add(dep)
@@ -24,7 +26,7 @@ def names():
     return found
 
 
-def lines(files, comment):
+def lines(files: Any, comment: str) -> int:
     """How many lines are neither empty nor a comment."""
     texts = (
         line.strip() for file in files for line in file.read_text(encoding="utf-8").splitlines()
@@ -32,8 +34,8 @@ def lines(files, comment):
     return sum(1 for text in texts if text and not text.startswith(comment))
 
 
-def sizes(crate):
-    def antt(folder):
+def sizes(crate: Any) -> list[int]:
+    def antt(folder: str) -> Any:
         return [it for it in (crate / folder).rglob("*.antt") if "tests" not in it.parts]
 
     sources = list((crate / "src").rglob("*.rt"))
@@ -54,11 +56,11 @@ def sizes(crate):
     ]
 
 
-def words(_reader):
+def words(_reader: argparse.ArgumentParser) -> None:
     pass
 
 
-def main(_asked, _reader):
+def main(_asked: Any, _reader: argparse.ArgumentParser) -> None:
     print(
         "| Crate | Code | Definitions | Proofs | Public functions | Tests | Wrong bodies in the gate | outside it |"
     )

@@ -14,6 +14,7 @@ is the memory that it has then, and most the most that it had until then (VmRSS 
 turns are told. Where PAGE is named, its section of this name gives way to the new one, and the picture of
 docs/long-life.md is drawn from there.
 """
+import argparse
 import collections
 import contextlib
 import datetime
@@ -29,7 +30,7 @@ import sys
 import tempfile
 import time
 import uuid
-from typing import NamedTuple
+from typing import Any, Iterator, NamedTuple
 
 from tracedesk_dev import program, trial
 
@@ -42,11 +43,11 @@ START = datetime.datetime(2026, 1, 5, 6)
 class Line:
     """The messages of a line that goes on for ever, each with the pieces that it places."""
 
-    def __init__(self):
+    def __init__(self) -> None:
         self.random, self.minute, self.reels = random.Random(1), 0, 0
-        self.left = {}  # pieces on a slot
+        self.left: dict[tuple[str, str], int] = {}  # pieces on a slot
 
-    def say(self, word, **body):
+    def say(self, word: str, **body: Any) -> tuple[bytes, int]:
         stamp = (START + datetime.timedelta(minutes=self.minute)).isoformat() + "Z"
         uid = str(uuid.UUID(int=self.random.getrandbits(128), version=4))
         envelope = {
@@ -60,7 +61,7 @@ class Line:
             body.get("Designators", ())
         )
 
-    def sheet(self, machine):
+    def sheet(self, machine: int) -> dict[str, list[str]]:
         """The slots of a machine with their designators: three on the first half, two on the others."""
         names = iter(f"{'CRUL'[machine]}{number}" for number in range(1, 1_000))
         return {
@@ -68,7 +69,7 @@ class Line:
             for slot in range(1, SLOTS + 1)
         }
 
-    def messages(self):
+    def messages(self) -> Iterator[Any]:
         sheets = {f"LINE1-M{number + 1}": self.sheet(number) for number in range(MACHINES)}
         for machine, sheet in sheets.items():
             for slot in sheet:
@@ -84,7 +85,7 @@ class Line:
             for machine, sheet in sheets.items():
                 yield from self.board(f"SN-{self.minute:07}", machine, sheet)
 
-    def board(self, board, machine, sheet):
+    def board(self, board: Any, machine: str, sheet: Any) -> Iterator[Any]:
         for slot, them in sheet.items():
             if self.left.get((machine, slot), 0) < 2 * len(them):
                 yield from self.reel(machine, slot)
@@ -98,7 +99,7 @@ class Line:
         )
         yield self.say("WorkCompleted", Machine=machine, Board=board)
 
-    def reel(self, machine, slot):
+    def reel(self, machine: str, slot: str) -> Iterator[Any]:
         """One more reel, at level 3 on every tenth slot."""
         self.reels += 1
         name, word = (
@@ -129,12 +130,15 @@ class Figure(NamedTuple):
     most: int
 
 
-def grown(asked, file, messages, told, pieces):
+def grown(
+    asked: argparse.Namespace, file: pathlib.Path, messages: Any, told: Any, pieces: int
+) -> None:
     """Feeds messages until so many pieces are placed."""
     running = subprocess.Popen(
         [asked.program, "feed", "--db", file], stdin=subprocess.PIPE, stdout=subprocess.DEVNULL
     )
     ticks = program.Ticks()
+    assert running.stdin
     with contextlib.suppress(BrokenPipeError):  # its status says why
         while told["pieces"] < pieces:
             text, some = next(messages)
@@ -147,7 +151,7 @@ def grown(asked, file, messages, told, pieces):
         sys.exit(f"dev/bench/run starts: feed ended with status {running.returncode}")
 
 
-def started(asked, file):
+def started(asked: argparse.Namespace, file: pathlib.Path) -> Any:
     """Seconds of a start, by the clock and of the processor; its resident memory at the end and the most until then, in bytes."""
     began = time.perf_counter()
     with trial.served(asked.program, file) as (process, connection):
@@ -171,21 +175,21 @@ def started(asked, file):
         )
 
 
-def figures(asked):
+def figures(asked: argparse.Namespace) -> Iterator[Figure]:
     with tempfile.TemporaryDirectory(dir=asked.folder) as room:
-        file, messages, told = pathlib.Path(room, "desk"), Line().messages(), collections.Counter()
+        file, messages = pathlib.Path(room, "desk"), Line().messages()
+        told: collections.Counter[str] = collections.Counter()
         for pieces in asked.pieces:
             grown(asked, file, messages, told, pieces)
             turns = [started(asked, file) for _ in range(asked.turns)]
+            start, processor, resident, most = (statistics.median(its) for its in zip(*turns))
+            size = file.stat().st_size
             yield Figure(
-                told["pieces"],
-                told["commands"],
-                file.stat().st_size,
-                *map(statistics.median, zip(*turns)),
+                told["pieces"], told["commands"], size, start, processor, int(resident), int(most)
             )
 
 
-def sourced(asked):
+def sourced(asked: argparse.Namespace) -> str:
     """Which program was measured."""
     version = subprocess.run(
         [asked.program, "--version"], stdout=subprocess.PIPE, text=True, check=True
@@ -200,7 +204,7 @@ def sourced(asked):
     return f"`{version}` of the commit {commit} (its file's SHA-256 begins with {digest})"
 
 
-def section(asked, load, rows):
+def section(asked: argparse.Namespace, load: Any, rows: Any) -> str:
     loads = load, os.getloadavg()[0]
     turns = "single runs" if asked.turns == 1 else f"medians of {asked.turns} starts"
     at = f"{datetime.date.today()}, on {platform.system()} {platform.machine()}, {os.cpu_count()} cores, load {loads[0]:.1f} at the begin and {loads[1]:.1f} at the end"
@@ -222,7 +226,7 @@ def section(asked, load, rows):
     )
 
 
-def put_into(page, text):
+def put_into(page: pathlib.Path, text: str) -> None:
     """Puts the section in the place of the one of its heading."""
     whole = page.read_text(encoding="utf-8")
     before, _, rest = whole.partition(HEADING + "\n")
@@ -232,7 +236,7 @@ def put_into(page, text):
     os.replace(beside, page)
 
 
-def words(reader):
+def words(reader: argparse.ArgumentParser) -> None:
     program.offer(reader)
     reader.add_argument(
         "--commit",
@@ -256,7 +260,7 @@ def words(reader):
     reader.add_argument("folder", nargs="?", metavar="FOLDER", help="where the file grows")
 
 
-def main(asked, reader):
+def main(asked: argparse.Namespace, reader: argparse.ArgumentParser) -> None:
     if asked.turns < 1 or asked.pieces[0] < 1:
         reader.error("there is at least one turn, and a piece")
     if asked.into and HEADING + "\n" not in asked.into.read_text(encoding="utf-8"):

@@ -2,7 +2,7 @@
 
 usage: dev/faults/run damage [--program FILE] [--boards N] [--pages N] [--seconds N] [--seed N] [--folder FOLDER]
 
-The file is that of the beginning of a shift (dev/lib/tracedesk_dev/shift.py). It is cut at the end of each of its pages, within some
+The file is that of the beginning of a shift (dev/tracedesk_dev/shift.py). It is cut at the end of each of its pages, within some
 of them, each page is filled with zeros in turn, and single bytes at random places get another value. So at most
 --pages of each (all pages of the file where it has fewer), and for at most --seconds. Of each damaged copy:
 
@@ -13,6 +13,7 @@ of them, each page is filled with zeros in turn, and single bytes at random plac
   No rule speaks of these, and no table but `accepted` has them, so the list is a lawful one.
 - the copy's bytes are unchanged if `audit` reported a fault.
 """
+import argparse
 import collections
 import contextlib
 import os
@@ -23,6 +24,7 @@ import sqlite3
 import subprocess
 import tempfile
 import time
+from typing import Any, Iterator
 
 from tracedesk_dev import program, shift, trial
 
@@ -32,7 +34,7 @@ FAULT = re.compile(
 )
 
 
-def rows_of(file):
+def rows_of(file: pathlib.Path) -> Any:
     """All rows of all tables, or none where stock SQLite finds the file unsound."""
     with contextlib.closing(
         sqlite3.connect(f"file:{file}?mode=ro&immutable=1", uri=True)
@@ -45,12 +47,12 @@ def rows_of(file):
             return None
 
 
-def judged_part(rows):
+def judged_part(rows: Any) -> Any:
     """The rows without the sources and own minutes of the commands."""
     return rows | {"accepted": [row[:2] + row[4:] for row in rows["accepted"]]}
 
 
-def made(asked, folder):
+def made(asked: argparse.Namespace, folder: pathlib.Path) -> Any:
     """A whole file, and how many commands it has."""
     file, said = pathlib.Path(folder, "whole"), shift.Shift(asked.seed, asked.boards, "L1").lines
     given = b"".join(it.text + b"\n" for it in said)
@@ -60,7 +62,7 @@ def made(asked, folder):
     return file, sum(it.wanted == "Accepted" for it in said)
 
 
-def damages(whole, page, asked):
+def damages(whole: bytes, page: int, asked: argparse.Namespace) -> Iterator[Any]:
     """Each damage: its kind, where it is, and the bytes."""
     chance, places = random.Random(asked.seed), list(range(0, len(whole), page))
     some = sorted(chance.sample(places, min(asked.pages, len(places))))
@@ -75,7 +77,7 @@ def damages(whole, page, asked):
         yield "a bit turned", within, bytes(changed)
 
 
-def judged(program, file, before, rows, count):
+def judged(program: str, file: pathlib.Path, before: Any, rows: Any, count: int) -> str:
     """What `audit` says of a damaged file; a text that begins with FOUND where that may not be."""
     try:
         done = subprocess.run(
@@ -97,11 +99,12 @@ def judged(program, file, before, rows, count):
     return f"FOUND status {done.returncode}, {done.stdout[:200]!r} {done.stderr[-300:]!r}"
 
 
-def tried(asked, folder):
+def tried(asked: argparse.Namespace, folder: pathlib.Path) -> int:
     whole_file, count = made(asked, folder)
     whole, rows = whole_file.read_bytes(), rows_of(whole_file)
     page = int.from_bytes(whole[16:18], "big")
-    told, wrong, begun = collections.defaultdict(collections.Counter), 0, time.monotonic()
+    told: dict[str, collections.Counter[str]] = collections.defaultdict(collections.Counter)
+    wrong, begun = 0, time.monotonic()
     all_files, ticks = 4 * min(asked.pages, len(whole) // page), program.Ticks()
     for done, (kind, at, damaged) in enumerate(damages(whole, page, asked)):
         ticks.tell(f"{done} of {all_files} damaged files")
@@ -127,7 +130,7 @@ def tried(asked, folder):
     return wrong
 
 
-def words(reader):
+def words(reader: argparse.ArgumentParser) -> None:
     program.offer(reader)
     reader.add_argument("--boards", type=int, default=12)
     reader.add_argument("--pages", type=int, default=1_000)
@@ -136,7 +139,7 @@ def words(reader):
     reader.add_argument("--folder", help="where the files are made")
 
 
-def main(asked, _reader):
+def main(asked: argparse.Namespace, _reader: argparse.ArgumentParser) -> int:
     asked.program = program.to_use(asked.program)
     with tempfile.TemporaryDirectory(prefix="damage-", dir=asked.folder) as folder:
-        return 1 if tried(asked, folder) else 0
+        return 1 if tried(asked, pathlib.Path(folder)) else 0

@@ -7,7 +7,7 @@ examples:
   dev/faults/run kills --kills 20 feed
 
 The parts, all of them where none is named:
-  feed    `feed --db` gets a shift of a line (dev/lib/tracedesk_dev/shift.py) as fast as it takes it, and is killed by SIGKILL at a
+  feed    `feed --db` gets a shift of a line (dev/tracedesk_dev/shift.py) as fast as it takes it, and is killed by SIGKILL at a
           random moment; one kill in ten hits `audit` in its place. It is killed --kills times (200), and begins a new
           shift on a new file whenever one is done.
   serve   the same with `serve`, over one connection, where the program has it.
@@ -24,212 +24,47 @@ shift is done, each table is that of a run that nothing disturbed. A run or an a
 seconds (120, by the environment) counts as a hang: give more on a machine that is busy with other things. Wanted are
 strace.
 """
+import argparse
 import collections
 import contextlib
 import http.client
-import json
 import os
 import pathlib
 import random
 import re
-import resource
-import select
-import shutil
 import signal
 import socket
-import sqlite3
 import subprocess
 import tempfile
-import threading
 import time
+from typing import Any, Iterator
 
-from tracedesk_dev import program, shift
+from tracedesk_dev import program
 from tracedesk_dev.program import ROOT
 from tracedesk_dev.trial import Difference as Found
-from tracedesk_dev.trial import free_port, has_serve, remove, rows_in
-
-PATIENCE = float(os.environ.get("PATIENCE", "120"))  # seconds for a run of audit, or for an answer
-LOGS = ("", "-wal", "-journal")  # the desk's file, and what it is whole with
-
-
-class Desk:
-    """A desk's file, the lines of its shift, and the answers that were given so far."""
-
-    def __init__(self, program, folder, seed, boards):
-        self.program, self.file = program, str(pathlib.Path(folder, "desk"))
-        self.said = shift.Shift(seed, boards, f"L{seed}").lines
-        self.answers, self.audits, self.seconds = [], 0, 0.0
-        numbers = [number for number, said in enumerate(self.said) if said.wanted == "Accepted"]
-        self.uids = [json.loads(self.said[number].text)["UniqueID"] for number in numbers]
-        self.clean = None
-        remove(self.file)
-
-    def done(self):
-        return len(self.answers) == len(self.said)
-
-    def acknowledged(self):
-        return sum(said.wanted == "Accepted" for said, _answer in zip(self.said, self.answers))
-
-    def take(self, first, answers):
-        """Takes in the answers to the lines from this one on, of which the first may be known already."""
-        for number, answer in enumerate(answers, first):
-            if number < len(self.answers):
-                known = self.answers[number]
-                if known.startswith(b'{"Answer":"Accepted"') and answer != known:
-                    raise Found(
-                        f"line {number + 1} was answered {known!r}, and sent again {answer!r}"
-                    )
-                continue
-            if answer != self.said[number].answer:
-                raise Found(
-                    f"line {number + 1}: wanted {self.said[number].answer[:300]!r}, got {answer[:300]!r}"
-                )
-            self.answers.append(answer)
-
-    def audit(self):
-        begun = time.monotonic()
-        done = run([self.program, "audit", "--db", self.file])
-        self.seconds = time.monotonic() - begun
-        self.audits += 1
-        return done
-
-    def look(self):
-        """Says how many commands there are more than were acknowledged: 0 or 1."""
-        done, acknowledged = self.audit(), self.acknowledged()
-        if acknowledged == 0 and done.stderr == b"tracedesk: NotADesk\n":
-            remove(self.file)
-            return 0
-        if done.returncode or not re.fullmatch(rb"lawful \d+\n", done.stdout):
-            raise Found(f"audit: status {done.returncode}, {done.stdout!r} {done.stderr!r}")
-        count = int(done.stdout.split()[1])
-        if not acknowledged <= count <= acknowledged + 1:
-            raise Found(f"{acknowledged} commands were acknowledged, and audit finds {count}")
-        rows = read(
-            self.file,
-            lambda it: it.execute("SELECT uid, detail FROM accepted ORDER BY number").fetchall(),
-        )
-        if [uid for uid, _detail in rows] != self.uids[:count]:
-            raise Found("the accepted commands are not those that were sent, in their order")
-        accepted = [
-            answer for said, answer in zip(self.said, self.answers) if said.wanted == "Accepted"
-        ]
-        if [detail.encode() for _uid, detail in rows[:acknowledged]] != accepted:
-            raise Found("an accepted command has not the answer that was given")
-        return count - acknowledged
-
-    def end(self):
-        """Compares the tables with those of a run that nothing disturbed."""
-        clean = self.file + ".clean"
-        remove(clean)
-        given = b"".join(said.text + b"\n" for said in self.said)
-        done = run([self.program, "feed", "--db", clean], given)
-        if done.stdout.splitlines() != self.answers:
-            raise Found("a run that nothing disturbed gives other answers")
-        if read(clean, rows_in) != read(self.file, rows_in):
-            raise Found("a run that nothing disturbed leaves other rows")
-        remove(clean)
-        remove(self.file)
-
-
-def run(words, given=b""):
-    try:
-        return subprocess.run(words, input=given, capture_output=True, timeout=PATIENCE)
-    except subprocess.TimeoutExpired:
-        raise Found(f"{' '.join(words[1:3])} had not ended after {PATIENCE} seconds")
-
-
-def read(file, look):
-    """What `look` finds in a copy of a file that no run has open."""
-    with tempfile.TemporaryDirectory() as room, contextlib.closing(
-        sqlite3.connect(shutil.copy(file, room))
-    ) as database:
-        return look(database)
-
-
-def kill(process):
-    """Kills a process that was started with a session of its own, and what it started."""
-    with contextlib.suppress(ProcessLookupError):
-        os.killpg(process.pid, signal.SIGKILL)
-    process.wait()
+from tracedesk_dev.trial import free_port, has_serve, remove
+from tracedesk_dev.fault_desks import (
+    Desk,
+    LOGS,
+    PATIENCE,
+    feed_for,
+    kill,
+    kill_audit,
+    limited,
+    plain,
+    serve_for,
+    small_disk,
+    talk,
+)
 
 
 # ---- kills -------------------------------------------------------------------------------------------------------
-def feed_for(desk, first, seconds):
-    """Lets `feed` take the lines from this one on for a while, then kills it, and gives the whole answers."""
-    with tempfile.TemporaryFile() as given, tempfile.TemporaryFile() as taken, tempfile.TemporaryFile() as told:
-        given.writelines(said.text + b"\n" for said in desk.said[first:])
-        given.seek(0)
-        words = [desk.program, "feed", "--db", desk.file]
-        process = subprocess.Popen(
-            words, stdin=given, stdout=taken, stderr=told, start_new_session=True
-        )
-        with contextlib.suppress(subprocess.TimeoutExpired):
-            process.wait(seconds)
-        ended = process.poll()
-        kill(process)
-        taken.seek(0)
-        told.seek(0)
-        if ended not in (None, 0, 1):
-            raise Found(f"feed ended by itself: status {ended}, {told.read()!r}")
-        return taken.read().split(b"\n")[:-1]
 
 
-def serve_for(desk, first, seconds):
-    """Posts the lines from this one on to `serve` for a while, then kills it, and gives the whole answers."""
-    port, answers = free_port(), []
-    words = [
-        desk.program,
-        "serve",
-        "--db",
-        desk.file,
-        "--port",
-        str(port),
-        "--connections",
-        "1000000",
-    ]
-    process = subprocess.Popen(
-        words, stdout=subprocess.DEVNULL, stderr=subprocess.DEVNULL, start_new_session=True
-    )
-    timer = threading.Timer(seconds, kill, [process])
-    timer.start()
-    try:
-        connection = None
-        for said in desk.said[first:]:
-            while connection is None and process.poll() is None:
-                with contextlib.suppress(OSError):
-                    socket.create_connection(("127.0.0.1", port)).close()
-                    connection = http.client.HTTPConnection("127.0.0.1", port, timeout=PATIENCE)
-                time.sleep(0.002)
-            connection.request("POST", "/messages", said.text)
-            answers.append(connection.getresponse().read())
-    except (OSError, http.client.HTTPException, AttributeError):
-        pass  # the kill
-    finally:
-        timer.cancel()
-        kill(process)
-    return answers
-
-
-def kill_audit(desk, seconds):
-    process = subprocess.Popen(
-        [desk.program, "audit", "--db", desk.file],
-        stdout=subprocess.DEVNULL,
-        stderr=subprocess.DEVNULL,
-        start_new_session=True,
-    )
-    with contextlib.suppress(subprocess.TimeoutExpired):
-        process.wait(seconds)
-    kill(process)
-
-
-def killed(asked, folder, take_for):
+def killed(asked: argparse.Namespace, folder: pathlib.Path, take_for: Any) -> str:
     """Kills so many times, or for so long; says what was seen."""
-    chance, begun, seen, seed = (
-        random.Random(asked.seed),
-        time.monotonic(),
-        collections.Counter(),
-        asked.seed,
-    )
+    chance, begun, seed = random.Random(asked.seed), time.monotonic(), asked.seed
+    seen: collections.Counter[str] = collections.Counter()
     desk, ticks = Desk(asked.program, folder, seed, asked.boards), program.Ticks()
     while seen["kills"] < asked.kills and time.monotonic() - begun < asked.seconds:
         ticks.tell(f"{seen['kills']} of {asked.kills} kills")
@@ -268,9 +103,11 @@ CALLS = "write,writev,pwrite64,pwritev,sendto,sendmsg,fdatasync,fsync"
 CALL = re.compile(r"^(?:(\d+) +)?(?:<\.\.\. (\w+) resumed>|(\w+)\((\d+)<([^>]*)>)(.*)$")
 
 
-def ordered(log, file):
+def ordered(log: Any, file: str) -> int:
     """Goes through strace's calls: how many Accepted answers went out, each after the sync of its commit."""
-    open_writes, written, answered, calls = set(), False, set(), {}
+    open_writes: set[str] = set()
+    written, answered = False, set()
+    calls: dict[Any, Any] = {}
     for line in log:
         match = CALL.match(line.rstrip("\n"))
         if not match:
@@ -297,13 +134,15 @@ def ordered(log, file):
     return len(answered)
 
 
-def traced(words, log, given=None, more=(), **how):
+def traced(
+    words: list[str], log: Any, given: Any = None, more: Any = (), **how: Any
+) -> subprocess.Popen[bytes]:
     """A process under strace."""
     trace = ["strace", "-f", "-qq", "-y", "-s", "400", "-e", f"trace={CALLS}", *more, "-o", log]
     return subprocess.Popen([*trace, *words], stdin=given, start_new_session=True, **how)
 
 
-def order(asked, folder):
+def order(asked: argparse.Namespace, folder: pathlib.Path) -> str:
     desk = Desk(asked.program, folder, asked.seed, 24)
     log, told = str(pathlib.Path(folder, "calls")), []
     with tempfile.TemporaryFile() as given, tempfile.TemporaryFile() as taken:
@@ -323,7 +162,7 @@ def order(asked, folder):
     return "; ".join(told)
 
 
-def order_of_serve(asked, folder, log):
+def order_of_serve(asked: argparse.Namespace, folder: pathlib.Path, log: Any) -> str:
     desk, port = Desk(asked.program, folder, asked.seed, 24), free_port()
     process = traced(
         [desk.program, "serve", "--db", desk.file, "--port", str(port), "--connections", "2"],
@@ -350,69 +189,9 @@ def order_of_serve(asked, folder, log):
 
 
 # ---- disks that stop ---------------------------------------------------------------------------------------------
-def answer_of(process):
-    """One line of a pipe, or none where the program has ended."""
-    line, end = b"", time.monotonic() + PATIENCE
-    while not line.endswith(b"\n"):
-        if not select.select([process.stdout], [], [], max(0, end - time.monotonic()))[0]:
-            raise Found(f"no answer after {PATIENCE} seconds")
-        byte = os.read(process.stdout.fileno(), 65_536)
-        if not byte:
-            return None
-        line += byte
-    return line[:-1]
 
 
-def talk(desk, start):
-    """Sends the lines one by one to what `start` starts, one that is Unavailable three times; gives the end's status, and what was told."""
-    with tempfile.TemporaryFile() as told:
-        process = start(
-            [desk.program, "feed", "--db", desk.file],
-            stdin=subprocess.PIPE,
-            stdout=subprocess.PIPE,
-            stderr=told,
-            bufsize=0,
-        )
-        refused = 0
-        try:
-            while not desk.done() and refused < 3:
-                process.stdin.write(desk.said[len(desk.answers)].text + b"\n")
-                answer = answer_of(process)
-                if answer is None:
-                    break
-                refused = refused + 1 if answer == b'{"Answer":"Unavailable"}' else 0
-                if not refused:
-                    desk.take(len(desk.answers), [answer])
-            process.stdin.close()
-        except BrokenPipeError:
-            pass
-        try:
-            process.wait(PATIENCE)
-        except subprocess.TimeoutExpired:
-            raise Found("the program did not end with its input")
-        finally:
-            kill(process)
-        told.seek(0)
-        return process.returncode, told.read().decode(errors="replace").strip()
-
-
-def plain(words, **how):
-    return subprocess.Popen(words, start_new_session=True, **how)
-
-
-def limited(size, ignored):
-    """A start under a limit on the size of files, whose signal is ignored or not."""
-
-    def limit():
-        signal.signal(signal.SIGXFSZ, signal.SIG_IGN if ignored else signal.SIG_DFL)
-        resource.setrlimit(resource.RLIMIT_FSIZE, (size, size))
-
-    return lambda words, **how: subprocess.Popen(
-        words, start_new_session=True, preexec_fn=limit, restore_signals=False, **how
-    )
-
-
-def failed(desk, how, start, seen):
+def failed(desk: Any, how: Any, start: Any, seen: Any) -> None:
     """One run that fails, what is found after it, and the next run, which doesn't fail."""
     status, told = talk(desk, start)
     if (
@@ -432,17 +211,7 @@ def failed(desk, how, start, seen):
     desk.end()
 
 
-def small_disk(folder, size):
-    """A folder on a file system of this size, or none where this user may not mount."""
-    room = pathlib.Path(folder, "small")
-    room.mkdir()
-    done = subprocess.run(
-        ["mount", "-t", "tmpfs", "-o", f"size={size}", "tmpfs", room], capture_output=True
-    )
-    return room if done.returncode == 0 else None
-
-
-def within(asked, turns, begun):
+def within(asked: argparse.Namespace, turns: Any, begun: float) -> Iterator[int]:
     """So many turns, and none once the time is up."""
     ticks = program.Ticks()
     for turn in range(turns):
@@ -452,13 +221,13 @@ def within(asked, turns, begun):
         yield turn
 
 
-def disk(asked, folder):
+def disk(asked: argparse.Namespace, folder: pathlib.Path) -> str:
     chance, begun, told = random.Random(asked.seed), time.monotonic(), []
     whole = Desk(asked.program, folder, asked.seed, 12)
     talk(whole, plain)
     size = os.path.getsize(whole.file)
     for ignored in (True, False):
-        seen = collections.Counter()
+        seen: collections.Counter[str] = collections.Counter()
         for _turn in within(asked, asked.turns, begun):
             limit = chance.randint(0, size)
             failed(
@@ -473,15 +242,17 @@ def disk(asked, folder):
     return "\n         ".join(told)
 
 
-def shown(seen):
+def shown(seen: Any) -> str:
     return f"{seen.pop('runs', 0)} runs; " + ", ".join(
         f"{count} {name}" for name, count in sorted(seen.items())
     )
 
 
-def full(asked, folder, size, chance, begun):
+def full(
+    asked: argparse.Namespace, folder: pathlib.Path, size: int, chance: Any, begun: Any
+) -> str:
     """A file system that is full, and has room later."""
-    seen = collections.Counter()
+    seen: collections.Counter[str] = collections.Counter()
     for _turn in within(asked, asked.turns, begun):
         room = small_disk(folder, chance.randint(65_536, 2 * size))
         if room is None:
@@ -512,7 +283,7 @@ PARTS = {
 }
 
 
-def parts(asked):
+def parts(asked: argparse.Namespace) -> int:
     """Runs the parts; a line for each. Says how many failed."""
     wrong = 0
     for name in asked.parts or PARTS:
@@ -528,7 +299,7 @@ def parts(asked):
     return wrong
 
 
-def words(reader):
+def words(reader: argparse.ArgumentParser) -> None:
     program.offer(reader)
     reader.add_argument("--kills", type=int, default=200)
     reader.add_argument(
@@ -544,7 +315,7 @@ def words(reader):
     reader.add_argument("parts", nargs="*", metavar="PART")
 
 
-def main(asked, reader):
+def main(asked: argparse.Namespace, reader: argparse.ArgumentParser) -> int:
     if set(asked.parts) - set(PARTS):
         reader.error(f"the parts are {', '.join(PARTS)}")
     if "order" in (asked.parts or PARTS):

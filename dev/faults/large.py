@@ -10,6 +10,7 @@ What a command reads and writes is counted by Linux, in /proc/PID/io: so the out
 The last hundred commands may move at most twice the bytes of a hundred that came after the first thousand, and an audit has to find
 the desk lawful.
 """
+import argparse
 import json
 import pathlib
 import shutil
@@ -21,12 +22,12 @@ from tracedesk_dev import program
 BATCH = 100
 
 
-def words(reader):
+def words(reader: argparse.ArgumentParser) -> None:
     program.offer(reader)
     reader.add_argument("commands", nargs="?", type=int, default=1_000_200, metavar="COMMANDS")
 
 
-def moved(process):
+def moved(process: subprocess.Popen[bytes]) -> int:
     """The bytes that the process read and wrote so far, those of its input and output too."""
     fields = dict(
         line.split(": ")
@@ -35,7 +36,7 @@ def moved(process):
     return int(fields["rchar"]) + int(fields["wchar"])
 
 
-def give(process, first, count):
+def give(process: subprocess.Popen[bytes], first: int, count: int) -> int:
     """Gives the run these commands and takes their answers: how many bytes moved meanwhile."""
     before = moved(process)
     for begin in range(first, first + count, BATCH):
@@ -50,6 +51,7 @@ def give(process, first, count):
             }
             for number in numbers
         ]
+        assert process.stdin and process.stdout
         process.stdin.write("".join(json.dumps(it) + "\n" for it in lines).encode())
         process.stdin.flush()
         for number in numbers:
@@ -59,7 +61,7 @@ def give(process, first, count):
     return moved(process) - before
 
 
-def main(asked, reader):
+def main(asked: argparse.Namespace, reader: argparse.ArgumentParser) -> int:
     if asked.commands < 2_000:
         reader.error("COMMANDS is 2,000 at least")
     its = program.to_use(asked.program)
@@ -76,6 +78,7 @@ def main(asked, reader):
         early = give(process, 1_001, BATCH)
         give(process, 1_101, asked.commands - BATCH - 1_100)
         late = give(process, asked.commands - BATCH + 1, BATCH)
+        assert process.stdin
         process.stdin.close()
         status = process.wait()
         audit = subprocess.run([its, "audit", "--db", desk], capture_output=True, text=True)

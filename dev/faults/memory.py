@@ -11,6 +11,7 @@ dev/faults/memory.c; without one --gate is told as skipped. A line for each test
 
 Some tests tell on standard error what a refusal came to. Where that never came, the test has failed: SHOWN names them.
 """
+import argparse
 import concurrent.futures
 import os
 import pathlib
@@ -18,6 +19,7 @@ import re
 import subprocess
 import sys
 import tempfile
+from typing import Any
 
 from tracedesk_dev import program
 from tracedesk_dev.trial import Difference as Found
@@ -30,7 +32,7 @@ OUT_OF_MEMORY = re.compile(
 SECONDS = 120  # for one run
 
 
-def told(library, tests, name, number):
+def told(library: Any, tests: Any, name: str, number: int) -> Any:
     """A run in which the allocation of this number is refused, with 0 none: whether it went well, and what it told."""
     try:
         done = subprocess.run(
@@ -49,7 +51,7 @@ def told(library, tests, name, number):
     return done.returncode == 0, done.stdout
 
 
-def refused(library, tests, name, number):
+def refused(library: Any, tests: Any, name: str, number: int) -> tuple[bool, str]:
     """Refuses one allocation: whether the test went well, and what it told."""
     is_well, text = told(library, tests, name, number)
     if not is_well and not OUT_OF_MEMORY.search(text):
@@ -57,7 +59,7 @@ def refused(library, tests, name, number):
     return is_well, text
 
 
-def tried(pool, library, tests, name):
+def tried(pool: Any, library: Any, tests: Any, name: str) -> str:
     """Refuses each allocation of a test; gives what came of it, in words."""
     is_well, text = told(library, tests, name, 0)
     if not is_well:
@@ -86,12 +88,12 @@ def tried(pool, library, tests, name):
     )
 
 
-def names_of(tests, word):
+def names_of(tests: Any, word: str) -> list[str]:
     listed = subprocess.run([tests, "--list"], capture_output=True, text=True, check=True).stdout
     return [name for name in re.findall(r"^(.*): test$", listed, re.M) if word in name]
 
 
-def proved(crate):
+def proved(crate: str) -> pathlib.Path:
     """The program of a crate's tests, which are proved and built first."""
     program.want_kit()
     program.tell("proving and building the tests")
@@ -108,18 +110,18 @@ def proved(crate):
     return built(crate)
 
 
-def built(crate):
+def built(crate: str) -> pathlib.Path:
     return program.CRATES / crate / "out" / f"{crate}_tests"
 
 
-def words(reader):
+def words(reader: argparse.ArgumentParser) -> None:
     reader.add_argument("--jobs", type=int, default=os.cpu_count() or 1)
     reader.add_argument("--gate", action="store_true")
     reader.add_argument("crate", nargs="?")
     reader.add_argument("word", nargs="?", default="")
 
 
-def main(words, reader):
+def main(words: argparse.Namespace, reader: argparse.ArgumentParser) -> int:
     if words.gate == (words.crate is not None):
         reader.error("a crate, or --gate")
     if words.crate and not (program.CRATES / words.crate / "src").is_dir():
@@ -140,7 +142,7 @@ def main(words, reader):
             check=True,
         )
         for crate, word in GATE.items() if words.gate else [(words.crate, words.word)]:
-            tests = (
+            tests: str | pathlib.Path = (
                 built(crate) if words.gate else os.path.abspath(ready) if ready else proved(crate)
             )
             if not program.can_run(tests):

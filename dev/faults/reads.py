@@ -9,6 +9,7 @@ examples:
 The first line is answered, the second never ends, and then the run has to say TooManyReads, with status 4, and to have
 read no further. It wants a C compiler, cc.
 """
+import argparse
 import os
 import pathlib
 import resource
@@ -36,12 +37,12 @@ ssize_t read(int file, void *to, size_t length) {
 """
 
 
-def words(reader):
+def words(reader: argparse.ArgumentParser) -> None:
     program.offer(reader)
     reader.add_argument("reads", nargs="?", type=int, metavar="READS")
 
 
-def main(asked, reader):
+def main(asked: argparse.Namespace, reader: argparse.ArgumentParser) -> int:
     if asked.reads is not None and asked.reads < 2_000_000:
         reader.error("READS is 2,000,000 at least")
     program.want("cc", "gcc libc6-dev")

@@ -1,5 +1,6 @@
 """Turns messages of another vocabulary into a desk's, by a table. tables.md says what a table has."""
 import contextlib
+import dataclasses
 import datetime
 import decimal
 import hashlib
@@ -7,9 +8,10 @@ import itertools
 import json
 import re
 
-from tracedesk import MESSAGES, OutOfRange, forms
+from tracedesk import MESSAGES, OutOfRange, forms, words
 
 WORDS = {it.WORD: it for it in MESSAGES}
+RECORDED = {it.partition(words.PREFIX)[2] for it in words.RECORDED}
 HOLE = re.compile(r"\{([^{}]*)\}")
 TIME = re.compile(r"(\d{4}-\d\d-\d\d)[Tt ](\d\d:\d\d:\d\d)(?:\.\d+)?(?:[Zz]|([+-]\d\d:\d\d))")
 NUMBER = "#"  # the place of an element in its list, from 1 on
@@ -78,26 +80,50 @@ def as_text(path, value):
 
 def elements(path, scope, number):
     """The elements of a list; NothingToSay of an empty one."""
-    found = found_at(path, scope, number)
-    if not isinstance(found, list):
-        raise NotMapped(f"{path} is no list")
+    found = listed(path, scope, number)
     if not found:
         raise NothingToSay(f"{path} is empty")
     return found
+
+
+def listed(path, scope, number):
+    found = found_at(path, scope, number)
+    if not isinstance(found, list):
+        raise NotMapped(f"{path} is no list")
+    return found
+
+
+def scopes_of(path, scope, number):
+    """The scope of each element of a list; of `LIST/*/LIST` those of the lists in each element of the first."""
+    outer, star, inner = path.partition("/*/")
+    scopes = [(*scope, it) for it in listed(outer, scope, number)]
+    if star:
+        scopes = [it for one in scopes for it in scopes_of(inner, one, number)]
+    return scopes
 
 
 # --- Forms: what a member is made of. Each is called with the scope and the number of the element.
 
 
 class Text:
-    """A text, in which {PATH} stands for the value there."""
+    """A text, in which {PATH} stands for the value there, and {PATH|OTHER} for OTHER where there is none."""
 
     def __init__(self, text):
         self.text = text
         self.paths = HOLE.findall(text)
 
     def made(self, scope, number):
-        return HOLE.sub(lambda it: as_text(it[1], found_at(it[1], scope, number)), self.text)
+        def value(hole):
+            path, has_other, other = hole[1].partition("|")
+            try:
+                found = found_at(path, scope, number)
+            except NotMapped:
+                if has_other:
+                    return other
+                raise
+            return as_text(path, found)
+
+        return HOLE.sub(value, self.text)
 
 
 class Number:
@@ -143,10 +169,10 @@ class Each:
         self.path, self.form = path, form
 
     def made(self, scope, number):
-        return [
-            self.form.made((*scope, it), at)
-            for at, it in enumerate(elements(self.path, scope, number), 1)
-        ]
+        scopes = scopes_of(self.path, scope, number)
+        if not scopes:
+            raise NothingToSay(f"{self.path} is empty")
+        return [self.form.made(it, at) for at, it in enumerate(scopes, 1)]
 
 
 class OrNone:
@@ -249,24 +275,50 @@ def row_of(place, given, names, kind):
     return Members(kind, made_of)
 
 
-class Entry:
-    """How one message is made, or one for each element of a list."""
+class Where:
+    """Of which elements a message is made: those whose text is, or isn't, one of these."""
 
     def __init__(self, place, given, names):
-        word, uid, source, time, body, self.each = members_of(
-            place, given, "Word", "UniqueID", "Source", "TimeStamp", "Members", Each=None
+        text, texts, others = members_of(place, given, "Text", Is=None, IsNot=None)
+        self.text, self.texts = form_of(f"{place}, Text", text, names), others or texts
+        self.is_not = others is not None
+        if (texts is None) == (others is None) or not isinstance(self.texts, list):
+            raise BadTable(f"{place} has one list of texts, as Is or as IsNot")
+
+    def holds(self, scope, number):
+        return (self.text.made(scope, number) in self.texts) != self.is_not
+
+
+class Entry:
+    """How one message is made, or one for each element of a list, or for each of those that have a text in common."""
+
+    def __init__(self, place, given, names):
+        wanted = ("Word", "UniqueID", "Source", "TimeStamp", "Members")
+        more = {"Each": None, "By": None, "Where": None, "Once": False, "MachineReels": None}
+        word, uid, source, time, body, self.each, by, where, self.is_once, reels = members_of(
+            place, given, *wanted, **more
         )
         if not isinstance(word, str) or word not in WORDS:
             raise BadTable(f"{place}: {word!r:.100} is none of {', '.join(WORDS)}")
+        self.word = word
         if self.each is not None:
             path_of(place, self.each)
+        elif by is not None or where is not None or self.is_once:
+            raise BadTable(f"{place}: By, Where and Once are for entries with Each")
+        if not isinstance(self.is_once, bool):
+            raise BadTable(f"{place}: Once is true or false")
+        self.by = form_of(f"{place}, By", by, names) if by is not None else None
+        self.where = Where(f"{place}, Where", where, names) if where is not None else None
+        self.block = (self.each, json.dumps(by), id(self) if self.is_once or not self.each else 0)
+        self.reels = reels_of(f"{place}, MachineReels", reels, names, word)
         self.uid = form_of(f"{place}, UniqueID", uid, names)
         self.source, self.time = form_of(f"{place}, Source", source, names), form_of(
             f"{place}, TimeStamp", time, names
         )
         self.body = row_of(f"{place}, Members", body, names, WORDS[word])
         self.spelled = json.dumps(uid)
-        if self.each is not None and NUMBER not in getattr(self.uid, "paths", ()):
+        is_one = self.each is None or self.is_once
+        if not is_one and NUMBER not in getattr(self.uid, "paths", ()):
             raise BadTable(
                 f"{place}: the UniqueID has to have {{#}}, since there is a message for each element of {self.each}"
             )
@@ -274,9 +326,51 @@ class Entry:
     def one(self, scope, number):
         uid, source, time = (it.made(scope, number) for it in (self.uid, self.source, self.time))
         try:
-            return self.body.made(scope, number).message(source, unique_id=uid, at=moment(time))
+            made = self.body.made(scope, number).message(source, unique_id=uid, at=moment(time))
         except OutOfRange as fault:
             raise NotMapped(f"{self.body.kind.__name__}: {fault}") from None
+        return self.with_reels(made, scope, number) if self.reels else made
+
+    def with_reels(self, made, scope, number):
+        """An install with the reel that the machine names for each designator, where it names any. The desk skips that member."""
+        reels, told = [it or None for it in self.reels.made(scope, number)], json.loads(made.text)
+        names = told["MessageBody"]["Designators"]
+        if len(reels) != len(names):
+            raise NotMapped(f"MachineReels: {len(reels)} reels are named for {len(names)} pieces")
+        if any(reels):
+            told["MessageBody"]["MachineReels"] = reels
+        text = json.dumps(told, separators=(",", ":")).encode()
+        return dataclasses.replace(made, text=text)
+
+    def scopes(self, message):
+        """The scopes of its messages, each with its number."""
+        if not self.each:
+            return [((message,), 0)]
+        its = [(message, it) for it in elements(self.each, (message,), 0)]
+        if self.by:
+            groups = {}
+            for number, it in enumerate(its, 1):
+                groups.setdefault(self.by.made(it, number), []).append(it[-1])
+            its = [(message, {"By": name, "Of": all_}) for name, all_ in groups.items()]
+        return [(it, number) for number, it in enumerate(its, 1)]
+
+    def guessed(self, message):
+        """What can be read of a message that gives none of the desk's: its kind, its machine, and its board or slot."""
+        body, known = {}, {name: form for name, form, _ in self.body.kind.MEMBERS}
+        for name in ("Machine", "Board", "Slot", "Reel"):
+            with contextlib.suppress(Exception):
+                body[name] = self.body.made_of[known[name]].made((message,), 0)
+        return {"MessageName": f"TraceDesk.{self.word}", "MessageBody": body}
+
+
+def reels_of(place, given, names, word):
+    """The form of the machine's reels, of an install."""
+    if given is None:
+        return None
+    if word != "MaterialsInstalled":
+        raise BadTable(f"{place}: it is for MaterialsInstalled")
+    path, each = members_of(place, given, "Each", "Make")
+    return Each(path_of(place, path), form_of(place, each, names))
 
 
 def moment(text):
@@ -347,24 +441,31 @@ class Table:
             raise NotMapped("it is no JSON object")
         return as_text(self.name, found_at(self.name, (message,), 0))
 
+    def report_of(self, message):
+        """What can be read of a message that gives none of the desk's; none where it has a name that gives no report, load, splice or unload."""
+        try:
+            entries = self.entries.get(self.name_of(message), ())
+        except NotMapped:
+            return {}
+        return next((it.guessed(message) for it in entries if it.word in RECORDED), None)
+
     def made(self, message):
         """The desk's messages that it gives, all or none; none where the table passes it over. Entries of the same list, one behind the
         other, are made element by element, and an element for which one of them has nothing to say gives none.
         """
         found = []
-        for each, entries in itertools.groupby(
-            self.entries.get(self.name_of(message), ()), lambda it: it.each or id(it)
-        ):
-            entries = list(entries)
+        its = self.entries.get(self.name_of(message), ())
+        for _, block in itertools.groupby(its, lambda it: it.block):
+            entries = list(block)
             with contextlib.suppress(NothingToSay):
-                scopes = (
-                    [(message, it) for it in elements(each, (message,), 0)]
-                    if entries[0].each
-                    else [(message,)]
-                )
-                for number, scope in enumerate(scopes, 1):
+                for scope, number in entries[0].scopes(message):
                     with contextlib.suppress(NothingToSay):
-                        found += [it.one(scope, number) for it in entries]
+                        its = [
+                            it for it in entries if not it.where or it.where.holds(scope, number)
+                        ]
+                        found += [it.one(scope, number) for it in its]
+                        if its and entries[0].is_once:
+                            break
         if len({it.unique_id for it in found}) < len(found):
             raise NotMapped("two of its messages have one UniqueID: look at the table")
         return found

@@ -79,7 +79,7 @@ CREATE TABLE IF NOT EXISTS untraced (
     reason     text NOT NULL,
     PRIMARY KEY (line, id)
 );
--- pieces that may be of another reel than placement says, as ops/recall has them
+-- pieces that may be of another reel than placement says, as ops/tracedesk-recall has them
 CREATE TABLE IF NOT EXISTS doubtful (
     line        text NOT NULL,
     board       text NOT NULL,

@@ -1,17 +1,17 @@
 """Random commands under outages, against a model of the operator's sheet: each acts once, or its loss is shown and asked for again."""
 import random
-import time
+from typing import Any
 
-from tracedesk_dev.program import Ticks
-from station_flows import REELS, accepted, folder, plant
-from station_random import LossySite
-from station_site import Difference, Operator, wait_for
+from station_operator import Operator
+from station_plant import REELS, accepted
+from station_random import losses_of
+from station_site import Site, wait_for
+from tracedesk_dev.trial import Difference
 
 COMMANDS, ROUND = 2_000, 20  # in all, and under one outage
 LOADS, TAKES = ("MaterialsLoaded", "MaterialsSpliced"), ("MaterialsScrapped", "CountsTaken")
 OUTAGES, AWAY = ("none", "losses", "desk", "proxy", "slow"), ("desk", "proxy", "slow")
 SLOTS = [(machine, slot) for machine in ("M1", "M2") for slot in ("1", "2", "10", "3")]
-
 # Does commands one behind the other, as a scanner in the scan field. Of each: what the strip said before its last code, what is
 # over the page behind it, and the messages that it made. A question is answered as the command says.
 DOES = """
@@ -31,13 +31,14 @@ const seen = () => ({ turn: Number(at("verdict").dataset.turn ?? 0), kind: at("v
   const told = [];
   for (const { codes, yes } of commands) {
     const before = new Set((await kept()).map((it) => it.uid));
+    if (codes[0] === scanned.code && codes[0].startsWith("A/")) { await scan("A/CANCEL"); } // an action twice counts once
     for (const code of codes.slice(0, -1)) { await scan(code); }
     const held = at("held").innerText, turn = seen().turn;
     await scan(codes.at(-1));
     let shown = seen();
     const asked = shown.kind === "ask" && shown.turn > turn;
     if (asked) { await scan(yes ? "A/ENTER" : "A/CANCEL"); }
-    told.push({ held, asked, shown, made: (await kept()).filter((it) => !before.has(it.uid)).map(({ uid, word, body }) => ({ uid, word, body })) });
+    told.push({ held, asked, shown, turn, made: (await kept()).filter((it) => !before.has(it.uid)).map(({ uid, word, body }) => ({ uid, word, body })) });
   }
   (await opened).close();
   done(told);
@@ -48,7 +49,7 @@ const seen = () => ({ turn: Number(at("verdict").dataset.turn ?? 0), kind: at("v
 class Command:
     """What somebody at the line means to do: the codes by the operator's sheet, and the message that they stand for."""
 
-    def __init__(self, dice):
+    def __init__(self, dice: random.Random) -> None:
         self.machine, self.slot = dice.choice(SLOTS)
         self.reel, self.number, self.yes = (
             dice.choice(REELS)[0],
@@ -68,10 +69,10 @@ class Command:
         if self.deed in ("UNLOAD", "OPEN", "SEAL", "BAKE") and dice.random() < 0.5:
             self.codes.reverse()
 
-    def message(self, held):
+    def message(self, held: str) -> Any:
         """The message that the operator expects; of a load the strip said before whether it loads or splices."""
-        on = {"Machine": self.machine, "Slot": self.slot}
-        return {
+        on: dict[str, Any] = {"Machine": self.machine, "Slot": self.slot}
+        messages: dict[str, Any] = {
             "LOAD": (LOADS["SPLICE" in held], {**on, "Reel": self.reel}),
             "UNLOAD": ("MaterialsUnloaded", on),
             "SCRAP": ("MaterialsScrapped", {**on, "Quantity": self.number}),
@@ -79,9 +80,10 @@ class Command:
             "SEAL": ("ReelSealed", {"Reel": self.reel}),
             "BAKE": ("ReelBaked", {"Reel": self.reel}),
             "COUNT": ("CountsTaken", {"Counts": [{"Reel": self.reel, "Quantity": self.number}]}),
-        }[self.deed]
+        }
+        return messages[self.deed]
 
-    def about(self):
+    def about(self) -> set[Any]:
         """The slot and the reel that it is about."""
         return {
             it
@@ -92,17 +94,19 @@ class Command:
             if it
         }
 
-    def __str__(self):
+    def __str__(self) -> str:
         return " ".join(self.codes)
 
 
 class Page:
     """The model: the messages that have no answer yet, as somebody knows them who saw each screen."""
 
-    def __init__(self):
-        self.waiting = []  # of (command, word, body), the oldest first
+    def __init__(self) -> None:
+        self.waiting: list[
+            tuple[Command, str, Any]
+        ] = []  # of (command, word, body), the oldest first
 
-    def is_same(self, command, word, body):
+    def is_same(self, command: Command, word: str, body: Any) -> Any:
         """Whether the last one about the same slot or reel is this very one."""
         last = next(
             (
@@ -112,9 +116,9 @@ class Page:
             ),
             None,
         )
-        return bool(last) and last[2] == body and (last[1] == word or {last[1], word} == set(LOADS))
+        return last and last[2] == body and (last[1] == word or {last[1], word} == set(LOADS))
 
-    def judged(self, command, told, is_away):
+    def judged(self, command: Command, told: Any, is_away: bool) -> Any:
         """Looks whether a command made its message, or its loss was shown; gives the message or None. Only `is_away`, with nobody to answer, is known which of the two it has to be."""
         word, body = command.message(told["held"])
         made, shown, is_same = told["made"], told["shown"], self.is_same(command, word, body)
@@ -127,6 +131,7 @@ class Page:
         is_lost = not made and (
             (told["asked"] and not command.yes)
             or (shown["kind"] == "fault" and "DROPPED" in shown["text"])
+            or (shown["turn"] > told["turn"] and shown["text"].startswith("✗ NOT SENT"))
         )
         is_kept = len(made) == 1 and made[0]["word"] in words and made[0]["body"] == body
         if is_away and shown["kind"] == "accepted":
@@ -144,18 +149,18 @@ class Page:
         return made[0] if is_kept else None
 
 
-def away(site, outage):
+def away(site: Site, outage: str) -> None:
     if outage == "desk":
         site.kill_desk()
     elif outage == "proxy":
         site.kill_nginx()
     elif outage == "slow":
         site.pause_desk()
-    site.losses.isOn = outage == "losses"
+    losses_of(site).isOn = outage == "losses"
 
 
-def back(site, outage):
-    site.losses.isOn = False
+def back(site: Site, outage: str) -> None:
+    losses_of(site).isOn = False
     if outage == "desk":
         site.start_desk()
     elif outage == "proxy":
@@ -164,15 +169,15 @@ def back(site, outage):
         site.resume_desk()
 
 
-def all_answered(it):
-    def answered():
+def all_answered(it: Operator) -> Any:
+    def answered() -> Any:
         scans = it.scans()
         return [scans] if all(scan["state"] == "answered" for scan in scans) else None
 
     return {scan["uid"]: scan for scan in wait_for("all scans are answered", answered)[0]}
 
 
-def taken(site, it, made):
+def taken(site: Site, it: Operator, made: Any) -> Any:
     """How many of these messages the desk accepted: each once, as it answered, and none that it refused."""
     by_uid, desk = all_answered(it), accepted(site)
     lacking = [uid for uid in made if uid not in by_uid]
@@ -186,7 +191,7 @@ def taken(site, it, made):
     return sum(desk[uid] for uid in made)
 
 
-def done(it, commands):
+def done(it: Operator, commands: Any) -> Any:
     told = it.page.execute_async_script(
         DOES, [{"codes": command.codes, "yes": command.yes} for command in commands]
     )
@@ -195,9 +200,12 @@ def done(it, commands):
     return told
 
 
-def one_round(site, it, dice, outage, count):
+def one_round(site: Site, it: Operator, dice: random.Random, outage: str, count: int) -> Any:
     """So many commands under an outage; then those that were lost once more, with the desk there. Gives how many messages were made, accepted and lost."""
-    commands, made, lost, page = [], [], [], Page()
+    commands: list[Command] = []
+    lost: list[Command] = []
+    made: list[str] = []
+    page = Page()
     for _ in range(count):
         commands.append(
             dice.choice(commands) if commands and dice.random() < 0.3 else Command(dice)
@@ -219,27 +227,3 @@ def one_round(site, it, dice, outage, count):
         made.append(message["uid"])
     it.seen()
     return len(made), taken(site, it, made), len(lost)
-
-
-def commands_under_outages(site, count=COMMANDS, seed=1):
-    """Random commands, a third of them as one before, while answers are lost, the desk or the proxy is killed or slow."""
-    dice, sums, begun, ticks = random.Random(seed), [0, 0, 0], time.monotonic(), Ticks()
-    with LossySite(site.program, folder(), dice) as lossy:
-        plant(lossy)
-        with Operator(lossy, size=(1024, 600)) as it:
-            it.ready()
-            it.page.set_script_timeout(600)
-            for turn in range(count // ROUND):
-                outage = OUTAGES[turn % len(OUTAGES)]
-                try:
-                    sums = [a + b for a, b in zip(sums, one_round(lossy, it, dice, outage, ROUND))]
-                except Difference as fault:
-                    raise Difference(f"seed {seed}, round {turn} ({outage}): {fault}") from None
-                ticks.tell(
-                    f"{ROUND * (turn + 1)} of {count} commands: {sums} messages, accepted, lost"
-                )
-    made, acted, lost = sums
-    return f"{count} commands under {count // ROUND} outages in {time.monotonic() - begun:.0f} s: {made} messages, {acted} accepted once, {lost} losses shown and scanned again"
-
-
-FLOWS = [commands_under_outages]

@@ -2,11 +2,13 @@
 import json
 import statistics
 import time
+from typing import Any
 
-import station_flows
-import station_looks
-import station_screens
-from station_site import SETUP, Difference, Operator, Site
+from station_looks import SCREENS
+from station_operator import Operator
+from station_plant import folder, long_line, plant
+from station_site import SETUP, Site
+from tracedesk_dev.trial import Difference
 
 A_DAY, KITS = 86_400, 300  # seconds; the second is the page's period of its sheets
 MILLION = 1_000_000
@@ -14,7 +16,7 @@ PERIODS = """return Promise.all([import("/station/model.js"), import("/station/s
     .then(([model, { USUAL }]) => [2, 4, 8].map((machines) => [model.period(machines, USUAL.connectionsADay), model.kitsADay(machines)]))"""
 
 
-def days(used_a_look, period, kits_a_day):
+def days(used_a_look: Any, period: float, kits_a_day: Any) -> Any:
     """How many days a million connections last."""
     return MILLION / (used_a_look * A_DAY / period + kits_a_day)
 
@@ -30,12 +32,12 @@ new MutationObserver(() => {
 }).observe(document.getElementById("verdict"), { attributes: true, childList: true, subtree: true });"""
 
 
-def to_a_verdict(site, scans=30):
+def to_a_verdict(site: Site, scans: Any = 30) -> Any:
     """Of each screen, at a line of twelve machines with 120 slots, the milliseconds from the Enter of a scan to the frame with its verdict, by the page's clock: loads and unloads in turn."""
-    machines, told = station_screens.long_line(site), {}
+    machines, told = long_line(site), {}
     with Operator(site) as it:
         it.ready().script(DRAWN)
-        for screen in station_looks.SCREENS:
+        for screen in SCREENS:
             it.go(screen)
             it.script("window.took = []")
             for turn in range(scans):
@@ -63,14 +65,14 @@ const answered = () => new Promise((resolve) => {
 """
 
 
-def many(it, count):
+def many(it: Operator, count: int) -> None:
     """So many scans in the scan field, each after the verdict of the one before."""
     it.page.set_script_timeout(1_800)
     if fault := it.page.execute_async_script(MANY, count):
         raise Difference(fault)
 
 
-def heap(it):
+def heap(it: Operator) -> Any:
     it.script("window.gc && gc()")
     return it.script("return performance.memory.usedJSHeapSize") / 1e6
 
@@ -78,7 +80,7 @@ def heap(it):
 SELDOM = 900  # connections a day: a page that may use so few looks each ten minutes
 
 
-def each_scan(site):
+def each_scan(site: Site) -> Any:
     """The connections of the desk that scans use up, each a second after the one before and after more than the cache keeps."""
     site.set_up({**SETUP, "connectionsADay": SELDOM})
     told = {}
@@ -101,16 +103,16 @@ def each_scan(site):
     return told
 
 
-def measure(program, scans):
+def measure(program: str, scans: Any) -> Any:
     """From scan to verdict on each screen, the tab's memory over so many scans, and the connections of a scan; the exit status."""
 
-    def say(name, value):
+    def say(name: str, value: Any) -> None:
         print(json.dumps({name: value}), flush=True)
 
-    with Site(program, station_flows.folder()) as site:
+    with Site(program, folder()) as site:
         say("from scan to verdict, milliseconds", to_a_verdict(site))
-    with Site(program, station_flows.folder()) as site:
-        station_flows.plant(site)
+    with Site(program, folder()) as site:
+        plant(site)
         with Operator(site) as it:
             it.ready()
             memory, answers = [round(heap(it), 1)], site.connections()

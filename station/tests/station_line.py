@@ -3,10 +3,13 @@ import csv
 import datetime
 import io
 import time
+from typing import Any, Callable
 
-from tracedesk_dev import shift
 import station_site
-from station_site import Difference
+from station_operator import Operator
+from station_site import Site
+from tracedesk_dev import shift
+from tracedesk_dev.trial import Difference
 
 WORDS = {
     "EMPTY": "EMPTY",
@@ -19,11 +22,11 @@ WORDS = {
 URGENT = ["EXPIRED", "EMPTY", "LOW", "EXPIRES"]
 
 
-def report(site, target):
+def report(site: Site, target: str) -> list[dict[str, str]]:
     return list(csv.DictReader(io.StringIO(site.report(target))))
 
 
-def life(minutes):
+def life(minutes: str) -> str:
     """A floor life as the page writes it."""
     if not minutes.isdigit():
         return {"unlimited": "no limit", "unbaked": "to be baked first"}[minutes]
@@ -37,14 +40,16 @@ def life(minutes):
     )
 
 
-def order(minutes):
+def order(minutes: str) -> int:
     return {"unlimited": 10**9, "unbaked": 2 * 10**9}.get(minutes) or int(minutes)
 
 
 class Slot:
     """A slot by the reports: `row` is its row of the screen, `states` what is wrong."""
 
-    def __init__(self, machine, slot, part, needed, reels, boards, expires):
+    def __init__(
+        self, machine: str, slot: str, part: str, needed: int, reels: Any, boards: int, expires: int
+    ) -> None:
         self.machine, self.slot, self.part, self.reels = machine, slot, part, reels
         pieces, ends = [int(it["remaining"]) for it in reels], [
             order(it["minutes_left"]) for it in reels
@@ -58,7 +63,7 @@ class Slot:
             for state, holds in (
                 ("EMPTY", not reels),
                 ("EXPIRED", self.life == 0),
-                ("LOW", reels and ends[0] > 0 and needed and self.boards < boards),
+                ("LOW", reels and ends[0] > 0 and needed and (self.boards or 0) < boards),
                 ("EXPIRES", 0 < self.life < expires),
                 ("OTHER", others),
                 ("OFF", not needed),
@@ -83,7 +88,7 @@ class Slot:
             " · ".join(WORDS[it] for it in self.states) or "OK",
         ]
 
-    def tile(self):
+    def tile(self) -> Any:
         """What stands on top of the screen where the slot needs a person: how urgent, and its words."""
         rank = min((URGENT.index(it) for it in self.states if it in URGENT), default=None)
         if rank is None:
@@ -92,7 +97,7 @@ class Slot:
         words = [
             {
                 "EXPIRED": f"EXPIRED{behind}",
-                "LOW": f"LOW: {self.boards}",
+                "LOW": f"LOW: {self.boards} {'board' if self.boards == 1 else 'boards'}",
                 "EXPIRES": f"EXPIRES {life(self.worst['minutes_left']) if self.worst else ''}",
             }.get(it, WORDS[it])
             for it in self.states
@@ -112,7 +117,7 @@ class Slot:
         ]
 
 
-def slots_of(site, machine, product, boards, expires):
+def slots_of(site: Site, machine: str, product: str, boards: int, expires: int) -> list[Slot]:
     """The slots of a machine in the order of its sheet, and behind them those that are on no row of it."""
     mounted = report(site, f"/slots?machine={machine}")
     sheet = list(
@@ -139,7 +144,7 @@ def slots_of(site, machine, product, boards, expires):
     ]
 
 
-def shown_rows(operator, machine):
+def shown_rows(operator: Operator, machine: str) -> Any:
     """The rows of a machine on the screen Line, over all its columns."""
     return operator.script(
         "return [...document.querySelectorAll('#main table')].filter((it) => it.dataset.machine === arguments[0]).flatMap((it) => [...it.tBodies[0].rows].map((row) => [...row.cells].map((cell) => cell.textContent)))",
@@ -147,13 +152,13 @@ def shown_rows(operator, machine):
     )
 
 
-def shown_tiles(operator):
+def shown_tiles(operator: Operator) -> Any:
     return operator.script(
         "return [...document.querySelectorAll('.urgent li:not(.more)')].map((it) => [...it.children].map((part) => part.textContent))"
     )
 
 
-def agreed(what, differs, seconds=25):
+def agreed(what: str, differs: Callable[[], str | None], seconds: float = 25) -> None:
     """Waits until nothing differs."""
     end = time.monotonic() + seconds * station_site.slower
     while (wrong := differs()) and time.monotonic() < end:
@@ -162,11 +167,18 @@ def agreed(what, differs, seconds=25):
         raise Difference(f"{what} and report differ: {wrong}")
 
 
-def line_is_as_reported(site, operator, machine="M1", product="CTRL-A", boards=50, expires=60):
+def line_is_as_reported(
+    site: Site,
+    operator: Operator,
+    machine: str = "M1",
+    product: str = "CTRL-A",
+    boards: int = 50,
+    expires: int = 60,
+) -> None:
     """Compares all cells of a machine on the screen Line with what the program's `report` says."""
     operator.go("line")
 
-    def differs():
+    def differs() -> Any:
         wanted, got = [
             it.row for it in slots_of(site, machine, product, boards, expires)
         ], shown_rows(operator, machine)
@@ -182,19 +194,26 @@ def line_is_as_reported(site, operator, machine="M1", product="CTRL-A", boards=5
     agreed(f"Line of {machine}", differs)
 
 
-def tiles_are_as_reported(site, operator, machines, product, boards, expires):
+def rank_of(found: Any) -> tuple[int, int]:
+    rank: tuple[int, int] = found[0]
+    return rank
+
+
+def tiles_are_as_reported(
+    site: Site, operator: Operator, machines: Any, product: str, boards: int, expires: int
+) -> Any:
     """Compares what stands on top of the screen Line, and gives how many slots need a person."""
 
-    def tiles():
+    def tiles() -> Any:
         found = [
             tile
             for machine in machines
             for it in slots_of(site, machine, product, boards, expires)
             if (tile := it.tile())
         ]
-        return [tile for _, tile in sorted(found, key=lambda it: it[0])]
+        return [tile for _, tile in sorted(found, key=rank_of)]
 
-    def differs():
+    def differs() -> Any:
         wanted, got = tiles(), shown_tiles(operator)
         more = operator.script("return document.querySelector('.urgent .more')?.textContent ?? ''")
         said = f"and {len(wanted) - len(got)} more" if len(wanted) > len(got) else ""
@@ -208,7 +227,7 @@ def tiles_are_as_reported(site, operator, machines, product, boards, expires):
     return len(tiles())
 
 
-def real_line(site, boards=60):
+def real_line(site: Site, boards: int = 60) -> Any:
     """A desk with the sheets, reels and messages of a shift's line, to the moment at which a reel has expired on its slot; the shift."""
     told = shift.Shift(
         boards=boards, day=datetime.datetime.now(datetime.timezone.utc).strftime("%Y-%m-%d")
@@ -229,7 +248,7 @@ def real_line(site, boards=60):
     return told
 
 
-def view(operator, width, height):
+def view(operator: Operator, width: int, height: int) -> None:
     """Gives the page a viewport of exactly so many pixels, as a browser in full screen has it."""
     operator.page.execute_cdp_cmd(
         "Emulation.setDeviceMetricsOverride",

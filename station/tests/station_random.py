@@ -6,16 +6,18 @@ import random
 import socket
 import threading
 import time
+from typing import Any
 
-from station_flows import accepted, agrees, folder, plant
-from station_hands import DISK
-from station_site import Difference, Operator, Site, free_ports, wait_for
+from station_operator import Operator, chain_of
+from station_plant import DISK, accepted, agrees, folder, plant
+from station_site import Site, free_ports, wait_for
+from tracedesk_dev.trial import Difference
+
 
 REELS = [f"K-{number}" for number in range(1, 9)] + ["K-99", "1000234"]
 SLOTS = [f"S/{machine}/{slot}" for machine in ("M1", "M2") for slot in ("1", "2", "10", "3", "77")]
 BATCH = 20  # sequences at one desk
 MEANT = 5  # a refusal may go by one of so many of the last deeds
-
 # Each state of the verdict that lasts longer than a task of the page, and each deed, in one list that outlives a reload.
 WATCH = (
     DISK
@@ -36,23 +38,23 @@ document.addEventListener('DOMContentLoaded', () => {
 class Losses(threading.Thread):
     """Stands between nginx and the desk: of each message it may lose the request, the answer or half of it, or be slow."""
 
-    def __init__(self, port, to, dice):
+    def __init__(self, port: Any, to: Any, dice: random.Random) -> None:
         super().__init__(daemon=True)
         self.to, self.dice, self.lost, self.isOn = to, dice, 0, False
         self.listener = socket.create_server(("127.0.0.1", port), backlog=64)
 
-    def run(self):
+    def run(self) -> None:
         with contextlib.suppress(OSError):
             while True:
                 threading.Thread(
                     target=self.serve, args=(self.listener.accept()[0],), daemon=True
                 ).start()
 
-    def serve(self, link):
+    def serve(self, link: Any) -> None:
         with link, contextlib.suppress(OSError, ValueError):
             request = b""
             while b"\r\n\r\n" not in request:
-                request += link.recv(65536) or exit_of(link)
+                request += received(link)
             head, _, body = request.partition(b"\r\n\r\n")
             length = next(
                 (
@@ -63,7 +65,7 @@ class Losses(threading.Thread):
                 0,
             )
             while len(body) < length:
-                body += link.recv(65536) or exit_of(link)
+                body += received(link)
             fate = (
                 self.dice.choice(["", "", "request", "answer", "half", "slow"])
                 if self.isOn and head.startswith(b"POST")
@@ -81,46 +83,55 @@ class Losses(threading.Thread):
                 link.sendall(answer[: len(answer) // 2] if fate == "half" else answer)
 
 
-def exit_of(link):
-    raise OSError(f"{link} ended")
+def received(link: socket.socket) -> bytes:
+    """The next bytes of a request; one that is broken off is no request."""
+    got = link.recv(65536)
+    if not got:
+        raise ValueError("broken off")
+    return got
+
+
+def losses_of(site: Site) -> Any:
+    """What loses answers at a site."""
+    return getattr(site, "losses")
 
 
 class LossySite(Site):
     """A site whose nginx reaches the desk through what loses answers."""
 
-    def __init__(self, program, where, dice):
+    def __init__(self, program: str, where: Any, dice: random.Random) -> None:
         (self.lossy_port,) = free_ports(1)
         super().__init__(program, where)
         self.losses = Losses(self.lossy_port, self.desk_port, dice)
         self.losses.start()
 
-    def write_proxy(self):
+    def write_proxy(self) -> None:
         super().write_proxy()
         file = self.room / "tracedesk.conf"
         file.write_text(
             file.read_text().replace(f"127.0.0.1:{self.desk_port}", f"127.0.0.1:{self.lossy_port}")
         )
 
-    def __exit__(self, *why):
-        super().__exit__(*why)
+    def __exit__(self, *_: object) -> None:
+        super().__exit__(*_)
         self.losses.listener.close()
 
 
 class Hands:
     """Random deeds at one page; each is noted before it is done."""
 
-    def __init__(self, site, it, dice):
+    def __init__(self, site: Site, it: Operator, dice: random.Random) -> None:
         self.site, self.it, self.dice = site, it, dice
 
-    def note(self, deed):
+    def note(self, deed: Any) -> None:
         self.it.script("window.note?.({ deed: arguments[0] })", deed)
 
-    def scan(self, *codes):
+    def scan(self, *codes: str) -> None:
         for code in codes:
             self.note(f"scan {code}")
             self.it.scan(code)
 
-    def deeds(self):
+    def deeds(self) -> Any:
         dice, slot, reel, number = (
             self.dice,
             self.dice.choice(SLOTS),
@@ -156,13 +167,12 @@ class Hands:
             ),
         ]
 
-    def escape(self):
+    def escape(self) -> None:
         self.note("escape")
         self.it.keys("\ue00c")
 
-    def touch(self):
+    def touch(self) -> None:
         """A touch somewhere, or on a button that is seen; at times twice."""
-        from selenium.webdriver import ActionChains
 
         self.note("touch")
         place = self.it.script(
@@ -175,31 +185,34 @@ class Hands:
         if self.it.script(
             "return document.elementFromPoint(...arguments)?.closest('a') === null", *place
         ):
-            chain = ActionChains(self.it.page)
+            chain = chain_of(self.it.page)
             for _ in range(self.dice.choice([1, 1, 2])):
                 chain.w3c_actions.pointer_action.move_to_location(*place).click()
             chain.perform()
 
-    def reload(self):
+    def reload(self) -> None:
         self.note("reload")
         self.it.page.get(f"{self.site.url}/station/?station=W1")
 
-    def host(self):
+    def host(self) -> None:
         machine, slot = self.dice.choice(SLOTS[:4] + SLOTS[5:9])[2:].split("/")
-        word, body = self.dice.choice(
-            [("MaterialsLoaded", {"Reel": self.dice.choice(REELS)}), ("MaterialsUnloaded", {})]
-        )
+        load = {"Reel": self.dice.choice(REELS)}
+        words: list[tuple[str, dict[str, str]]] = [
+            ("MaterialsLoaded", load),
+            ("MaterialsUnloaded", {}),
+        ]
+        word, body = self.dice.choice(words)
         self.site.say(word, {"Machine": machine, "Slot": slot, **body})
 
-    def sequence(self):
-        self.site.losses.isOn = self.dice.random() < 0.6
+    def sequence(self) -> None:
+        losses_of(self.site).isOn = self.dice.random() < 0.6
         for _ in range(self.dice.randint(6, 16)):
             deeds = self.deeds()
             self.dice.choices([deed for _, deed in deeds], [weight for weight, _ in deeds])[0]()
-        self.site.losses.isOn = False
+        losses_of(self.site).isOn = False
 
 
-def may_go(deeds, about):
+def may_go(deeds: Any, about: Any) -> Any:
     """Whether one of the last deeds says that a refusal about this was seen."""
     return any(
         deed in ("touch", "escape", "scan A/CANCEL") or deed.removeprefix("scan ") in about
@@ -207,7 +220,7 @@ def may_go(deeds, about):
     )
 
 
-def about_of(scan):
+def about_of(scan: Any) -> Any:
     """The codes whose scan says that a refusal of this was seen: its slot, else its reel."""
     body = (scan or {}).get("body", {})
     if "Slot" in body:
@@ -215,15 +228,12 @@ def about_of(scan):
     return {body.get("Reel"), *(it["Reel"] for it in body.get("Counts", []))}
 
 
-def judged(log, scans, desk):
+def judged(log: Any, scans: Any, desk: Any) -> Any:
     """Compares what the page showed with what the desk has; gives how many greens and reds were seen."""
-    by_uid, deeds, red, unseen, greens = (
-        {scan["uid"]: scan for scan in scans},
-        [],
-        set(),
-        set(),
-        set(),
-    )
+    by_uid, deeds = {scan["uid"]: scan for scan in scans}, []
+    red: set[str] = set()
+    unseen: set[str] = set()
+    greens: set[str] = set()
     for entry in log:
         if "deed" in entry:
             deeds.append(entry["deed"])
@@ -262,7 +272,7 @@ def judged(log, scans, desk):
     return len(greens), len(shown)
 
 
-def tried(site, it, dice):
+def tried(site: Site, it: Operator, dice: random.Random) -> Any:
     """One sequence, and what was seen of it."""
     before = {scan["uid"] for scan in it.scans()}
     it.seen()
@@ -291,7 +301,7 @@ def tried(site, it, dice):
     return len(new), *judged(log, new, desk)
 
 
-def batch(program, seed, count, seconds=None):
+def batch(program: str, seed: int, count: int, seconds: float | None = None) -> Any:
     """So many sequences at one desk; the sums of messages, greens and reds, sequences and losses."""
     dice, sums, done = random.Random(seed), [0, 0, 0], 0
     with LossySite(program, folder(), dice) as site:
@@ -313,20 +323,15 @@ def batch(program, seed, count, seconds=None):
                 except Difference as fault:
                     raise Difference(f"seed {seed}, sequence {done}: {fault}") from None
                 done += 1
-        return [*sums, done, site.losses.lost]
+        return [*sums, done, losses_of(site).lost]
 
 
-def words(sums):
+def words(sums: Any) -> Any:
     messages, greens, reds, done, lost = sums
     return f"{done} sequences, {messages} messages, {lost} requests and answers lost: {greens} greens, each at the desk; {reds} refusals, each shown until it was seen"
 
 
-def a_few_random_hands(site):
-    """The short form."""
-    return words(batch(site.program, 1, 3, 6))
-
-
-def run(program, count, jobs, seed):
+def run(program: str, count: int, jobs: int, seed: int) -> Any:
     """The long form: the exit status."""
     sums, failed, begun = [0] * 5, 0, time.monotonic()
     with concurrent.futures.ThreadPoolExecutor(jobs) as threads:
@@ -346,6 +351,3 @@ def run(program, count, jobs, seed):
                 )
     print(f"{sums[3]} passed, {failed} failed")
     return 1 if failed else 0
-
-
-FLOWS = [a_few_random_hands]

@@ -3,6 +3,7 @@ import base64
 import contextlib
 import datetime
 import http.client
+import importlib
 import json
 import os
 import pathlib
@@ -14,13 +15,14 @@ import subprocess
 import tempfile
 import time
 import uuid
+from typing import Any, Callable, Sequence
 
 from tracedesk_dev.trial import Difference, wanting
 
 ROOT = pathlib.Path(__file__).resolve().parents[2]
-PEOPLE = {"op": "senders", "office": "readers"}  # their passwords are their names
+PEOPLE = {"op": "senders", "office": "readers", "qm": "deciders"}  # their passwords are their names
 CERTIFICATES = {"m2": "sender", "auditor": "reader"}
-SETUP = {
+SETUP: dict[str, Any] = {
     "title": "Line 1",
     "machines": [{"machine": "M1", "product": "CTRL-A"}, {"machine": "M2", "product": "CTRL-A"}],
     "boards": 50,
@@ -31,7 +33,7 @@ BOUNCE = 1.2  # seconds: the same action code within one is taken for one that w
 slower = 1  # each wait takes so many times as long: station-test --slower
 
 
-def missing():
+def missing() -> Any:
     """The packages of Debian that are wanting here, or none."""
     found = wanting(
         {
@@ -42,37 +44,40 @@ def missing():
         }
     )
     try:
-        import selenium  # noqa: F401
+        importlib.import_module("selenium")
     except ImportError:
         found.append("python3-selenium")
     return found
 
 
-def wait_for(what, holds, seconds=PATIENCE):
+def wait_for(what: str, holds: Callable[[], Any], seconds: float = PATIENCE) -> Any:
     """What `holds` gives once it is true."""
     end, pause = time.monotonic() + seconds * slower, 0.02
     while True:
+        found = None
         with contextlib.suppress(OSError, http.client.HTTPException):
-            if it := holds():
-                return it
+            found = holds()
+        if found:
+            return found
         if time.monotonic() > end:
             raise Difference(f"after {seconds * slower} seconds: not {what}")
         time.sleep(pause)
         pause = min(1.2 * pause, 0.25)
 
 
-def free_ports(count):
+def free_ports(count: int) -> list[int]:
     with contextlib.ExitStack() as held:
         links = [held.enter_context(socket.socket()) for _ in range(count)]
         for it in links:
             it.bind(("127.0.0.1", 0))
-        return [it.getsockname()[1] for it in links]
+        ports = [it.getsockname()[1] for it in links]
+    return ports
 
 
-def certificate(folder, name, subject, by=None):
+def certificate(folder: pathlib.Path, name: str, subject: str, by: str | None = None) -> None:
     """A key and a certificate for localhost; one that signs itself, or by another's key."""
     words = "openssl req -x509 -newkey ec -pkeyopt ec_paramgen_curve:P-256 -nodes -days 9 -addext subjectAltName=DNS:localhost"
-    signed = ["-CA", folder / f"{by}.crt", "-CAkey", folder / f"{by}.key"] if by else []
+    signed: list[Any] = ["-CA", folder / f"{by}.crt", "-CAkey", folder / f"{by}.key"] if by else []
     subprocess.run(
         [
             *words.split(),
@@ -92,42 +97,52 @@ def certificate(folder, name, subject, by=None):
 class Site:
     """A desk, its nginx, and what both write, in a folder that goes away."""
 
-    def __init__(self, program, folder=None):
+    def __init__(self, program: str, folder: str | None = None) -> None:
         self.program = program
         self.room = pathlib.Path(tempfile.mkdtemp(prefix="station-", dir=folder))
         self.port, self.desk_port, self.inner_port = free_ports(3)
-        self.desk = self.nginx = None
-        self.last_look = (
+        self.desk: Any = None
+        self.nginx: Any = None
+        self.last_look: Any = (
             lambda operator: None
         )  # what an operator looks at before the browser is closed
         self.agreed = 0
         self.drained = self.room / "drained"
-        for it in ("etc/station", "share", "log", "temporary", "line/untraced", "line/status"):
+        for it in (
+            "etc/station",
+            "share",
+            "log",
+            "temporary",
+            "line/untraced",
+            "line/status",
+            "line/decided",
+            "line/scans",
+        ):
             (self.room / it).mkdir(parents=True)
         (self.room / "share/station").symlink_to(ROOT / "station")
         self.set_up(SETUP)
         self.make_secrets()
         self.write_proxy()
 
-    def __enter__(self):
+    def __enter__(self) -> "Site":
         self.start_desk()
         self.start_nginx()
         return self
 
-    def __exit__(self, *_):
+    def __exit__(self, *_: object) -> None:
         self.stop_nginx()
         self.kill_desk()
         shutil.rmtree(self.room, ignore_errors=True)
 
     @property
-    def url(self):
+    def url(self) -> Any:
         return f"https://localhost:{self.port}"
 
-    def set_up(self, setup):
+    def set_up(self, setup: dict[str, Any]) -> None:
         self.setup = setup
         (self.room / "etc/station/setup.json").write_text(json.dumps(setup), encoding="utf-8")
 
-    def make_secrets(self):
+    def make_secrets(self) -> None:
         at = self.room / "etc"
         certificate(at, "server", "localhost")
         certificate(at, "clients", "trace desk clients")
@@ -138,19 +153,25 @@ class Site:
                 f'"~^CN={name}$" sender;\n' for name, may in CERTIFICATES.items() if may == "sender"
             )
         )
-        lines = {
-            name: f"{name}:{subprocess.run(['openssl', 'passwd', '-6', name], check=True, capture_output=True, text=True).stdout}"
+        self.make_users()
+
+    def make_users(self) -> None:
+        """Writes who may read, send and decide, with the passwords."""
+        at = self.room / "etc"
+        password = ["openssl", "passwd", "-6"]
+        self.lines = {
+            name: f"{name}:{subprocess.run([*password, name], check=True, capture_output=True, text=True).stdout}"
             for name in PEOPLE
         }
-        (at / "readers").write_text("".join(lines.values()))
-        (at / "senders").write_text(
-            "".join(line for name, line in lines.items() if PEOPLE[name] == "senders")
-        )
+        (at / "readers").write_text("".join(self.lines.values()))
+        (at / "deciders").write_text(self.lines["op"] + self.lines["qm"])
+        senders = [line for name, line in self.lines.items() if PEOPLE[name] == "senders"]
+        (at / "senders").write_text("".join(senders))
 
-    def sign(self, *how):
+    def sign(self, *how: str) -> None:
         certificate(self.room / "etc", *how)
 
-    def write_proxy(self):
+    def write_proxy(self) -> None:
         """The packaged configuration, with the paths and the ports of this folder."""
         text = (ROOT / "packaging/nginx.conf").read_text(encoding="utf-8")
         for old, new in (
@@ -182,7 +203,7 @@ class Site:
             f"http {{ include /etc/nginx/mime.types; default_type application/octet-stream; {temporary} include {self.room}/tracedesk.conf; }}\n"
         )
 
-    def proxy_words(self):
+    def proxy_words(self) -> Any:
         return [
             shutil.which("nginx", path=os.environ["PATH"] + ":/usr/sbin"),
             "-c",
@@ -191,21 +212,21 @@ class Site:
             self.room / "log/start.log",
         ]
 
-    def start_nginx(self):
+    def start_nginx(self) -> None:
         self.nginx = subprocess.Popen(self.proxy_words(), process_group=0)
         wait_for(
             "nginx listens",
             lambda: self.nginx.poll() is None
-            and socket.create_connection(("127.0.0.1", self.port), 1).close() is None,
+            and not socket.create_connection(("127.0.0.1", self.port), 1).detach() < 0,
         )
 
-    def stop_nginx(self):
+    def stop_nginx(self) -> None:
         if self.nginx:
             self.nginx.send_signal(signal.SIGTERM)
             self.nginx.wait()
             self.nginx = None
 
-    def shift_clock(self, millions):
+    def shift_clock(self, millions: int) -> None:
         """Puts the clock of the station's server so many million seconds ahead."""
         begins = [int(time.time()) // 10**6 + more for more in (0, 1)]
         (self.room / "clock.conf").write_text(
@@ -223,13 +244,13 @@ class Site:
         )
         time.sleep(0.5)
 
-    def kill_nginx(self):
+    def kill_nginx(self) -> None:
         """Ends nginx with its workers as a power cut does."""
         os.killpg(self.nginx.pid, signal.SIGKILL)
         self.nginx.wait()
         self.nginx = None
 
-    def start_desk(self, connections=1_000_000):
+    def start_desk(self, connections: int = 1_000_000) -> None:
         with open(self.room / "served.txt", "ab") as served:
             self.desk = subprocess.Popen(
                 [
@@ -246,13 +267,13 @@ class Site:
             )
         wait_for("the desk answers", lambda: self.get("/overdue"))
 
-    def kill_desk(self):
+    def kill_desk(self) -> None:
         if self.desk:
             self.desk.kill()
             self.desk.wait()
             self.desk = None
 
-    def pause_desk(self):
+    def pause_desk(self) -> None:
         """Stops the desk where it is; it may be in the midst of a checkpoint until the kernel says that it is stopped."""
         self.desk.send_signal(signal.SIGSTOP)
         wait_for(
@@ -260,14 +281,14 @@ class Site:
             lambda: "\nState:\tT" in pathlib.Path(f"/proc/{self.desk.pid}/status").read_text(),
         )
 
-    def resume_desk(self):
+    def resume_desk(self) -> None:
         self.desk.send_signal(signal.SIGCONT)
 
-    def connections(self):
+    def connections(self) -> int:
         """How many connections the desk has served."""
         return (self.room / "served.txt").read_bytes().count(b"\n")
 
-    def get(self, target):
+    def get(self, target: str) -> Any:
         """The body of a GET of the desk's own port."""
         link = http.client.HTTPConnection("127.0.0.1", self.desk_port, timeout=20)
         try:
@@ -276,7 +297,15 @@ class Site:
         finally:
             link.close()
 
-    def asked(self, method, path, user=None, body=None, certificate=None, **headers):
+    def asked(
+        self,
+        method: str,
+        path: str,
+        user: str | None = None,
+        body: str | bytes | None = None,
+        certificate: str | None = None,
+        **headers: str | None,
+    ) -> Any:
         """The status, the headers and the body of a request to nginx. A header is named with _ in place of -; one that is None isn't sent."""
         trust = ssl.create_default_context(cafile=self.room / "etc/server.crt")
         if certificate:
@@ -286,21 +315,26 @@ class Site:
         link = http.client.HTTPSConnection("localhost", self.port, timeout=30, context=trust)
         if method == "POST":
             headers = {"Content_Type": "application/json", **headers}
-        headers = {
+        given = {
             name.replace("_", "-"): value for name, value in headers.items() if value is not None
         }
         if user:
-            headers["Authorization"] = (
-                "Basic " + base64.b64encode(f"{user}:{user}".encode()).decode()
-            )
+            given["Authorization"] = "Basic " + base64.b64encode(f"{user}:{user}".encode()).decode()
         try:
-            link.request(method, path, body, headers)
+            link.request(method, path, body, given)
             answer = link.getresponse()
             return answer.status, dict(answer.getheaders()), answer.read().decode()
         finally:
             link.close()
 
-    def say(self, word, body, minutes_ago=0, source="host", uid=None):
+    def say(
+        self,
+        word: str,
+        body: Any,
+        minutes_ago: float = 0,
+        source: str = "host",
+        uid: str | None = None,
+    ) -> Any:
         """Has the desk take a message, and gives its answer."""
         at = datetime.datetime.now(datetime.timezone.utc) - datetime.timedelta(minutes=minutes_ago)
         told = {
@@ -317,7 +351,7 @@ class Site:
         finally:
             link.close()
 
-    def feed(self, lines):
+    def feed(self, lines: Sequence[bytes]) -> Any:
         """Gives a desk that doesn't run these lines."""
         return subprocess.run(
             [self.program, "feed", "--db", self.room / "desk"],
@@ -326,7 +360,7 @@ class Site:
             check=False,
         ).stdout
 
-    def report(self, target):
+    def report(self, target: str) -> str:
         """What the program's `report` says of a copy of the file and its log, while the desk is stopped for that moment."""
         self.pause_desk()
         try:
@@ -342,13 +376,13 @@ class Site:
         return done.stdout
 
 
-def browser(room, name, size=(1920, 1080)):
+def browser(room: pathlib.Path | str, name: str, size: tuple[int, int] = (1920, 1080)) -> Any:
     """A headless Chromium with a profile of its own, which outlives it."""
     from selenium import webdriver
     from selenium.common.exceptions import SessionNotCreatedException
     from selenium.webdriver.chrome.service import Service
 
-    options = webdriver.ChromeOptions()
+    options: Any = webdriver.ChromeOptions()
     options.binary_location = shutil.which("chromium")
     for it in (
         "--headless=new",
@@ -370,7 +404,8 @@ def browser(room, name, size=(1920, 1080)):
     ):  # a machine that has much to do may not begin it within the driver's minute
         try:
             page = webdriver.Chrome(
-                service=Service(shutil.which("chromedriver"), log_path=os.devnull), options=options
+                service=Service(str(shutil.which("chromedriver")), log_path=os.devnull),
+                options=options,
             )
             break
         except SessionNotCreatedException:
@@ -380,7 +415,7 @@ def browser(room, name, size=(1920, 1080)):
     return page
 
 
-def why_no_browser():
+def why_no_browser() -> str:
     """Why no browser begins here, or nothing where one does."""
     from selenium.common.exceptions import WebDriverException
 
@@ -390,171 +425,3 @@ def why_no_browser():
         except (WebDriverException, OSError) as fault:
             return str(fault).split("\n")[0]
     return ""
-
-
-SCANS = """
-const done = arguments[arguments.length - 1], request = indexedDB.open("tracedesk-station");
-request.onsuccess = () => {
-  const all = request.result.transaction("scans").objectStore("scans").getAll();
-  all.onsuccess = () => { request.result.close(); done(all.result.filter((it) => it.state !== "notSent")); };
-};
-"""
-
-
-class Operator:
-    """Somebody with a scanner at a station."""
-
-    def __init__(self, site, name="W1", user="op", size=(1920, 1080), setup="", begin=True):
-        self.site, self.name, self.user, self.size, self.setup = site, name, user, size, setup
-        self.page = None
-        self.last = "", 0.0  # the last code, and when it was scanned
-        self.agrees = True  # whether its Line is compared with `report` at the end
-        if begin:
-            with contextlib.ExitStack() as kept:
-                kept.callback(self.close)
-                self.open()
-                kept.pop_all()
-
-    def __enter__(self):
-        return self
-
-    def __exit__(self, kind, *_):
-        try:
-            if kind is None and self.page and not self.setup:
-                self.site.last_look(self)
-        finally:
-            self.close()
-
-    def open(self, before=""):
-        """Begins the browser, logs in and waits until the page is there. `before` is a script that is run before those of each page."""
-        self.page = browser(self.site.room, f"profile-{self.name}", self.size)
-        if before:
-            self.page.execute_cdp_cmd("Page.addScriptToEvaluateOnNewDocument", {"source": before})
-        self.load()
-
-    def load(self, where=""):
-        log_in = self.site.url.replace("https://", f"https://{self.user}:{self.user}@")
-        self.page.get(f"{log_in}/station/icon.svg")
-        self.page.get(f"{self.site.url}/station/?station={self.name}{where}")
-        if not self.setup:
-            wait_for(
-                "the page is there",
-                lambda: self.script(
-                    "return document.querySelectorAll('#screens button').length === 5 && document.getElementById('state').textContent !== ''"
-                ),
-            )
-
-    def ready(self):
-        """Waits until the Line's reports are there."""
-        wait_for(
-            "the page has the desk's answers",
-            lambda: self.script(
-                "return document.body.dataset.asked === 'all' && document.getElementById('state').className === 'fresh'"
-            ),
-        )
-        return self
-
-    def close(self):
-        if self.page:
-            with contextlib.suppress(Exception):
-                self.page.quit()
-            self.page = None
-
-    def kill(self):
-        """Ends the browser as a power cut does."""
-        driver = self.page.service.process.pid
-        processes = subprocess.run(
-            ["ps", "-eo", "pid,ppid"], capture_output=True, text=True
-        ).stdout.split("\n")[1:]
-        below, pairs = {driver}, [tuple(map(int, it.split())) for it in processes if it.strip()]
-        for _ in range(6):
-            below |= {pid for pid, parent in pairs if parent in below}
-        for pid in below:
-            with contextlib.suppress(ProcessLookupError):
-                os.kill(pid, signal.SIGKILL)
-        self.page.service.process.wait()
-        self.page = None
-        for it in (self.site.room / f"profile-{self.name}").glob("Singleton*"):
-            it.unlink()
-
-    def script(self, text, *words):
-        return self.page.execute_script(text, *words)
-
-    def keys(self, *keys):
-        """What is typed, wherever the focus is."""
-        from selenium.webdriver import ActionChains
-
-        ActionChains(self.page).send_keys(*keys).perform()
-
-    def scan(self, *codes):
-        """Scans codes as a wedge does: letters and Enter; the same one not sooner than a hand does."""
-        from selenium.webdriver.common.keys import Keys
-
-        for code in codes:
-            if code == self.last[0]:
-                time.sleep(max(0, self.last[1] + BOUNCE - time.monotonic()))
-            self.keys(code + Keys.ENTER)
-            self.last = code, time.monotonic()
-
-    def text(self, name):
-        return self.script("return document.getElementById(arguments[0])?.innerText ?? ''", name)
-
-    def turn(self):
-        """The number of what the page showed last over its screens."""
-        return self.script("return Number(document.getElementById('verdict').dataset.turn ?? 0)")
-
-    def verdict(self, kinds=("accepted", "refused", "fault"), seconds=PATIENCE, after=0):
-        """The kind and the text of the verdict, once there is one of these kinds; `after` is the turn of what was there before."""
-
-        def shown():
-            kind, text, turn = self.script(
-                "const v = document.getElementById('verdict'); return v.hidden ? ['', '', 0] : [v.className, v.innerText, Number(v.dataset.turn)]"
-            )
-            return (kind, text) if kind in kinds and turn > after else None
-
-        return wait_for(f"a verdict of {kinds}: {self.text('verdict')!r}", shown, seconds)
-
-    def seen(self):
-        """Cancels until nothing is shown over the screens."""
-        from selenium.webdriver.common.keys import Keys
-
-        def hidden():
-            self.keys(Keys.ESCAPE)
-            return self.script("return document.getElementById('verdict').hidden")
-
-        wait_for("nothing is shown", hidden)
-
-    def does(self, *codes, kind="accepted", holds=()):
-        """Scans, and looks whether the verdict is of this kind and has these texts."""
-        after = self.turn() if codes else 0
-        self.scan(*codes)
-        got, text = self.verdict(
-            kinds=("accepted", "refused", "fault")
-            if kind in ("accepted", "refused", "fault")
-            else (kind,),
-            after=after,
-        )
-        lacking = [it for it in holds if it not in text]
-        if got != kind or lacking:
-            raise Difference(
-                f"{codes}: wanted {kind} with {lacking or 'no more'}, got {got}: {text!r}"
-            )
-        return text
-
-    def go(self, screen):
-        self.script("location.hash = arguments[0]", screen)
-        wait_for(
-            screen,
-            lambda: self.script("return document.getElementById('main').className") == screen,
-        )
-
-    def rows(self, table=0):
-        """The rows of a table of the page, as texts."""
-        return self.script(
-            "return [...(document.querySelectorAll('#main table')[arguments[0]]?.querySelectorAll('tbody tr') ?? [])].map((row) => [...row.cells].map((it) => it.textContent))",
-            table,
-        )
-
-    def scans(self):
-        """What the browser keeps of its scans."""
-        return self.page.execute_async_script(SCANS)

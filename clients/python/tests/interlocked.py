@@ -1,139 +1,113 @@
 #!/usr/bin/env python3
-"""Tries the interlock: from a refusal to `stop`, and kills of the sender at random moments, before something that answers as a desk does.
+"""Tries the interlock: from a refusal to `stop`, of the machine's own messages and of a tablet's; and kills of the sender at random moments.
 
-usage: clients/python/tests/interlocked.py [--kills N] [--refusals N] [--seed N]
+usage: clients/python/tests/interlocked.py [--kills N] [--refusals N] [--tablets N] [--seed N]
 
-The plant's command writes each call with its time. The machine of the test takes `go` only while the last call says so and is
-younger than half a second. A killed sender calls nothing more, so that the machine stops; one of five hangs before it is killed. A
-sender that is started again must say `stop` until a start of work is accepted.
+The sender is the package's, before a model of a desk. The plant's command writes each call with its time. The machine of the test takes
+`go` only while the last call says so and is younger than half a second. A killed sender calls nothing more, so that the machine stops;
+one of five hangs before it is killed. A sender that is started again must say `stop` until a start of work is accepted. A tablet talks
+to the desk alone; the sender reads of it in the list of scans that the proxy writes.
 
 examples:
-  clients/python/tests/interlocked.py --refusals 100
-  clients/python/tests/interlocked.py --kills 500 --refusals 1000
+  clients/python/tests/interlocked.py --refusals 100 --tablets 100
+  clients/python/tests/interlocked.py --kills 500 --refusals 1000 --tablets 1000
 
 A line every 20 rounds has the figures so far. Exit status: 0 each kill ended in stop; 1 one did not; 2 bad command line.
 """
+from __future__ import annotations
+
 import argparse
 import contextlib
-import http.server
 import json
-import pathlib
 import os
+import pathlib
 import random
 import signal
 import subprocess
 import sys
 import tempfile
-import threading
 import time
+from typing import Any, Callable, Dict, Iterator, List, Optional, Tuple, TypeVar
+
+from desk_model import Model, Server
 
 SENDER = pathlib.Path(__file__).resolve().parents[1] / "tracedesk-send"
 YOUNG = 0.5  # seconds that a call permits for
 PATIENCE = 600  # seconds for what must come: a machine may be busy
-
-
-class Desk(http.server.BaseHTTPRequestHandler):
-    protocol_version = "HTTP/1.1"
-
-    def log_message(self, *_):
-        """Nothing is said."""
-
-    def do_GET(self):
-        self.reply(200, b"slot,position,reel,part,lot,remaining,minutes_left\n")
-
-    def do_POST(self):
-        uid = json.loads(self.rfile.read(int(self.headers["Content-Length"])))["UniqueID"]
-        told = (
-            {"Answer": "Refused", "At": "C1", "Refusal": "ReelShort", "UniqueID": uid}
-            if uid.startswith("bad")
-            else {"Answer": "Accepted", "Number": 1, "UniqueID": uid}
-        )
-        self.server.answered[uid] = time.time()
-        self.reply(409 if "At" in told else 200, json.dumps(told, separators=(",", ":")).encode())
-
-    def reply(self, status, body):
-        self.send_response(status)
-        self.send_header("Content-Length", str(len(body)))
-        self.end_headers()
-        self.wfile.write(body)
-
-
-class Server(http.server.ThreadingHTTPServer):
-    def handle_error(self, *_):
-        """A sender that was killed is no news here."""
+Found = TypeVar("Found")
 
 
 class Plant:
-    """A sender, the file that its machine writes to, and the calls of its command."""
+    """A sender, the file that its machine writes to, a tablet, and the calls of the plant's command."""
 
-    def __init__(self, room):
+    def __init__(self, room: pathlib.Path) -> None:
         self.room, self.out, self.log, self.number = room, room / "out", room / "calls", 0
+        self.scans = room / "scans"
         self.out.mkdir()
+        self.scans.mkdir()
         self.log.touch()
         command = room / "permit"
         command.write_text(f'#!/bin/sh\necho "$(date +%s.%N) $2 $3" >> {self.log}\n')
         command.chmod(0o755)
-        self.server = Server(("127.0.0.1", 0), Desk)
-        self.server.answered = {}
-        threading.Thread(target=self.server.serve_forever, daemon=True).start()
-        self.words = [
-            sys.executable,
-            str(SENDER),
-            "--url",
-            f"http://127.0.0.1:{self.server.server_address[1]}",
-            "--spool",
-            str(room / "spool"),
-            "--rate",
-            "0",
-            "--follow",
-            str(self.out),
-            "--interlock",
-            str(command),
-            "--machine",
-            "M1",
-            "--every",
-            "0.1",
-            "--silence",
-            "3",
-        ]
+        self.server = Server(Model())
+        self.model = self.server.model
+        often = ["--rate", "0", "--every", "0.1", "--silence", "3"]
+        where = ["--url", self.server.url, "--spool", str(room / "spool")]
+        where += ["--follow", str(self.out), "--scans", str(self.scans)]
+        lock = ["--interlock", str(command), "--machine", "M1"]
+        self.words = [sys.executable, str(SENDER), *where, *lock, *often]
 
-    def start(self):
+    def start(self) -> None:
         self.sender = subprocess.Popen(
             self.words, stderr=subprocess.DEVNULL, start_new_session=True
         )
 
-    def kill(self):
-        """Kills the sender, and waits for a call of its command that goes on."""
+    def kill(self) -> None:
+        """Kills the sender. A call of its command that goes on is a session of its own."""
         self.sender.kill()
         self.sender.wait()
-        with contextlib.suppress(ProcessLookupError):
-            while True:
-                os.killpg(self.sender.pid, 0)
-                time.sleep(0.01)
+        time.sleep(0.05)
 
-    def say(self, word, kind="good"):
-        """The machine sends a message; its UniqueID."""
+    def end(self) -> None:
+        self.kill()
+        self.server.end()
+
+    def message(self, word: str, **body: Any) -> Dict[str, Any]:
         self.number += 1
-        uid = f"{kind}-{self.number}"
-        body = {"Machine": "M1", "Board": f"B{self.number}"}
-        told = {
+        return {
             "MessageName": f"TraceDesk.{word}",
-            "UniqueID": uid,
+            "UniqueID": f"u{self.number}",
             "Source": "M1",
-            "TimeStamp": "2026-03-02T06:00:00Z",
-            "MessageBody": body,
+            "TimeStamp": time.strftime("%Y-%m-%dT%H:%M:%SZ", time.gmtime()),
+            "MessageBody": {"Machine": "M1", **body},
         }
-        (self.out / "x.tmp").write_text(json.dumps(told))
-        (self.out / "x.tmp").rename(self.out / f"{self.number:09}.json")
-        return uid
 
-    def calls(self):
+    def say(self, *messages: Dict[str, Any]) -> str:
+        """The machine writes messages; the UniqueID of the last one."""
+        (self.out / "x.tmp").write_text("".join(json.dumps(it) + "\n" for it in messages))
+        (self.out / "x.tmp").rename(self.out / f"{self.number:09}.jsonl")
+        return str(messages[-1]["UniqueID"])
+
+    def tablet(self, word: str, **body: Any) -> str:
+        """A tablet says something to the desk, and the proxy writes it into its list."""
+        told = self.message(word, **body)
+        status, _ = self.model.say(json.dumps(told).encode())
+        with open(self.scans / "2026-03-02.jsonl", "a") as file:
+            print(json.dumps({"Status": str(status), "Message": json.dumps(told)}), file=file)
+        return str(told["UniqueID"])
+
+    def begin_board(self) -> None:
+        """The machine completes its board, and starts the next one."""
+        done = [self.message("WorkCompleted", Board=self.model.board)] if self.model.board else []
+        self.say(*done, self.message("WorkStarted", Board=f"B{self.number}"))
+
+    def calls(self) -> Iterator[Tuple[float, str, str]]:
         """Each call of the command: when, the state, and the reason."""
         for line in self.log.read_text().splitlines():
-            at, state, reason = line.split(" ", 2)
-            yield float(at), state, reason
+            at, state, *reason = line.split(" ", 2)
+            yield float(at), state, " ".join(reason)
 
-    def wait_for(self, found):
+    def wait_for(self, found: Callable[[], Optional[Found]]) -> Found:
         end = time.monotonic() + PATIENCE
         while not (it := found()):
             if time.monotonic() > end:
@@ -141,37 +115,42 @@ class Plant:
             time.sleep(0.01)
         return it
 
-    def is_permitted(self):
+    def is_permitted(self) -> bool:
         last = list(self.calls())[-1:]
         return bool(last) and last[0][1] == "go" and time.time() - last[0][0] < YOUNG
 
-    def refusal(self):
-        """Seconds from the answer that refuses pieces to the call that stops."""
+    def refusal(self, from_tablet: bool) -> float:
+        """Seconds from the answer that refuses to the call that stops."""
         self.log.write_text("")
-        self.say("WorkStarted")
+        self.begin_board()
         self.wait_for(self.is_permitted)
-        uid = self.say("MaterialsInstalled", "bad")
-        self.wait_for(lambda: uid in self.server.answered)
-        answered = self.server.answered[uid]
-        return self.wait_for(
-            lambda: next(
-                (
-                    at - answered
-                    for at, state, reason in self.calls()
-                    if state == "stop" and f"B{self.number} refused: ReelShort" in reason
-                ),
-                None,
-            )
-        )
+        if from_tablet:
+            uid = self.tablet("MaterialsSpliced", Slot="1", Reel="WRONG")
+        else:
+            bad = self.message("MaterialsInstalled", Board=self.model.board, Designators=["9"])
+            uid = self.say(bad)
+        refused = self.wait_for(lambda: self.model.refused_at.get(uid))
 
-    def killed(self, chance):
+        def stopped() -> Optional[float]:
+            its = (at for at, state, _ in self.calls() if state == "stop" and at > refused)
+            return next(its, None)
+
+        took = self.wait_for(stopped) - refused
+        if from_tablet:
+            self.tablet("MaterialsUnloaded", Slot="1")
+            self.tablet("MaterialsLoaded", Slot="1", Reel=f"1-K{self.number}")
+        return took
+
+    def killed(self, chance: random.Random) -> bool:
         """Kills the sender around a start; whether the machine stops, and stays so until a start is accepted anew."""
         self.log.write_text("")
-        self.say("WorkStarted")
+        self.begin_board()
         if chance.random() < 0.7:
             self.wait_for(self.is_permitted)
         if chance.random() < 0.3:
-            self.say("MaterialsInstalled", chance.choice(("good", "bad")))
+            name = chance.choice(("1a", "9"))
+            board = self.model.board
+            self.say(self.message("MaterialsInstalled", Board=board, Designators=[name]))
         time.sleep(chance.uniform(0, 0.15))
         if chance.random() < 0.2:
             self.sender.send_signal(signal.SIGSTOP)
@@ -181,7 +160,7 @@ class Plant:
         time.sleep(YOUNG + 0.1)
         if self.is_permitted():
             return False
-        for it in self.out.glob("*.json"):
+        for it in self.out.glob("*.jsonl"):
             it.unlink()
         waits = list((self.room / "spool/waiting").glob("*.json"))
         self.start()
@@ -192,66 +171,71 @@ class Plant:
         )
 
 
-def figures(kills, stopped, took):
-    took = sorted(took)
-    return {
-        "kills": kills,
-        "stopped": stopped,
-        "refused": len(took),
-        **(
-            {"median": took[len(took) // 2], "99th": took[len(took) * 99 // 100], "most": took[-1]}
-            if took
-            else {}
-        ),
-    }
+def figures(kills: int, stopped: int, took: Dict[str, List[float]]) -> Dict[str, Any]:
+    found: Dict[str, Any] = {"kills": kills, "stopped": stopped}
+    for name, its in took.items():
+        if its := sorted(its):
+            found[f"refused by {name}"] = len(its)
+            found[f"{name}: median"] = its[len(its) // 2]
+            found[f"{name}: 99th"] = its[len(its) * 99 // 100]
+            found[f"{name}: most"] = its[-1]
+    return found
 
 
-def shown(told):
+def shown(told: Dict[str, Any]) -> str:
     return ", ".join(
         f"{name} {it:.3f} s" if isinstance(it, float) else f"{name} {it}"
         for name, it in told.items()
     )
 
 
-def run(kills, refusals, seed, say=lambda line: None):
+def run(
+    kills: int,
+    refusals: int,
+    tablets: int,
+    seed: int,
+    say: Callable[[str], None] = lambda line: None,
+) -> Dict[str, Any]:
     """How many kills ended in stop, and the seconds from refusals to stop. Kills come between the refusals; `say` takes the figures so far."""
     chance = random.Random(seed)
-    with tempfile.TemporaryDirectory() as room:
+    took: Dict[str, List[float]] = {"machine": [], "tablet": []}
+    deeds = ["kill"] * kills + ["machine"] * refusals + ["tablet"] * tablets
+    chance.shuffle(deeds)
+    done = stopped = 0
+    with tempfile.TemporaryDirectory() as room, contextlib.ExitStack() as held:
         plant = Plant(pathlib.Path(room))
+        held.callback(plant.end)
         plant.start()
-        try:
-            took, done, stopped = [], 0, 0
-            for number in range(max(kills, refusals)):
-                while len(took) * max(kills, refusals) < refusals * (number + 1):
-                    took.append(plant.refusal())
-                if done * max(kills, refusals) < kills * (number + 1):
-                    done, stopped = done + 1, stopped + plant.killed(chance)
-                if number % 20 == 19:
-                    say(shown(figures(done, stopped, took)))
-            plant.say("WorkStarted")
-            plant.wait_for(plant.is_permitted)
-            plant.sender.terminate()
-            plant.sender.wait()
-            ended = list(plant.calls())[-1][1:]
-        finally:
-            plant.kill()
-            plant.server.shutdown()
-            plant.server.server_close()
+        for number, deed in enumerate(deeds):
+            if deed == "kill":
+                done, stopped = done + 1, stopped + plant.killed(chance)
+            else:
+                took[deed].append(plant.refusal(deed == "tablet"))
+            if number % 20 == 19:
+                say(shown(figures(done, stopped, took)))
+        plant.begin_board()
+        plant.wait_for(plant.is_permitted)
+        plant.sender.terminate()
+        plant.sender.wait()
+        ended = list(plant.calls())[-1][1:]
     if ended != ("stop", "the sender was ended"):
         raise AssertionError(f"after SIGTERM: {ended}")
     return figures(kills, stopped, took)
 
 
-def main():
+def main() -> int:
     reader = argparse.ArgumentParser(
         description=__doc__,
         formatter_class=argparse.RawDescriptionHelpFormatter,
         usage=argparse.SUPPRESS,
     )
-    for name, default in (("kills", 20), ("refusals", 50), ("seed", 1)):
+    for name, default in (("kills", 20), ("refusals", 50), ("tablets", 50), ("seed", 1)):
         reader.add_argument(f"--{name}", type=int, default=default, help=argparse.SUPPRESS)
     asked = reader.parse_args()
-    told = run(asked.kills, asked.refusals, asked.seed, lambda line: print(line, flush=True))
+    os.environ.pop("TRACEDESK_PASSWORD", None)
+    told = run(
+        asked.kills, asked.refusals, asked.tablets, asked.seed, lambda line: print(line, flush=True)
+    )
     print(shown(told))
     return 0 if told["stopped"] == told["kills"] else 1
 

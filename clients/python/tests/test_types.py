@@ -3,23 +3,16 @@ import os
 import pathlib
 import shutil
 import subprocess
-import unittest
+
+import pytest
 
 PACKAGE = pathlib.Path(__file__).resolve().parents[1] / "tracedesk"
 OLDEST = "3.8"
 
 
-class Types(unittest.TestCase):
-    @unittest.skipUnless(PACKAGE.is_dir(), "the package is one file here")
-    @unittest.skipUnless(shutil.which("mypy"), "there is no mypy of Debian")
-    def test_mypy_has_nothing_to_say(self):
-        done = subprocess.run(
-            ["mypy", "--strict", "--python-version", OLDEST, "--cache-dir", os.devnull, PACKAGE],
-            capture_output=True,
-            text=True,
-        )
-        self.assertEqual(done.returncode, 0, done.stdout + done.stderr)
-
-
-if __name__ == "__main__":
-    unittest.main()
+@pytest.mark.skipif(not PACKAGE.is_dir(), reason="the package is one file here")
+@pytest.mark.skipif(not shutil.which("mypy"), reason="there is no mypy: apt-get install mypy")
+def test_mypy_has_nothing_to_say() -> None:
+    words = ["--strict", "--python-version", OLDEST, "--cache-dir", os.devnull, str(PACKAGE)]
+    done = subprocess.run(["mypy", *words], capture_output=True, text=True)
+    assert done.returncode == 0, done.stdout + done.stderr

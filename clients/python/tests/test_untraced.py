@@ -1,18 +1,16 @@
-"""A refused report of work: it is recorded once, and not sent again unless a person decides so; and the interlock."""
+"""A refused report of work: it is recorded once, and not sent again unless a person decides so."""
+import base64
 import hashlib
 import json
 import pathlib
-import subprocess
 import tempfile
-import time
 import unittest
-from unittest import mock
 
-import interlocked
+import pytest
 import test_send
 import test_spool
 
-from tracedesk import answers, interlock, spool
+from tracedesk import answers, interlock, spool, untraced
 
 
 def work(uid, word="WorkStarted", **body):
@@ -57,6 +55,7 @@ class Untraced(test_send.Sending):
         self.server.slots, self.server.put = SLOTS, {}
         self.inbox, self.status = self.room / "inbox", self.room / "status"
         self.inbox.mkdir()
+        (self.room / "decided").mkdir()
         self.status.mkdir()
 
     def records(self, folder=None):
@@ -106,7 +105,7 @@ class Untraced(test_send.Sending):
         )
         machine = status["Machines"]["M1"]
         self.assertEqual(
-            (machine["State"], machine["LastRefused"]["Message"]["UniqueID"]), ("stop", "bad4")
+            (machine["State"], machine["LastRefused"]["Message"]["UniqueID"]), (None, "bad4")
         )
         self.assertTrue((self.inbox / f"{machine['LastRefused']['Id']}.json").exists())
         # the page's own command: the request waits again, the reports do not
@@ -179,7 +178,7 @@ class Untraced(test_send.Sending):
         self.assertEqual((done.returncode, len(self.waits())), (0, 1), done)
         self.send("--untraced", self.inbox)
         self.assertEqual((self.uids(), list((self.spool / "untraced").iterdir())), (["bad1"], []))
-        decided = [it for it in self.records() if it["Kind"] == "decided"]
+        decided = self.records(self.room / "decided")
         self.assertEqual(
             [(it["Became"], it["By"], it["Reason"]) for it in decided],
             [("sent again", "A. Person", "the splice was late")],
@@ -266,121 +265,73 @@ class Untraced(test_send.Sending):
                     return
         self.fail("more calls than expected")
 
-    def states(self, **how):
-        """An interlock of M1 whose start of board B1 was just accepted."""
-        it = interlock.Interlock(spool.Spool(self.room / "states"), ["M1"], "true", **how)
-        self.assertEqual(it.look()["M1"][0], "stop")
-        self.judge(it, work("u1"))
-        self.assertEqual(it.look()["M1"], ("go", "board B1 was started"))
-        self.assertEqual(it.told()["M1"]["Board"], "B1")
-        return it
 
-    def judge(self, it, text, says="Accepted", is_tried=False):
-        told = json.loads(text)
-        more = {"Number": 1} if says == "Accepted" else {"At": "1", "Refusal": "Expired"}
-        it.judged(
-            told["UniqueID"],
-            told,
-            answers.read(
-                json.dumps({"Answer": says, "UniqueID": told["UniqueID"], **more}).encode()
-            ),
-            is_tried,
-        )
-        return it.look()["M1"][0]
+UNREADABLE = {
+    "Latin-1": work("u1", Board="SN-1 Pr\u00fcf").replace(b"\\u00fc", b"\xfc"),
+    "cut": work("u1", Board="SN-2")[:-2],
+    "5,000 digits": work("u1", "MaterialsScrapped", Slot="1", Quantity=7).replace(
+        b"7}", b"7" * 5000 + b"}"
+    ),
+    "a raw tab": work("u1", Board="SN-3").replace(b"SN-3", b"SN-3\t"),
+    "NaN": work("u1", Board="N").replace(b'"N"', b"NaN"),
+    "no object": b"[]",
+    "a lone surrogate": work("u1", Board="SN-\ud83d"),
+}
 
-    def test_states_follow_the_answers(self):
-        it = self.states()
-        self.assertEqual(
-            self.judge(it, work("u2", "MaterialsInstalled", Designators=["C1"]), "Refused"), "stop"
-        )
-        self.assertEqual(
-            self.judge(it, work("u3", "MaterialsInstalled", Designators=["C2"])), "stop"
-        )
-        self.assertEqual(self.judge(it, work("u2", "MaterialsInstalled", Designators=["C1"])), "go")
-        self.assertEqual(self.judge(it, work("u4", "MaterialsLoaded", Slot="1"), "Refused"), "stop")
-        self.assertEqual(self.judge(it, work("u5", "MaterialsLoaded", Slot="1")), "go")
-        self.assertEqual(self.judge(it, work("u6", "WorkCompleted")), "stop")
-        self.assertEqual(self.judge(it, work("u7"), is_tried=True), "stop")
-        self.assertEqual(self.judge(it, work("u8")), "go")
-        # a start that waits, and one behind it
-        for number in (1, 2):
-            it.spool.put(work(f"w{number}", Board=f"W{number}"))
-        it.look_ahead(it.spool.names())
-        self.assertEqual(it.look()["M1"][0], "stop")
-        it.judged(
-            "000000000001", json.loads(work("w1", Board="W1")), answers.Accepted(1, "w1"), False
-        )
-        self.assertEqual(it.look()["M1"][0], "stop")
-        it.judged(
-            "000000000002", json.loads(work("w2", Board="W2")), answers.Accepted(1, "w2"), False
-        )
-        self.assertEqual(it.look()["M1"], ("go", "board W2 was started"))
-        # what nobody can read may be of any machine
-        it.judged("3", {}, answers.Faulty("NotJson"), False)
-        self.assertEqual(it.look()["M1"][0], "stop")
 
-    def test_silence_a_full_disk_and_a_clock_that_is_set_back_stop(self):
-        it, real = self.states(silence=5.0), (time.time, time.monotonic)
-        with mock.patch.object(
-            interlock.time, "monotonic", lambda: real[1]() + 6
-        ), mock.patch.object(interlock.time, "time", lambda: real[0]() + 6):
-            self.assertEqual(it.look()["M1"], ("stop", "no answer for 5 seconds"))
-            it.heard()
-            self.assertEqual(it.look()["M1"][0], "go")
-        it = self.states()
-        with mock.patch.object(
-            interlock, "write_synced", side_effect=OSError(28, "No space left on device")
-        ):
-            it.look_at_disk()
-        self.assertEqual(
-            it.look()["M1"], ("stop", "the spool can't be written: No space left on device")
-        )
-        it.look_at_disk()
-        self.assertEqual(it.look()["M1"][0], "go")
-        it.is_stuck = True
-        self.assertEqual(it.look()["M1"][0], "stop")
-        it = self.states()
-        with mock.patch.object(interlock.time, "time", lambda: real[0]() - 3600):
-            self.assertEqual(it.look()["M1"][0], "stop")
-        self.assertIn("clock was set back", it.look()["M1"][1])
+@pytest.mark.parametrize("what", UNREADABLE)
+def test_a_report_that_nobody_can_read_is_recorded(what, tmp_path):
+    """Byte for byte, and what can be read of it beside; and it isn't sent again."""
+    text, it = UNREADABLE[what], spool.Spool(tmp_path / "spool", name="m1")
+    faulty = answers.read(b'{"Answer":"Faulty","Fault":"NotJson"}')
+    with it.sending():
+        it.done(it.put(text), faulty, "2026-03-02T06:00:09Z")
+    (path,) = it.untraced.iterdir()
+    made = json.loads(path.read_bytes(), parse_constant=lambda text: pytest.fail(text))
+    assert base64.b64decode(made["Raw"]) == text
+    assert isinstance(made["Message"], dict)
+    board = made["Message"].get("MessageBody", {}).get("Board", "")
+    assert board.startswith("SN") == (what in ("Latin-1", "a raw tab", "a lone surrogate"))
+    assert it.is_report("000000000001")
+    with pytest.raises(spool.SpoolError):
+        it.again(["000000000001"])
 
-    def test_a_desk_that_goes_away_stops(self):
-        """Without messages the desk is asked for a sign of life: while it answers the machine may work."""
-        log = self.room / "calls"
-        command = self.room / "permit"
-        command.write_text(f'#!/bin/sh\necho "$2 $3" >> {log}\n')
-        command.chmod(0o755)
-        self.send("--put", "-", given=work("u1"))
-        running = subprocess.Popen(
-            self.words(
-                "--stay",
-                "--interlock",
-                command,
-                "--machine",
-                "M1",
-                "--every",
-                "0.2",
-                "--silence",
-                "1.5",
-            ),
-            stderr=subprocess.DEVNULL,
-        )
-        try:
-            self.wait_for(lambda: log.exists() and "go" in log.read_text())
-            time.sleep(3)
-            self.assertTrue(log.read_text().splitlines()[-1].startswith("go"))
-            self.server.shutdown()
-            self.server.server_close()
-            self.wait_for(
-                lambda: log.read_text().splitlines()[-1] == "stop no answer for 1.5 seconds"
-            )
-        finally:
-            running.kill()
-            running.wait()
 
-    def test_the_interlock_stops(self):
-        told = interlocked.run(kills=4, refusals=12, seed=1)
-        self.assertEqual((told["stopped"], told["refused"]), (4, 12), told)
+def test_a_report_that_is_too_long_has_a_record_that_is_not(tmp_path):
+    it, text = spool.Spool(tmp_path / "spool"), work("u1", Designators=["C1"] * 420_000)
+    with it.sending():
+        it.done(it.put(text), answers.LINE_TOO_LONG, "2026-03-02T06:00:09Z")
+    (path,) = it.untraced.iterdir()
+    made = json.loads(path.read_bytes())
+    assert path.stat().st_size < 100_000
+    assert (made["Size"], made["Sha256"]) == (len(text), hashlib.sha256(text).hexdigest())
+    assert made["Message"]["MessageBody"]["Board"] == "B1"
+
+
+class Inbox:
+    """A place that takes no record with a word in it."""
+
+    beside = None
+
+    def __init__(self, refused):
+        self.refused, self.names = refused, []
+
+    def put(self, name, text):
+        if self.refused in text:
+            raise untraced.NotPut("status 413")
+        self.names.append(name)
+
+
+def test_one_record_that_is_not_taken_holds_no_other_up(tmp_path):
+    it, told = spool.Spool(tmp_path / "spool"), []
+    for number in range(9):
+        it.keep_made(f"{number:032}", b'{"Kind":"refused","Board":%d}' % number)
+    it.keep_made("f" * 32, b'{"Kind":"decided"}')
+    line = untraced.Line(it, None, interlock.Interlock(it, []), Inbox(b"5"), None, told.append)
+    line.look()
+    assert len(line.inbox.names) == 8
+    assert sorted(path.stem[-1] for path in it.untraced.iterdir()) == ["5", "f"]
+    assert "2 records, the first" in told[0]
 
 
 for _name in [it for it in dir(test_send.Sending) if it.startswith("test_")]:

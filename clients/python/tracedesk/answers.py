@@ -7,7 +7,7 @@ import email.utils
 import enum
 import json
 import time
-from typing import Any, Dict, Optional, Tuple, Union
+from typing import Any, Dict, List, Optional, Tuple, Union
 
 from . import words
 
@@ -99,13 +99,27 @@ MEMBERS = {
 }
 
 
+def no_number(text: str) -> None:
+    raise ValueError(f"{text} is no number of JSON")
+
+
 def read_object(text: bytes) -> Dict[str, Any]:
-    """A JSON object; empty where the text is none."""
+    """A JSON object; empty where the text is none. NaN and Infinity are no JSON."""
     try:
-        told = json.loads(text)
+        told = json.loads(text, parse_constant=no_number)
     except (ValueError, RecursionError):
         return {}
     return told if isinstance(told, dict) else {}
+
+
+def read_list(text: bytes) -> Optional[List[Dict[str, Any]]]:
+    """A JSON list of objects; none where the text is none."""
+    try:
+        told = json.loads(text)
+    except (ValueError, RecursionError):
+        return None
+    is_list = isinstance(told, list) and all(isinstance(it, dict) for it in told)
+    return told if is_list else None
 
 
 def read(text: bytes, archived: bool = False) -> Optional[Answer]:

@@ -1,77 +1,215 @@
-"""Which machines may work: `go` only while the last start of work was accepted and answers come. Else `stop`, with the reason."""
+"""Which machines may work. `go` says that the desk was just asked, and that nothing speaks against it; else `stop`, with the reason."""
 from __future__ import annotations
 
-import shlex
-import subprocess
+import contextlib
+import dataclasses
+import json
+import socket
 import threading
 import time
-from typing import Any, Callable, Dict, List, Optional, Tuple
+from typing import Any, Dict, Iterator, List, Optional, Set
 
-from . import answers
+from . import answers, records, words
 from .records import utc
-from .spool import Spool, write_synced
+from .spool import Spool, SpoolError, write_synced
 
-EVERY = 2.0  # seconds between two calls of the plant's command with the same state
-LONGEST_CALL = 2.0  # seconds that a call may take
+EVERY = (
+    2.0  # seconds between two questions, and two calls of the plant's command with the same state
+)
 SILENCE = 10.0  # seconds without an answer, after which a machine is stopped
+LOOK = 0.1  # seconds between two looks at what waits
+PERIOD = 15  # seconds for which a status file counts
+MOST_DIFFERS = 10  # boards of a machine whose trace is in doubt, as the status has them
+MOST_KNOWN = 100_000  # UniqueIDs of scans that were seen
+HANDLING = ("MaterialsLoaded", "MaterialsSpliced", "MaterialsUnloaded")
+OF_A_MACHINE = {it.partition(words.PREFIX)[2] for it in words.RECORDED}
+OF_NOTHING = {it.WORD for it in words.MESSAGES} - OF_A_MACHINE
+AT_A_SLOT = (
+    "SlotEmpty",
+    "WrongPart",
+    "NotBaked",
+    "Expired",
+)  # refusals of a start that name a slot
+
+
+def clock() -> float:
+    """Seconds, also those of a suspend."""
+    return time.clock_gettime(time.CLOCK_BOOTTIME)
+
+
+@dataclasses.dataclass
+class Fault:
+    """Why a machine must not work. `cause` is a word of docs/interlock.md, and `minute` that of the message that opened it."""
+
+    cause: str
+    reason: str
+    slot: Optional[str] = None
+    reel: Optional[str] = None
+    refusal: Optional[str] = None
+    minute: str = ""
+    source: str = ""
+    line: int = 0  # of the list of scans: only a scan behind it can mend it
+    batch: int = 0  # of the same: only a batch behind it can
+    is_followed: bool = False  # whether its source scanned something behind it, which was accepted
+
+
+def idle(reason: str) -> Fault:
+    return Fault("idle", reason)
+
+
+def cut(known: Dict[str, Any]) -> None:
+    """Forgets the oldest."""
+    while len(known) > MOST_KNOWN:
+        del known[next(iter(known))]
+
+
+def no_slot(source: str = "") -> str:
+    """The place of a fault whose slot isn't known, or is on no sheet. No slot has this name, since none begins with a space."""
+    return f" {source}"
 
 
 class Machine:
-    """What is known of a machine: why it must not work, if anything."""
+    """What is known of a machine."""
 
     def __init__(self) -> None:
-        self.board: Optional[str] = None  # the board in work, by the last start that was accepted
-        self.idle = "the sender has begun: no start of work was accepted yet"
-        self.asked: Optional[str] = None  # the newest start that waits for its answer
-        self.faults: Dict[str, str] = {}  # what was refused since that start, and why
-        self.state, self.reason, self.since = "stop", self.idle, utc()
+        self.board: Optional[str] = None  # of the last start that was accepted
+        self.idle = idle("no start of work was accepted yet")
+        self.start: Optional[str] = None  # the newest start that waits for its answer
+        self.slots: Dict[str, Fault] = {}  # faults that a load, splice or unload of the slot mends
+        self.work: Dict[
+            str, Fault
+        ] = {}  # refused reports of work since the last start, by UniqueID
+        self.seen: Set[str] = set()  # slots that had a reel, and may be of the sheet
+        self.ends: Dict[
+            str, float
+        ] = {}  # when the floor life of a mounted reel is over, at the latest
+        self.found: Optional[Fault] = None  # what the last question found
+        self.found_for: Optional[str] = None  # the board that it was about
+        self.asked = -float("inf")  # when it was answered
+        self.asked_at: Optional[str] = None
+        self.last_start = ""  # the minute of the last start that was accepted
+        self.command_fault: Optional[str] = None
+        self.differs: List[Dict[str, Any]] = []
         self.last_refused: Optional[Dict[str, Any]] = None
+        self.state, self.since = "stop", utc()
 
-    def why(self) -> Optional[str]:
-        if self.asked:
-            return "a start of work waits for its answer"
-        if self.faults:
-            return list(self.faults.values())[-1]
-        return None if self.board is not None else self.idle
+    def fault(self) -> Optional[Fault]:
+        """What the answers say against work."""
+        if self.start:
+            return Fault("waiting", "a start of work waits for its answer")
+        for faults in (self.slots, self.work):
+            if faults:
+                return list(faults.values())[-1]
+        if self.board is None:
+            return self.idle
+        if self.found_for != self.board:
+            return Fault("waiting", f"the desk is asked about board {self.board}")
+        return self.found
+
+    def kept(self) -> Dict[str, Any]:
+        """What outlives the sender."""
+        return {
+            "Slots": {name: dataclasses.asdict(it) for name, it in self.slots.items()},
+            "Work": {name: dataclasses.asdict(it) for name, it in self.work.items()},
+            "Seen": sorted(self.seen),
+            "Differs": self.differs,
+            "LastStart": self.last_start,
+        }
+
+    def take_kept(self, told: Dict[str, Any]) -> None:
+        self.slots = {name: Fault(**it) for name, it in told["Slots"].items()}
+        self.work = {name: Fault(**it) for name, it in told["Work"].items()}
+        for it in (*self.slots.values(), *self.work.values()):
+            it.line = it.batch = 0
+        self.seen, self.differs = set(told["Seen"]), list(told["Differs"])
+        self.last_start = str(told["LastStart"])
 
 
 class Interlock:
-    """The states of machines. With a command, a thread of its own calls it at each change and every few seconds, as COMMAND MACHINE STATE REASON."""
+    """The states of machines, by what the sender, its questions and the list of scans say. `listed` are those whose command is called."""
 
     def __init__(
         self,
         spool: Spool,
         machines: List[str],
-        command: Optional[str] = None,
         silence: float = SILENCE,
         every: float = EVERY,
-        tell: Callable[[str], None] = lambda line: None,
+        is_used: bool = False,
     ) -> None:
-        self.spool, self.command, self.silence, self.tell = (
-            spool,
-            shlex.split(command or ""),
-            silence,
-            tell,
-        )
+        self.spool, self.silence, self.is_used = spool, silence, is_used
         self.every = min(every, silence / 2)
+        self.lock, self.changed = threading.RLock(), threading.Event()
         self.machines = {name: Machine() for name in machines}
-        self.listed, self.seen, self.answered = list(machines), 0, time.monotonic()
-        self.called: Dict[str, Tuple[str, str]] = {}
-        self.lock, self.calls = threading.RLock(), threading.Lock()
-        self.changed, self.wake = threading.Event(), threading.Event()
-        self.is_stuck, self.disk, self.ended, self.is_needed = False, "", "", bool(command)
-        self.clock = time.time() - time.monotonic()
+        self.listed, self.seen = list(machines), 0
+        self.waits: Dict[str, float] = {}  # what waits, and since when that is known
+        self.greatest = 0  # number of an accepted command
+        self.is_stuck, self.disk, self.ended, self.is_needed = False, "", "", is_used
+        self.scans_at: Optional[
+            float
+        ] = None  # when the list of scans was read; none if there is none
+        self.scan_place: Optional[List[Any]] = None  # how far it was read
+        self.batches = self.lines = 0
+        self.first_seen: Dict[str, int] = {}  # of each scan's UniqueID its first line
+        self.own: Dict[str, None] = {}  # UniqueIDs of loads, splices and unloads of this sender
+        self.ahead = time.time() - clock()
+        self.take_kept()
         for name, told in spool.last_refused().items():
             self.of(name).last_refused = told
 
     def of(self, name: str) -> Machine:
         return self.machines.setdefault(name, Machine())
 
+    # --- What outlives the sender: faults, and the slots of sheets
+
+    @property
+    def kept_at(self) -> Any:
+        return self.spool.folder / ".machines"
+
+    def take_kept(self) -> None:
+        with contextlib.suppress(OSError, ValueError, KeyError, TypeError, AttributeError):
+            told = json.loads(self.kept_at.read_bytes())
+            for name, it in told["Machines"].items():
+                self.of(name).take_kept(it)
+            self.greatest, self.scan_place = int(told["Greatest"]), told["Scans"]
+
+    def keep(self) -> None:
+        """Keeps it. A disk that takes nothing stops the machines, and is told elsewhere."""
+        if self.is_used:
+            with self.lock:
+                machines = {name: it.kept() for name, it in self.machines.items()}
+                told = {"Greatest": self.greatest, "Scans": self.scan_place, "Machines": machines}
+            with contextlib.suppress(OSError):
+                write_synced(self.kept_at, json.dumps(told).encode())
+
+    # --- One sender has a machine
+
+    @contextlib.contextmanager
+    def held(self, place: str) -> Iterator[None]:
+        """Holds a name for each machine of this desk, which the system gives to one process at a time."""
+        with contextlib.ExitStack() as stack:
+            for machine in self.listed if self.is_used else []:
+                it = stack.enter_context(socket.socket(socket.AF_UNIX, socket.SOCK_STREAM))
+                try:
+                    it.bind(f"\0tracedesk-send {place} {machine}"[:100].encode())
+                except OSError:
+                    raise SpoolError(
+                        f"machine {machine} of {place}: another sender has its interlock: "
+                        "end that one, or name another machine"
+                    ) from None
+            yield
+
     # --- What the sender says
 
     def look_ahead(self, names: List[str]) -> None:
-        """Sees starts of work that wait: until its answer a start is not accepted."""
-        for name in (it for it in names if self.is_needed and int(it) > self.seen):
+        """Sees what waits: from the moment that a start does, until its answer, there is no `go`."""
+        if not self.is_needed:
+            return
+        now = clock()
+        with self.lock:
+            self.waits = {it: self.waits.get(it, now) for it in names}
+        for name in names:
+            if int(name) <= self.seen:
+                continue
             self.seen = int(name)
             try:
                 told = self.spool.message(name)
@@ -79,144 +217,257 @@ class Interlock:
                 continue
             if answers.word_of(told) == "WorkStarted":
                 with self.lock:
-                    self.of(str(answers.body_of(told).get("Machine"))).asked = name
+                    for it in self.meant(told, answers.LINE_TOO_LONG):
+                        it.start = name
                 self.news()
 
-    def judged(
-        self, name: str, told: Dict[str, Any], answer: answers.Answer, is_tried: bool
-    ) -> None:
-        """Follows an answer. A start that a run before may have sent permits nothing: it may be of an earlier board."""
-        body, word = answers.body_of(told), answers.word_of(told)
-        machine = body.get("Machine")
+    def gone(self, name: str) -> None:
+        """A message that waited isn't there any more."""
         with self.lock:
-            for it in (
-                [self.of(machine)]
-                if isinstance(machine, str)
-                else []
-                if told
-                else list(self.machines.values())
-            ):
-                key = str(body.get("Slot") or told.get("UniqueID") or name)
-                is_newest = it.asked in (None, name)
+            for it in self.machines.values():
+                it.start = None if it.start == name else it.start
+
+    def meant(self, told: Dict[str, Any], answer: answers.Answer) -> List[Machine]:
+        """The machines that a message is about. One that the desk can't read may be about any."""
+        name, word = answers.body_of(told).get("Machine"), answers.word_of(told)
+        if isinstance(name, str) and (
+            name in self.listed or not isinstance(answer, answers.Faulty)
+        ):
+            return [self.of(name)]
+        if word in OF_NOTHING or (told and not word) or isinstance(answer, answers.Refused):
+            return []
+        return [self.of(it) for it in self.listed]
+
+    def judged(self, name: str, told: Dict[str, Any], answer: answers.Answer) -> None:
+        """Follows an answer. That of a message which was accepted before mends nothing, since it says nothing of now."""
+        word = answers.word_of(told)
+        with self.lock:
+            if word in HANDLING:
+                self.own[str(told.get("UniqueID"))] = None
+                cut(self.own)
+            for it in self.meant(told, answer):
+                is_new = self.is_new(it, told, answer)
                 if not answers.is_taken(answer):
-                    it.faults[
-                        key
-                    ] = f"{word or 'a message'} {body.get('Board', '')} {answers.short(answer)}".replace(
-                        "  ", " "
-                    )
-                elif (
-                    word == "WorkStarted"
-                    and is_newest
-                    and not is_tried
-                    and not answers.is_archived(answer)
-                ):
-                    it.board, it.faults = str(body.get("Board")), {}
-                elif word == "WorkCompleted" and body.get("Board") == it.board:
-                    it.board, it.idle = None, f"board {body.get('Board')} is completed"
-                else:
-                    it.faults.pop(key, None)
-                if is_newest and word == "WorkStarted":
-                    it.asked = None
+                    self.refuse(it, word, told, answer)
+                elif word in HANDLING:
+                    if is_new:
+                        self.mend(it, answers.body_of(told).get("Slot"), str(told.get("Source")))
+                elif word == "WorkStarted":
+                    self.begin_board(it, told, is_new)
+                elif word == "WorkCompleted" and answers.body_of(told).get("Board") == it.board:
+                    it.idle, it.board = idle(f"board {it.board} is completed"), None
+                if answers.is_taken(answer):
+                    it.work.pop(str(told.get("UniqueID")), None)
+                if word == "WorkStarted" and it.start == name:
+                    it.start = None
+            if isinstance(answer, answers.Accepted):
+                self.greatest = max(self.greatest, answer.number)
+        if word in OF_A_MACHINE or not answers.is_taken(answer):
+            self.keep()
         self.news()
+
+    def is_new(self, it: Machine, told: Dict[str, Any], answer: answers.Answer) -> bool:
+        """Whether an answer is the first to its message: of a later number, or, of a desk that was begun anew, of a later minute."""
+        if not isinstance(answer, answers.Accepted):
+            return False
+        if answer.number > self.greatest:
+            return True
+        known = [
+            it.last_start,
+            *(fault.minute for fault in (*it.slots.values(), *it.work.values())),
+        ]
+        return minute_of(told) > max(known)
+
+    def refuse(self, it: Machine, word: str, told: Dict[str, Any], answer: answers.Answer) -> None:
+        """Opens a fault: of a load, splice or unload at its slot."""
+        body, short = answers.body_of(told), answers.short(answer)
+        slot, reel = (body.get(name) for name in ("Slot", "Reel"))
+        fault = Fault(
+            "slot" if word in HANDLING else "refused",
+            " ".join(f"{word or 'a message'} {body.get('Board', '')} {short}".split()),
+            slot if isinstance(slot, str) else None,
+            reel if isinstance(reel, str) else None,
+            getattr(answer, "refusal", getattr(answer, "fault", None)),
+            source=str(told.get("Source")),
+        )
+        self.mark(fault, minute_of(told))
+        if word in HANDLING:
+            fault.reason = f"slot {slot}: {word} {reel or ''} {short}".replace("  ", " ")
+            it.slots[fault.slot or no_slot(fault.source)] = fault
+        else:
+            if isinstance(answer, answers.Refused) and answer.refusal in AT_A_SLOT:
+                fault.slot = answer.at if word == "WorkStarted" else fault.slot
+            it.work[str(told.get("UniqueID"))] = fault
+
+    def mark(self, fault: Fault, minute: str) -> None:
+        """Notes what a fault comes behind: an answer that is older mends nothing."""
+        fault.minute, fault.line, fault.batch = minute, self.lines, self.batches + 1
+
+    def begin_board(self, it: Machine, told: Dict[str, Any], is_new: bool) -> None:
+        it.board = str(answers.body_of(told).get("Board"))
+        it.found, it.found_for = None, None
+        if is_new:
+            it.work, it.last_start = {}, max(minute_of(told), it.last_start)
+
+    def mend(self, it: Machine, slot: Any, source: str, line: Optional[int] = None) -> None:
+        """A load, splice or unload of a slot was accepted: what was wrong with that slot is mended, and nothing else. A fault without
+        a slot of the sheet is mended by the next one of the same source."""
+        for name, fault in list(it.slots.items()):
+            if line is None or line > fault.line and self.batches > fault.batch:
+                fault.is_followed = fault.is_followed or fault.source == source
+                if name in (slot, no_slot(), no_slot(source)):
+                    del it.slots[name]
+
+    def differ(self, machine: str, told: Dict[str, Any]) -> None:
+        """The machine took another reel than the desk has for a piece. It is told again once the slot is known."""
+        with self.lock:
+            it, place = self.of(machine), told["Slot"] or no_slot()
+            if told["Slot"] and getattr(it.slots.get(no_slot()), "cause", "") == "differs":
+                del it.slots[no_slot()]
+            it.differs = [told, *(one for one in it.differs if one["Id"] != told["Id"])]
+            del it.differs[MOST_DIFFERS:]
+            reason = (
+                f"board {told['Board']}: the machine took reel {told['Machine']}, "
+                f"and the desk has {told['Desk']}"
+            )
+            if told["Known"] is False:
+                reason += ", and doesn't know the other"
+            it.slots[place] = Fault("differs", reason, told["Slot"], told["Machine"])
+            self.mark(it.slots[place], told["At"][:16])
+        self.keep()
+        self.news()
+
+    def off_sheet(self, machine: str, slot: str) -> None:
+        """The desk says that a slot isn't on the sheet, so no load of it can be accepted: its fault waits for the next scan of who caused it."""
+        with self.lock:
+            slots = self.of(machine).slots
+            fault = slots.pop(slot, None)
+            if fault and not fault.is_followed:
+                slots[no_slot(fault.source)] = fault
 
     def refused(self, machine: str, told: Dict[str, Any]) -> None:
         self.of(machine).last_refused = told
 
-    def heard(self) -> None:
-        """An answer came, and is on disk."""
-        was, self.answered = self.answered, time.monotonic()
-        if self.answered - was > self.silence:
+    def asked(self, machine: str, board: Optional[str], found: Optional[Fault]) -> None:
+        """The desk answered a question about a machine."""
+        with self.lock:
+            it = self.of(machine)
+            was = it.found
+            it.found, it.found_for, it.asked, it.asked_at = found, board, clock(), utc()
+        if was != found:
             self.news()
 
-    def is_due(self) -> bool:
-        """Whether the desk must be asked for a sign of life."""
-        return bool(self.command) and time.monotonic() - self.answered > self.silence / 3
+    def is_due(self, machine: str) -> bool:
+        """Whether the desk is to be asked about a machine."""
+        it = self.of(machine)
+        is_new = it.board is not None and it.found_for != it.board
+        return self.is_used and (is_new or clock() - it.asked >= self.every)
+
+    # --- What others said to the desk, as the proxy has seen it
+
+    def scanned(self, scans: List[Dict[str, Any]], place: List[Any]) -> None:
+        """Takes a batch of loads, splices and unloads, each with the status of its answer. A scan that was sent before a fault was
+        opened, and is answered again, mends nothing."""
+        is_news = False
+        with self.lock:
+            self.batches += 1
+            for told in scans:
+                self.lines += 1
+                message, status = told["Message"], told["Status"]
+                uid, body = str(message.get("UniqueID")), answers.body_of(message)
+                first = self.first_seen.setdefault(uid, self.lines)
+                name = body.get("Machine")
+                if told["IsOld"] or not isinstance(name, str):
+                    continue
+                it = self.machines.get(name)
+                if it is None or answers.word_of(message) not in HANDLING:
+                    continue
+                is_news = True
+                if status == 200:
+                    self.mend(it, body.get("Slot"), str(message.get("Source")), first)
+                elif status in (400, 409, 422) and not told["IsOwn"]:
+                    self.refuse_scan(it, message)
+            cut(self.first_seen)
+            self.scan_place, self.scans_at = place, clock()
+        if scans:
+            self.keep()
+        if is_news:
+            self.news()
+
+    def refuse_scan(self, it: Machine, message: Dict[str, Any]) -> None:
+        body = answers.body_of(message)
+        word, slot, reel = answers.word_of(message), body.get("Slot"), body.get("Reel")
+        reason = f"slot {slot}: {word} {reel or ''} of {message.get('Source')} was refused"
+        known = slot if isinstance(slot, str) else None
+        fault = Fault("slot", reason.replace("  ", " "), known, source=str(message.get("Source")))
+        fault.reel = reel if isinstance(reel, str) else None
+        fault.minute, fault.line = minute_of(message), self.lines
+        it.slots[known or no_slot(fault.source)] = fault
 
     def news(self) -> None:
-        self.wake.set()
         self.changed.set()
 
     # --- States
 
-    def state_of(self, it: Machine) -> Tuple[str, str]:
-        why = self.ended or self.disk or it.why()
-        if not why and self.is_stuck:
-            why = "messages can't be taken in"
-        if not why and self.command and time.monotonic() - self.answered > self.silence:
-            why = f"no answer for {self.silence:g} seconds"
-        return ("stop", why) if why else ("go", f"board {it.board} was started")
+    def why(self, it: Machine) -> Optional[Fault]:
+        """Why a machine must not work now; none if it may."""
+        now = clock()
+        if self.ended:
+            return Fault("ended", self.ended)
+        if why := self.disk or it.command_fault or "messages can't be taken in" * self.is_stuck:
+            return Fault("fault", why)
+        if fault := it.fault():
+            return fault
+        silent = f"no answer for {self.silence:g} seconds"
+        if now - it.asked > self.silence:
+            return Fault("silent", silent)
+        if self.scans_at is not None and now - self.scans_at > self.silence:
+            return Fault("silent", f"the list of scans: {silent}")
+        oldest = next(iter(self.waits.values()), now)
+        if now - oldest > self.silence:
+            return Fault("waiting", f"a message waits: {silent}")
+        return None
 
-    def look(self) -> Dict[str, Tuple[str, str]]:
-        """Of each machine its state and the reason."""
-        found = {}
+    def state(self, name: str) -> "State":
+        """The state of a machine now. Once the sender ends it takes no lock."""
+        it = self.machines[name]
+        if self.ended:
+            return State("stop", Fault("ended", self.ended), it.board)
         with self.lock:
-            clock = time.time() - time.monotonic()
-            if clock < self.clock - 1:
-                for it in self.machines.values():
-                    it.board, it.idle = (
-                        None,
-                        "the clock was set back: a start of work must be accepted anew",
-                    )
-            self.clock = clock
-            for name, it in self.machines.items():
-                state, reason = found[name] = self.state_of(it)
-                it.since = it.since if state == it.state else utc()
-                it.state, it.reason = state, reason
-        return found
+            ahead = time.time() - clock()
+            if ahead < self.ahead - 1:
+                for one in self.machines.values():
+                    one.board = None
+                    one.idle = idle("the clock was set back: a start of work must be accepted anew")
+            self.ahead = ahead
+            fault = self.why(it)
+            state = State("stop" if fault else "go", fault, it.board)
+            it.since = it.since if state.word == it.state else utc()
+            it.state = state.word
+        return state
 
     def told(self) -> Dict[str, Any]:
         """The machines, as the status has them."""
-        self.look()
-        with self.lock:
-            return {
-                name: {
-                    "Board": it.board,
-                    "LastRefused": it.last_refused,
-                    "Reason": it.reason,
+        found = {}
+        for name, it in list(self.machines.items()):
+            is_known = self.is_used and name in self.listed
+            state = self.state(name)
+            fault = state.fault or Fault("", state.reason)
+            with self.lock:
+                found[name] = {
+                    "State": state.word if is_known else None,
                     "Since": it.since,
-                    "State": it.state,
+                    "AskedAt": it.asked_at,
+                    "Board": it.board,
+                    "Cause": fault.cause or None if is_known else None,
+                    "Slot": fault.slot,
+                    "Reel": fault.reel,
+                    "Refusal": fault.refusal,
+                    "Reason": fault.reason,
+                    "LastRefused": it.last_refused,
+                    "Differs": list(it.differs),
                 }
-                for name, it in self.machines.items()
-            }
-
-    # --- The plant's command
-
-    def call(self, repeats: bool = True) -> None:
-        """Calls the command of each machine whose state is new, or of all."""
-        with self.calls:
-            for name in self.listed:
-                now = self.look()[name]
-                if repeats or now != self.called.get(name):
-                    self.called[name] = now
-                    try:
-                        subprocess.run(
-                            [*self.command, name, *now],
-                            stdin=subprocess.DEVNULL,
-                            stdout=subprocess.DEVNULL,
-                            timeout=LONGEST_CALL,
-                            check=True,
-                        )
-                    except (OSError, ValueError, subprocess.SubprocessError) as fault:
-                        self.tell(f"the interlock's command: {fault}")
-
-    def begin(self) -> None:
-        if self.command:
-            self.call()
-            threading.Thread(target=self.run, daemon=True).start()
-
-    def run(self) -> None:
-        """Calls the command until the sender ends. Whatever a call finds, the next one comes."""
-        repeat_at = time.monotonic() + self.every
-        while not self.ended:
-            self.wake.wait(max(0.0, repeat_at - time.monotonic()))
-            self.wake.clear()
-            try:
-                if repeats := time.monotonic() >= repeat_at:
-                    repeat_at = time.monotonic() + self.every
-                    self.look_at_disk()
-                self.call(repeats)
-            except Exception as fault:
-                self.tell(f"the interlock: {fault!r}")
+        return found
 
     def look_at_disk(self) -> None:
         """A disk that takes nothing stops the machines: no start of theirs could be kept."""
@@ -226,7 +477,20 @@ class Interlock:
         except OSError as fault:
             self.disk = f"the spool can't be written: {fault.strerror}"
 
-    def end(self, why: str = "the sender has ended") -> None:
-        if self.command:
-            self.ended = why
-            self.call()
+
+@dataclasses.dataclass
+class State:
+    """`go`, or `stop` and why."""
+
+    word: str
+    fault: Optional[Fault]
+    board: Optional[str]
+
+    @property
+    def reason(self) -> str:
+        return self.fault.reason if self.fault else f"board {self.board} is in work"
+
+
+def minute_of(told: Dict[str, Any]) -> str:
+    """The minute of a message in UTC, as text that sorts; empty where it has none."""
+    return records.in_utc(told.get("TimeStamp"))[:16]

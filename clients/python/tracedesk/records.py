@@ -5,17 +5,32 @@ killed. A spool makes records in its folder `untraced`. From there they are hand
 """
 from __future__ import annotations
 
+import base64
+import datetime
 import hashlib
 import json
+import re
 import time
 from typing import Any, Dict, Optional, Tuple
 
-from . import words
+from . import forms, words
+
+MOST_LISTED = 1_000  # elements of a list of a message that is too long
 
 
 def utc(seconds: Optional[float] = None) -> str:
     """A second of the clock, as a record has it: now, or another one."""
     return time.strftime("%Y-%m-%dT%H:%M:%SZ", time.gmtime(seconds))
+
+
+def in_utc(text: Any) -> str:
+    """The time of a message as a record has it, in UTC; empty where it is none that the desk reads."""
+    try:
+        at = datetime.datetime.fromisoformat(re.sub("[Zz]$", "+00:00", str(text)))
+        at = at.astimezone(datetime.timezone.utc) if at.tzinfo else at
+        return f"{at:%Y-%m-%dT%H:%M:%S}Z"
+    except (ValueError, OverflowError):
+        return ""
 
 
 def spelled(told: Dict[str, Any]) -> bytes:
@@ -31,10 +46,41 @@ def record(kind: str, by: str, at: str, **more: Any) -> Tuple[str, bytes]:
 
 
 def is_report(told: Dict[str, Any]) -> bool:
-    """Whether a message says what was done, and not what somebody asks for."""
-    return told.get("MessageName") in words.REPORTS_OF_WORK
+    """Whether a message says what was done, and not what somebody asks for. One that nobody can read may say so."""
+    name = told.get("MessageName")
+    return not isinstance(name, str) or name in words.REPORTS_OF_WORK
 
 
 def is_recorded(told: Dict[str, Any]) -> bool:
     """Whether a record is made of a message that isn't taken: a report of work, or a load, splice or unload, which may be sent again."""
-    return told.get("MessageName") in words.RECORDED
+    return is_report(told) or told["MessageName"] in words.RECORDED
+
+
+def as_read(text: bytes) -> Dict[str, Any]:
+    """What can be read of a message, also of one that is no strict JSON: odd bytes, raw tabs, NaN and long numbers become texts."""
+    try:
+        told = json.loads(
+            text.decode("utf-8", "replace"),
+            strict=False,
+            parse_constant=str,
+            parse_int=lambda digits: int(digits) if len(digits) < 20 else digits,
+        )
+    except (ValueError, RecursionError):
+        return {}
+    return told if isinstance(told, dict) else {}
+
+
+def kept_of(text: bytes, size: int) -> Dict[str, Any]:
+    """What a record has of a message: what was read, and each byte as it came. Of one that is too long for any desk it has the beginning
+    of each list, how long it is, and the SHA-256 of its bytes; these stay where the sender set them aside.
+    """
+    told = as_read(text)
+    if size <= forms.LONGEST_MESSAGE:
+        return {"Message": told, "Raw": base64.b64encode(text).decode()}
+    body = told.get("MessageBody")
+    if isinstance(body, dict):
+        cut = {name: it[:MOST_LISTED] if isinstance(it, list) else it for name, it in body.items()}
+        told = {**told, "MessageBody": cut}
+    if len(json.dumps(told)) > forms.LONGEST_MESSAGE:
+        told = {}
+    return {"Message": told, "Sha256": hashlib.sha256(text).hexdigest(), "Size": size}

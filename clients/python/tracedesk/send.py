@@ -42,10 +42,13 @@ whatever ended it, it goes on where it was. One sender has a spool at a time; an
                  Without it they are kept in the folder `untraced` of the spool, and are handed on once it is named
 --status         where NAME.json lists every few seconds the messages that wait or were set aside, and the state of machines: a folder, or
                  https://desk.plant/line/status
---name           the sender's name there (that of the spool's folder)
---interlock      a command that is called as COMMAND MACHINE STATE REASON, at each change and every --every seconds (2). STATE is `go`
-                 only while the machine's last start of work is accepted and not completed, and answers come; else `stop`
---machine NAME   a machine of the interlock; --silence SECONDS without an answer stop it (10)
+                 The proxy takes it under the name of the log-in only
+--name           the sender's name there (that of --user, else of the spool's folder)
+--interlock      a command that is called as COMMAND MACHINE STATE REASON BOARD, at each change and every --every seconds (2). STATE is `go`
+                 only while the desk says that the board is in work and the sheet's slots have good reels, nothing that was refused
+                 is open, and no start of work waits; else `stop`. docs/interlock.md has the rules
+--machine NAME   a machine of the interlock; --silence SECONDS without an answer stop it (10). One sender has a machine
+--scans          where the proxy lists what others scanned: a folder, or https://desk.plant/line/scans (with an https --url that of it)
 --check          says whether the desk, its certificate, the clock and the log-in are right
 --validate       looks at messages, a line each, and sends nothing: '-' is standard input
 --keep-days N    how long the spool keeps sent messages for --again TIME (7): longer than from one copy of the desk to the next
@@ -88,15 +91,16 @@ import hashlib
 import os
 import pathlib
 import re
-import signal
 import sys
 from typing import BinaryIO, Iterator, List, Optional
 
-from . import __version__, answers, desk, interlock, records, sender, spool, untraced, validate
+from . import __version__, answers, command, desk, interlock, records, scans, sender, spool
+from . import untraced, validate
 from .console import NAME, ended, say, tell
 
 RATE = 40.0  # messages a second of one spool
 SHOWING = 20.0  # seconds of patience for what is shown before a decision
+NAMED = re.compile("[A-Za-z0-9_-][A-Za-z0-9._-]{0,63}")
 TIME = re.compile(r"\d{4}-\d\d-\d\d[Tt]\d\d:\d\d.*")
 
 
@@ -159,7 +163,7 @@ def send_all(
         if not is_stopped and isinstance(answer, answers.Ignored) and answer.is_mistyped:
             tell(answers.why(answer))
             mistyped += 1
-        if not is_stopped or records.is_report(answers.read_object(line)):
+        if not is_stopped or records.is_report(records.as_read(line)):
             file.write(answer.text + b"\n")
             file.flush()
             os.fsync(file.fileno())
@@ -186,7 +190,8 @@ def run_files(asked: argparse.Namespace, to: desk.Desk) -> int:
 
 
 def spool_of(asked: argparse.Namespace) -> spool.Spool:
-    return spool.Spool(asked.spool, asked.keep_days, round(asked.keep_mib * (1 << 20)), asked.name)
+    name = asked.name or (asked.user if NAMED.fullmatch(asked.user or "") else None)
+    return spool.Spool(asked.spool, asked.keep_days, round(asked.keep_mib * (1 << 20)), name)
 
 
 def put(into: spool.Spool, file: str) -> int:
@@ -273,20 +278,29 @@ def run_spool(asked: argparse.Namespace, to: desk.Desk) -> int:
         for it in (asked.untraced, asked.status)
     ]
     states = interlock.Interlock(
-        into, asked.machine, asked.interlock, asked.silence, asked.every, tell
+        into, asked.machine, asked.silence, asked.every, bool(asked.interlock)
     )
-    run = sender.Sender(into, to, asked.stop_at_refusal, tell, states, *places)
-    if asked.interlock:
-        signal.signal(signal.SIGTERM, lambda *_: terminated(states))
+    calls = command.Command(states, asked.interlock, tell) if asked.interlock else None
+    run = sender.Sender(into, to, asked.stop_at_refusal, tell, states, calls, *places)
+    if calls:
+        follow_scans(asked, states)
+        command.end_at_signal(calls)
     run.run(follower, asked.stay)
     return 1 if run.aside else 0
 
 
-def terminated(states: interlock.Interlock) -> None:
-    """Stops the machines, and ends as the signal does."""
-    states.end("the sender was ended")
-    signal.signal(signal.SIGTERM, signal.SIG_DFL)
-    os.kill(os.getpid(), signal.SIGTERM)
+def follow_scans(asked: argparse.Namespace, states: interlock.Interlock) -> None:
+    """Follows the list of what others scanned: that of the proxy, unless another one is named."""
+    place = asked.scans
+    if place is None and asked.url.startswith("https:"):
+        place = asked.url.rstrip("/") + scans.PATH
+    if place is None:
+        tell("what the desk refuses to others isn't known here: name its list by --scans")
+        return
+    it = scans.Scans(
+        states, place, lambda url: desk_of(asked, url, asked.silence / 2), bool(asked.scans), tell
+    )
+    it.begin()
 
 
 def check(asked: argparse.Namespace) -> int:
@@ -367,7 +381,7 @@ def reader_of_words() -> argparse.ArgumentParser:
     what.add_argument("--again", nargs="+", metavar="NAME")
     what.add_argument("--check", action="store_true")
     what.add_argument("--validate", metavar="FILE")
-    for name in ("by", "reason", "seen", "untraced", "status", "name", "interlock"):
+    for name in ("by", "reason", "seen", "untraced", "status", "name", "interlock", "scans"):
         reader.add_argument(f"--{name}")
     reader.add_argument("--machine", action="append", default=[])
     reader.add_argument("--silence", type=float, default=interlock.SILENCE)
@@ -401,9 +415,13 @@ def words() -> argparse.Namespace:
         reader.error("--by and --reason go together, with --again NAME")
     if bool(asked.interlock) != bool(asked.machine):
         reader.error("--interlock COMMAND wants --machine NAME, of each machine that it stops")
+    if asked.scans and not asked.interlock:
+        reader.error("--scans is for --interlock: it says where the proxy's list of scans is")
+    if asked.scans and "://" not in asked.scans and not pathlib.Path(asked.scans).is_dir():
+        reader.error(f"--scans: {asked.scans} is no folder: name that of the proxy's list of scans")
     if asked.silence <= 0 or asked.every <= 0:
         reader.error("--silence and --every are numbers of seconds above 0")
-    if asked.name is not None and not re.fullmatch("[A-Za-z0-9_-][A-Za-z0-9._-]{0,63}", asked.name):
+    if asked.name is not None and not NAMED.fullmatch(asked.name):
         reader.error("--name is 1 to 64 letters, digits, '.', '_' and '-'")
     if asked.follow not in (None, "-") and not pathlib.Path(asked.follow).is_dir():
         reader.error(f"--follow: {asked.follow} is no folder: make it, or name another")

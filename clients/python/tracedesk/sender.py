@@ -6,15 +6,20 @@ import os
 import pathlib
 import threading
 import time
-from typing import Any, BinaryIO, Callable, Dict, Iterator, Optional, Tuple
+from typing import Any, BinaryIO, Callable, Dict, Iterator, List, Optional, Tuple
 
-from . import answers, forms, records, untraced
+from . import answers, asking, forms, records, untraced, witness
 from .console import NEWS_OF_A_FAULT, patiently
 from .desk import Desk
+from .command import Command
 from .interlock import Interlock
 from .spool import MOST_READ, Spool, files_in, lines_of, lock_alone, write_synced
 
 LOOK = 0.2  # seconds between two looks at a folder
+
+
+def machine_of(told: Dict[str, Any]) -> str:
+    return str(answers.body_of(told).get("Machine"))
 
 
 class Stopped(Exception):
@@ -32,12 +37,14 @@ class Sender:
         stops: bool = False,
         tell: Callable[[str], None] = lambda line: None,
         interlock: Optional[Interlock] = None,
+        command: Optional[Command] = None,
         inbox: Optional[untraced.Place] = None,
         status: Optional[untraced.Place] = None,
     ) -> None:
         self.spool, self.desk, self.stops, self.tell = spool, desk, stops, tell
         self.interlock = interlock or Interlock(spool, [])
-        self.interlock.is_needed = bool(self.interlock.command or status)
+        self.interlock.is_needed = bool(self.interlock.is_used or status)
+        self.command, self.asker = command, asking.Asker(self.interlock, desk)
         self.line = untraced.Line(spool, desk, self.interlock, inbox, status, tell)
         self.sent = self.aside = 0
         self.news, self.dropped, self.next_news = threading.Event(), 0, 0.0
@@ -51,7 +58,9 @@ class Sender:
         if (size := patiently(place.stat, self.tell).st_size) > forms.LONGEST_MESSAGE:
             return answers.LINE_TOO_LONG, self.spool.message(name) if size <= MOST_READ else {}
         text = patiently(lambda: self.spool.text(name), self.tell)
-        told = answers.read_object(text)
+        told = records.as_read(text)
+        if answers.word_of(told) == "WorkStarted":
+            self.asker.look(str(answers.body_of(told).get("Machine")))
         try:
             return (
                 self.desk.send(
@@ -69,14 +78,14 @@ class Sender:
         names = patiently(self.spool.names, self.tell)
         self.interlock.look_ahead(names)
         for name in names:
+            self.asker.ask()
             answer, told = self.answer_to(name)
             if answer is None:
+                self.interlock.gone(name)
                 continue
             is_taken, is_report = answers.is_taken(answer), records.is_report(told)
             if not is_taken:
-                self.interlock.judged(
-                    name, told, answer, False
-                )  # a machine is stopped before anything is kept
+                self.interlock.judged(name, told, answer)  # a machine is stopped before all else
                 why = f"message {name} is {answers.why(answer)}"
                 if self.stops and not is_report:
                     raise Stopped(f"{why}\n{answer.text.decode(errors='replace')}")
@@ -89,18 +98,36 @@ class Sender:
                     )
                 )
                 self.aside += 1
+            differs = self.compare(told, answer)
             self.keep(name, answer)
             if is_taken:
                 if self.interlock.is_needed and answers.word_of(told) == "WorkStarted":
-                    self.interlock.look_ahead(
-                        patiently(self.spool.names, self.tell)
-                    )  # a later start may wait by now
-                self.interlock.judged(name, told, answer, self.spool.is_tried(name))
+                    # a later start may wait by now
+                    self.interlock.look_ahead(patiently(self.spool.names, self.tell))
+                self.interlock.judged(name, told, answer)
+                for shown in differs:
+                    self.interlock.differ(machine_of(told), witness.looked_up(self.desk, shown))
             elif is_report:
                 self.tell_line(name, told)
                 if self.stops:
                     raise Stopped(f"{why}\n{answer.text.decode(errors='replace')}")
         return len(names)
+
+    def compare(self, told: Dict[str, Any], answer: answers.Answer) -> List[Dict[str, Any]]:
+        """Compares the machine's reels with the desk's. What differs stops the machine, and is on disk before the answer is."""
+        if fault := witness.fault_of(told):
+            self.tell(f"{machine_of(told)}: {fault}")
+        found = []
+        for id_, text, shown in witness.made(told, answer, f"tracedesk-send {self.spool.name}"):
+            self.interlock.differ(machine_of(told), shown)
+            patiently(lambda: self.spool.keep_made(id_, text), self.tell)
+            self.tell(
+                f"board {shown['Board']}: the machine took reel {shown['Machine']} for "
+                f"{' '.join(shown['Designators'])}, and the desk has {shown['Desk']}: "
+                f"a person decides about it{self.line.where_kept()}"
+            )
+            found.append(shown)
+        return found
 
     def keep(self, name: str, answer: answers.Answer) -> None:
         """Keeps an answer, and then moves its message."""
@@ -108,12 +135,11 @@ class Sender:
         patiently(lambda: self.spool.keep_answer(name, answer, at), self.tell)
         patiently(lambda: self.spool.finish(name, answer, at), self.tell)
         self.sent += 1
-        self.interlock.heard()
         self.look_at_what_is_kept()
 
     def tell_line(self, name: str, told: Dict[str, Any]) -> None:
         """Keeps the reels that are on a machine now that a report of it was refused, and shows the refusal at the line."""
-        machine = str(answers.body_of(told).get("Machine"))
+        machine = machine_of(told)
         with contextlib.suppress(OSError, IndexError):
             _, answer, more = self.spool.why(name)
             self.interlock.refused(
@@ -126,13 +152,6 @@ class Sender:
                     "\n".join(untraced.slots_of(desk, machine)).encode(),
                 )
         self.interlock.news()
-
-    def sign_of_life(self) -> None:
-        """Asks the desk for the reels on a machine, so that a machine without messages isn't stopped."""
-        with contextlib.suppress(Exception):
-            with self.desk.hasty(self.interlock.silence / 2) as desk:
-                untraced.slots_of(desk, self.interlock.listed[0])
-            self.interlock.heard()
 
     def look_at_what_is_kept(self) -> None:
         """Reports, once a minute, sent messages that were deleted before their days were over."""
@@ -150,9 +169,11 @@ class Sender:
         with contextlib.ExitStack() as held:
             held.enter_context(self.spool.sending())
             self.aside += self.spool.is_made_good
+            held.enter_context(self.interlock.held(self.desk.address))
             held.callback(self.line.look)
-            held.callback(self.interlock.end)
-            self.interlock.begin()
+            if self.command:
+                held.callback(self.command.end)
+                self.command.begin()
             self.line.begin()
             if follower:
                 held.enter_context(follower.held())
@@ -165,9 +186,8 @@ class Sender:
                 if is_ended and not stays:
                     break
                 self.news.clear()
+                self.asker.ask()
                 if not self.spool.names() and not self.news.wait(LOOK):
-                    if self.interlock.is_due():
-                        self.sign_of_life()
                     self.desk.close()
             if follower and follower.fault:
                 raise follower.fault

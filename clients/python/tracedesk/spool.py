@@ -436,27 +436,31 @@ class Spool:
             if size <= forms.LONGEST_MESSAGE:
                 write_synced(kept, place.read_bytes())
             why = f"{answers.why(answer)}\n{answer.text.decode()}\n"
-            told = self.message(name) if size <= MOST_READ else {}
-            if records.is_recorded(told):
-                why += self.keep_record(told, answer, at or records.utc())
+            text = place.read_bytes() if size <= MOST_READ else b""
+            if records.is_recorded(records.as_read(text)):
+                why += self.keep_record(text, size, answer, at or records.utc())
             write_synced(self.aside / f"{name}.why", why.encode())
             os.rename(place, self.aside / place.name)
             sync_folder(self.aside)
         sync_folder(self.waiting)
         self.drop_old(kept, size)
 
-    def keep_record(self, told: Dict[str, Any], answer: answers.Answer, at: str) -> str:
+    def keep_record(self, text: bytes, size: int, answer: answers.Answer, at: str) -> str:
         """Keeps a record of a message that was not taken: the line of it for the file .why."""
         made, text = records.record(
             "refused",
             f"tracedesk-send {self.name}",
             at,
             Answer=answers.read_object(answer.text),
-            Message=told,
+            **records.kept_of(text, size),
         )
+        self.keep_made(made, text)
+        return json.dumps({"At": at, "Id": made}) + "\n"
+
+    def keep_made(self, made: str, text: bytes) -> None:
+        """Keeps a record, by its id."""
         write_synced(self.untraced / f"{made}.json", text)
         sync_folder(self.untraced)
-        return json.dumps({"At": at, "Id": made}) + "\n"
 
     def record_old(self) -> None:
         """Makes the records of messages that were set aside by a version that made none."""
@@ -464,8 +468,10 @@ class Spool:
             place = self.aside / f"{name}.why"
             with contextlib.suppress(OSError, IndexError):
                 why, answer, told = self.why(name)
-                if not told and records.is_recorded(message := self.message(name)):
-                    line = self.keep_record(message, answer, records.utc(place.stat().st_mtime))
+                if not told and records.is_recorded(self.message(name)):
+                    text = (self.aside / f"{name}.json").read_bytes()
+                    at = records.utc(place.stat().st_mtime)
+                    line = self.keep_record(text, len(text), answer, at)
                     write_synced(place, f"{why}\n{answer.text.decode()}\n{line}".encode())
 
     # --- What was sent
@@ -533,10 +539,10 @@ class Spool:
         return names_in(self.aside)
 
     def message(self, name: str) -> Dict[str, Any]:
-        """A message that waits, or was set aside; empty if its text is no JSON object."""
+        """A message that waits, or was set aside, as far as it can be read."""
         with contextlib.suppress(FileNotFoundError):
-            return answers.read_object(self.text(name))
-        return answers.read_object((self.aside / f"{name}.json").read_bytes())
+            return records.as_read(self.text(name))
+        return records.as_read((self.aside / f"{name}.json").read_bytes())
 
     def is_report(self, name: str) -> bool:
         """Whether a message that was set aside is a report of work: it isn't sent again unless a person decides so."""
@@ -579,8 +585,7 @@ class Spool:
             Of=self.why(name)[2].get("Id"),
             Reason=reason,
         )
-        write_synced(self.untraced / f"{made}.json", text)
-        sync_folder(self.untraced)
+        self.keep_made(made, text)
 
     def again(self, names: Iterable[str], decided: bool = False) -> List[str]:
         """Puts messages that were set aside behind those that wait, the same bytes; their new names. Of reports of work only with a decision."""

@@ -10,7 +10,7 @@ from typing import Any, Callable, Dict, List, Optional
 from . import answers
 from .console import NEWS_OF_A_FAULT, PAUSE_OF_A_FAULT
 from .desk import Desk, NotThere
-from .interlock import Interlock
+from .interlock import PERIOD, Interlock
 from .records import spelled, utc
 from .spool import Spool, sync_folder, write_synced
 
@@ -18,6 +18,10 @@ READABLE = 0o644  # whoever collects records, and the proxy, are other users
 
 
 TIMEOUT = 10.0  # seconds for one file
+
+
+class NotPut(OSError):
+    """Why one file isn't taken. Another one may be."""
 
 
 class Place:
@@ -28,6 +32,7 @@ class Place:
         self.desk = desk_of(self.where) if "://" in where else None
         if self.desk is None and not pathlib.Path(where).is_dir():
             raise ValueError(f"{where} is no folder: make it, or name another")
+        self.desk_of = desk_of
 
     def put(self, name: str, text: bytes) -> None:
         """Puts a file there, whole; an OSError if it isn't there then."""
@@ -44,7 +49,17 @@ class Place:
         finally:
             self.desk.close()
         if status not in (200, 201, 204):
-            raise OSError(f"{self.where}: status {status}: {body[:100].decode(errors='replace')}")
+            kind = NotPut if 400 <= status < 500 and status not in (408, 429) else OSError
+            raise kind(f"{self.where}: status {status}: {body[:100].decode(errors='replace')}")
+
+    @property
+    def beside(self) -> Optional["Place"]:
+        """The place of decisions, which is beside that of records; none where there is no such folder."""
+        where = self.where.rpartition("/")[0] + "/decided" if self.desk else ""
+        beside = pathlib.Path(self.where).absolute().parent / "decided"
+        if not self.desk and not beside.is_dir():
+            return None
+        return Place(where or str(beside), self.desk_of)
 
 
 class Line:
@@ -68,6 +83,7 @@ class Line:
             status,
             tell,
         )
+        self.decisions = inbox.beside if inbox else None
         self.next_news: Dict[str, float] = {}
         self.one = threading.Lock()
 
@@ -107,9 +123,22 @@ class Line:
                 )
 
     def hand_on(self) -> None:
+        """Hands each record on. One that isn't taken holds no other one up, unless the place takes none."""
+        wrong: List[str] = []
         for path in sorted(self.spool.untraced.glob("*.json")) if self.inbox else []:
-            self.inbox.put(path.name, path.read_bytes())  # type: ignore[union-attr]
-            path.unlink()
+            text = path.read_bytes()
+            kind = answers.read_object(text).get("Kind")
+            place = self.decisions if kind == "decided" else self.inbox
+            try:
+                if place is None:
+                    raise NotPut("there is no folder `decided` beside that of the records")
+                place.put(path.name, text)
+                path.unlink()
+            except NotPut as fault:
+                what = "a decision wants a log-in of its own: " if kind == "decided" else ""
+                wrong.append(f"{path.name}: {what}{fault}")
+        if wrong:
+            raise OSError(f"{len(wrong)} records, the first {wrong[0]}")
 
     def told(self) -> Dict[str, Any]:
         """The status: what waits, what was set aside, the machines, and what the sender can't mend itself."""
@@ -121,6 +150,7 @@ class Line:
                 pass
         return {
             "At": utc(),
+            "Period": PERIOD,
             "Sender": self.spool.name,
             "Waiting": len(names),
             "OldestWaiting": oldest,

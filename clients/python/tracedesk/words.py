@@ -55,9 +55,9 @@ class PartDefined(forms.Command):
 
 @dataclasses.dataclass(frozen=True)
 class AlternateAllowed(forms.Command):
-    """AlternateAllowed allows Alternate in place of PartNumber on every sheet. It works in this direction only.
-    Alternates don't chain: an alternate of Alternate is not thereby allowed in place of PartNumber. Refused for
-    UnknownPart."""
+    """AlternateAllowed allows Alternate in place of PartNumber on every sheet. It works in this
+    direction only. Alternates don't chain: an alternate of Alternate is not thereby allowed in
+    place of PartNumber. Refused for UnknownPart."""
 
     part_number: str
     alternate: str
@@ -70,9 +70,9 @@ class AlternateAllowed(forms.Command):
 
 @dataclasses.dataclass(frozen=True)
 class SheetDefined(forms.Command):
-    """SheetDefined defines, for a product on a machine, the part that each slot feeds and its designators. A new sheet
-    replaces the old one completely. Refused for MachineBusy, SlotTwice, DesignatorTwice, UnknownPart.
-    """
+    """SheetDefined defines, for a product on a machine, the part that each slot feeds and its
+    designators. A new sheet replaces the old one completely. Refused for MachineBusy, SlotTwice,
+    DesignatorTwice, UnknownPart."""
 
     product: str
     machine: str
@@ -87,8 +87,8 @@ class SheetDefined(forms.Command):
 
 @dataclasses.dataclass(frozen=True)
 class ProductSelected(forms.Command):
-    """ProductSelected selects the product that a machine makes from now on, and so its sheet. Refused for UnknownSheet,
-    MachineBusy."""
+    """ProductSelected selects the product that a machine makes from now on, and so its sheet.
+    Refused for UnknownSheet, MachineBusy."""
 
     machine: str
     product: str
@@ -98,8 +98,8 @@ class ProductSelected(forms.Command):
 
 @dataclasses.dataclass(frozen=True)
 class ReelReceived(forms.Command):
-    """ReelReceived receives a reel, sealed in its bag. Trays and tubes are reels too. Refused for UnknownPart,
-    ReelExists."""
+    """ReelReceived receives a reel, sealed in its bag. Trays and tubes are reels too. Refused for
+    UnknownPart, ReelExists."""
 
     reel: str
     part_number: str
@@ -120,8 +120,8 @@ class ReelReceived(forms.Command):
 
 @dataclasses.dataclass(frozen=True)
 class ReelOpened(forms.Command):
-    """ReelOpened takes a reel out of its bag: its floor life runs from now on. An open reel may be opened again; its
-    floor life goes on. Refused for UnknownReel."""
+    """ReelOpened takes a reel out of its bag: its floor life runs from now on. An open reel may be
+    opened again; its floor life goes on. Refused for UnknownReel."""
 
     reel: str
     WORD: ClassVar[str] = "ReelOpened"
@@ -130,8 +130,8 @@ class ReelOpened(forms.Command):
 
 @dataclasses.dataclass(frozen=True)
 class ReelSealed(forms.Command):
-    """ReelSealed puts a reel back into its bag: its floor life stops, and the minutes so far stay counted. Refused for
-    UnknownReel, ReelMounted."""
+    """ReelSealed puts a reel back into its bag: its floor life stops, and the minutes so far stay
+    counted. Refused for UnknownReel, ReelMounted."""
 
     reel: str
     WORD: ClassVar[str] = "ReelSealed"
@@ -140,7 +140,8 @@ class ReelSealed(forms.Command):
 
 @dataclasses.dataclass(frozen=True)
 class ReelBaked(forms.Command):
-    """ReelBaked gives a reel its whole floor life again, and leaves it sealed. Refused for UnknownReel, ReelMounted."""
+    """ReelBaked gives a reel its whole floor life again, and leaves it sealed. Refused for
+    UnknownReel, ReelMounted."""
 
     reel: str
     WORD: ClassVar[str] = "ReelBaked"
@@ -149,9 +150,9 @@ class ReelBaked(forms.Command):
 
 @dataclasses.dataclass(frozen=True)
 class MaterialsLoaded(forms.Command):
-    """MaterialsLoaded puts a reel on an empty slot and opens it. MinutesLeft is its remaining floor life, null at level
-    1. Accepted tells MinutesLeft. Refused for NoProduct, SlotNotOnSheet, SlotTaken, UnknownReel, ReelMounted,
-    ReelEmpty, WrongPart, NotBaked, Expired."""
+    """MaterialsLoaded puts a reel on an empty slot and opens it. MinutesLeft is its remaining floor
+    life, null at level 1. Accepted tells MinutesLeft. Refused for NoProduct, SlotNotOnSheet,
+    SlotTaken, UnknownReel, ReelMounted, ReelEmpty, WrongPart, NotBaked, Expired."""
 
     machine: str
     slot: str
@@ -166,9 +167,9 @@ class MaterialsLoaded(forms.Command):
 
 @dataclasses.dataclass(frozen=True)
 class MaterialsSpliced(forms.Command):
-    """MaterialsSpliced joins a reel to the end of the tape on a slot, and opens it. Accepted tells MinutesLeft. Refused
-    for NoProduct, SlotNotOnSheet, SlotEmpty, UnknownReel, ReelMounted, ReelEmpty, WrongPart, NotBaked, Expired.
-    """
+    """MaterialsSpliced joins a reel to the end of the tape on a slot, and opens it. Accepted tells
+    MinutesLeft. Refused for NoProduct, SlotNotOnSheet, SlotEmpty, UnknownReel, ReelMounted,
+    ReelEmpty, WrongPart, NotBaked, Expired."""
 
     machine: str
     slot: str
@@ -193,9 +194,9 @@ class MaterialsUnloaded(forms.Command):
 
 @dataclasses.dataclass(frozen=True)
 class WorkStarted(forms.Command):
-    """WorkStarted asks whether a board may be started. The front reel of each slot of the sheet must be of an allowed
-    part, and not expired. Refused for NoProduct, MachineBusy, BoardBusy, OtherProduct, SlotEmpty, WrongPart,
-    Expired."""
+    """WorkStarted asks whether a board may be started. The front reel of each slot of the sheet
+    must be of an allowed part, and not expired. Refused for NoProduct, MachineBusy, BoardBusy,
+    OtherProduct, SlotEmpty, WrongPart, Expired."""
 
     machine: str
     board: str
@@ -215,10 +216,11 @@ class WorkCompleted(forms.Command):
 
 @dataclasses.dataclass(frozen=True)
 class MaterialsInstalled(forms.Command):
-    """MaterialsInstalled reports the designators that were placed. Each takes one piece off the reel feeding its slot
-    at that moment. Reels names the reel of each piece, in the order of the designators. Pieces of an expired reel are
-    accepted, since they are on the board, and recorded as overdue. Accepted tells Reels. Refused for NotInWork,
-    DesignatorNotOnSheet, DesignatorTwice, AlreadyPlaced, ReelShort."""
+    """MaterialsInstalled reports the designators that were placed. Each takes one piece off the
+    reel feeding its slot at that moment. Reels names the reel of each piece, in the order of the
+    designators. Pieces of an expired reel are accepted, since they are on the board, and recorded
+    as overdue. Accepted tells Reels. Refused for NotInWork, DesignatorNotOnSheet, DesignatorTwice,
+    AlreadyPlaced, ReelShort."""
 
     machine: str
     board: str
@@ -233,8 +235,8 @@ class MaterialsInstalled(forms.Command):
 
 @dataclasses.dataclass(frozen=True)
 class MaterialsScrapped(forms.Command):
-    """MaterialsScrapped reports pieces of a slot that were thrown away. Taken is their number. Accepted tells Taken.
-    Refused for SlotEmpty, ReelShort."""
+    """MaterialsScrapped reports pieces of a slot that were thrown away. Taken is their number.
+    Accepted tells Taken. Refused for SlotEmpty, ReelShort."""
 
     machine: str
     slot: str
@@ -249,10 +251,10 @@ class MaterialsScrapped(forms.Command):
 
 @dataclasses.dataclass(frozen=True)
 class CountsTaken(forms.Command):
-    """CountsTaken reports counted pieces of reels that are on no slot. Missing pieces are taken off as scrapped, and
-    Taken is their sum. Extra pieces count as received, and add nothing to Taken. A reel without pieces stays spent, and
-    may only be counted as 0. Accepted tells Taken. Refused for UnknownReel, ReelTwice, ReelMounted, CountAbove.
-    """
+    """CountsTaken reports counted pieces of reels that are on no slot. Missing pieces are taken off
+    as scrapped, and Taken is their sum. Extra pieces count as received, and add nothing to Taken. A
+    reel without pieces stays spent, and may only be counted as 0. Accepted tells Taken. Refused for
+    UnknownReel, ReelTwice, ReelMounted, CountAbove."""
 
     counts: Sequence[CountRow]
     WORD: ClassVar[str] = "CountsTaken"

@@ -1,0 +1,139 @@
+"""The plant's command: kills, signals, and calls that hang. The sender is a process of its own before a model of a desk."""
+from __future__ import annotations
+
+import pathlib
+import signal
+import subprocess
+import time
+from typing import Iterator
+
+import interlocked
+import pytest
+
+
+@pytest.fixture
+def plant(tmp_path: pathlib.Path) -> Iterator[interlocked.Plant]:
+    made = interlocked.Plant(tmp_path)
+    yield made
+    if hasattr(made, "sender"):
+        made.kill()
+    made.server.end()
+
+
+@pytest.mark.parametrize("many", [1, pytest.param(6, marks=pytest.mark.whole)])
+def test_refusals_and_kills_end_in_stop(many: int) -> None:
+    told = interlocked.run(kills=many, refusals=many, tablets=many, seed=1)
+    assert [told[it] for it in ("stopped", "refused by machine", "refused by tablet")] == [many] * 3
+
+
+def test_a_start_that_is_handed_over_stops_while_the_desk_hangs(plant: interlocked.Plant) -> None:
+    plant.start()
+    plant.begin_board()
+    plant.wait_for(plant.is_permitted)
+    plant.model.is_silent = True
+    plant.say(plant.message("MaterialsScrapped", Slot="1", Quantity=1))
+    handed = time.time()
+    plant.begin_board()
+    stop = plant.wait_for(
+        lambda: next((at for at, it, _ in plant.calls() if it == "stop" and at > handed), None)
+    )
+    assert not any(state == "go" for at, state, _ in plant.calls() if at > stop)
+
+
+def test_a_desk_that_hangs_stops(plant: interlocked.Plant) -> None:
+    plant.start()
+    plant.begin_board()
+    plant.wait_for(plant.is_permitted)
+    time.sleep(4)
+    assert plant.is_permitted(), "a machine without messages may work while the desk answers"
+    plant.model.is_silent = True
+    plant.wait_for(lambda: list(plant.calls())[-1][1:] == ("stop", "no answer for 3 seconds"))
+
+
+def hung(plant: interlocked.Plant, script: str) -> None:
+    """The command hangs where the script says so."""
+    text = (plant.room / "permit").read_text()
+    (plant.room / "permit").write_text(text.replace("\n", f"\n{script}\n", 1))
+
+
+def test_a_signal_ends_a_sender_in_a_call_that_hangs(plant: interlocked.Plant) -> None:
+    hung(plant, "[ $2 = go ] && exec sleep 600")
+    plant.start()
+    plant.begin_board()
+    plant.wait_for(lambda: "go" in told(plant.sender.pid))
+    plant.sender.send_signal(signal.SIGTERM)
+    assert plant.sender.wait(60) == -signal.SIGTERM
+    assert list(plant.calls())[-1][1:] == ("stop", "the sender was ended")
+
+
+def told(pid: int) -> str:
+    """The command lines of the children of a process."""
+    found = subprocess.run(
+        ["ps", "-o", "args=", "--ppid", str(pid)], capture_output=True, text=True
+    )
+    return found.stdout
+
+
+def test_a_signal_ends_a_sender_while_the_desk_hangs(plant: interlocked.Plant) -> None:
+    plant.start()
+    plant.begin_board()
+    plant.wait_for(plant.is_permitted)
+    plant.model.is_silent = True
+    plant.say(plant.message("MaterialsScrapped", Slot="1", Quantity=1))
+    time.sleep(1)
+    plant.sender.send_signal(signal.SIGTERM)
+    assert plant.sender.wait(60) == -signal.SIGTERM
+    assert list(plant.calls())[-1][1:] == ("stop", "the sender was ended")
+
+
+def test_machines_do_not_wait_for_each_other(plant: interlocked.Plant) -> None:
+    hung(plant, "[ $1 = M1 ] || exec sleep 600")
+    for name in ("A1", "A2", "A3"):
+        plant.words += ["--machine", name]
+    plant.start()
+    plant.begin_board()
+    plant.wait_for(plant.is_permitted)
+    assert plant.refusal(False) < 2
+
+
+def test_a_command_that_fails_stops(plant: interlocked.Plant) -> None:
+    hung(plant, "[ $2 = go ] && exit 3")
+    plant.start()
+    plant.begin_board()
+    plant.wait_for(lambda: any("ended with status 3" in why for _, _, why in plant.calls()))
+    assert not any(state == "go" for _, state, _ in plant.calls())
+
+
+def test_a_second_sender_of_a_machine_is_refused(plant: interlocked.Plant) -> None:
+    plant.start()
+    plant.wait_for(lambda: list(plant.calls()))
+    words = [it if it != str(plant.room / "spool") else f"{it}2" for it in plant.words]
+    words[words.index("--follow") + 1] = str(plant.room)
+    done = subprocess.run(words, capture_output=True, text=True, timeout=60)
+    assert done.returncode == 2 and "another sender has its interlock" in done.stderr, done.stderr
+
+
+def test_the_command_gets_the_board(plant: interlocked.Plant) -> None:
+    (plant.room / "permit").write_text(f'#!/bin/sh\necho "$(date +%s.%N) $2 $4" >> {plant.log}\n')
+    plant.start()
+    plant.begin_board()
+    plant.wait_for(plant.is_permitted)
+    assert list(plant.calls())[-1][2] == plant.model.board
+
+
+@pytest.mark.parametrize("many", [1, pytest.param(10, marks=pytest.mark.whole)])
+def test_a_stopped_sender_says_no_old_go(plant: interlocked.Plant, many: int) -> None:
+    """A sender that sleeps, with its computer or without, asks before it permits anything."""
+    plant.start()
+    plant.begin_board()
+    plant.wait_for(plant.is_permitted)
+    for _ in range(many):
+        plant.sender.send_signal(signal.SIGSTOP)
+        plant.tablet("MaterialsUnloaded", Slot="1")
+        time.sleep(3.2)
+        woken = time.time()
+        plant.sender.send_signal(signal.SIGCONT)
+        plant.wait_for(lambda: any(at > woken + 0.5 for at, _, _ in plant.calls()))
+        assert not any(state == "go" for at, state, _ in plant.calls() if at > woken)
+        plant.tablet("MaterialsLoaded", Slot="1", Reel=f"1-K{plant.number}")
+        plant.wait_for(plant.is_permitted)

@@ -1,0 +1,340 @@
+"""The states of machines: each rule by itself, before a model of a desk."""
+from __future__ import annotations
+
+import contextlib
+import json
+import pathlib
+import time
+from typing import Any, Dict, Iterator, List, Optional
+from unittest import mock
+
+import pytest
+from desk_model import Model, Server
+
+from tracedesk import answers, asking, desk, interlock, spool
+
+
+class Line:
+    """An interlock of M1 before a desk: what the machine and the tablets say, and the questions after it."""
+
+    def __init__(self, room: pathlib.Path, server: Server) -> None:
+        self.room, self.server, self.model = room, server, server.model
+        self.desk = desk.Desk(server.url, patience=5.0, timeout=5.0)
+        self.count = self.lines = 0
+        self.begin()
+
+    def begin(self) -> None:
+        """A sender begins."""
+        self.spool = spool.Spool(self.room / "spool", name="m1")
+        self.states = interlock.Interlock(self.spool, ["M1"], is_used=True)
+        self.asker = asking.Asker(self.states, self.desk)
+
+    def message(self, word: str, uid: Optional[str] = None, **body: Any) -> Dict[str, Any]:
+        self.count += 1
+        return {
+            "MessageName": f"TraceDesk.{word}",
+            "UniqueID": uid or f"u{self.count}",
+            "Source": "M1",
+            "TimeStamp": f"2026-03-02T{6 + self.count // 60:02}:{self.count % 60:02}:00Z",
+            "MessageBody": {"Machine": "M1", **body},
+        }
+
+    def say(self, word: str, uid: Optional[str] = None, **body: Any) -> str:
+        """The machine's sender says something; the state after it."""
+        return self.send(self.message(word, uid, **body))
+
+    def send(self, told: Dict[str, Any]) -> str:
+        self.asker.look("M1")
+        answer = answers.read(self.model.say(json.dumps(told).encode())[1])
+        assert answer is not None
+        self.states.judged("1", told, answer)
+        return self.state()
+
+    def tablet(self, word: str, source: str = "tablet", **body: Any) -> str:
+        """A tablet says something to the desk; the sender sees it in the proxy's list."""
+        told = {**self.message(word, **body), "Source": source}
+        return self.scan(told, self.model.say(json.dumps(told).encode())[0])
+
+    def scan(self, told: Dict[str, Any], status: int) -> str:
+        own = told["UniqueID"] in self.states.own
+        scan = {"Message": told, "Status": status, "IsOld": False, "IsOwn": own}
+        self.states.scanned([scan], ["2026-03-02.jsonl", self.count])
+        return self.state()
+
+    def ask(self) -> None:
+        """The next question, whose turn has come."""
+        self.states.of("M1").asked = -float("inf")
+        self.asker.ask()
+
+    def state(self) -> str:
+        self.ask()
+        return self.states.state("M1").word
+
+    def cause(self) -> str:
+        self.ask()
+        fault = self.states.state("M1").fault
+        return fault.cause if fault else ""
+
+    def reason(self) -> str:
+        return self.states.state("M1").reason
+
+    def start(self, board: str = "B1") -> None:
+        assert self.say("WorkStarted", Board=board) == "go", self.reason()
+
+
+@pytest.fixture
+def line(tmp_path: pathlib.Path) -> Iterator[Line]:
+    server = Server(Model(("1", "2")))
+    yield Line(tmp_path, server)
+    server.end()
+
+
+def test_a_start_that_is_accepted_permits_and_names_its_board(line: Line) -> None:
+    assert (line.state(), line.cause()) == ("stop", "idle")
+    line.start()
+    state = line.states.state("M1")
+    assert (state.word, state.board, state.reason) == ("go", "B1", "board B1 is in work")
+    assert line.say("MaterialsInstalled", Board="B1", Designators=["1a"]) == "go"
+    assert line.say("WorkCompleted", Board="B1") == "stop"
+    assert line.reason() == "board B1 is completed"
+
+
+def test_the_questions_change_nothing(line: Line) -> None:
+    line.start()
+    before = line.model.number
+    for _ in range(3):
+        line.ask()
+    assert line.model.number == before
+    asked = [it for it in line.model.asked if it.startswith(asking.ASKS)]
+    assert len(asked) == len(set(asked)) >= 3
+
+
+def test_a_start_that_waits_stops(line: Line) -> None:
+    line.start()
+    name = line.spool.put(json.dumps(line.message("WorkStarted", Board="B2")).encode())
+    line.states.look_ahead(line.spool.names())
+    assert line.cause() == "waiting"
+    line.states.gone(name)
+    (line.spool.waiting / f"{name}.json").unlink()
+    line.states.look_ahead(line.spool.names())
+    assert line.state() == "go"
+
+
+def test_any_message_that_waits_too_long_stops(line: Line) -> None:
+    line.start()
+    line.spool.put(json.dumps(line.message("MaterialsScrapped", Slot="1", Quantity=1)).encode())
+    line.states.look_ahead(line.spool.names())
+    assert line.state() == "go"
+    with later(11):
+        line.asker.ask()
+        assert line.states.state("M1").reason == "a message waits: no answer for 10 seconds"
+
+
+@contextlib.contextmanager
+def later(seconds: float) -> Iterator[None]:
+    """So many seconds on."""
+    now, day = interlock.clock, time.time
+    with mock.patch.object(interlock, "clock", lambda: now() + seconds):
+        with mock.patch.object(asking, "clock", lambda: now() + seconds):
+            with mock.patch.object(time, "time", lambda: day() + seconds):
+                yield
+
+
+@pytest.mark.parametrize("word", ["MaterialsSpliced", "MaterialsLoaded", "MaterialsUnloaded"])
+def test_only_that_slot_mends_a_refused_scan(line: Line, word: str) -> None:
+    """No scrap, no other slot, no start of work and no time mends it."""
+    line.start()
+    if word == "MaterialsUnloaded":
+        line.say("MaterialsUnloaded", Slot="1")
+    more = {} if word == "MaterialsUnloaded" else {"Reel": "2-WRONG"}
+    assert line.say(word, Slot="1", **more) == "stop"
+    assert line.states.state("M1").fault.slot == "1"  # type: ignore[union-attr]  # it stands
+    line.say("MaterialsScrapped", Slot="1", Quantity=1)
+    line.say("MaterialsSpliced", Slot="2", Reel="2-K2")
+    line.say("WorkCompleted", Board="B1")
+    line.say("WorkStarted", Board="B2")
+    assert line.cause() in ("slot", "idle")
+    with later(100_000):
+        assert line.cause() in ("slot", "idle")
+    line.begin()
+    assert line.states.of("M1").slots, "a sender that begins anew knows of it"
+    line.say("WorkCompleted", Board="B2")
+    line.say("MaterialsUnloaded", Slot="1")
+    line.say("MaterialsLoaded", Slot="1", Reel="1-K2")
+    assert line.say("WorkStarted", Board="B3") == "go"
+
+
+def test_a_slot_that_is_on_no_sheet_is_mended_by_the_next_scan(line: Line) -> None:
+    line.start()
+    assert line.tablet("MaterialsSpliced", Slot="9", Reel="1-K2") == "stop"
+    assert line.tablet("MaterialsSpliced", "another", Slot="2", Reel="2-K2") == "stop"
+    assert line.tablet("MaterialsSpliced", Slot="1", Reel="1-K2") == "go"
+    line.tablet("MaterialsSpliced", Slot="9", Reel="1-K3")
+    line.begin()
+    line.send(line.message("WorkCompleted", Board="B1"))
+    line.states.mend(line.states.of("M1"), "2", "tablet")
+    line.start("B2")
+
+
+def test_a_tablet_stops_and_mends(line: Line) -> None:
+    line.start()
+    assert line.tablet("MaterialsSpliced", Slot="1", Reel="2-WRONG") == "stop"
+    assert line.tablet("MaterialsSpliced", Slot="2", Reel="2-K2") == "stop"
+    assert line.tablet("MaterialsSpliced", Slot="1", Reel="1-K2") == "go"
+
+
+def test_a_scan_that_is_answered_again_mends_nothing(line: Line) -> None:
+    line.start()
+    told = line.message("MaterialsSpliced", Slot="1", Reel="1-K2")
+    assert line.scan(told, line.model.say(json.dumps(told).encode())[0]) == "go"
+    assert line.tablet("MaterialsSpliced", Slot="1", Reel="2-WRONG") == "stop"
+    assert line.scan(told, line.model.say(json.dumps(told).encode())[0]) == "stop"
+
+
+def test_an_own_message_that_is_answered_again_mends_nothing(line: Line) -> None:
+    line.start()
+    told = line.message("MaterialsSpliced", Slot="1", Reel="1-K2")
+    assert line.send(told) == "go"
+    assert line.say("MaterialsSpliced", Slot="1", Reel="2-WRONG") == "stop"
+    assert line.send(told) == "stop"
+    line.begin()
+    assert line.send(told) == "stop"
+
+
+def test_an_old_start_permits_only_what_holds_now(line: Line) -> None:
+    told = line.message("WorkStarted", Board="B1")
+    assert line.send(told) == "go"
+    line.begin()
+    assert line.send(told) == "go", "the board is in work"
+    line.say("WorkCompleted", Board="B1")
+    assert (line.send(told), line.cause()) == ("stop", "not-in-work")
+    assert line.say("MaterialsInstalled", Board="B9", Designators=["1a"]) == "stop"
+    line.send(told)
+    assert line.states.of("M1").work, "an old answer clears no refusal"
+    line.start("B2")
+
+
+def test_a_slot_that_is_emptied_stops(line: Line) -> None:
+    line.start()
+    line.model.say(json.dumps(line.message("MaterialsUnloaded", Slot="2")).encode())
+    assert (line.cause(), line.states.state("M1").fault.slot) == ("empty", "2")  # type: ignore
+    line.begin()
+    line.states.begin_board(line.states.of("M1"), line.message("WorkStarted", Board="B1"), True)
+    assert line.cause() == "empty", "the slots of the sheet are known to a sender that begins anew"
+    line.model.say(json.dumps(line.message("MaterialsLoaded", Slot="2", Reel="2-K2")).encode())
+    assert line.state() == "go"
+
+
+def test_a_slot_of_another_sheet_may_be_empty(line: Line) -> None:
+    line.model.tapes["8"] = ["8-K1"]
+    line.start()
+    line.model.tapes["8"] = []
+    assert line.state() == "go"
+    assert "8" not in line.states.of("M1").seen
+
+
+@pytest.mark.parametrize("left, cause", [(0, "expired"), ("unbaked", "unbaked"), (1, "")])
+def test_a_reel_that_is_expired_or_unbaked_stops(line: Line, left: Any, cause: str) -> None:
+    line.start()
+    line.model.left["2-K1"] = left
+    assert line.cause() == cause
+
+
+def test_floor_life_ends_by_the_clock_too(line: Line) -> None:
+    """The desk counts minutes by what it is told, and a machine may be silent."""
+    line.start()
+    line.model.left["2-K1"] = 3
+    assert line.state() == "go"
+    with later(181):
+        assert line.cause() == "expired"
+
+
+def test_a_refused_report_stops_until_the_next_start(line: Line) -> None:
+    line.start()
+    assert line.say("MaterialsInstalled", Board="B1", Designators=["9"]) == "stop"
+    assert line.say("MaterialsInstalled", Board="B1", Designators=["1a"]) == "stop"
+    line.say("WorkCompleted", Board="B1")
+    line.start("B2")
+
+
+def test_what_is_sent_again_after_a_refusal_mends_it(line: Line) -> None:
+    line.start()
+    line.model.tapes["1"] = []
+    assert line.say("MaterialsInstalled", "again", Board="B1", Designators=["1a"]) == "stop"
+    line.model.tapes["1"] = ["1-K2"]
+    assert line.state() == "stop"
+    assert line.say("MaterialsInstalled", "again", Board="B1", Designators=["1a"]) == "go"
+
+
+def test_what_nobody_can_read_may_be_of_any_machine(line: Line) -> None:
+    start = {"MessageName": "TraceDesk.WorkStarted", "MessageBody": {"machine": "M1"}}
+    unreadable: List[Dict[str, Any]] = [{}, start]
+    for told in unreadable:
+        line.start(f"B{len(told)}")
+        line.states.judged("1", told, answers.Faulty("BodyMember"))
+        assert line.cause() == "refused"
+        line.say("WorkCompleted", Board=f"B{len(told)}")
+    line.start("B5")
+    part = {"MessageName": "TraceDesk.PartDefined", "MessageBody": {}}
+    line.states.judged("1", part, answers.Faulty("BodyMember"))
+    assert line.state() == "go"
+
+
+def test_silence_stops(line: Line) -> None:
+    line.start()
+    with later(11):
+        assert line.states.state("M1").reason == "no answer for 10 seconds"
+        assert line.state() == "go"
+    line.states.scans_at = interlock.clock() - 11
+    assert line.cause() == "silent"
+
+
+def test_a_desk_that_answers_oddly_stops(line: Line) -> None:
+    line.start()
+    with mock.patch.object(asking, "refusal_of", side_effect=asking.Odd(answers.Ignored("x"))):
+        assert line.cause() == "refused"
+    assert line.state() == "go"
+
+
+def test_a_full_disk_and_a_clock_that_is_set_back_stop(line: Line) -> None:
+    line.start()
+    full = OSError(28, "No space left on device")
+    with mock.patch.object(interlock, "write_synced", side_effect=full):
+        line.states.look_at_disk()
+    assert line.reason() == "the spool can't be written: No space left on device"
+    line.states.look_at_disk()
+    assert line.state() == "go"
+    line.states.is_stuck = True
+    assert line.cause() == "fault"
+    line.states.is_stuck = False
+    real = time.time
+    with mock.patch.object(time, "time", lambda: real() - 3600):
+        assert "clock was set back" in line.states.state("M1").reason
+
+
+def test_one_sender_has_a_machine(line: Line, tmp_path: pathlib.Path) -> None:
+    other = interlock.Interlock(spool.Spool(tmp_path / "other"), ["M1"], is_used=True)
+    with line.states.held("desk:1"):
+        with other.held("desk:2"):
+            pass
+        with pytest.raises(spool.SpoolError, match="another sender"), other.held("desk:1"):
+            pass
+    with other.held("desk:1"):
+        pass
+
+
+def test_the_status_has_the_form_of_the_page(line: Line) -> None:
+    line.start()
+    told = line.states.told()["M1"]
+    page = (pathlib.Path(__file__).parents[3] / "docs/interlock.md").read_text()
+    form: List[str] = json.loads(page.split("```json\n")[1].split("```")[0])["Machines"]["M1"]
+    assert list(told) and set(told) == set(form)
+    assert (told["State"], told["Board"], told["Cause"], told["Slot"]) == ("go", "B1", None, None)
+    line.tablet("MaterialsSpliced", Slot="1", Reel="2-WRONG")
+    told = line.states.told()["M1"]
+    assert (told["State"], told["Cause"], told["Slot"], told["Reel"]) == (
+        "stop",
+        "slot",
+        "1",
+        "2-WRONG",
+    )

@@ -1,0 +1,226 @@
+"""The packaged proxy before a desk of the program: who may put what for the line, and what a sender reads there of others' scans."""
+from __future__ import annotations
+
+import contextlib
+import hashlib
+import json
+import os
+import pathlib
+import shutil
+import subprocess
+import sys
+import tempfile
+import time
+from typing import Any, Callable, Dict, Iterator, List, Tuple
+
+import pytest
+
+ROOT = pathlib.Path(__file__).resolve().parents[3]
+sys.path[:0] = [str(ROOT / "station/tests")]
+from station_site import Site  # noqa: E402
+from tracedesk_dev import program as programs  # noqa: E402
+
+HAS_NGINX = shutil.which("nginx", path=os.environ.get("PATH", "") + ":/usr/sbin")
+SENDER = ROOT / "clients/python/tracedesk-send"
+RECORD = '{"At":"2026-11-27T14:55:02Z","Kind":"refused","Version":1}\n'
+PATH = f"/line/untraced/{hashlib.sha256(RECORD.encode()).hexdigest()[:32]}.json"
+DECIDED = PATH.replace("untraced", "decided")
+FOREIGN: List[Dict[str, str]] = [
+    {"Origin": "https://elsewhere.example"},
+    {"Sec_Fetch_Site": "cross-site"},
+    {"Origin": "null"},
+]
+
+
+@pytest.fixture(scope="module")
+def site() -> Iterator[Any]:
+    if not HAS_NGINX or not shutil.which("openssl"):
+        pytest.skip("there is no nginx or openssl: apt-get install nginx-light openssl")
+    if not os.environ.get("PROGRAM") and not programs.is_built():
+        pytest.skip("there is no program: make build, or PROGRAM=FILE")
+    with tempfile.TemporaryDirectory(prefix="LN-site-") as room:
+        with Site(os.environ.get("PROGRAM") or programs.own(), room) as made:
+            yield made
+
+
+def put(site: Any, path: str, user: "str | None" = None, text: str = RECORD, **more: Any) -> int:
+    status: int = site.asked("PUT", path, user, text, **more)[0]
+    return status
+
+
+def test_a_record_is_put_once_and_stays(site: Any) -> None:
+    file = site.room / "line" / PATH.partition("/line/")[2]
+    for user in (None, "office", "qm"):
+        assert put(site, PATH, user) == 403
+    assert put(site, PATH, None, certificate="auditor") == 403
+    assert not file.exists()
+    assert (put(site, PATH, "op"), put(site, PATH, "op", "other")) == (201, 204)
+    assert (file.read_text(), file.stat().st_mode & 0o777) == (RECORD, 0o644)
+    assert put(site, PATH, None, certificate="m2") == 204
+    for user in (None, "office"):  # nobody learns whether it is there
+        assert (
+            put(site, PATH, user)
+            == put(site, PATH.replace("line/untraced/", "line/untraced/0")[:-6] + ".json", user)
+            == 403
+        )
+    for method in ("GET", "DELETE", "MKCOL", "POST"):
+        assert site.asked(method, PATH, "op")[0] == 403
+    assert put(site, PATH[:-6] + "G.json", "op") in (403, 404)
+
+
+def test_no_place_of_the_line_asks_a_browser_for_a_password(site: Any) -> None:
+    for path in (PATH, DECIDED):
+        status, _, body = site.asked("PUT", path, None, RECORD)
+        assert (status, json.loads(body)) == (403, {"Answer": "Proxy", "Fault": "LogIn"})
+
+
+def test_a_decision_wants_a_log_in_of_its_own(site: Any) -> None:
+    for user, certificate in ((None, None), ("office", None), (None, "m2"), ("m1", None)):
+        assert put(site, DECIDED, user, certificate=certificate) == 403
+    assert (put(site, DECIDED, "qm"), put(site, DECIDED, "qm")) == (201, 204)
+    file = site.room / "line" / DECIDED.partition("/line/")[2]
+    assert file.read_text() == RECORD
+
+
+def test_where_too_much_waits_nothing_is_put(site: Any) -> None:
+    path = PATH.replace("untraced/", "untraced/" + "1" * 8)[: len(PATH) - 5] + ".json"
+    full = site.room / "line/untraced/full"
+    full.touch()
+    try:
+        assert put(site, path, "op") == 507
+    finally:
+        full.unlink()
+    assert put(site, path, "op") == 201
+
+
+def test_a_sender_puts_its_own_status(site: Any) -> None:
+    for user, certificate, name, status in (
+        ("op", None, "op", 201),
+        ("op", None, "op", 204),
+        ("op", None, "m2", 403),
+        (None, "m2", "m2", 201),
+        (None, "m2", "op", 403),
+        ("op", "m2", "op", 403),
+        ("op", None, "untraced", 403),
+        ("office", None, "office", 401),
+        (None, None, "op", 403),
+    ):
+        path = f"/line/status/{name}.json"
+        assert put(site, path, user, "{}", certificate=certificate) == status, (user, name)
+    assert site.asked("GET", "/line/status/op.json", "office")[::2] == (200, "{}")
+
+
+@pytest.mark.parametrize("headers", FOREIGN)
+def test_what_another_site_has_a_browser_send_is_refused(
+    site: Any, headers: Dict[str, str]
+) -> None:
+    for method in ("PUT", "POST", "DELETE", "OPTIONS", "MKCOL"):
+        for path in ("/line/status/op.json", PATH, DECIDED, "/messages", "/station/messages"):
+            status, _, body = site.asked(method, path, "op", "{}", **headers)
+            assert (status, json.loads(body)["Fault"]) == (403, "OtherSite"), (method, path)
+    wanted = 403 if "Origin" in headers else 200
+    assert site.asked("GET", "/overdue", "op", **headers)[0] == wanted
+    assert site.asked("GET", "/overdue", "op", Origin=site.url)[0] == 200
+
+
+def message(word: str, uid: str, **body: Any) -> str:
+    at = time.strftime("%Y-%m-%dT%H:%M:%SZ", time.gmtime())
+    told = {"MessageName": f"TraceDesk.{word}", "UniqueID": uid, "Source": "tablet"}
+    return json.dumps({**told, "TimeStamp": at, "MessageBody": {"Machine": "M1", **body}})
+
+
+def scans(site: Any) -> List[Tuple[str, str, str]]:
+    """What the list has: the UniqueID, the status and the slot of each scan."""
+    found = []
+    for it in json.loads(site.asked("GET", "/line/scans/", "office")[2]):
+        for line in site.asked("GET", f"/line/scans/{it['name']}", "office")[2].splitlines():
+            told = json.loads(line)
+            said = json.loads(told["Message"])
+            found.append((said["UniqueID"], told["Status"], said["MessageBody"]["Slot"]))
+    return found
+
+
+def plant(site: Any, reels: Tuple[str, ...] = ("K-1",)) -> None:
+    site.say("PartDefined", {"PartNumber": "CAP"})
+    site.say("PartDefined", {"PartNumber": "RES"})
+    rows = [{"Slot": "1", "PartNumber": "CAP", "Designators": ["C1"]}]
+    site.say("SheetDefined", {"Product": "P", "Machine": "M1", "Rows": rows})
+    site.say("ProductSelected", {"Machine": "M1", "Product": "P"})
+    for reel, part in (("K-1", "CAP"), ("K-2", "CAP"), ("WRONG", "RES")):
+        body = {"Reel": reel, "PartNumber": part, "Lot": "L", "Level": "1", "Quantity": 99}
+        site.say("ReelReceived", body)
+    site.say("MaterialsLoaded", {"Machine": "M1", "Slot": "1", "Reel": "K-1"})
+
+
+def tablet(site: Any, word: str, uid: str, **body: Any) -> int:
+    status: int = site.asked("POST", "/station/messages", "op", message(word, uid, **body))[0]
+    return status
+
+
+def test_the_proxy_lists_what_others_scan(site: Any) -> None:
+    plant(site)
+    assert tablet(site, "MaterialsSpliced", "t-1", Slot="1", Reel="WRONG") == 409
+    assert tablet(site, "MaterialsSpliced", "t-2", Slot="1", Reel="K-2") == 200
+    assert tablet(site, "MaterialsSpliced", "tracedesk-send asks 1", Slot="1", Reel="x") == 409
+    assert tablet(site, "WorkCompleted", "t-3", Board="B") == 409
+    spoken = site.asked("POST", "/messages", "op", message("MaterialsUnloaded", "t-4", Slot="9"))
+    assert spoken[0] == 409
+    wanted = [("t-1", "409", "1"), ("t-2", "200", "1"), ("t-4", "409", "9")]
+    assert [it for it in scans(site) if it[0].startswith("t")] == wanted
+    assert site.asked("GET", "/line/scans/")[0] == 401
+    assert put(site, "/line/scans/2026-01-01.jsonl", "op") == 403
+
+
+class Sender:
+    """A sender with an interlock, by the log-in of the machine."""
+
+    def __init__(self, site: Any, room: pathlib.Path) -> None:
+        self.log, self.out = room / "calls", room / "out"
+        self.out.mkdir()
+        self.log.touch()
+        permit = room / "permit"
+        permit.write_text(f'#!/bin/sh\necho "$2 $3" >> {self.log}\n')
+        permit.chmod(0o755)
+        where = ["--url", site.url, "--ca", str(site.room / "etc/server.crt")]
+        who = ["--cert", str(site.room / "etc/m2.crt"), "--key", str(site.room / "etc/m2.key")]
+        spool = ["--spool", str(room / "spool"), "--follow", str(self.out)]
+        lock = ["--interlock", str(permit), "--machine", "M1", "--every", "0.5"]
+        self.run = subprocess.Popen([sys.executable, str(SENDER), *where, *who, *spool, *lock])
+
+    def say(self, text: str) -> None:
+        (self.out / "x.tmp").write_text(text + "\n")
+        (self.out / "x.tmp").rename(self.out / f"{time.time_ns()}.json")
+
+    def wait_for(self, state: str, why: str = "") -> None:
+        def last() -> str:
+            return (self.log.read_text().splitlines() or [""])[-1]
+
+        until(lambda: last().startswith(state) and why in last(), last)
+
+
+def until(holds: Callable[[], bool], last: Callable[[], str], seconds: float = 60.0) -> None:
+    end = time.monotonic() + seconds
+    while not holds():
+        assert time.monotonic() < end, f"it doesn't come: {last()}"
+        time.sleep(0.05)
+
+
+def test_a_tablet_stops_and_mends_a_machine(site: Any, tmp_path: pathlib.Path) -> None:
+    plant(site)
+    tablet(site, "MaterialsUnloaded", "u-1", Slot="1")
+    tablet(site, "MaterialsLoaded", "u-2", Slot="1", Reel="K-2")
+    it = Sender(site, tmp_path)
+    try:
+        it.say(message("WorkStarted", "w-1", Board="B1"))
+        it.wait_for("go", "B1")
+        assert tablet(site, "MaterialsSpliced", "u-3", Slot="1", Reel="WRONG") == 409
+        it.wait_for("stop", "slot 1: MaterialsSpliced WRONG of tablet was refused")
+        assert tablet(site, "MaterialsSpliced", "u-4", Slot="1", Reel="K-1") == 200
+        it.wait_for("go", "B1")
+        assert tablet(site, "MaterialsUnloaded", "u-5", Slot="1") == 200
+        it.wait_for("stop", "slot 1 is empty")
+    finally:
+        it.run.terminate()
+        it.run.wait()
+    with contextlib.suppress(IndexError):
+        assert it.log.read_text().splitlines()[-1] == "stop the sender was ended"

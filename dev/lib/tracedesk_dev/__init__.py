@@ -1,1 +1,0 @@
-"""What the repository's own tools and tests share: the program, made-up shifts, databases, the package's layout."""

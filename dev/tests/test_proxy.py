@@ -1,0 +1,345 @@
+"""The packaged nginx before a desk: what it answers by itself, whom it lets send, and the folders of a line.
+
+nginx and the desk run in a folder of their own, on free ports of this machine. The rules of docs/operations.md against
+connections that never finish a request are tried by root, in a network of its own:
+
+    unshare --net sh -c 'ip link set lo up && /usr/bin/python3 -m pytest dev/tests/test_proxy.py -m root'
+"""
+import base64
+import contextlib
+import hashlib
+import json
+import os
+import pathlib
+import re
+import socket
+import ssl
+import subprocess
+import sys
+import time
+from typing import Iterator
+
+import pytest
+from tracedesk_dev import ROOT
+from tracedesk_dev.trial import Difference
+
+sys.path.append(str(ROOT / "station/tests"))
+from station_site import Site  # noqa: E402
+
+pytestmark = [pytest.mark.needs("nginx", "openssl"), pytest.mark.xdist_group("proxy")]
+LOGGED_IN = "Authorization: Basic b3A6b3A=\r\n"  # op:op
+STATUS = "/line/status/op.json"
+
+
+@pytest.fixture(scope="module")
+def site(program: pathlib.Path) -> Iterator[Site]:
+    with Site(str(program)) as made:
+        yield made
+
+
+def raw(site: Site, text: str) -> tuple[str, str, str]:
+    """The status line, the headers and the body of what nginx answers to these bytes."""
+    link = ssl.create_default_context(cafile=site.room / "etc/server.crt").wrap_socket(
+        socket.create_connection(("127.0.0.1", site.port), 20), server_hostname="localhost"
+    )
+    with link:
+        link.sendall(text.encode())
+        got = b""
+        with contextlib.suppress(TimeoutError, ssl.SSLError, ConnectionError):
+            while data := link.recv(65536):
+                got += data
+    head, _, body = got.decode(errors="replace").partition("\r\n\r\n")
+    return head.split("\r\n")[0], head, body
+
+
+def agree(what: str, wanted: object, got: object) -> None:
+    if wanted != got:
+        raise Difference(f"{what}: wanted {wanted!r:.400}, got {got!r:.400}")
+
+
+def test_own_answers_are_json(site: Site) -> None:
+    """Requests that nginx refuses before the desk sees them, also those whose line it can't read."""
+
+    def request(line: str, *headers: str, body: str = "") -> str:
+        return f"{line} HTTP/1.1\r\nHost: localhost\r\nConnection: close\r\n{LOGGED_IN}{''.join(it + chr(13) + chr(10) for it in headers)}\r\n{body}"
+
+    message = ("Content-Type: application/json", "Content-Length: 2")
+    worked = {
+        "a NUL in the path": (request("GET /x%00"), 400),
+        "a wrong escape": (request("GET /%zz"), 400),
+        "a path above /": (request("GET /../../x"), 400),
+        "a method in small letters": (request("get /overdue"), 400),
+        "a path of 9,000 letters": (request(f"GET /{'a' * 9000}"), 414),
+        "a header of 40,000": (request("GET /overdue", f"X: {'a' * 40000}"), 400),
+        "TRACE": (request("TRACE /messages"), 405),
+        "CONNECT": (request("CONNECT localhost:1"), 400),
+        "HTTP/3.0": (f"GET /overdue HTTP/3.0\r\nHost: localhost\r\n{LOGGED_IN}\r\n", 505),
+        "no Host": (f"GET /overdue HTTP/1.1\r\n{LOGGED_IN}\r\n", 400),
+        "an unknown encoding": (
+            request("POST /messages", "Content-Type: application/json", "Transfer-Encoding: gzip"),
+            501,
+        ),
+        "a range behind the end": (request("GET /station/icon.svg", "Range: bytes=9999999-"), 416),
+        "a condition that fails": (request("GET /station/icon.svg", "If-Match: x"), 412),
+        "a body too long": (
+            request("POST /messages", "Content-Type: application/json", "Content-Length: 9999999"),
+            413,
+        ),
+        "no log-in": ("GET /overdue HTTP/1.1\r\nHost: localhost\r\nConnection: close\r\n\r\n", 401),
+        "no file": (request("GET /station/none"), 404),
+        "a POST to a page": (request("POST /station/", *message, body="{}"), 403),
+        "POST to a file of the line": (
+            request("POST /line/status/here.json", *message, body="{}"),
+            403,
+        ),
+        "a text for a message": (
+            request("POST /messages", "Content-Type: text/plain", "Content-Length: 2", body="{}"),
+            415,
+        ),
+    }
+    here = site.room / "line/status/here.json"
+    here.write_text("{}")
+    for what, (text, status) in worked.items():
+        line, head, body = raw(site, text)
+        if (
+            not line.startswith(f"HTTP/1.1 {status} ")
+            and line != f"HTTP/1.1 {status}"
+            or "\r\nContent-Type: application/json" not in head
+            or "Answer" not in json.loads(body)
+        ):
+            raise Difference(f"{what}: wanted {status} with JSON, got {head!r} {body[:200]!r}")
+    here.unlink()
+    link = socket.create_connection(("127.0.0.1", site.port), 20)
+    with link:
+        link.sendall(b"GET /overdue HTTP/1.1\r\nHost: localhost\r\nConnection: close\r\n\r\n")
+        got = link.makefile("rb").read().decode()
+    if not got.startswith("HTTP/1.1 400 ") or '"Answer":"Proxy"' not in got:
+        raise Difference(f"a request without TLS: {got!r}")
+    if "empty URI" in (said := (site.room / "log/error.log").read_text()):
+        raise Difference(said[-500:])
+    log = (site.room / "log/tracedesk.log").read_text()
+    for it in (" GET /overdue 401 ", " GET /station/none 404 ", " POST /messages 413 "):
+        if it not in log:
+            raise Difference(f"the log has no {it!r}: {log[-900:]}")
+
+
+def test_certificates_are_compared_letter_by_letter(site: Site) -> None:
+    message = json.dumps(
+        {
+            "MessageName": "TraceDesk.PartDefined",
+            "UniqueID": "by-m2",
+            "Source": "m2",
+            "TimeStamp": "2026-03-02T06:00:00Z",
+            "MessageBody": {"PartNumber": "P"},
+        }
+    )
+    for name, subject in (
+        ("capital", "M2"),
+        ("longer", "m22"),
+        ("before", "xm2"),
+        ("more", "m2/O=x"),
+    ):
+        site.sign(name, subject, "clients")
+    got = {
+        name: site.asked("POST", "/messages", None, message, name)[0]
+        for name in ("m2", "capital", "longer", "before", "more", "auditor")
+    }
+    agree("who may send", {name: 200 if name == "m2" else 401 for name in got}, got)
+
+
+def test_nobody_logs_in_as_the_tools(site: Site) -> None:
+    """A user and a certificate with the name of the tools' own source get JSON with 403, everybody else goes on."""
+    for name in ("readers", "senders"):
+        file = site.room / "etc" / name
+        file.write_text(
+            file.read_text()
+            + re.search("^op(:.*\n)", file.read_text(), re.M)[0].replace("op:", "tracedesk:", 1)
+        )
+    site.sign("tools", "tracedesk", "clients")
+    password = "Basic " + base64.b64encode(b"tracedesk:op").decode()
+    got = [
+        site.asked("GET", "/overdue", Authorization=password),
+        site.asked("GET", "/overdue", certificate="tools"),
+        site.asked("GET", "/overdue", "op"),
+        site.asked("GET", "/overdue", certificate="m2"),
+    ]
+    agree("statuses", [403, 403, 200, 200], [it[0] for it in got])
+    agree("answers", {"Proxy"}, {json.loads(it[2])["Answer"] for it in got[:2]})
+
+
+def test_untraced_work_is_put_once(site: Site) -> None:
+    record = '{"At":"2026-11-27T14:55:02Z","Kind":"refused","Version":1}\n'
+    name = hashlib.sha256(record.encode()).hexdigest()[:32]
+    path, file = f"/line/untraced/{name}.json", site.room / f"line/untraced/{name}.json"
+    other = {"Origin": "https://elsewhere.example", "Sec_Fetch_Site": "cross-site"}
+    worked = [
+        ("PUT", path, None, record, {}, 401),
+        ("PUT", path, "office", record, {}, 401),
+        ("PUT", path, "op", record, other, 403),
+        ("PUT", path, "op", "x" * 3 * 2**20 + "x", {}, 413),
+        ("PUT", path.replace(name[-1] + ".json", "G.json"), "op", record, {}, 404),
+        ("PUT", path.replace(".json", ".txt"), "op", record, {}, 404),
+        ("PUT", "/line/untraced/../desk", "op", record, {}, 404),
+        ("GET", "/line/untraced/", "op", None, {}, 403),
+        ("GET", path, "op", None, {}, 403),
+        ("DELETE", path, "op", None, {}, 403),
+        ("MKCOL", path, "op", None, {}, 403),
+    ]
+    for method, at, user, body, headers, status in worked:
+        agree(
+            f"{method} {at} of {user} {headers}",
+            status,
+            site.asked(method, at, user, body, **headers)[0],
+        )
+    agree("the folder", [], os.listdir(site.room / "line/untraced"))
+    agree(
+        "the record is put",
+        (201, record),
+        (
+            site.asked("PUT", path, "op", record, Origin=site.url, Sec_Fetch_Site="same-origin")[0],
+            file.read_text(),
+        ),
+    )
+    agree("its rights", 0o644, file.stat().st_mode & 0o777)
+    agree(
+        "other bytes of its name",
+        (204, record),
+        (site.asked("PUT", path, "op", "other")[0], file.read_text()),
+    )
+    agree("by a certificate", 204, site.asked("PUT", path, None, record, "m2")[0])
+    agree(
+        "by a reader's",
+        401,
+        site.asked("PUT", path.replace(name, "0" * 32), None, record, "auditor")[0],
+    )
+
+
+def test_status_is_put_by_senders_and_read(site: Site) -> None:
+    worked = [
+        ("PUT", STATUS, None, 403),
+        ("PUT", STATUS, "office", 403),
+        ("PUT", "/line/status/untraced.json", "op", 403),
+        ("PUT", "/line/status/.m1.json", "op", 403),
+        ("PUT", "/line/status/m1.txt", "op", 403),
+        ("PUT", "/line/status/a/b.json", "op", 403),
+        ("PUT", "/line/status/..%2funtraced%2fm1.json", "op", 404),
+        ("GET", STATUS, "office", 404),
+        ("GET", "/line/status/", None, 401),
+    ]
+    for method, path, user, status in worked:
+        agree(
+            f"{method} {path} of {user}",
+            status,
+            site.asked(method, path, user, "{}" if method == "PUT" else None)[0],
+        )
+    for text, status in (('{"Waiting":0}', 201), ('{"Waiting":12}', 204)):
+        agree("a status is put", status, site.asked("PUT", STATUS, "op", text)[0])
+        got, headers, body = site.asked("GET", STATUS, "office")
+        agree(
+            "and read",
+            (200, text, "application/json", "no-store"),
+            (got, body, headers["Content-Type"], headers["Cache-Control"]),
+        )
+    (site.room / "line/status/untraced.json").write_text("{}\n")
+    got, headers, body = site.asked("GET", "/line/status/", "office")
+    agree(
+        "the folder",
+        (200, "application/json", [("op.json", "file"), ("untraced.json", "file")]),
+        (got, headers["Content-Type"], [(it["name"], it["type"]) for it in json.loads(body)]),
+    )
+    agree(
+        "untraced.json is read",
+        (200, "{}\n"),
+        site.asked("GET", "/line/status/untraced.json", "office")[::2],
+    )
+
+
+def rules_of_the_firewall() -> str:
+    """The rules of docs/operations.md."""
+    text = (ROOT / "docs/operations.md").read_text(encoding="utf-8")
+    return re.search(r"^table inet tracedesk \{\n.*?^\}\n", text, re.M | re.S)[0]
+
+
+@pytest.mark.needs("fail2ban-regex")
+def test_guesses_can_be_counted(site: Site) -> None:
+    """fail2ban finds a wrong password in the log by the expression of docs/operations.md, and no reader who asks whether to send."""
+    rule = re.search(
+        r"^failregex = (.*)$", (ROOT / "docs/operations.md").read_text(encoding="utf-8"), re.M
+    )[1]
+    for user, password in (
+        ("op", "op"),
+        ("op", "guess"),
+        ("office", "guess"),
+        ("office", "office"),
+        ("nobody", "guess"),
+    ):
+        for path in ("/station/may-send.json", "/overdue"):
+            site.asked(
+                "GET",
+                path,
+                Authorization="Basic " + base64.b64encode(f"{user}:{password}".encode()).decode(),
+            )
+    done = subprocess.run(
+        ["fail2ban-regex", site.room / "log/error.log", rule],
+        capture_output=True,
+        text=True,
+        check=True,
+    )
+    found = re.search(r"Failregex: (\d+) total", done.stdout)
+    agree("wrong passwords in the log", "3", found and found[1])
+
+
+def held(site: Site, count: int) -> list[ssl.SSLSocket]:
+    """How many of so many connections with unfinished heads are open at once."""
+    context = ssl.create_default_context(cafile=site.room / "etc/server.crt")
+    links: list[ssl.SSLSocket] = []
+    for _ in range(count):
+        try:
+            link = context.wrap_socket(
+                socket.create_connection(("127.0.0.1", site.port), 1), server_hostname="localhost"
+            )
+            link.sendall(b"GET / HTTP/1.1\r\nHost: a\r\nX: ")
+            links.append(link)
+        except OSError:
+            break
+    return links
+
+
+@pytest.mark.whole
+@pytest.mark.root
+@pytest.mark.needs("nft")
+def test_a_firewall_limits_unfinished_requests(site: Site) -> None:
+    """Without the rules one address takes each connection of nginx; with them it gets as many as they say, and others go on."""
+    site.stop_nginx()
+    file = site.room / "nginx.conf"
+    file.write_text(
+        file.read_text().replace(
+            "events {}", "worker_processes 1; events { worker_connections 256; }"
+        )
+    )
+    site.start_nginx()
+    links = held(site, 400)
+    free = len(links)
+    for it in links:
+        it.close()
+    time.sleep(1)
+    subprocess.run(
+        ["nft", "-f", "-"],
+        input=rules_of_the_firewall().replace("dport 443", f"dport {site.port}"),
+        text=True,
+        check=True,
+    )
+    links = held(site, 400)
+    with contextlib.closing(
+        socket.create_connection(("127.0.0.1", site.port), 5, ("127.0.0.2", 0))
+    ) as link, ssl.create_default_context(cafile=site.room / "etc/server.crt").wrap_socket(
+        link, server_hostname="localhost"
+    ) as other:
+        other.sendall(
+            f"GET /overdue HTTP/1.1\r\nHost: localhost\r\nConnection: close\r\n{LOGGED_IN}\r\n".encode()
+        )
+        said = other.recv(15).decode()
+    if free < 200 or len(links) != 100 or said != "HTTP/1.1 200 OK":
+        raise Difference(
+            f"without the rules {free} connections, with them {len(links)}; another address got {said!r}"
+        )

@@ -1,0 +1,209 @@
+"""The worked cases as runs for fault injection."""
+import argparse
+import contextlib
+import json
+import pathlib
+import re
+import sqlite3
+import tempfile
+from typing import Any, Callable, Iterator, Sequence
+from tracedesk_dev import reports
+from tracedesk_ops import copies
+from tracedesk_dev.fault_stories import Command, Files, Served, Story
+
+
+def steps_of(asked: argparse.Namespace, case: str) -> list[Any]:
+    steps: list[Any] = json.loads((asked.cases / case / "case.json").read_text())["steps"]
+    return steps
+
+
+def lines_of(asked: argparse.Namespace, case: str, name: str) -> list[bytes]:
+    file: pathlib.Path = asked.cases / case / name
+    return file.read_bytes().splitlines()
+
+
+def fed(asked: argparse.Namespace, case: str) -> Story:
+    """`feed` of a case's messages into a file."""
+    said = [line + b"\n" for line in lines_of(asked, case, "messages.jsonl")]
+    return Story(
+        asked,
+        f"feed {case}",
+        ["feed", "--db", "desk"],
+        said,
+        wanted=lines_of(asked, case, "answers.jsonl"),
+    )
+
+
+def in_memory(asked: argparse.Namespace, case: str) -> Story:
+    it = fed(asked, case)
+    it.words, it.has_desk = ["feed"], False
+    return it
+
+
+def fed_files(asked: argparse.Namespace, case: str) -> Files:
+    """The desk's files after a case's messages."""
+    story = fed(asked, case)
+    files: Files = story.plainly(story.all, {})[2]
+    return files
+
+
+def imported(asked: argparse.Namespace, case: str) -> Story:
+    """The first import of a case that is accepted, on the desk of its messages."""
+    text = {}
+    for step in steps_of(asked, case):
+        if "write" in step:
+            text = {step["write"]: step["text"].encode()}
+        if step.get("answer", {}).get("Answer") == "Accepted":
+            wanted = json.dumps(step["answer"], separators=(",", ":")).encode() + b"\n"
+            return Command(
+                asked,
+                f"{step['run'][0]} {case}",
+                step["run"],
+                [b""],
+                fed_files(asked, case),
+                text,
+                [wanted],
+            )
+    raise ValueError(f"the case {case} has no import that is accepted")
+
+
+def spelled(status: bytes, kind: bytes, body: bytes) -> bytes:
+    return b"HTTP/1.1 %s\r\nContent-Type: %s\r\nContent-Length: %d\r\n\r\n%s" % (
+        status,
+        kind,
+        len(body),
+        body,
+    )
+
+
+def report_of(story: Story, count: int, target: str) -> bytes:
+    """What a GET is answered after so many lines of `feed`, by the queries of dev/ask."""
+    _answers, _status, files = story.plainly(story.all[:count], {})
+    with tempfile.TemporaryDirectory(dir=story.asked.rooms.folder) as folder:
+        file = pathlib.Path(folder, "desk")
+        file.write_bytes(story.audit(files)[1]["desk"])
+        with copies.opened(file) as database:
+            text = reports.report(database, target).encode()
+    if text.startswith(b"{"):
+        return spelled(b"404 Not Found", b"application/json", text.removesuffix(b"\n"))
+    return spelled(b"200 OK", b"text/csv", text)
+
+
+def served(asked: argparse.Namespace, case: str, targets: Sequence[str]) -> Story:
+    """A case's messages as requests, a report after each of them, and the first message once more."""
+    feeding = fed(asked, case)
+    posts = [
+        b"POST /messages HTTP/1.1\r\nContent-Length: %d\r\n\r\n%s" % (len(line) - 1, line[:-1])
+        for line in feeding.parts
+    ]
+    assert feeding.wanted
+    told = [spelled(b"200 OK", b"application/json", answer) for answer in feeding.wanted]
+    parts, wanted = [posts[0]], [told[0]]
+    for number, post in enumerate(posts):
+        target = targets[number % len(targets)]
+        parts += [post, b"GET %s HTTP/1.1\r\n\r\n" % target.encode()]
+        wanted += [told[number], report_of(feeding, number + 1, target)]
+    return Served(asked, f"serve {case}", ["serve", "--db", "desk"], parts, wanted=wanted)
+
+
+def of_version_1(asked: argparse.Namespace, case: str) -> Files:
+    """The file of version 1 that a case makes by SQL."""
+    with tempfile.TemporaryDirectory(dir=asked.rooms.folder) as folder:
+        file = pathlib.Path(folder, "desk")
+        with contextlib.closing(sqlite3.connect(file)) as database:
+            for step in steps_of(asked, case):
+                if "change" in step:
+                    database.executescript(step["sql"])
+        return {"desk": file.read_bytes()}
+
+
+REPORTS = {
+    "slots": (
+        "/slots?machine=M",
+        b"slot,position,reel,part,lot,remaining,minutes_left\n2,1,K2,P,L1,20,unlimited\n",
+    ),
+    "trace": (
+        "/trace/board?board=B1&detail=4",
+        b"designator,part,lot,reel,machine,slot,overdue\nR1,P,L1,K1,M,1,no\n",
+    ),
+}
+
+
+def migrating(asked: argparse.Namespace, case: str) -> Story:
+    return Command(
+        asked,
+        f"migrate {case}",
+        ["migrate", "--db", "desk"],
+        [b""],
+        of_version_1(asked, case),
+        wanted=[b"version 2\n"],
+    )
+
+
+def auditing(asked: argparse.Namespace, case: str) -> Story:
+    count = sum(
+        line.startswith(b'{"Answer":"Accepted"') for line in lines_of(asked, case, "answers.jsonl")
+    )
+    return Command(
+        asked,
+        f"audit {case}",
+        ["audit", "--db", "desk"],
+        [b""],
+        fed_files(asked, case),
+        wanted=[b"lawful %d\n" % count],
+    )
+
+
+def reporting(name: str) -> Callable[[argparse.Namespace, str], Story]:
+    target, text = REPORTS[name]
+    return lambda asked, case: Command(
+        asked,
+        f"report {name} {case}",
+        ["report", "--db", "desk", "--get", target],
+        [b""],
+        fed_files(asked, case),
+        wanted=[text],
+    )
+
+
+def serving(*targets: str) -> Callable[[argparse.Namespace, str], Story]:
+    return lambda asked, case: served(asked, case, targets)
+
+
+MOVED = "a_reel_moved_to_another_slot"
+STORIES = (
+    ("feed", "first_run", fed),
+    ("feed", "a_splice_in_mid_board", fed),
+    ("feed", MOVED, fed),
+    ("feed, in memory,", "first_run", in_memory),
+    ("import-setup", "a_setup_file_is_one_sheet", imported),
+    ("import-counts", "a_count_file_is_all_or_nothing", imported),
+    ("migrate", "a_file_of_version_1_is_migrated", migrating),
+    ("audit", MOVED, auditing),
+    ("report slots", MOVED, reporting("slots")),
+    ("report trace", MOVED, reporting("trace")),
+    ("serve", "first_run", serving("/slots?machine=M")),
+    (
+        "serve",
+        MOVED,
+        serving(
+            "/slots?machine=M",
+            "/reel?reel=K2",
+            "/kit?product=PR&machine=M&boards=1",
+            "/trace/lot?lot=L1&detail=4",
+            "/reel?reel=K1",
+        ),
+    ),
+)
+
+
+def stories(asked: argparse.Namespace) -> Iterator[Any]:
+    """What is run."""
+    for name, case, make in STORIES:
+        if (
+            re.sub("[^a-z-].*", "", name) in asked.commands
+            and (asked.only or "") in f"{name} {case}"
+        ):
+            it = make(asked, case)
+            it.name = f"{name} {case}"
+            yield it

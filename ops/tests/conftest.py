@@ -1,0 +1,107 @@
+"""The fixtures of the tests of ops/. The conftest.py at the top has the options, markers and programs."""
+import os
+import pathlib
+import tempfile
+from typing import Iterator
+
+import pytest
+
+pytest.register_assert_rewrite("lab")
+
+from lab import line as lines  # noqa: E402
+from lab import messages, world as worlds  # noqa: E402
+from lab.desk import Desk  # noqa: E402
+from lab.line import Line, NewLine  # noqa: E402
+from lab.shifted import Shifted  # noqa: E402
+from lab.world import World  # noqa: E402
+
+
+@pytest.fixture(scope="session", autouse=True)
+def quick_tools() -> None:
+    """Tools wait a moment for senders, and not a second, unless a test says otherwise."""
+    os.environ.setdefault("TRACEDESK_QUIET", lines.QUIET)
+
+
+@pytest.fixture
+def folder() -> Iterator[pathlib.Path]:
+    """A folder of the test's own, which root's tools and other users can reach, and whose name is short."""
+    with tempfile.TemporaryDirectory(prefix="ops-") as name:
+        pathlib.Path(name).chmod(0o755)
+        yield pathlib.Path(name)
+
+
+@pytest.fixture
+def desk(program: pathlib.Path, folder: pathlib.Path) -> Iterator[Desk]:
+    """A desk that has nothing and isn't served yet; it is ended afterwards."""
+    made = Desk(program, folder / "desk")
+    try:
+        yield made
+    finally:
+        made.end()
+
+
+@pytest.fixture
+def new_line(program: pathlib.Path, folder: pathlib.Path) -> Iterator[NewLine]:
+    """Makes lines that are served, and ended afterwards: `new_line(folder, name, desk, messages)`. Without a folder it is the
+    test's; without messages they are those of the first line, with UniqueIDs of the line's own."""
+    made: list[Line] = []
+
+    def new(
+        at: "pathlib.Path | None" = None,
+        name: str = "L1",
+        desk: str = "desk",
+        said: "list[bytes] | None" = None,
+    ) -> Line:
+        line = Line(program, at or folder / "line", name, desk)
+        made.append(line)
+        return lines.begin(line, messages.first_line(name) if said is None else said)
+
+    try:
+        yield new
+    finally:
+        for line in made:
+            line.end()
+
+
+@pytest.fixture
+def line(new_line: NewLine) -> Line:
+    """Line L1, served, whose reel K1 of lot L1 is on slot 1 of machine M."""
+    return new_line()
+
+
+@pytest.fixture(scope="session")
+def shifted(program: pathlib.Path) -> Iterator[Shifted]:
+    """The messages of a shift, and what one desk makes of them."""
+    with tempfile.TemporaryDirectory(prefix="ops-") as name:
+        yield Shifted(program, pathlib.Path(name))
+
+
+@pytest.fixture
+def half(shifted: Shifted, folder: pathlib.Path) -> Iterator[Line]:
+    """Line L1, served, which has taken the first half of a shift; no board is in work."""
+    line = shifted.copy(folder / "half")
+    line.serve()
+    try:
+        yield line
+    finally:
+        line.end()
+
+
+@pytest.fixture(scope="session")
+def world(program: pathlib.Path) -> Iterator[World]:
+    """Two lines with archives, both served. Tests leave them as they are."""
+    with tempfile.TemporaryDirectory(prefix="ops-") as name:
+        made = worlds.World(program, pathlib.Path(name))
+        try:
+            yield made
+        finally:
+            made.end()
+
+
+@pytest.fixture
+def site(program: pathlib.Path) -> "Iterator[object]":
+    """A desk behind the packaged nginx, with a folder of the watch: a lab.site.Site."""
+    from lab.site import Site
+
+    with Site(str(program)) as made:
+        yield made

@@ -1,0 +1,122 @@
+"""Servers of PostgreSQL in folders of their own, and databases of them that are asked by psql."""
+from __future__ import annotations
+
+import contextlib
+import dataclasses
+import pathlib
+import tempfile
+from typing import Iterator, NamedTuple
+
+import pytest
+from lab import TESTS
+from lab.line import table
+from lab.tools import Ended, Word, run, run_tool
+from tracedesk_dev import packages, postgres
+
+SQL = postgres.SQL
+EXTENSIONS = pathlib.Path("/usr/share/postgresql")
+# a dump of tables that 0.3.0 had loaded, and a later copy of the line, made by its tools
+OLDER = TESTS / "plant-0.3.0.tar.xz"
+
+
+def skip_without(*extensions: str) -> None:
+    """Skips the test if there is no PostgreSQL, or none with these extensions."""
+    why = packages.lacking("initdb", "psql", "python:psycopg")
+    for name in extensions:
+        if not list(EXTENSIONS.glob(f"*/extension/{name}.control")):
+            why = why or f"there is no {name}: apt-get install postgresql-15-{name}"
+    if why:
+        pytest.skip(why)
+
+
+@contextlib.contextmanager
+def server() -> Iterator[postgres.Server]:
+    """A server that runs; it ends with its folder, also if it was stopped meanwhile."""
+    with tempfile.TemporaryDirectory(prefix="plant-") as folder:
+        with contextlib.ExitStack() as kept:
+            its = postgres.Server(pathlib.Path(folder))
+            its.__enter__()
+            kept.callback(stop, its)
+            yield its
+
+
+def stop(its: postgres.Server) -> None:
+    """Ends a server at once, unless it has ended."""
+    if (its.data / "postmaster.pid").exists():
+        its.run("pg_ctl", "-D", str(its.data), "-m", "immediate", "-w", "stop")
+
+
+def variables(values: dict[str, object]) -> list[Word]:
+    """The words by which psql gets these variables."""
+    return [word for name, value in values.items() for word in ("-v", f"{name}={value}")]
+
+
+class Queried(NamedTuple):
+    """What a query prints, and what it says on standard error."""
+
+    rows: list[dict[str, str]]
+    said: str
+
+
+@dataclasses.dataclass(frozen=True)
+class Database:
+    """A database of a server."""
+
+    server: postgres.Server
+    name: str
+
+    @property
+    def environment(self) -> dict[str, str]:
+        """By which psql and the tools find it."""
+        return {
+            "PGHOST": str(self.server.folder),
+            "PGDATABASE": self.name,
+            "PGUSER": "plant",
+            "PGCLIENTENCODING": "UTF8",
+        }
+
+    def psql(self, *words: Word, status: int = 0) -> Ended:
+        """Calls psql, which has to end with this status."""
+        its: list[Word] = ["psql", "-X", "-q", "-v", "ON_ERROR_STOP=1", *words]
+        return run(its, env=self.environment).expect(status)
+
+    def told(self, statement: str) -> str:
+        """What psql prints of a statement, without a header."""
+        return self.psql("-At", "-c", statement).out
+
+    def change(self, statement: str) -> None:
+        self.psql("-c", f"SET search_path TO plant; {statement}")
+
+    def rows(self, query: str) -> list[tuple[str, ...]]:
+        told = self.psql("--csv", "-c", f"SET search_path TO plant; {query}").out
+        return [tuple(row.values()) for row in table(told)]
+
+    def query(self, name: str, status: int = 0, /, **values: object) -> Queried:
+        """Runs a query of the package as a reader does."""
+        words = ["psql", "-X", "--csv", *variables(values), "-f", SQL / f"{name}.sql"]
+        done = run(words, env=self.environment).expect(status)
+        return Queried(table(done.out), done.err)
+
+    def drop(self, **values: object) -> None:
+        """Takes files out, as docs/plant.md says."""
+        self.psql(*variables(values), "-f", SQL / "drop.sql")
+
+    def load(self, *words: Word, status: int = 0, **environment: str) -> str:
+        """Calls tracedesk-plant-load, and returns what it says."""
+        env = {**self.environment, **environment}
+        return run_tool("plant-load", *words, env=env).expect(status).said
+
+    def refuse(self, said: str, *words: Word) -> str:
+        """Calls it with what it doesn't take."""
+        told = self.load(*words, status=1)
+        assert said in told
+        return told
+
+
+def create(server: postgres.Server, name: str, schema: str = "schema", more: str = "") -> Database:
+    """A new database, with the tables of the plant, of the company, or none."""
+    Database(server, "postgres").psql("-c", f"CREATE DATABASE {name} {more}")
+    made = Database(server, name)
+    if schema:
+        made.psql("-f", SQL / f"{schema}.sql")
+    return made

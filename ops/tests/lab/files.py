@@ -1,0 +1,94 @@
+"""Desks' files made of tables alone, without the program: for tests of what the files say of one
+another.
+"""
+from __future__ import annotations
+
+import contextlib
+import pathlib
+import shutil
+import sqlite3
+from collections.abc import Iterable, Iterator
+
+from tracedesk_ops import declared, model, store
+
+INSERT = "INSERT INTO accepted VALUES (?, ?, ?, 0, ?, ?, '')"
+
+
+@contextlib.contextmanager
+def opened(path: pathlib.Path) -> Iterator[sqlite3.Connection]:
+    """A desk's file to be written; no test of these cuts the power."""
+    with contextlib.closing(sqlite3.connect(path)) as database, database:
+        database.execute("PRAGMA synchronous = OFF")
+        database.execute("PRAGMA journal_mode = MEMORY")
+        yield database
+
+
+def desk(path: pathlib.Path, uids: Iterable[str] = (), mark: str = "") -> pathlib.Path:
+    """A new desk that has accepted these UniqueIDs, after its beginning if it has a mark."""
+    with opened(path) as database:
+        database.executescript(declared.TABLES)
+        if mark:
+            database.execute(INSERT, [1, f"begin-{mark}-1", "begin", 0, "PartDefined\tP"])
+    accept(path, uids)
+    return path
+
+
+def accept(path: pathlib.Path, uids: Iterable[str]) -> None:
+    """The desk accepts them: heads of its own by their names, and parts for the others."""
+    with opened(path) as database:
+        for uid in uids:
+            last = database.execute("SELECT coalesce(max(number), 0) FROM accepted").fetchone()[0]
+            is_head = uid.partition("-")[0] in model.KINDS
+            said = (model.SOURCE, "ClockSet") if is_head else ("S", f"PartDefined\t{uid}")
+            database.execute(INSERT, [last + 1, uid, said[0], last + 1, said[1]])
+
+
+def line(folder: pathlib.Path, uids: Iterable[str] = (), name: str = "L1") -> model.Line:
+    """A line with a desk in a folder."""
+    made = model.Line(name, folder / "desk", folder / "archive")
+    desk(made.desk, uids)
+    return made
+
+
+def roll_over(it: model.Line, name: str = "") -> None:
+    """What tracedesk-rollover does, once its new desk was compared with the old one."""
+    room = store.emptied(it)
+    shutil.copyfile(it.desk, room / "old")
+    digits = store.sha256_of(room / "old")[: model.DIGITS]
+    desk(room / "new", mark=digits)
+    store.archived(it, room / "old", room / "new", name or f"{it.name}-{digits}")
+    store.settled(it, store.Reader())
+
+
+def copy(it: model.Line, to: pathlib.Path) -> pathlib.Path:
+    """A copy of a line: its desk and its archive."""
+    to.mkdir()
+    shutil.copyfile(it.desk, to / "desk")
+    if it.archive.exists():
+        shutil.copytree(it.archive, to / "archive")
+    return to
+
+
+def restore(it: model.Line, copied: pathlib.Path, stamp: str = "2026-11-25T061203Z") -> None:
+    """What tracedesk-backup --restore does, once the copy was audited."""
+    room, reader = store.emptied(it), store.Reader()
+    its = model.Line(it.name, copied / "desk", copied / "archive")
+    there = {file.sha256 for file in reader.archives(it)}
+    lacked = [file for file in reader.chain(its).archives if file.sha256 not in there]
+    made = [room / f"{file.path.name}" for file in lacked]
+    for file, path in zip(lacked, made):
+        shutil.copyfile(file.path, path)
+    shutil.copyfile(its.desk, room / it.desk.name)
+    store.restored(it, made, stamp)
+    store.settled(it, store.Reader())
+
+
+def taken(it: model.Line) -> list[str]:
+    """The UniqueIDs of senders in all files of the chain."""
+    reader = store.Reader()
+    return sorted(said.uid for file in reader.chain(it).files for said in reader.taken(file))
+
+
+def lacking(it: model.Line) -> int:
+    """How many commands lie off the line's chain and nowhere in it."""
+    return sum(off.lacking for off in store.Reader().off_chain(it))

@@ -1,0 +1,52 @@
+"""Calls a tool in this very process, since an interpreter of its own would take longer than the tool itself."""
+import contextlib
+import importlib
+import io
+import os
+import signal
+import sys
+import traceback
+from types import ModuleType
+
+from lab.tools import Ended, Word, strings, tool
+
+UNEXPECTED = 9
+
+
+def module_of(name: str) -> ModuleType:
+    """The module of a tool, as `backup`."""
+    return importlib.import_module(f"tracedesk_ops.cmd.{name.replace('-', '_')}")
+
+
+def status_of(end: SystemExit) -> int:
+    """The status with which an interpreter would end."""
+    if isinstance(end.code, int):
+        return end.code
+    if end.code is not None:
+        print(end.code, file=sys.stderr)
+    return 0 if end.code is None else 1
+
+
+def call_here(name: str, *words: Word) -> Ended:
+    """Calls a tool, and puts back what it changes of the process."""
+    module = module_of(name)
+    out, err = (io.TextIOWrapper(io.BytesIO(), "utf-8", write_through=True) for _ in range(2))
+    before, mask = sys.argv, os.umask(0o022)
+    signals = {number: signal.getsignal(number) for number in (signal.SIGTERM, signal.SIGHUP)}
+    sys.argv = strings([tool(name), *words])
+    try:
+        with contextlib.redirect_stdout(out), contextlib.redirect_stderr(err):
+            try:
+                status = int(module.main() or 0)
+            except SystemExit as end:
+                status = status_of(end)
+            except Exception:
+                traceback.print_exc()
+                status = UNEXPECTED
+    finally:
+        called, sys.argv = sys.argv, before
+        os.umask(mask)
+        for number, handler in signals.items():
+            signal.signal(number, handler)
+    texts = [text.buffer.getvalue().decode() for text in (out, err)]  # type: ignore[attr-defined]
+    return Ended(tuple(called), status, texts[0], texts[1])

@@ -1,0 +1,154 @@
+"""A line: a desk that is served, with its archives and copies, and the tools' words for it."""
+import collections
+import csv
+import io
+import pathlib
+from typing import Any, Callable, Iterable, Mapping, Optional
+
+from lab import messages
+from lab.desk import Desk, rows_of
+from lab.tools import KILL_AFTER, Ended, Word, run, run_tool, tool
+from tracedesk_ops import backups, catalogue
+
+QUIET = "0.1"  # seconds without a connection, after which tools take senders for gone
+OWN_COMMANDS = """SELECT uid FROM accepted WHERE source <> 'tracedesk' AND number >
+    (SELECT coalesce(max(number), 0) FROM accepted WHERE uid LIKE 'begin-%')"""
+
+
+class Line(Desk):
+    """A line in a folder. `desk` is the name of its desk's file; several lines may share a folder."""
+
+    quiet = QUIET
+
+    def __init__(
+        self,
+        program: pathlib.Path,
+        folder: pathlib.Path,
+        name: str = "L1",
+        desk: str = "desk",
+        port: int = 0,
+    ) -> None:
+        super().__init__(program, folder / desk, port)
+        self.folder, self.name = folder, name
+        self.archive, self.copies = folder / "archive", folder / "copies"
+        self.catalogue = self.archive / catalogue.FILE_NAME
+        self.drained, self.proxy_port = folder / "drained", 1  # nothing answers on port 1
+
+    # --- The tools
+
+    def service(self, program: Optional[pathlib.Path] = None) -> list[Word]:
+        """The words of each tool that stops and starts the service."""
+        return [
+            *("--db", self.file, "--program", program or self.program),
+            *("--stop", self.stop_command, "--start", self.start_script, "--port", self.port),
+            *("--drained", self.drained, "--drain-seconds", 5, "--proxy-port", self.proxy_port),
+        ]
+
+    def rollover_words(self, *more: Word, program: Optional[pathlib.Path] = None) -> list[Word]:
+        return [tool("rollover"), *self.service(program), "--line", self.name, *more]
+
+    def rollover(self, *more: Word, program: Optional[pathlib.Path] = None, **how: Any) -> Ended:
+        """Calls tracedesk-rollover. `kill_after` names the step after which it is killed, `limit` the size of files."""
+        return self.call(self.rollover_words(*more, program=program), program, **how)
+
+    def backup(self, *more: Word, program: Optional[pathlib.Path] = None, **how: Any) -> Ended:
+        words = [tool("backup"), *self.service(program), "--to", self.copies, *more]
+        return self.call(words, program, **how)
+
+    def settle(self, *more: Word) -> Ended:
+        return self.call([tool("settle"), *self.service(), *more])
+
+    def call(
+        self,
+        words: list[Word],
+        program: Optional[pathlib.Path] = None,
+        kill_after: str = "",
+        limit: int = 0,
+        env: Optional[Mapping[str, str]] = None,
+    ) -> Ended:
+        own = {"TRACEDESK_QUIET": self.quiet, KILL_AFTER: kill_after}
+        if program:  # of `wrapped`: tracedesk-chain lies next to it
+            own["CHAIN"] = str(program.with_name("tracedesk-chain"))
+        return run(words, env={**own, **(env or {})}, limit=limit)
+
+    def recall_words(self) -> list[Word]:
+        return ["--line", self.name, self.url, self.catalogue]
+
+    def recall(self, *more: Word, lot: str = "L1") -> Ended:
+        """Recalls a lot over the archives and the running desk."""
+        return run_tool("recall", "lot", lot, *self.recall_words(), *more)
+
+    def recall_archives(self, lot: str = "L1") -> Ended:
+        """Recalls a lot over the archives alone."""
+        line: list[Word] = ["--line", self.name, "-", self.catalogue]
+        return run_tool("recall", "lot", lot, "--archives-only", *line)
+
+    # --- What is there
+
+    def archives(self) -> list[catalogue.Archive]:
+        return list(catalogue.read(self.catalogue))
+
+    def archive_file(self, number: int = -1) -> pathlib.Path:
+        """The file of an archive, by its place in the catalogue."""
+        return pathlib.Path(catalogue.path_of(self.catalogue, self.archives()[number]))
+
+    def kept(self) -> list[pathlib.Path]:
+        """All copies, the oldest first."""
+        return list(backups.kept_in(self.copies))
+
+    def newest(self) -> pathlib.Path:
+        return self.kept()[-1]
+
+    def lacks(self) -> list[pathlib.Path]:
+        """The entries of copies that were restored and lacked something."""
+        return sorted(self.archive.glob(catalogue.ENTRIES))
+
+    def files(self) -> list[pathlib.Path]:
+        """The files of all archives, whose checksums are right, and of the running desk."""
+        for archive in self.archives():
+            catalogue.check(self.catalogue, archive)
+        return [*(catalogue.path_of(self.catalogue, it) for it in self.archives()), self.file]
+
+    def uids(self) -> "collections.Counter[str]":
+        """The UniqueIDs of all accepted commands that no roll-over made, with how many desks have each."""
+        return sum(map(self.uids_of, self.files()), collections.Counter())
+
+    def uids_of(self, file: pathlib.Path) -> "collections.Counter[str]":
+        return collections.Counter(uid for (uid,) in rows_of(file, OWN_COMMANDS))
+
+    def lawful_now(self) -> int:
+        """How many commands the desk has that is served."""
+        with self.stopped():
+            return self.lawful()
+
+    def expect_tidy(self, *also: str, answers: bool = True) -> None:
+        """Looks for what holds whenever no tool is on its way: nothing else lies there, and the desk answers."""
+        own = {self.archive.name, self.copies.name, "aside", *also}
+        own |= {f"{self.file.name}{tail}" for tail in ("", "-wal", "-start", "-pid")}
+        others = {path.name for path in self.folder.iterdir()} - own
+        assert not others, f"there are also {others}"
+        listed = {archive.file for archive in self.archives()} | {catalogue.FILE_NAME}
+        there = {path.name for path in self.archive.glob("*") if not path.match(catalogue.ENTRIES)}
+        assert (
+            there <= listed
+        ), f"the archive has {there - listed}, which the catalogue doesn't list"
+        assert not answers or self.answers(), "the desk does not answer"
+
+    def more(self, *names: str) -> None:
+        """Says a command of each of these names, which the desk accepts."""
+        self.accept(*(messages.part(name, self.time) for name in names))
+
+
+NewLine = Callable[..., Line]  # the fixture `new_line`
+
+
+def begin(line: Line, lines: Iterable[bytes]) -> Line:
+    """Makes a line's desk of these messages, and serves it."""
+    line.feed(lines)
+    line.serve()
+    return line
+
+
+def table(text: str) -> list[dict[str, str]]:
+    """The rows of a CSV text, by the names of its columns."""
+    return list(csv.DictReader(io.StringIO(text)))

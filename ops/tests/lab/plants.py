@@ -1,0 +1,81 @@
+"""Lines that the tools roll over and copy while they are served, as a plant does, and the databases that are loaded from their copies."""
+from __future__ import annotations
+
+import pathlib
+from typing import Sequence
+
+from lab.databases import Database
+from lab.line import Line
+from lab.world import RUNNING
+from tracedesk_ops import catalogue
+
+PIECES = "line, file, board, designator, part, lot, reel, machine, slot, overdue, minute"
+PARTS = "SELECT count(*) FROM pg_class WHERE relkind = 'r' AND relname LIKE 'placement%'"
+TABLES = (
+    *("file", "lacking", "reel", "start", "command"),
+    *("placement", "untraced", "doubtful", "refused", "looked"),
+)
+TWICE = "SELECT line, board, designator FROM piece GROUP BY 1, 2, 3 HAVING count(*) > 1"
+
+Rows = list[tuple[str, ...]]
+
+
+class WorkedLine(Line):
+    """A line whose desk is rolled over and copied by the tools, while it is served."""
+
+    def work(self, parts: Sequence[bytes]) -> None:
+        """Posts the parts of a shift, with a copy and a roll-over before each but the first, and a copy at the end."""
+        for number, part in enumerate(parts):
+            if number:
+                self.copy()
+                self.rollover().expect()
+            self.post(part.splitlines())
+        self.copy()
+
+    def copy(self) -> None:
+        """Copies the desk. A copy has its name by the second, so each gets a day of its own."""
+        self.backup().expect()
+        newest = self.newest()
+        newest.rename(newest.with_name(f"2026-03-0{len(self.kept())}T060000Z"))
+
+    @property
+    def last(self) -> pathlib.Path:
+        return self.newest() / "desk"
+
+    @property
+    def archived(self) -> list[pathlib.Path]:
+        """The archives' files, the oldest first."""
+        return [catalogue.path_of(self.catalogue, archive) for archive in self.archives()]
+
+    def named_files(self) -> dict[str, pathlib.Path]:
+        return {**{file.name: file for file in self.archived}, RUNNING: self.last}
+
+
+def parts(database: Database) -> int:
+    """How many tables of pieces there are."""
+    return int(database.told(PARTS))
+
+
+def pieces(database: Database) -> Rows:
+    return database.rows(f"SELECT {PIECES} FROM piece ORDER BY 1, 2, 3, 4")
+
+
+def files(database: Database) -> Rows:
+    return database.rows("SELECT line, name, sha256, pieces FROM file ORDER BY 1, 2")
+
+
+def missing(database: Database) -> list[str]:
+    return [name for (name,) in database.rows("SELECT name FROM missing ORDER BY 1")]
+
+
+def state(database: Database) -> list[str]:
+    """All rows of all tables, but for the ids of files."""
+    query = "SELECT it FROM plant.{0} it ORDER BY it::text"
+    return [database.told(query.format(name)) for name in TABLES]
+
+
+def expect_whole(database: Database, status: int = 0) -> None:
+    """Looks whether no line has a place of a board twice, and what a recall ends with."""
+    assert database.rows(TWICE) == []
+    ((lot,),) = database.rows("SELECT min(lot) FROM reel")
+    database.query("recall", status, lot=lot)

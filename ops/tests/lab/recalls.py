@@ -1,0 +1,230 @@
+"""What tracedesk-recall prints of lots, reels and boards, compared with what the program reports of each file."""
+from __future__ import annotations
+
+import collections
+import csv
+import io
+import pathlib
+import shutil
+import threading
+import urllib.parse
+from typing import Any, Callable, Iterator, Protocol, Sequence
+
+from lab.desk import rows_of_archive
+from lab.line import table
+from lab.tools import Ended, Word, run, run_tool
+from lab.world import RUNNING, World
+from tracedesk_ops import catalogue, chains
+from tracedesk_ops.cmd import recall as tool
+
+TRACE = ("board", "designator", "part", "reel", "machine", "slot", "overdue")
+BOARD_TRACE = ("designator", "part", "lot", "reel", "machine", "slot", "overdue")
+KINDS = {"lot": "reel", "reel": "reel", "board": "board"}  # the tables that have their names
+MINUTES = "SELECT board, designator, effective FROM placement JOIN accepted USING (number)"
+PLACED = "SELECT DISTINCT lot FROM reel JOIN placement USING (reel)"
+IN_STOCK = "SELECT DISTINCT lot FROM reel WHERE remaining > 0"
+LEFT = """SELECT reel, part, lot, remaining,
+    iif(mount.reel IS NOT NULL, 'mounted', iif(open_since >= 0, 'open', 'sealed')),
+    coalesce(machine, ''), coalesce(slot, '')
+    FROM reel LEFT JOIN mount USING (reel) WHERE {} = ? AND remaining > 0"""
+LAST = "SELECT max(effective) FROM accepted"
+
+Rows = list[dict[str, str]]
+Tables = dict[str, Rows]
+
+
+class Asked(Protocol):
+    """A line whose files hold pieces."""
+
+    name: str
+    program: pathlib.Path
+    catalogue: pathlib.Path
+
+    @property
+    def last(self) -> pathlib.Path:
+        """A copy of the running desk's file."""
+
+    @property
+    def url(self) -> str:
+        ...
+
+    def named_files(self) -> dict[str, pathlib.Path]:
+        ...
+
+
+def recall(*words: Word) -> Ended:
+    return run_tool("recall", *words)
+
+
+def recalled(*words: Word, status: int = 0) -> Rows:
+    """The rows that a recall prints; it has to end with this status."""
+    return table(recall(*words).expect(status).out)
+
+
+def files_of(pieces: Rows) -> set[str]:
+    return {row["file"] for row in pieces}
+
+
+def lot_of(world: World) -> str:
+    """The lot that has pieces in most files of the first line, of those of which some are left."""
+    files = world.first.named_files().values()
+    found = collections.Counter(lot for file in files for (lot,) in rows_of_archive(file, PLACED))
+    left = {lot for (lot,) in rows_of_archive(world.first.last, IN_STOCK)}
+    return str(max(left, key=lambda lot: (found[lot], lot)))
+
+
+def last_minute(file: pathlib.Path) -> str:
+    """The time of the last command that a file has."""
+    return str(catalogue.spelled(rows_of_archive(file, LAST)[0][0]))
+
+
+def state_of(world: World) -> dict[pathlib.Path, tuple[bytes, int]]:
+    """What is in the archives of both lines, with the times of the databases."""
+    return {
+        file: (file.read_bytes(), file.stat().st_mtime_ns if file.suffix != ".csv" else 0)
+        for line in world.lines
+        for file in line.archive.iterdir()
+    }
+
+
+def copied(line: Asked, folder: pathlib.Path) -> list[Word]:
+    """A copy of a line's archives in a folder of this name, and the words of a recall over it."""
+    shutil.copytree(line.catalogue.parent, folder)
+    return ["--line", line.name, line.url, folder / catalogue.FILE_NAME]
+
+
+def minutes_of(file: pathlib.Path) -> dict[tuple[str, str], str]:
+    """When each designator of each board was placed."""
+    found = rows_of_archive(file, MINUTES)
+    return {(board, name): str(catalogue.spelled(minute)) for board, name, minute in found}
+
+
+class Asking:
+    """Asks the tool for names, in this process, and the program for its reports of copies of each file."""
+
+    def __init__(self, lines: Sequence[Asked], room: pathlib.Path) -> None:
+        self.lines, self.room, self.program = lines, room, lines[0].program
+        self.asked = [tool.Line(line.name, line.url, line.catalogue) for line in lines]
+        self.files = [
+            (line.name, name, file) for line in lines for name, file in line.named_files().items()
+        ]
+        self.minutes = {(line, name): minutes_of(file) for line, name, file in self.files}
+        self.reports: dict[tuple[pathlib.Path, str], Rows] = {}
+        self.locks: dict[pathlib.Path, threading.Lock] = collections.defaultdict(threading.Lock)
+
+    def names(self, kind: str) -> list[str]:
+        """All names of a kind in all files."""
+        query = f"SELECT {kind} FROM {KINDS[kind]}"
+        return sorted({name for *_, file in self.files for (name,) in rows_of_archive(file, query)})
+
+    def begun(self, kind: str, name: str, lines: int, meanwhile: Callable[[], Any]) -> Any:
+        """A recall over the first so many lines, during which something happens."""
+        question = tool.Question(kind, name)
+
+        def desk_of(line: Any) -> Any:
+            meanwhile()
+            return tool.Desk(line, None, None)
+
+        asker = chains.Asker(str(self.program), question)
+        its = tool.Recall(question, self.asked[:lines], desk_of, asker)
+        its.ask()
+        return its
+
+    def tables(self, kind: str, name: str) -> Tables:
+        """What the tool prints, as rows of its tables."""
+        its = self.begun(kind, name, len(self.lines), lambda: None)
+        assert not its.faults + its.breaks + its.doubts, f"{kind} {name}"
+        found = tool.tables_of(its, None).items()
+        return {name: table(catalogue.csv_text(rows)) for name, rows in found}
+
+    def report(self, file: pathlib.Path, path: str, **query: Any) -> Rows:
+        """The rows of the program's report of a copy of a file; none if it doesn't know what is asked."""
+        target = f"{path}?{urllib.parse.urlencode(query)}"
+        with self.locks[file]:
+            if (file, target) not in self.reports:
+                copy = self.room / "-".join(file.parts[-3:])
+                if not copy.exists():
+                    shutil.copy(file, copy)
+                done = run([self.program, "report", "--db", copy, "--get", target])
+                if done.status:
+                    done.expect(1, '"NotFound"')
+                self.reports[file, target] = [] if done.status else table(done.out)
+            return self.reports[file, target]
+
+    def wanted(self, kind: str, name: str) -> Iterator[tuple[str, str, list[tuple[str, ...]]]]:
+        """The pieces by the program's reports: a line, a file of it, and what the report has of each piece."""
+        for line, file_name, file in self.files:
+            if kind == "board":
+                told = self.report(file, "/trace/board", board=name, detail=4)
+            else:
+                lots = [name]
+                if kind == "reel":
+                    query = "SELECT lot FROM reel WHERE reel = ?"
+                    lots = [lot for (lot,) in rows_of_archive(file, query, name)]
+                told = [
+                    row
+                    for lot in lots
+                    for row in self.report(file, "/trace/lot", lot=lot, detail=4)
+                    if kind == "lot" or row["reel"] == name
+                ]
+            yield line, file_name, sorted(tuple(row.values()) for row in told)
+
+    def expect_pieces(self, kind: str, name: str, pieces: Rows) -> None:
+        """Looks whether these are the pieces that the program reports, with their minutes."""
+        columns = BOARD_TRACE if kind == "board" else TRACE
+        by_file: dict[tuple[str, str], list[tuple[str, ...]]] = collections.defaultdict(list)
+        for row in pieces:
+            by_file[row["line"], row["file"]].append(tuple(row[column] for column in columns))
+            minute = ""
+            if row["file"] != RUNNING:
+                minute = self.minutes[row["line"], row["file"]][row["board"], row["designator"]]
+            assert (row["minute"], row[kind]) == (minute, name), row
+        for line, file, wanted in self.wanted(kind, name):
+            assert sorted(by_file.pop((line, file), [])) == wanted, f"{kind} {name}, {line} {file}"
+        assert not by_file, f"{kind} {name}"
+
+    def expect_reels(self, kind: str, name: str, reels: Rows) -> None:
+        """Looks whether these are the reels that have something left."""
+        left = [
+            [line.name, *map(str, row)]
+            for line in self.lines
+            for row in rows_of_archive(line.last, LEFT.format(kind), name)
+        ]
+        got = [[row["line"], *list(row.values())[:7]] for row in reels]
+        assert sorted(got) == sorted(left), f"{kind} {name}"
+
+    def expect_right(self, kind: str, name: str) -> int:
+        """Looks whether all that the tool says of a name is right; how many pieces it has."""
+        tables = self.tables(kind, name)
+        self.expect_pieces(kind, name, tables["pieces"])
+        expect_boards(tables)
+        if kind != "board":
+            self.expect_reels(kind, name, tables["reels"])
+        return len(tables["pieces"])
+
+
+def expect_boards(tables: Tables) -> None:
+    """Looks whether the boards are what the pieces say."""
+    pieces: dict[str, Rows] = collections.defaultdict(list)
+    for row in tables["pieces"]:
+        pieces[row["board"]].append(row)
+    assert [row["board"] for row in tables["boards"]] == sorted(pieces)
+    for row in tables["boards"]:
+        own = pieces[row["board"]]
+        minutes = sorted(it["minute"] for it in own if it["minute"])
+        lines = {it["line"] for it in own}
+        # else a running desk may have placed the first
+        has_first = {it["line"] for it in own if it["minute"]} == lines
+        wanted = {
+            "pieces": str(len(own)),
+            "first_minute": minutes[0] if has_first else "",
+            "last_minute": minutes[-1] if len(minutes) == len(own) else "",
+            "line": "; ".join(sorted(lines)),
+            "overdue": "yes" if any(it["overdue"] == "yes" for it in own) else "no",
+        }
+        assert {name: row[name] for name in wanted} == wanted, row["board"]
+
+
+def catalogued(file: pathlib.Path) -> set[str]:
+    """The names that a catalogue has, and its own."""
+    return {row["file"] for row in csv.DictReader(io.StringIO(file.read_text()))} | {file.name}

@@ -1,0 +1,131 @@
+"""A machine that names another reel than the desk has: from its report to the recalls that name the board, and to a decision."""
+import json
+import pathlib
+from typing import Any, Iterator
+
+import pytest
+from lab.line import Line, table
+from test_untraced_line import FIRST, LATER, Plant
+from tracedesk_ops import untraced
+
+NOW = "2026-03-02T06:05:00Z"
+
+
+@pytest.fixture
+def plant(program: pathlib.Path, folder: pathlib.Path) -> Iterator[Plant]:
+    line = Line(program, folder / "plant")
+    line.serve()
+    (line.folder / "decided").mkdir(parents=True)
+    made = Plant(line)
+    made.make_ready(("R-1", "P", "1", 9), ("R-2", "P", "1", 9), ("R-3", "P", "1", 9))
+    made.on_slot(FIRST, "MaterialsLoaded", Reel="R-1")
+    yield made
+    line.end()
+
+
+def build(plant: Plant, *reels: "str | None", board: str = "B1") -> None:
+    """A board is built, and the machine names the reel that it took, if it knows one."""
+    at: dict[str, Any] = {"Machine": "M1", "Board": board}
+    named = {"MachineReels": list(reels)} if reels != (None,) else {}
+    lines = [
+        plant.message(NOW, "WorkStarted", **at),
+        plant.message(NOW, "MaterialsInstalled", **at, Designators=["C1"], **named),
+        plant.message(NOW, "WorkCompleted", **at),
+    ]
+    given = b"\n".join(lines) + b"\n"
+    plant.send("--follow", "-", *plant.handed_on, given=given).expect(0)
+
+
+def test_both_lots_name_the_board_until_somebody_decides(plant: Plant) -> None:
+    build(plant, "R-2")
+    for lot in ("L-R-1", "L-R-2"):
+        (row,) = table(plant.recall(lot, 5, "doubtful"))
+        assert (row["board"], row["designator"], row["reel"]) == ("B1", "C1", "R-1")
+        assert (row["other_reels"], row["other_lots"]) == ("R-2", "L-R-2")
+        assert row["why"].startswith("the machine names another reel (")
+    assert table(plant.recall("L-R-3", 0, "doubtful")) == []
+    plant.untraced("collect").expect()
+    told = json.loads((plant.status / "untraced.json").read_text())["Undecided"]
+    assert [(it["Board"], it["Refusal"], it["Place"]) for it in told] == [("B1", "Differs", "R-2")]
+    (record,) = untraced.undecided(untraced.read(plant.line.archive).records)
+    plant.decide(record.id[:12], "the machine was wrong: its feeder table was old")
+    for lot in ("L-R-1", "L-R-2"):
+        assert table(plant.recall(lot, 0, "doubtful")) == []
+    (row,) = table(plant.recall("L-R-2", 0))
+    assert (row["board"], row["became"]) == (
+        "B1",
+        "the machine was wrong: its feeder table was old",
+    )
+
+
+def test_a_reel_that_the_desk_does_not_know_is_said_so(plant: Plant) -> None:
+    build(plant, "R-9")
+    (row,) = table(plant.recall("L-R-1", 5, "doubtful"))
+    assert "which the desk doesn't know" in row["why"]
+    # it may be of any lot of the part
+    assert len(table(plant.recall("L-R-3", 5, "doubtful"))) == 1
+    (told,) = json.loads((plant.status / "m1.json").read_text())["Machines"]["M1"]["Differs"]
+    assert (told["Known"], told["Slot"], told["Desk"], told["Machine"]) == (
+        False,
+        "1",
+        "R-1",
+        "R-9",
+    )
+
+
+@pytest.mark.parametrize("reels", [("R-1",), (None,)])
+def test_where_they_agree_or_none_is_named_nothing_is_in_doubt(
+    plant: Plant, reels: "tuple[str | None, ...]"
+) -> None:
+    build(plant, *reels)
+    assert table(plant.recall("L-R-1", 0, "doubtful")) == []
+    assert not list(plant.inbox.glob("*.json"))
+
+
+def test_a_decision_in_the_inbox_is_none(plant: Plant) -> None:
+    """Whoever may send may put it there."""
+    build(plant, "R-2")
+    plant.untraced("collect").expect()
+    (record,) = untraced.undecided(untraced.read(plant.line.archive).records)
+    told = {
+        "At": LATER,
+        "Became": "x",
+        "By": "Q",
+        "Kind": "decided",
+        "Of": record.id,
+        "Reason": "y",
+    }
+    text = json.dumps(told, sort_keys=True, separators=(",", ":")).encode() + b"\n"
+    decided = untraced.record_of(text)
+    for folder, undecided in ((plant.inbox, 1), (plant.line.folder / "decided", 0)):
+        (folder / f"{decided.id}.json").write_bytes(text)
+        plant.untraced("collect").expect()
+        assert len(untraced.undecided(untraced.read(plant.line.archive).records)) == undecided
+
+
+def test_half_a_letter_holds_nothing_up(plant: Plant) -> None:
+    """A code that was cut in the middle of a letter of two parts is no text that a file can have."""
+    plant.send_refused(
+        plant.message(NOW, "WorkStarted", Machine="M1", Board="SN-\ud83d"),
+        plant.message(NOW, "WorkStarted", Machine="M2", Board="SN-200"),
+    )
+    plant.untraced("collect").expect()
+    assert [it.name for it in plant.inbox.glob("*.json")] == [untraced.COLLECTED]
+    assert (plant.status / "untraced.json").exists()
+    boards = {row["board"] for row in table(plant.untraced("list").expect(1).out)}
+    assert boards == {"SN-\\ud83d", "SN-200"}
+
+
+def test_a_report_that_nobody_can_read_is_listed(plant: Plant) -> None:
+    plant.send_refused(plant.message(NOW, "WorkStarted", Machine="M1", Board="SN-1")[:-2])
+    (row,) = table(plant.recall("L-R-1", 3))
+    assert (row["board"], row["refusal"]) == ("", "Faulty")
+
+
+def test_where_too_much_waits_nginx_is_told(plant: Plant, monkeypatch: pytest.MonkeyPatch) -> None:
+    odd = plant.inbox / f"{'0' * 32}.json"
+    odd.write_bytes(b"x" * 1000)
+    for most, is_full in ((999, True), (1001, False)):
+        monkeypatch.setattr(untraced, "MOST_WAITING", most)
+        untraced.collect(plant.line.archive)
+        assert (plant.inbox / untraced.FULL).exists() is is_full

@@ -1,0 +1,131 @@
+"""A copy of a running desk: it ends in its marker, has each acknowledged command, and a tool that hangs doesn't hold the line."""
+import json
+import os
+import pathlib
+import signal
+import subprocess
+import sys
+import threading
+import time
+from typing import Callable, Iterator
+
+import pytest
+
+from lab import ROOT, messages
+from lab.desk import Desk
+from lab.tools import run
+from lab.waits import wait_for
+from tracedesk_ops import copies, held
+
+TRY = """
+import pathlib, sys, time
+sys.path.insert(0, sys.argv[1])
+from tracedesk_ops import held
+def slow(file, to):
+    print("held", flush=True)
+    time.sleep(60)
+held.copy_bytes = slow
+held.copy(pathlib.Path(sys.argv[2]), int(sys.argv[3]), sys.argv[4].encode(), pathlib.Path(sys.argv[5]))
+"""
+
+
+def marker(number: int = 0) -> bytes:
+    return messages.message("ClockSet", f"copy-{number}", source="tracedesk")
+
+
+@pytest.fixture
+def served(desk: Desk) -> Desk:
+    desk.feed(messages.FIRST_LINE)
+    desk.serve()
+    return desk
+
+
+class Sender(threading.Thread):
+    """Sends parts as fast as they are answered, until it is stopped."""
+
+    def __init__(self, desk: Desk) -> None:
+        super().__init__()
+        self.desk, self.going, self.longest = desk, True, 0.0
+        self.numbers: dict[str, int] = {}
+
+    def run(self) -> None:
+        while self.going:
+            name = f"P{len(self.numbers)}"
+            began = time.monotonic()
+            (answer,) = self.desk.post([messages.part(name)])
+            self.longest = max(self.longest, time.monotonic() - began)
+            self.numbers[f"x-{name}"] = answer["Number"]
+
+
+@pytest.fixture
+def sender(served: Desk) -> Iterator[Sender]:
+    made = Sender(served)
+    made.start()
+    try:
+        yield made
+    finally:
+        made.going = False
+        made.join()
+
+
+def commands(file: pathlib.Path) -> dict[str, int]:
+    """The UniqueIDs in a copy, with their numbers."""
+    with copies.opened(file) as database:
+        return dict(database.execute("SELECT uid, number FROM accepted"))
+
+
+@pytest.mark.gate
+def test_a_copy_under_load_ends_in_its_marker_and_has_what_was_acknowledged(
+    served: Desk, sender: Sender, folder: pathlib.Path
+) -> None:
+    wait_for("some messages are answered", lambda: len(sender.numbers) > 20)
+    for number in range(10):
+        to = folder / f"copy-{number}"
+        acknowledged = dict(sender.numbers)
+        copied = held.copy(served.file, served.port, marker(number), to)
+        audit = run([served.program, "audit", "--db", to])
+        assert audit.out.strip() == f"lawful {copied.number}"
+        there = commands(to)
+        assert there[f"copy-{number}"] == copied.number == max(there.values())
+        assert acknowledged.items() <= there.items()
+
+
+@pytest.mark.gate
+@pytest.mark.parametrize("how", [signal.SIGSTOP, signal.SIGKILL])
+def test_a_tool_that_hangs_or_is_killed_holds_nobody(
+    served: Desk, folder: pathlib.Path, how: signal.Signals
+) -> None:
+    words = [sys.executable, "-c", TRY, str(ROOT / "ops"), str(served.file), str(served.port)]
+    words += [marker().decode(), str(folder / "copy")]
+    with subprocess.Popen(words, stdout=subprocess.PIPE) as tool:
+        assert tool.stdout is not None and tool.stdout.readline() == b"held\n"
+        os.kill(tool.pid, how)
+        began = time.monotonic()
+        assert served.say("PartDefined", PartNumber="AFTER")["Answer"] == "Accepted"
+        waited = time.monotonic() - began
+        assert tool.wait() == -signal.SIGKILL
+    assert how == signal.SIGKILL or waited > 1  # the watchdog waits as long as a copy may take
+
+
+@pytest.mark.gate
+def test_a_copy_of_a_file_that_another_program_writes_is_refused(
+    served: Desk, folder: pathlib.Path, monkeypatch: pytest.MonkeyPatch
+) -> None:
+    whole: Callable[[pathlib.Path, pathlib.Path], None] = held.copy_bytes
+
+    def moving(file: pathlib.Path, to: pathlib.Path) -> None:
+        whole(file, to)
+        os.utime(file, ns=(0, 0))
+
+    monkeypatch.setattr(held, "copy_bytes", moving)
+    with pytest.raises(held.NoCopy, match="another program writes to it"):
+        held.copy(served.file, served.port, marker(), folder / "copy")
+
+
+@pytest.mark.gate
+def test_a_marker_that_is_refused_gives_no_copy(served: Desk, folder: pathlib.Path) -> None:
+    refused = messages.message("PartDefined", "p", source="tracedesk", PartNumber="P")
+    with pytest.raises(held.NoCopy, match='"Refusal": "PartKnown"|Refused'):
+        held.copy(served.file, served.port, refused, folder / "copy")
+    assert json.loads(refused)["UniqueID"] == "p"
+    assert served.say("PartDefined", PartNumber="AFTER")["Answer"] == "Accepted"

@@ -1,0 +1,401 @@
+"""What a load of the plant's tables can meet: no piece is there twice, and each recall names what is missing, with status 3."""
+import pathlib
+import re
+import shutil
+import signal
+import subprocess
+import tarfile
+from typing import Iterator
+
+import pytest
+from lab import databases, messages, plants
+from lab.databases import SQL, Database
+from lab.plants import WorkedLine, missing, parts, pieces
+from lab.tools import tool
+from lab.waits import wait_for
+from lab.world import RUNNING
+from tracedesk_dev import postgres, shift
+from tracedesk_ops import backups, catalogue
+
+pytestmark = [pytest.mark.xdist_group("plant_load")]
+
+SEED, BOARDS = 7, 10
+MANY = "SELECT lot FROM piece GROUP BY 1 ORDER BY count(*) DESC LIMIT 1"
+OTHERS = """SELECT count(*) FROM pg_stat_activity
+    WHERE datname = current_database() AND pid <> pg_backend_pid()"""
+
+
+@pytest.fixture(scope="module")
+def server() -> Iterator[postgres.Server]:
+    databases.skip_without()
+    with databases.server() as made:
+        yield made
+
+
+@pytest.fixture
+def database(server: postgres.Server) -> Iterator[Database]:
+    """A new one, with the tables of a plant."""
+    made = databases.create(server, "plant_of_a_test")
+    yield made
+    drop = f"DROP DATABASE {made.name} WITH (FORCE)"
+    Database(server, "postgres").psql("-c", drop)
+
+
+@pytest.fixture(scope="module")
+def line(program: pathlib.Path, tmp_path_factory: pytest.TempPathFactory) -> Iterator[WorkedLine]:
+    """A line that is rolled over twice and copied."""
+    made = WorkedLine(program, tmp_path_factory.mktemp("line") / "L1", "L1")
+    try:
+        made.serve()
+        made.work(messages.parts_of(shift.Shift(SEED, BOARDS, "L1").lines, 3))
+        yield made
+    finally:
+        made.end()
+
+
+class Wanted:
+    """What an undisturbed load makes."""
+
+    def __init__(self, database: Database) -> None:
+        self.files, self.pieces = plants.files(database), pieces(database)
+        ((self.lot,),) = database.rows(MANY)
+
+    def expect_files(self, database: Database) -> int:
+        """Looks whether each file that is there is there whole, and nothing else is; how many there are."""
+        files = plants.files(database)
+        names = {row[1] for row in files}
+        assert [row for row in files if row not in self.files] == []
+        assert pieces(database) == [row for row in self.pieces if row[1] in names]
+        assert parts(database) == len(files)
+        return len(files)
+
+    def expect_all(self, database: Database) -> None:
+        assert (plants.files(database), pieces(database)) == (self.files, self.pieces)
+        assert missing(database) == []
+
+
+@pytest.fixture(scope="module")
+def wanted(line: WorkedLine, server: postgres.Server) -> Wanted:
+    undisturbed = databases.create(server, "undisturbed")
+    undisturbed.load(line.copies)
+    return Wanted(undisturbed)
+
+
+def expect_three(database: Database) -> None:
+    """All three files are there."""
+    assert (parts(database), missing(database)) == (3, [])
+
+
+# --- Files that are refused
+
+# what is altered, and what is said of it
+ALTERED = {
+    "a damaged archive": "its checksum is",
+    "a missing archive": "No such file",
+    "an archive with a log": "-wal lies beside it",
+    "another number of pieces": "and in the catalogue",
+    "a damaged desk": "it is not the file of its checksum",
+}
+
+
+def damage(file: pathlib.Path) -> None:
+    content = bytearray(file.read_bytes())
+    content[len(content) // 2] ^= 1
+    file.write_bytes(content)
+
+
+def another_count(copy: pathlib.Path) -> None:
+    """The catalogue has another number of pieces, and the copy the catalogue's new checksum."""
+    path = copy / "archive/catalogue.csv"
+    count = catalogue.read(path)[0].pieces
+    path.write_text(path.read_text().replace(f",{count},", f",{count + 1},", 1))
+    sums = [f"{catalogue.sha256_of(copy / name)}  {name}\n" for name in backups.sums_of(copy)]
+    (copy / backups.SUMS).write_text("".join(sums))
+
+
+def altered(line: WorkedLine, folder: pathlib.Path, name: str) -> pathlib.Path:
+    """A copy of a line's newest copy in which something is changed."""
+    copy = folder / "altered/2026-03-09T060000Z"
+    shutil.copytree(line.newest(), copy)
+    archive = copy / "archive" / line.archived[0].name
+    if name == "a damaged archive":
+        damage(archive)
+    elif name == "a damaged desk":
+        damage(copy / "desk")
+    elif name == "a missing archive":
+        archive.unlink()
+    elif name == "an archive with a log":
+        archive.with_name(f"{archive.name}-wal").write_bytes(bytes(5_000))
+    else:
+        another_count(copy)
+    return copy
+
+
+@pytest.mark.parametrize("name", ALTERED)
+def test_a_file_that_is_refused_is_missing_until_it_comes_whole(
+    line: WorkedLine, database: Database, wanted: Wanted, folder: pathlib.Path, name: str
+) -> None:
+    file = RUNNING if name == "a damaged desk" else line.archived[0].name
+    said = database.refuse(ALTERED[name], altered(line, folder, name))
+    assert ("/desk" if file == RUNNING else file) in said
+    assert said.count(" pieces\n") == 2  # of the others
+    for query in ("pieces", "recall"):
+        told = database.query(query, 3, lot=wanted.lot)
+        assert told.rows and f"without L1 {file}: " in told.said
+    database.load(line.copies)
+    expect_three(database)
+
+
+def test_a_gap_in_a_chain_is_missing_until_it_is_filled(
+    line: WorkedLine, database: Database, wanted: Wanted, folder: pathlib.Path
+) -> None:
+    """A catalogue without the archive from which another one was begun."""
+    here = shutil.copytree(line.archive, folder / "gap")
+    table = here / "catalogue.csv"
+    first, second = line.archived
+    (here / first.name).unlink()
+    rows = [row for row in catalogue.read(table) if row.file == second.name]
+    catalogue.write(table, [row._replace(went_on_from="") for row in rows])
+    database.refuse(f"from which {second.name} was begun", table)
+    assert "no archive has the checksum" in database.query("pieces", 3, lot=wanted.lot).said
+    shutil.copytree(line.archive, here, dirs_exist_ok=True)
+    database.load(table)
+    assert missing(database) == []
+
+
+def test_a_copy_with_another_catalogue_is_missing_until_somebody_drops_it(
+    line: WorkedLine, database: Database, wanted: Wanted, folder: pathlib.Path
+) -> None:
+    database.load(line.copies)
+    copy = shutil.copytree(line.newest(), folder / "other/2026-03-09T060000Z")
+    index = copy / backups.INDEX
+    index.write_text(index.read_text().replace(",L1,", ",L3,"))
+    database.refuse("archive/catalogue.csv is not the file of its checksum", copy.parent)
+    assert database.rows("SELECT DISTINCT line FROM file") == [("L1",)]
+    said = database.query("pieces", 3, lot=wanted.lot).said
+    (remedy,) = re.findall(r"drop.sql with line= and name=(\S+)", said)
+    database.drop(line="", name=remedy)
+    database.query("pieces", lot=wanted.lot)
+
+
+# --- Lines
+
+
+def test_a_desk_is_not_loaded_as_another_lines(line: WorkedLine, database: Database) -> None:
+    copy = line.kept()[0]
+    database.refuse("name it by --line", copy)
+    database.load("--line", line.name, copy)
+    its = "it is the desk of the line L1, whose running desk is loaded"
+    database.refuse(its, "--line", "L3", copy)
+    its = "its archives are of L1, and its desk is to be that of L2"
+    database.refuse(its, "--line", "L2", line.copies)
+
+
+def test_a_desk_stays_until_its_archive_is_whole(
+    line: WorkedLine, database: Database, folder: pathlib.Path
+) -> None:
+    database.load("--line", line.name, line.kept()[0])
+    before = [(row[0], *row[2:]) for row in pieces(database)]
+    database.load(altered(line, folder, "a damaged archive"), status=1)
+    of_desks = [row for row in pieces(database) if row[1].startswith("desk of ")]
+    assert [(row[0], *row[2:]) for row in of_desks] == before
+    database.load(
+        line.catalogue, status=1
+    )  # without the running desk nobody knows what is in doubt
+    database.load(line.copies)
+    expect_three(database)
+
+
+def test_a_line_that_was_mistyped_is_dropped(line: WorkedLine, database: Database) -> None:
+    database.load("--line", "L11", line.kept()[0])
+    database.refuse("whose running desk is loaded, and not of L1", line.copies)
+    database.drop(line="L11", name=RUNNING)
+    database.load(line.copies)
+    expect_three(database)
+
+
+# what is expected of lines, what takes it back, and what is said
+EXPECTED = {
+    "a line that was never loaded": (
+        "INSERT INTO line VALUES ('L1'), ('L7')",
+        "DELETE FROM line WHERE name = 'L7'",
+        "without L7 all of it: no file",
+    ),
+    "a newer copy": (
+        "INSERT INTO line VALUES ('L1', '1 day')",
+        "UPDATE line SET oldest = '100 years'",
+        "without L1 newer pieces: the newest copy of its running desk is of 2026-",
+    ),
+}
+
+
+@pytest.mark.parametrize("name", EXPECTED)
+def test_what_is_expected_of_lines(
+    line: WorkedLine, database: Database, wanted: Wanted, name: str
+) -> None:
+    change, back, said = EXPECTED[name]
+    database.load(line.copies)
+    database.query("pieces", lot=wanted.lot)
+    database.change(change)
+    assert said in database.query("pieces", 3, lot=wanted.lot).said
+    database.change(back)
+    database.query("pieces", lot=wanted.lot)
+
+
+def test_a_line_of_the_set_up_without_a_copy_is_missing(
+    line: WorkedLine, database: Database, folder: pathlib.Path
+) -> None:
+    for name, copies in (("L1", line.copies), ("L8", folder)):
+        text = f"line = {name}\ndb = {folder}/{name}\ncopies = {copies}\n"
+        (folder / f"{name}.conf").write_text(text)
+    database.load(status=1, TRACEDESK_SET_UP=str(folder))
+    assert ("L8",) in database.rows("SELECT line FROM missing")
+
+
+# --- Files that are taken out
+
+
+def test_a_file_that_is_taken_out_is_missing_until_it_is_loaded_again(
+    line: WorkedLine, database: Database
+) -> None:
+    database.load(line.copies)
+    name = line.archived[0].name
+    database.drop(line="L1", name=name)
+    assert (parts(database), missing(database)) == (2, [name])
+    database.load(line.copies)
+    expect_three(database)
+
+
+def test_what_is_dropped_by_a_day_is_named_and_not_loaded_again(
+    line: WorkedLine, database: Database, wanted: Wanted
+) -> None:
+    database.load(line.copies)
+    database.drop(before="2036-01-01")
+    said = database.load(line.copies)
+    assert f"{line.archived[0].name}: dropped, and not loaded again" in said
+    told = database.query("pieces", 3, lot=wanted.lot)
+    assert "without 2 files up to" in told.said
+    assert {row["file"] for row in told.rows} <= {RUNNING}
+
+
+@pytest.mark.parametrize("change", ["a load", "drop.sql"])
+def test_a_file_that_is_taken_out_amid_a_recall_is_an_error(
+    line: WorkedLine, database: Database, wanted: Wanted, folder: pathlib.Path, change: str
+) -> None:
+    if change == "a load":
+        database.load("--line", line.name, line.kept()[0])
+        command = f"{tool('plant-load')} {line.copies}"
+    else:
+        database.load(line.copies)
+        command = f"psql -X -q -v before=2036-01-01 -f {SQL}/drop.sql"
+    (folder / "amid.sql").write_text(
+        "BEGIN ISOLATION LEVEL REPEATABLE READ READ ONLY; SELECT FROM plant.file;\n"
+        f"\\! {command}\nSELECT FROM plant.pieces_of('lot', '{wanted.lot}'); COMMIT"
+    )
+    done = database.psql("-f", folder / "amid.sql", status=3)
+    assert "was taken out or replaced meanwhile: ask again" in done.err
+
+
+# --- Tables of 0.3.0
+
+
+def test_tables_of_0_3_0_are_upgraded(server: postgres.Server, folder: pathlib.Path) -> None:
+    """Nothing is lost or counted twice, and what it had not looked at is missing until it is loaded."""
+    with tarfile.open(databases.OLDER) as packed:
+        packed.extractall(folder / "older")
+    upgraded = databases.create(server, "upgraded", schema="")
+    upgraded.psql("-f", folder / "older/plant.sql")
+    before = plants.files(upgraded)
+    for _ in range(2):  # again, it changes nothing
+        upgraded.psql("-f", SQL / "schema.sql")
+    assert plants.files(upgraded) == before
+    assert boards(upgraded) == {"B1", "B2"}
+    anew = databases.create(server, "anew")
+    for database in (upgraded, anew):
+        database.load(folder / "older/copies")
+        assert (boards(database), missing(database)) == ({"B1", "B2", "B3", "B4"}, [])
+    assert pieces(upgraded) == pieces(anew)
+
+
+def boards(database: Database) -> set[str]:
+    return {row["board"] for row in database.query("pieces", lot="L1").rows}
+
+
+# --- Kills, and a full disk
+
+
+STEPS = {  # of a load, by the number of whole files behind it
+    "begun": 0,
+    "rows of its": 0,
+    "created": 0,
+    "rows of placement": 0,
+    "indexed": 0,
+    "rows of reel": 0,
+    "attached": 0,
+    "committed": 1,
+}
+
+
+def kill(line: WorkedLine, database: Database, step: str) -> None:
+    """Kills a load after a step, and waits until its session has ended."""
+    database.load(line.copies, status=-signal.SIGKILL, TRACEDESK_KILL_AFTER=step)
+    wait_for("its session has ended", lambda: database.rows(OTHERS) == [("0",)])
+
+
+@pytest.mark.parametrize("step", STEPS)
+def test_a_load_that_is_killed_leaves_whole_files_alone(
+    line: WorkedLine, database: Database, wanted: Wanted, step: str
+) -> None:
+    """And a recall names what is missing, until the next load is done."""
+    kill(line, database, step)
+    assert wanted.expect_files(database) == STEPS[step]
+    if database.rows("SELECT FROM reel LIMIT 1"):
+        database.query("pieces", 3, lot=wanted.lot)
+    database.load(line.copies)
+    wanted.expect_all(database)
+
+
+@pytest.mark.whole
+def test_loads_that_are_killed_at_each_file_end_whole(
+    line: WorkedLine, database: Database, wanted: Wanted
+) -> None:
+    for number in range(len(wanted.files)):
+        for step in ("rows of placement", "committed"):
+            kill(line, database, step)
+            assert wanted.expect_files(database) == number + STEPS[step]
+    database.load(line.copies)
+    wanted.expect_all(database)
+
+
+@pytest.mark.root
+@pytest.mark.parametrize("room", [150, 500, 60], ids=["first file", "later file", "at once"])
+def test_a_full_disk_leaves_whole_files_alone(
+    line: WorkedLine, server: postgres.Server, wanted: Wanted, folder: pathlib.Path, room: int
+) -> None:
+    """With room again the next load brings the rest. So many kB are left for a load."""
+    disk = folder / "disk"
+    disk.mkdir()
+    subprocess.run(["mount", "-t", "tmpfs", "-o", "size=200m", "small", disk], check=True)
+    its = Database(server, "postgres")
+    try:
+        disk.chmod(0o755)
+        shutil.chown(disk, "postgres")
+        its.psql("-c", f"CREATE TABLESPACE small LOCATION '{disk}'")
+        small = databases.create(server, "small", more="TABLESPACE small")
+        resize(disk, f"{shutil.disk_usage(disk).used // 1024 + room}k")
+        said = small.load(line.copies, status=1)
+        resize(disk, "200m")  # on a full one a new session may not begin
+        # amid a table, or as a session begins
+        full = "Check free disk space|could not write init file|No space left on device"
+        assert re.search(full, said)
+        assert wanted.expect_files(small) < len(wanted.files)
+        small.load(line.copies)
+        wanted.expect_all(small)
+        its.psql("-c", "DROP DATABASE small")
+        its.psql("-c", "DROP TABLESPACE small")
+    finally:
+        subprocess.run(["umount", "--lazy", disk], check=True)
+
+
+def resize(disk: pathlib.Path, size: str) -> None:
+    subprocess.run(["mount", "-o", f"remount,size={size}", disk], check=True)

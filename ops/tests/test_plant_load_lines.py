@@ -1,0 +1,273 @@
+"""Loads of lines on which something happened: a restore, work that the desk refused, and reels of which it heard late."""
+import pathlib
+import re
+import shutil
+from typing import Any, Iterator
+
+import pytest
+from lab import databases, messages
+from lab.databases import Database
+from lab.messages import FIRST_LINE
+from lab.plants import WorkedLine, expect_whole, missing, pieces
+from lab.recalls import recalled
+from lab.records import a_record, refused
+from lab.tools import Word
+from lab.world import RUNNING
+from tracedesk_dev import shift
+from tracedesk_ops import untraced
+
+pytestmark = [pytest.mark.xdist_group("plant_load_lines")]
+
+SEED, BOARDS = 9, 12
+JUMPED = "2036-01-01T000000Z"  # the name of a copy by a clock that had jumped
+SAYS = r"doubtful piece of D1: (\w+) of board B1, \S+, may not be of K1"
+
+
+@pytest.fixture(scope="module")
+def made(tmp_path_factory: pytest.TempPathFactory) -> Iterator[Database]:
+    databases.skip_without()
+    with databases.server() as server:
+        yield databases.create(server, "template_of_all")
+
+
+@pytest.fixture
+def database(made: Database) -> Iterator[Database]:
+    """A new one, with the tables of a plant."""
+    its = databases.create(made.server, "plant_of_a_test", schema="", more=f"TEMPLATE {made.name}")
+    yield its
+    made.psql("-c", f"DROP DATABASE {its.name} WITH (FORCE)")
+
+
+# --- A desk that goes back to an older copy
+
+
+class Restored:
+    """A line whose desk went back to its oldest copy, and whose messages are sent again in another order."""
+
+    def __init__(self, line: WorkedLine, database: Database) -> None:
+        self.line, self.database, self.others = line, database, 0
+        parts = messages.parts_of(shift.Shift(SEED, BOARDS, "R1").lines, 3)
+        self.sent = [part.splitlines() for part in parts]
+
+    def go_on(self, *said: bytes) -> None:
+        self.line.post(said)
+        self.line.copy()
+
+    def go_back(self, status: int = 0) -> None:
+        self.line.backup("--restore", self.line.kept()[0].name).expect(status)
+
+    def other(self) -> bytes:
+        """A message that the desk had not before."""
+        self.others += 1
+        return messages.part(f"other-{self.others}")
+
+    def load(self, status: int = 0) -> str:
+        return self.database.load("--line", "R1", self.line.copies, status=status)
+
+    def refuse(self, said: str, copies: pathlib.Path) -> None:
+        self.database.refuse(said, "--line", "R1", copies)
+
+    def roll_over(self) -> None:
+        self.line.rollover("--with-board-in-work").expect()
+
+    def hand_in(self) -> None:
+        """The newest copy has the name of a later day."""
+        self.line.newest().rename(self.line.copies / JUMPED)
+
+
+@pytest.fixture
+def restored(program: pathlib.Path, folder: pathlib.Path, database: Database) -> Iterator[Restored]:
+    """With a copy of its first part, one of both, and the older one put back after the tables had both."""
+    line = WorkedLine(program, folder / "R1", "R1")
+    line.serve()
+    its = Restored(line, database)
+    its.go_on(*its.sent[0])
+    its.go_on(*its.sent[1])
+    its.load()
+    yield its
+    line.end()
+
+
+def test_the_same_messages_behind_another_one_are_counted_once(restored: Restored) -> None:
+    whole = pieces(restored.database)
+    restored.go_back()
+    restored.go_on(restored.other(), *restored.sent[1])
+    restored.load()
+    assert pieces(restored.database) == whole
+    expect_whole(restored.database)
+
+
+def give_way(its: Restored) -> None:
+    """The tables have a copy of a later day, of a desk that went back then, and has a half of the second part."""
+    its.go_back()
+    its.go_on(its.other(), *its.sent[1])
+    its.hand_in()
+    its.load()
+    its.go_back()
+    its.go_on(its.other(), *its.sent[1][: len(its.sent[1]) // 2])
+    its.refuse(f"the copy of {JUMPED} gave way", its.line.copies)
+
+
+def test_a_copy_that_gave_way_is_missing_until_it_is_dropped(restored: Restored) -> None:
+    give_way(restored)
+    database, line = restored.database, restored.line
+    restored.load()
+    assert missing(database) == [f"desk of {JUMPED}"]
+    expect_whole(database, 3)
+    before = pieces(database)
+    restored.refuse("which is loaded and newer", line.copies / JUMPED)
+    assert pieces(database) == before
+    database.drop(line="R1", name=f"desk of {JUMPED}")
+    line.post(restored.sent[1][len(restored.sent[1]) // 2 :])
+    restored.roll_over()
+    line.copy()
+    database.load(line.copies)
+    expect_whole(database)
+
+
+def test_a_desk_from_before_its_archive_is_missing_until_that_is_dropped(
+    restored: Restored,
+) -> None:
+    database, line = restored.database, restored.line
+    restored.roll_over()
+    line.copy()
+    restored.load()
+    restored.go_back(4)
+    shutil.rmtree(line.folder / "aside")
+    restored.go_on(restored.other(), *restored.sent[1], *restored.sent[2][:40])
+    restored.refuse("are in R1-", line.copies)
+    assert RUNNING in missing(database)
+    expect_whole(database, 3)
+    restored.roll_over()
+    restored.go_on(restored.other())
+    database.load(line.copies, status=1)
+    assert line.archives()[0].file in missing(database)
+    ((archive, *_), *_) = database.rows("SELECT name FROM file WHERE taken = ''")
+    database.drop(line="R1", name=archive)
+    database.load(line.copies)
+    assert missing(database) == []
+    expect_whole(database)
+
+
+# --- Doubtful pieces and untraced work
+
+
+class Doubted:
+    """The line D1, whose reel K1 is on slot 1 of machine M, and which was copied into the tables."""
+
+    def __init__(self, line: WorkedLine, database: Database) -> None:
+        self.line, self.database, self.said = line, database, 0
+
+    def message(self, minute: int, word: str, **body: Any) -> bytes:
+        self.said += 1
+        time = f"1970-01-01T00:{minute:02}:00Z"
+        return messages.message(word, f"m{self.said}", time, "S", **body)
+
+    def on_machine(self, minute: int, word: str, **body: Any) -> bytes:
+        return self.message(minute, word, Machine="M", **body)
+
+    def load(self) -> None:
+        self.line.copy()
+        self.database.load("--line", "D1", self.line.copies)
+
+    def put(self, record: tuple[str, bytes]) -> str:
+        """Puts a record into the line's inbox; its id."""
+        name, text = record
+        (self.line.folder / f"untraced/{name}.json").write_bytes(text)
+        return str(untraced.record_of(text).id)
+
+    def doubtful(self, kind: str, name: str, status: int) -> list[str]:
+        """The designators that a recall of the line names as doubtful."""
+        words: list[Word] = [kind, name, *self.line.recall_words(), "--show", "doubtful"]
+        return [row["designator"] for row in recalled(*words, status=status)]
+
+    def by_plant(self, shape: str, kind: str, name: str) -> list[str]:
+        """Those of a query of the tables, which ends with status 3."""
+        return re.findall(shape, self.database.query("pieces", 3, **{kind: name}).said)
+
+
+@pytest.fixture
+def doubted(program: pathlib.Path, folder: pathlib.Path, database: Database) -> Iterator[Doubted]:
+    """The reel was changed to K2 in minute 15, of which the desk heard after it had two pieces of minute 20."""
+    line = WorkedLine(program, folder / "D1", "D1")
+    line.feed(FIRST_LINE)
+    line.serve()
+    its = Doubted(line, database)
+    k2 = {"Reel": "K2", "PartNumber": "P", "Lot": "L2", "Level": "1", "Quantity": 100}
+    line.accept(
+        its.message(1, "ReelReceived", **k2),
+        its.on_machine(10, "WorkStarted", Board="B1"),
+        its.on_machine(20, "MaterialsInstalled", Board="B1", Designators=["R1", "R2"]),
+        its.on_machine(15, "MaterialsUnloaded", Slot="1"),
+        its.on_machine(15, "MaterialsLoaded", Slot="1", Reel="K2"),
+        its.on_machine(21, "MaterialsInstalled", Board="B1", Designators=["R3"]),
+    )
+    for name in ("untraced", "archive"):
+        (line.folder / name).mkdir(exist_ok=True)
+    its.load()
+    yield its
+    line.end()
+
+
+@pytest.mark.parametrize(
+    ("kind", "name"), [("lot", "L1"), ("lot", "L2"), ("reel", "K2"), ("board", "B1")]
+)
+def test_doubtful_pieces_are_those_of_a_recall(doubted: Doubted, kind: str, name: str) -> None:
+    assert doubted.by_plant(SAYS, kind, name) == doubted.doubtful(kind, name, 5)
+
+
+def test_doubtful_pieces_have_the_other_reel(doubted: Doubted) -> None:
+    query = "SELECT designator, reel, other_reels, other_lots FROM doubtful ORDER BY 1"
+    wanted = [("R1", "K1", "{K2}", "{L2}"), ("R2", "K1", "{K2}", "{L2}")]
+    assert doubted.database.rows(query) == wanted
+
+
+def test_untraced_work_is_named_until_it_is_decided(doubted: Doubted) -> None:
+    """An older copy takes nothing back."""
+    database, line = doubted.database, doubted.line
+    record = doubted.put(a_record(1))
+    doubted.load()
+    assert record in database.query("pieces", 3, lot="L1").said
+    untraced.decide(line.archive, record, "A. Person", "scrapped", "as seen")
+    doubted.load()
+    said = database.query("pieces", 3, lot="L1").said
+    assert record not in said and "in the table plant.untraced: 1" in said
+    for copy in (line.newest(), line.kept()[1]):
+        database.load("--line", "D1", copy)
+        query = "SELECT became, decided_by, reason FROM untraced"
+        assert database.rows(query) == [("scrapped", "A. Person", "as seen")]
+
+
+def test_a_copy_without_a_record_is_refused(doubted: Doubted, folder: pathlib.Path) -> None:
+    name, text = a_record(1)
+    doubted.put((name, text))
+    doubted.line.copy()
+    copy = shutil.copytree(doubted.line.newest(), folder / "without/2026-03-09T060000Z")
+    (copy / f"untraced/{name}.json").unlink()
+    said = f"untraced/{name}.json is not the file of its checksum"
+    doubted.database.refuse(said, "--line", "D1", copy)
+    doubted.database.drop(line="", name=copy)
+    doubted.load()
+
+
+@pytest.mark.parametrize(
+    ("kind", "name", "status"),
+    [
+        ("lot", "L2", 5),
+        ("lot", "nowhere", 5),
+        ("reel", "X9", 5),
+        ("reel", "X8", 1),
+        ("board", "B1", 5),
+    ],
+)
+def test_a_refused_reel_that_the_desk_does_not_know_makes_pieces_doubtful(
+    doubted: Doubted, kind: str, name: str, status: int
+) -> None:
+    load = doubted.on_machine(22, "MaterialsLoaded", Slot="1", Reel="X9")
+    doubted.put(refused(load, "UnknownReel", "1970-01-01T00:22:00Z"))
+    doubted.line.accept(
+        doubted.on_machine(23, "MaterialsInstalled", Board="B1", Designators=["R4"])
+    )
+    doubted.load()
+    by_plant = doubted.by_plant(r"doubtful piece of D1: (\w+) of board", kind, name)
+    assert sorted(by_plant) == sorted(doubted.doubtful(kind, name, status))

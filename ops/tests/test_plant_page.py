@@ -1,0 +1,124 @@
+"""The commands of docs/plant.md, as they are written, on a plant of three lines.
+
+Lines L1 and L2 work on one day, and L3 on the next, also on the first boards of L1. In the middle of its shift each is rolled
+over, and it is copied at its end. The page's blocks are run in a folder that has the copies, by the rules of dev/try-pages.
+"""
+import dataclasses
+import os
+import pathlib
+import shutil
+import subprocess
+import tempfile
+from typing import Any, Iterator
+
+import pytest
+from lab import databases, messages
+from lab.databases import Database
+from lab.plants import WorkedLine
+from lab.recalls import recalled
+from lab.tools import tool
+from lab.world import RUNNING
+from tracedesk_dev import postgres, shift, trial
+
+pytestmark = [pytest.mark.xdist_group("plant_page")]
+
+PAGE, INSTALLED = "docs/plant.md", "/usr/share/tracedesk/plant"  # where the package has the queries
+BOARDS, SHARED = 120, 46
+pages = trial.loaded("dev/try-pages")
+
+
+@dataclasses.dataclass(frozen=True)
+class Printed:
+    """What a block of the page prints here, and its status."""
+
+    block: Any  # of dev/try-pages
+    text: str
+    status: int
+
+
+@dataclasses.dataclass(frozen=True)
+class Plant:
+    lines: list[WorkedLine]
+    database: Database
+    printed: list[Printed]
+
+
+def shifts() -> dict[str, shift.Shift]:
+    first = shift.Shift(1, BOARDS, "L1")
+    both = [f"L3-{number:06}" for number in range(SHARED + 1, BOARDS + 1)]
+    return {
+        "L1": first,
+        "L2": shift.Shift(2, BOARDS, "L2"),
+        "L3": shift.Shift(3, BOARDS, "L3", first.serials[:SHARED] + both, "2026-03-04"),
+    }
+
+
+def make_lines(program: pathlib.Path, room: pathlib.Path) -> Iterator[WorkedLine]:
+    """The three lines, whose copies are in the folder `backups`, with a damaged one of the first line."""
+    (room / "backups").mkdir()
+    for name, its in shifts().items():
+        line = WorkedLine(program, room / name, name)
+        yield line
+        line.serve()
+        line.work(messages.parts_of(its.lines, 2, lambda message: message))
+        (room / "backups" / name).symlink_to(line.copies)
+        if name == "L1":
+            damaged = room / "backups/damaged/2026-03-09T060000Z"
+            copy = shutil.copytree(line.newest(), damaged)
+            (archive,) = (copy / "archive").glob("L1-*")
+            archive.write_bytes(archive.read_bytes()[:-1] + b"x")
+
+
+def run_page(room: pathlib.Path, server: postgres.Server) -> Iterator[Printed]:
+    """Runs the page's blocks by one bash, as a reader would."""
+    blocks, odd = pages.blocks_of(PAGE)
+    assert not odd, f"{PAGE} has commands in blocks that are not `sh`, at {odd}"
+    (room / "bin").mkdir()
+    (room / "bin/tracedesk-plant-load").symlink_to(tool("plant-load"))
+    script = "".join(
+        f"{{ {block.script} }} > out{number} 2>&1\necho $? > status{number}\n"
+        for number, block in enumerate(blocks)
+    )
+    folders = (room / "bin", pathlib.Path(postgres.found("createdb")).parent, os.environ["PATH"])
+    environment = Database(server, "postgres").environment
+    subprocess.run(
+        ["bash", "-c", script.replace(INSTALLED, str(databases.SQL))],
+        cwd=room,
+        env={**os.environ, **environment, "PATH": ":".join(map(str, folders))},
+        stdin=subprocess.DEVNULL,
+    )
+    for number, block in enumerate(blocks):
+        text = (room / f"out{number}").read_text().replace(str(databases.SQL), INSTALLED)
+        lines = [line.rstrip() for line in text.splitlines()]
+        yield Printed(block, "\n".join(lines), int((room / f"status{number}").read_text()))
+
+
+@pytest.fixture(scope="module")
+def plant(program: pathlib.Path) -> Iterator[Plant]:
+    databases.skip_without()
+    lines: list[WorkedLine] = []
+    with tempfile.TemporaryDirectory(prefix="ops-") as name, databases.server() as server:
+        try:
+            for line in make_lines(program, pathlib.Path(name)):
+                lines.append(line)
+            printed = list(run_page(pathlib.Path(name), server))
+            yield Plant(lines, Database(server, "postgres"), printed)
+        finally:
+            for line in lines:
+                line.end()
+
+
+def test_each_block_prints_what_the_page_says(plant: Plant) -> None:
+    wrong = [
+        f"{PAGE}:{its.block.line}: {failure}"
+        for its in plant.printed
+        if (failure := pages.failure(its.block, (its.text, its.status)))
+    ]
+    assert not wrong, "\n".join(wrong)
+
+
+def test_a_recall_prints_the_same_pieces(plant: Plant) -> None:
+    words = [word for line in plant.lines for word in line.recall_words()]
+    by_tool = recalled("lot", shift.RECALLED, *words, "--show", "pieces")
+    rows = plant.database.query("pieces", lot=shift.RECALLED).rows
+    assert [row | ({"minute": ""} if row["file"] == RUNNING else {}) for row in rows] == by_tool

@@ -1,0 +1,155 @@
+"""Tools that read a desk's file: its log is read too, nothing is changed, and a file that a run has open is refused."""
+import itertools
+import multiprocessing
+import pathlib
+import shutil
+import signal
+from typing import Any
+
+import pytest
+
+from lab import ROOT
+from lab.desk import Desk
+from lab.line import Line, NewLine
+from lab.messages import FIRST_LINE
+from lab.tools import Ended, Word, run, run_changed, run_tool, tool
+from tracedesk_ops import copies, plant
+
+TARGET = "/slots?machine=M"
+SLOTS_HEADER = "slot,position,reel,part,lot,remaining,minutes_left\n"
+SLOTS = (
+    SLOTS_HEADER + "1,1,K1,P,L1,100,unlimited\n"
+)  # the last message of the first line loads a reel
+LINES_OF_BEGIN = 12  # five messages, five UniqueIDs, that the desk was begun, and a ClockSet
+
+
+def ask(file: pathlib.Path, target: str) -> Ended:
+    return run([ROOT / "dev/ask", file, target])
+
+
+@pytest.fixture
+def served(desk: Desk) -> Desk:
+    """A desk that is served, the newest commands of which are in its log alone."""
+    desk.feed(FIRST_LINE[:3])
+    desk.serve()
+    desk.accept(*FIRST_LINE)
+    return desk
+
+
+@pytest.mark.parametrize("how", [signal.SIGTERM, signal.SIGKILL])
+@pytest.mark.parametrize("by", ["name", "link"])
+def test_log_is_read_and_stays_as_it_is(served: Desk, how: signal.Signals, by: str) -> None:
+    served.end(how)
+    alone = served.file.with_name("alone")
+    shutil.copy(served.file, alone)
+    assert ask(alone, TARGET).out == SLOTS_HEADER, "the file has the commands without its log"
+    named = served.file
+    if by == "link":
+        named = served.file.with_name("link")
+        named.symlink_to(served.file)
+    before = served.bytes()
+    assert ask(named, TARGET).out == SLOTS
+    assert run_tool("begin", named).out.count("\n") == LINES_OF_BEGIN
+    assert served.bytes() == before
+
+
+@pytest.mark.parametrize("reader", ["ask", "begin"])
+def test_file_of_a_running_desk_is_refused(served: Desk, reader: str) -> None:
+    done = ask(served.file, TARGET) if reader == "ask" else run_tool("begin", served.file)
+    done.expect(1, "a run has it open")
+    assert not done.out
+    (again,) = served.post(FIRST_LINE[:1])
+    assert again == {"Answer": "Accepted", "Number": 1, "UniqueID": "u1"}
+
+
+def audit_status(desk: Desk) -> int:
+    return run([desk.program, "audit", "--db", desk.file]).status
+
+
+def test_no_run_opens_a_file_that_is_being_copied(
+    served: Desk, monkeypatch: pytest.MonkeyPatch
+) -> None:
+    served.end()
+    statuses, copied = [], shutil.copyfile
+
+    def copyfile(*words: Any) -> Any:  # by which the log is copied, after the file
+        statuses.append(audit_status(served))
+        return copied(*words)
+
+    monkeypatch.setattr(shutil, "copyfile", copyfile)
+    copy = served.file.with_name("copy")
+    copies.copy(served.file, copy)
+    statuses.append(audit_status(served))
+    assert statuses == [3, 0]
+    with pytest.raises(FileExistsError):
+        copies.copy(served.file, copy)
+
+
+def test_who_looks_whether_a_desk_is_open_is_in_no_runs_way(served: Desk) -> None:
+    """Else a service that is waited for would end as it starts."""
+    assert plant.is_open(served.file)
+    served.end()
+    assert not plant.is_open(served.file)
+    fork = multiprocessing.get_context("fork")
+
+    def look() -> None:
+        for _ in itertools.count():
+            plant.is_open(served.file)
+
+    lookers = [fork.Process(target=look, daemon=True) for _ in range(2)]
+    for looker in lookers:
+        looker.start()
+    try:
+        assert {audit_status(served) for _ in range(40)} == {0}
+    finally:
+        for looker in lookers:
+            looker.kill()
+            looker.join()
+
+
+TARGETS = [
+    ("/trace/lot?lot=L1&detail=4", 0),
+    *((f"/trace/lot?lot=L1&detail={detail}", 1) for detail in ("0", "5", "01", "")),
+    *((f"/kit?product=X&machine=M&boards={n}", 1) for n in ("0", "-1", "1_0", "100001")),
+]
+
+
+@pytest.mark.parametrize("target, status", TARGETS)
+def test_ask_refuses_what_the_program_refuses(desk: Desk, target: str, status: int) -> None:
+    desk.feed(FIRST_LINE)
+    own = run([desk.program, "report", "--db", desk.file, "--get", target]).expect(status)
+    done = ask(desk.file, target).expect(status)
+    assert status or done.out == own.out
+
+
+def test_names_in_another_locale(new_line: NewLine, folder: pathlib.Path) -> None:
+    """A folder whose name is not ASCII, where Python takes all texts for ASCII."""
+    env = {"LC_ALL": "C", "PYTHONUTF8": "0", "PYTHONCOERCECLOCALE": "0"}
+    line = new_line(folder / "Lïne")
+    line.rollover().expect()
+    line.backup().expect()
+    written: list[Word] = ["--evidence", folder / "evïdence", "--html", folder / "L1.html"]
+    run([tool("recall"), "lot", "L1", *line.recall_words(), *written], env=env).expect()
+    line.backup("--check", env=env).expect()
+    run_tool("check", line.newest() / "desk", env=env).expect()
+
+
+@pytest.mark.parametrize("name", ["begin", "move", "backup"])
+def test_unexpected_failure_has_a_status_of_its_own(line: Line, name: str) -> None:
+    line.end()
+    other = line.folder / "other"
+    shutil.copyfile(line.file, other)
+    words: dict[str, list[Word]] = {
+        "begin": [line.file],
+        "move": ["K1", "--from", line.file, "--to", other],
+        "backup": [*line.service(), "--age"],
+    }
+    change = "from tracedesk_ops import backups, carry; carry.Archive = backups.kept_in = None"
+    run_changed(name, words[name], change).expect(9, "nobody foresaw")
+
+
+def test_what_cannot_be_printed_is_told(line: Line) -> None:
+    line.end()
+    with open("/dev/full", "w") as full:
+        done = run([tool("begin"), line.file], out=full)
+    assert done.status == 1 and "standard output" in done.err and "Traceback" not in done.err

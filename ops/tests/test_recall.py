@@ -1,0 +1,153 @@
+"""A recall of each lot, reel and board over two lines: its answer is the program's own, file by file."""
+import concurrent.futures
+import os
+import pathlib
+import shutil
+from typing import Any, Callable, Iterator
+
+import pytest
+from lab.recalls import Asking, lot_of, recall, recalled, state_of
+from lab.world import World
+from tracedesk_ops import catalogue, firstlook
+
+pytestmark = [pytest.mark.xdist_group("recall")]
+
+CHANGED = (
+    "it was changed meanwhile, or what lies around it, as by a roll-over or a restore: ask again"
+)
+ALL = [pytest.param(24, id="some"), pytest.param(1, id="all", marks=pytest.mark.whole)]
+# a tracedesk-chain that ends otherwise: how, and what a recall says then
+ENDS = {
+    "exit 1": ("differs minute 1 2", "NOT A CHAIN: L1: L1-1: differs minute 1 2"),
+    "exit 3": ("Unavailable", "gives no answer: L1-1: Unavailable"),
+    "exit 4": ("NotWritten", "gives no answer: L1-1: NotWritten"),
+    "exit 5": ("begun from 0123", "NOT ASKED: L1: L1-1: begun from 0123"),
+    "kill -9 $$": ("gone", "gives no answer: L1-1: gone"),
+    "echo board,file": ("odd", "it is another version"),
+}
+
+
+@pytest.fixture(scope="module")
+def asking(world: World, tmp_path_factory: pytest.TempPathFactory) -> Asking:
+    return Asking(world.lines, tmp_path_factory.mktemp("copies"))
+
+
+@pytest.mark.parametrize("every", ALL)
+@pytest.mark.parametrize("kind", ["lot", "reel", "board"])
+def test_pieces_and_what_is_left_are_those_of_the_files(
+    asking: Asking, kind: str, every: int
+) -> None:
+    names = asking.names(kind)[::every]
+    with concurrent.futures.ThreadPoolExecutor(2) as threads:
+        assert sum(threads.map(lambda name: asking.expect_right(kind, name), names))
+
+
+@pytest.mark.parametrize(
+    ("column", "value"), [("file", "L1-1; L1-2"), ("line", "L1; L2")], ids=["files", "lines"]
+)
+def test_a_board_lies_in_two(asking: Asking, column: str, value: str) -> None:
+    boards = (asking.tables("board", name)["boards"][0] for name in asking.names("board"))
+    assert any(value in board[column] for board in boards)
+
+
+@pytest.mark.parametrize("end", ENDS)
+def test_each_end_of_the_chain_program_has_its_answer(
+    world: World, folder: pathlib.Path, monkeypatch: pytest.MonkeyPatch, end: str
+) -> None:
+    said, told = ENDS[end]
+    words = ["lot", lot_of(world), *world.first.recall_words()]
+    by_sql = recalled(*words, "--quick", "--show", "pieces", status=3)
+    stub = folder / "tracedesk-chain"
+    stub.write_text(f"#!/bin/sh\necho 'tracedesk-chain: L1-1: {said}' >&2\n{end}\n")
+    stub.chmod(0o755)
+    monkeypatch.setenv("CHAIN", str(stub))
+    recall(*words).expect(3, told, "NOT ALL WERE ASKED")
+    assert recalled(*words, "--show", "pieces", status=3) == by_sql
+
+
+def test_without_the_chain_program_a_recall_says_so(
+    world: World, folder: pathlib.Path, monkeypatch: pytest.MonkeyPatch
+) -> None:
+    monkeypatch.setenv("CHAIN", str(folder / "none"))
+    words = ["lot", lot_of(world), *world.first.recall_words()]
+    recall(*words).expect(3, "there is no tracedesk-chain")
+
+
+def test_archives_stay_as_they_are(world: World, folder: pathlib.Path) -> None:
+    before = state_of(world)
+    recall("lot", lot_of(world), *world.words(), "--evidence", folder / "evidence").expect()
+    assert state_of(world) == before
+
+
+# --- What changes while it is asked
+
+
+@pytest.fixture
+def faults(asking: Asking, world: World) -> Callable[..., list[str]]:
+    """The faults of a recall over the first line, during which something happens."""
+
+    def of(meanwhile: Callable[[], Any] = lambda: None) -> list[str]:
+        return list(asking.begun("lot", lot_of(world), 1, meanwhile).faults)
+
+    return of
+
+
+@pytest.fixture
+def table(world: World) -> Iterator[pathlib.Path]:
+    """The first line's catalogue, which is put back."""
+    file = world.first.catalogue
+    text = file.read_bytes()
+    yield file
+    file.write_bytes(text)
+
+
+def test_nothing_changes_meanwhile(faults: Callable[..., list[str]]) -> None:
+    assert faults() == []
+
+
+def test_a_catalogue_that_changes_meanwhile_is_named(
+    faults: Callable[..., list[str]], table: pathlib.Path
+) -> None:
+    text = table.read_bytes() + b"\n"
+    assert faults(lambda: table.write_bytes(text)) == [f"{table}: {CHANGED}"]
+
+
+def test_a_desk_that_is_put_aside_meanwhile_is_named(
+    faults: Callable[..., list[str]], table: pathlib.Path
+) -> None:
+    aside = table.parent.parent / "aside/2026-03-02T060000Z"
+
+    def put_aside() -> None:
+        aside.mkdir(parents=True, exist_ok=True)
+        (aside / "desk").touch()
+
+    try:
+        assert faults(put_aside) == [f"{table}: {CHANGED}"]
+    finally:
+        shutil.rmtree(aside.parent)
+
+
+def test_an_archive_that_changes_meanwhile_is_named(
+    faults: Callable[..., list[str]], world: World, monkeypatch: pytest.MonkeyPatch
+) -> None:
+    file, look = world.first.archived[0], firstlook.told_by
+    kept = os.stat(file)
+
+    def touched(database: Any, line: Any, archive: Any, *words: Any) -> Any:
+        if archive.file == file.name:
+            os.utime(file, (1, 1))
+        return look(database, line, archive, *words)
+
+    monkeypatch.setattr(firstlook, "told_by", touched)
+    try:
+        assert faults() == [f"L1: {file}: it was changed while it was asked: ask again"]
+    finally:
+        os.utime(file, ns=(kept.st_atime_ns, kept.st_mtime_ns))
+
+
+def test_a_log_that_is_gone_by_now_is_no_database(folder: pathlib.Path) -> None:
+    class Gone(type(folder)):  # type: ignore[misc]  # the class of paths depends on the system
+        def is_file(self) -> bool:
+            return True
+
+    assert not catalogue.is_database(Gone(folder / "gone"))

@@ -1,0 +1,239 @@
+"""What a recall writes: its page and its evidence, whole or not at all; and the words that it doesn't take."""
+import contextlib
+import html
+import os
+import pathlib
+import subprocess
+import threading
+from typing import Iterator
+
+import pytest
+from lab.line import table
+from lab.recalls import lot_of, recall
+from lab.tools import Ended, Word, run, run_tool, strings, tool
+from lab.world import World
+from tracedesk_ops import chains, plant
+
+pytestmark = [pytest.mark.xdist_group("recall_written")]
+
+SHIPPED = """board,customer,date,note
+L1-000001,Customer A,2026-03-05,
+L1-000001,Customer B,2026-04-01,again
+"""
+EVIDENCE = """SHA256SUMS asked.csv boards.csv catalogue-1.csv catalogue-2.csv chain-1.csv chain-2.csv desk-1.txt desk-2.txt
+    doubtful.csv pieces.csv question.txt recall.html reels.csv shipped.csv untraced.csv""".split()
+NOBODY = 65534
+
+
+class Written:
+    """A recall over both lines, whose page and evidence are written into a folder."""
+
+    def __init__(self, world: World, folder: pathlib.Path) -> None:
+        self.world, self.folder, self.lot = world, folder, lot_of(world)
+        self.page, self.evidence = folder / "page.html", folder / "evidence"
+        lines = [
+            f"{line.name},{line.url},{os.path.relpath(line.catalogue, folder)}\n"
+            for line in world.lines
+        ]
+        (folder / "lines.csv").write_text("line,url,catalogue\n" + "".join(lines))
+        self.shipped = folder / "shipped.csv"
+        self.shipped.write_text(SHIPPED)
+
+    def recall(self, *more: Word) -> Ended:
+        lines: list[Word] = ["lot", self.lot, "--lines", self.folder / "lines.csv"]
+        return recall(*lines, "--shipped", self.shipped, *more)
+
+
+@pytest.fixture
+def written(world: World, folder: pathlib.Path) -> Written:
+    return Written(world, folder)
+
+
+def test_nothing_but_the_page_and_the_evidence_is_written(written: Written) -> None:
+    before = set(written.folder.iterdir())
+    written.recall("--html", written.page, "--evidence", written.evidence).expect()
+    assert set(written.folder.iterdir()) - before == {written.page, written.evidence}
+
+
+def test_boards_have_their_customers(written: Written) -> None:
+    """Also by a pipe, as of a shell's <(..)."""
+    written.shipped.unlink()
+    os.mkfifo(written.shipped)
+    threading.Thread(target=written.shipped.write_text, args=[SHIPPED]).start()
+    boards = table(written.recall().expect().out)
+    shipped = {row["board"]: (row["customer"], row["date"]) for row in boards}
+    wanted = {"L1-000001": ("Customer A; Customer B", "2026-03-05; 2026-04-01")}
+    assert shipped == dict.fromkeys(shipped, ("", "")) | wanted
+
+
+def test_the_evidence_is_whole(written: Written) -> None:
+    boards = table(written.recall("--evidence", written.evidence).expect().out)
+    run(
+        ["sha256sum", "--check", "--strict", "--quiet", "SHA256SUMS"], cwd=written.evidence
+    ).expect()
+    assert sorted(file.name for file in written.evidence.iterdir()) == sorted(EVIDENCE)
+    assert written.evidence.stat().st_mode & 0o777 == 0o700
+    assert table((written.evidence / "boards.csv").read_text()) == boards
+    assert (written.evidence / "shipped.csv").read_text() == SHIPPED
+    catalogue = written.world.first.catalogue.read_bytes()
+    assert (written.evidence / "catalogue-1.csv").read_bytes() == catalogue
+
+
+def test_the_page_has_the_boards(written: Written) -> None:
+    boards = table(written.recall("--html", written.page).expect().out)
+    page = written.page.read_text()
+    names = [row["board"] for row in boards]
+    for text in (
+        *names,
+        written.lot,
+        "Customer A; Customer B",
+        "All were asked: 7 desks and archives",
+    ):
+        assert html.escape(text) in page
+
+
+@pytest.mark.parametrize("option", ["--html", "--evidence"])
+def test_nothing_is_overwritten(written: Written, option: str) -> None:
+    to = written.page if option == "--html" else written.evidence
+    written.recall(option, to).expect()
+    kept = {file: file.read_bytes() for file in (to, *to.glob("*")) if file.is_file()}
+    written.recall(option, to).expect(4)
+    assert {file: file.read_bytes() for file in kept} == kept
+
+
+# --- Where nothing can be written
+
+
+@pytest.fixture
+def words(world: World) -> list[str]:
+    """A recall over the first line."""
+    return strings([tool("recall"), "lot", lot_of(world), *world.first.recall_words()])
+
+
+def test_without_standard_output_it_says_so(words: list[str]) -> None:
+    run(["sh", "-c", '"$@" >&-', "sh", *words]).expect(4, "standard output is closed")
+
+
+def test_with_a_full_standard_output_the_page_is_written(
+    words: list[str], folder: pathlib.Path
+) -> None:
+    with open("/dev/full", "w", encoding="ascii") as full:
+        done = run([*words, "--html", folder / "full.html"], out=full)
+    done.expect(4, "standard output: No space left")
+    assert (folder / "full.html").exists()
+
+
+@pytest.mark.root
+@pytest.mark.gate
+def test_another_user_runs_the_program_itself_on_copies(world: World) -> None:
+    """Who may read the archives, and doesn't own them."""
+    file = world.first.archived[0]
+    world.folder.chmod(0o755)
+    if not (child := os.fork()):
+        status = 1
+        with contextlib.suppress(Exception):
+            os.setuid(NOBODY)
+            running = plant.Program("x", file)
+            status = int(running.how != {} or chains.can_be_opened(running, file))
+        os._exit(status)
+    assert os.waitpid(child, 0)[1] == 0
+
+
+@contextlib.contextmanager
+def full_disk(at: pathlib.Path) -> Iterator[None]:
+    """A disk of 4 kB, all taken by a file."""
+    at.mkdir()
+    subprocess.run(["mount", "-t", "tmpfs", "-o", "size=4k", "small", at], check=True)
+    try:
+        (at / "filler").write_bytes(bytes(4096))
+        yield
+    finally:
+        subprocess.run(["umount", at], check=True)
+
+
+@pytest.mark.root
+@pytest.mark.gate
+@pytest.mark.parametrize("option", ["--html", "--evidence"])
+def test_a_full_disk_gets_nothing(words: list[str], folder: pathlib.Path, option: str) -> None:
+    with full_disk(folder / "disk"):
+        run([*words, option, folder / "disk/it"]).expect(4)
+        assert [file.name for file in (folder / "disk").iterdir()] == ["filler"]
+
+
+@pytest.mark.parametrize("option", ["--html", "--evidence"])
+def test_a_name_that_is_too_long_is_refused(
+    world: World, folder: pathlib.Path, option: str
+) -> None:
+    recall("lot", "X", *world.first.recall_words(), option, folder / ("x" * 300)).expect(4)
+
+
+# --- Names and words
+
+
+@pytest.mark.parametrize("kind", ["lot", "reel", "board"])
+def test_a_name_that_nobody_knows(world: World, kind: str) -> None:
+    done = recall(kind, "nowhere & never", *world.first.recall_words())
+    assert not table(done.expect(1, "nobody knows").out)
+
+
+# files that are no tables of lines, or none of shipped boards
+FILES = {
+    "bad.csv": b"line,url\nL1,-\n",
+    "nul.csv": b"line,url,catalogue\nL1,http://127.0.0.1:1,a\0b\n",
+    "nobody.csv": b"board,customer,date\nB,,2026-03-09\n",
+    "netrc-binary": b"\xff",
+}
+# `@` is a folder with these files, `:` the words of the first line, URL and CATALOGUE those of its desk and archives
+BAD_WORDS = (
+    "lot X --line L1 URL -",
+    "lot X --line L1 - -",
+    "lot X : :",
+    "part X :",
+    "lot X --line L1 desk -",
+    "lot X --lines @/bad.csv",
+    "lot X --lines @/none.csv",
+    "lot X --lines @/nul.csv",
+    "lot X : --shipped @/bad.csv",
+    "lot X : --shipped @/nobody.csv",
+    "lot X --line L1 URL @/circle/catalogue.csv",
+    f"lot X --line L1 URL @/{'x' * 300}",
+    "lot X --line L1 URL ARCHIVE",
+    "lot X : --netrc @/netrc-binary",
+)
+
+
+@pytest.mark.parametrize("text", BAD_WORDS, ids=range(len(BAD_WORDS)))
+def test_words_that_are_not_taken(world: World, folder: pathlib.Path, text: str) -> None:
+    for name, content in FILES.items():
+        (folder / name).write_bytes(content)
+    (folder / "circle").symlink_to(folder / "circle")
+    own = " ".join(strings(world.first.recall_words()))
+    for name, value in (
+        (" :", f" {own}"),
+        ("@", folder),
+        ("URL", world.first.url),
+        ("ARCHIVE", world.first.archive),
+    ):
+        text = text.replace(name, str(value))
+    recall(*text.split()).expect(2)
+
+
+def test_a_name_with_a_space_before_it_is_not_taken(world: World) -> None:
+    recall("lot", " X", *world.first.recall_words()).expect(2)
+
+
+def test_without_a_line_nothing_is_asked(folder: pathlib.Path) -> None:
+    run_tool("recall", "lot", "X", env={"TRACEDESK_SET_UP": str(folder)}).expect(2)
+
+
+def test_a_desk_that_is_named_twice_is_refused(world: World) -> None:
+    again: list[Word] = ["--line", "L2", f"{world.first.url}/", world.first.catalogue]
+    done = recall("lot", "X", *world.first.recall_words(), *again)
+    done.expect(2, "have the same running desk")
+
+
+def test_a_password_is_not_sent_in_plain_text(world: World, folder: pathlib.Path) -> None:
+    (folder / "netrc").write_text("machine desk.plant login office password secret\n")
+    where: list[Word] = ["--line", "L1", "http://desk.plant:8080", world.first.catalogue]
+    done = recall("lot", "X", *where, "--netrc", folder / "netrc")
+    done.expect(2, "password in plain text")

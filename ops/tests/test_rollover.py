@@ -1,0 +1,291 @@
+"""Roll-overs of a line that works on: nothing is lost, nothing acts twice, and every report is that of one desk."""
+import csv
+import io
+import pathlib
+import time
+import urllib.parse
+from typing import Any, Iterator
+
+import pytest
+
+from lab.desk import Desk, rows_of
+from lab.line import Line
+from lab.messages import part
+from lab.shifted import Shifted
+from lab.tools import Word, started
+from lab.waits import PATIENCE, stays, wait_for
+from tracedesk_ops import catalogue, copies
+
+
+# --- Three roll-overs in a row
+
+
+@pytest.fixture(scope="module")
+def thrice(
+    shifted: Shifted, program: pathlib.Path, tmp_path_factory: pytest.TempPathFactory
+) -> Iterator[Line]:
+    """A line that was rolled over three times during the shift."""
+    line = Line(program, tmp_path_factory.mktemp("thrice"))
+    line.feed([])
+    line.serve()
+    try:
+        cuts = shifted.cuts(3)
+        for start, end in zip([0, *cuts], [*cuts, len(shifted.lines)]):
+            if start:
+                line.rollover().expect()
+            shifted.post(line, start, end)
+        yield line
+    finally:
+        line.end()
+
+
+def test_archives_are_a_chain_with_every_command_once(thrice: Line, shifted: Shifted) -> None:
+    thrice.expect_tidy()
+    with thrice.stopped():
+        assert thrice.uids() == dict.fromkeys(shifted.accepted(), 1)
+    archives = thrice.archives()
+    files = [archive.file for archive in archives]
+    assert [archive.went_on_from for archive in archives] == ["", *files[:-1]]
+
+
+def test_nothing_acts_that_is_sent_again(thrice: Line, shifted: Shifted) -> None:
+    begun, before = shifted.cuts(3)[-1], thrice.lawful_now()
+    there, own = shifted.accepted(), set(shifted.lines[begun:])
+    lines = [line for line, it in zip(shifted.lines, shifted.told) if it["UniqueID"] in there]
+    for line, answer in zip(lines, thrice.post(lines)):
+        may_repeat = line in own or b"ClockSet" in line
+        is_repeat = may_repeat and answer["Answer"] == "Accepted"
+        assert is_repeat or answer.get("Refusal") == "IdReused", f"{line[:300]!r}: {answer}"
+    assert thrice.lawful_now() == before
+
+
+def reports_of(desk: Desk, file: pathlib.Path, targets: list[str]) -> Iterator[str]:
+    """What the program reports of each target over a copy of a file, which is served for that."""
+    served = Desk(desk.program, file.with_name("copy"))
+    copies.copy(file, served.file)
+    served.serve()
+    try:
+        for target in targets:
+            status, text = served.get(target)
+            assert status in (200, 404), f"{target} was answered {status}: {text}"
+            yield text
+    finally:
+        served.end()
+        served.remove()
+        served.start_script.unlink()
+        served.pid_file.unlink()
+
+
+def rows_by_target(desk: Desk, files: list[pathlib.Path], targets: list[str]) -> dict[str, Any]:
+    """Of each report its rows over all of these desks, in no order."""
+    found: dict[str, set[str]] = {target: set() for target in targets}
+    for file in files:
+        for target, text in zip(targets, reports_of(desk, file, targets), strict=True):
+            found[target] |= set() if text.startswith("{") else set(text.splitlines()[1:])
+    return found
+
+
+def test_traces_over_all_desks_are_those_of_one(thrice: Line, shifted: Shifted) -> None:
+    boards, lots = shifted.names("Board"), shifted.names("Lot")
+    targets = [f"/trace/board?board={board}&detail=4" for board in boards]
+    targets += [f"/trace/lot?lot={lot}&detail=4" for lot in lots]
+    targets += ["/overdue"]
+    with thrice.stopped():
+        all_of_them = rows_by_target(thrice, thrice.files(), targets)
+    assert all_of_them == rows_by_target(thrice, [shifted.one.file], targets)
+    assert any(all_of_them.values())
+
+
+def on_hand(file: pathlib.Path) -> list[str]:
+    """The targets of all slots, kits and cards that a desk has."""
+
+    def ask(path: str, **words: object) -> str:
+        return f"{path}?{urllib.parse.urlencode(words)}"
+
+    sheets = rows_of(file, "SELECT DISTINCT product, machine FROM sheet_row ORDER BY 1, 2")
+    reels = rows_of(file, "SELECT reel FROM reel WHERE remaining > 0 ORDER BY reel")
+    return [
+        *(ask("/slots", machine=machine) for machine in sorted({it for _, it in sheets})),
+        *(
+            ask("/kit", product=product, machine=machine, boards=boards)
+            for product, machine in sheets
+            for boards in (1, 20)
+        ),
+        *(ask("/reel", reel=reel) for (reel,) in reels),
+    ]
+
+
+def without_sums(text: str) -> list[dict[str, str]]:
+    """The rows of a report without what a desk counts from its own beginning."""
+    counted = {"received": "", "placed": "", "scrapped": ""}
+    return [{**row, **counted} for row in csv.DictReader(io.StringIO(text))]
+
+
+def test_slots_kits_and_cards_are_those_of_one_desk(thrice: Line, shifted: Shifted) -> None:
+    with thrice.stopped():
+        targets = on_hand(thrice.file)
+        of_one, of_last = (
+            list(reports_of(thrice, file, targets)) for file in (shifted.one.file, thrice.file)
+        )
+    for target, one, last in zip(targets, of_one, of_last, strict=True):
+        assert not one.startswith("{"), target
+        assert without_sums(one) == without_sums(last), target
+    assert len(targets) > 100
+
+
+# --- One roll-over
+
+
+@pytest.mark.parametrize("off, words", [(0, ["--no-loads"]), (1440, []), (-1440, ["--no-loads"])])
+def test_new_desk_with_options(half: Line, off: int, words: list[Word]) -> None:
+    """Its minute, and whether something is mounted, are what was asked for."""
+    half.end()
+    ((minute,),) = half.rows("SELECT max(effective) FROM accepted")
+    half.serve()
+    at: list[Word] = ["--at", catalogue.spelled(minute + off)] if off else []
+    half.rollover(*words, *at).expect(0, "tracedesk-chain says of both desks: alike")
+    half.end()
+    query = "SELECT (SELECT max(effective) FROM accepted), (SELECT count(*) > 0 FROM mount)"
+    assert half.rows(query) == [(minute + off, int(not words))]
+
+
+def test_board_in_work_is_a_reason_to_refuse(half: Line, shifted: Shifted) -> None:
+    rest = shifted.lines[shifted.upto :]
+    place = next(n for n, line in enumerate(rest) if b"WorkStarted" in line)
+    half.post(rest[: place + 1])
+    half.rollover().expect(1, "in work: ")
+    half.expect_tidy()
+    half.rollover("--with-board-in-work").expect()
+    half.expect_tidy()
+
+
+def test_file_of_the_archives_name_stays(half: Line, shifted: Shifted) -> None:
+    with half.stopped():
+        query = "SELECT min(effective), max(effective), count(*) FROM accepted"
+        ((first, last, commands),) = half.rows(query)
+
+    def stamp(minute: int) -> str:
+        return str(catalogue.spelled(minute)).replace("-", "").replace(":", "")[:13] + "Z"
+
+    other = half.archive / f"L1-{stamp(first)}-{stamp(last)}-{commands}"
+    other.parent.mkdir()
+    other.write_text("another file", encoding="utf-8")
+    half.rollover().expect()
+    assert other.read_text(encoding="utf-8") == "another file"
+    (made,) = half.archives()
+    assert made.file == f"{other.name}-2"
+    other.unlink()
+    shifted.expect_rolled_over(half)
+
+
+def test_desk_that_has_taken_nothing_is_not_archived(line: Line) -> None:
+    line.rollover().expect()
+    line.rollover().expect(1, "has taken no command")
+
+
+def test_whether_it_is_due(half: Line, shifted: Shifted) -> None:
+    half.rollover("--due").expect(0, "placed pieces")
+    half.rollover("--due", "--pieces", 1).expect(1, "placed pieces")
+    half.rollover("--if-due").expect(0, "seconds")
+    assert not half.catalogue.exists(), "it was rolled over though it is not time"
+    half.rollover("--if-due", "--pieces", 1).expect()
+    shifted.expect_rolled_over(half)
+
+
+def test_whether_a_file_that_is_no_desk_is_due(half: Line) -> None:
+    half.end()
+    half.remove()
+    half.file.write_bytes(b"no desk")
+    half.rollover("--due").expect(3)
+
+
+def test_nobody_reads_its_standard_error(half: Line, shifted: Shifted) -> None:
+    tool = started(half.rollover_words())
+    assert tool.stderr
+    tool.stderr.close()
+    assert tool.wait(PATIENCE) == 0
+    shifted.expect_rolled_over(half)
+
+
+def test_sheet_that_is_longer_than_a_message(half: Line, shifted: Shifted) -> None:
+    """It came as a setup file, and is carried over."""
+    slots = 5_000
+    rows = "slot,part,designators\n" + "".join(
+        f"{slot},X-LONG,{' '.join(f'D{slot}-{n:03}' for n in range(18))}\n" for slot in range(slots)
+    )
+    half.more("X-LONG")
+    query = "id=x-S&source=t&time=2026-03-02T06:00:00Z&product=LONG&machine=LONG"
+    with half.link() as link:
+        link.request("POST", f"/imports/setup?{query}", rows)
+        assert b"Accepted" in link.getresponse().read()
+    half.rollover().expect()
+    shifted.expect_rolled_over(half, "X-LONG", "S")
+    query = "SELECT place, slot, part, designators FROM sheet_row WHERE product = 'LONG' ORDER BY 1"
+    old, new = (rows_of(file, query) for file in half.files())
+    assert old == new and len(new) == slots
+
+
+# --- Senders
+
+
+def test_message_on_its_way_is_answered(half: Line, shifted: Shifted) -> None:
+    """It is taken before the service is stopped, and is in the archive; new ones see the flag."""
+    line = part("D", half.time)
+    link = half.begin_post(line)
+    tool = started(half.rollover_words("--drain-seconds", PATIENCE))
+    wait_for("the flag for senders", half.drained.exists)
+    stays("the roll-over waits", lambda: tool.poll() is None, 1)
+    link.sendall(line[10:])
+    answer = link.makefile("rb").read()
+    link.close()
+    assert b'"Answer":"Accepted"' in answer
+    assert tool.wait(PATIENCE) == 0
+    shifted.expect_rolled_over(half, "D")
+
+
+def test_sender_that_goes_on(half: Line, shifted: Shifted) -> None:
+    """The desk isn't stopped; afterwards all that was sent is known to the new one."""
+    words = half.rollover_words("--drain-seconds", 8)
+    tool = started(words, env={"TRACEDESK_QUIET": "5"})
+    names: list[str] = []
+    while tool.poll() is None:
+        names.append(f"B-{len(names)}")
+        half.more(names[-1])
+        time.sleep(0.2)  # it is mostly not connected
+    _, said = tool.communicate()
+    assert tool.returncode == 1 and "somebody still sends" in said
+    assert not half.drained.exists(), "senders are still told to come again"
+    half.rollover().expect()
+    for answer in half.post(part(name, half.time) for name in names):
+        assert answer.get("Refusal") == "IdReused"
+    shifted.expect_rolled_over(half, *names)
+
+
+def test_wrong_port(half: Line, line: Line, shifted: Shifted) -> None:
+    """A port on which another desk answers, or none: the service is there as before."""
+    right = half.port
+    for wrong in (line.port, 1):
+        half.port = wrong
+        half.rollover().expect(1, "say by --port")
+        half.port = right
+        half.wait_until_ready()
+        assert line.answers()
+    half.end()
+    half.port = line.port
+    half.rollover().expect(1, "say by --port")
+    half.port = right
+    half.serve()
+    shifted.expect_unchanged(half)
+
+
+def test_service_that_somebody_had_stopped_is_left_so(half: Line) -> None:
+    half.end()
+    half.rollover("--if-due", "--pieces", 1).expect(0, "is left so")
+    assert not half.answers()
+
+
+def test_service_that_a_killed_call_had_stopped_is_started(half: Line) -> None:
+    half.end()
+    half.drained.touch()
+    half.rollover("--if-due").expect()
+    assert half.answers() and not half.drained.exists()

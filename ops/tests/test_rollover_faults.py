@@ -1,0 +1,272 @@
+"""Roll-overs that fail, are stopped or are killed: the old desk is as it was, and what is not the tool's stays."""
+import argparse
+import os
+import pathlib
+import shutil
+import subprocess
+from typing import Iterator
+
+import pytest
+
+from lab import ROOT
+from lab.line import Line
+from lab.messages import part
+from lab.programs import wrapped
+from lab.shifted import Shifted
+from lab.tools import KILLED, run, started
+from lab.waits import PATIENCE, free_port, stays, wait_for
+from tracedesk_ops import catalogue, plant, unfinished
+
+AS_IT_WAS = "the old desk is as it was"
+FAULTS = {
+    "an audit that fails": ("audit", "echo tracedesk: NotLawful 3 >&2; exit 3"),
+    "a feed that fails": ("feed", "echo tracedesk: Unavailable >&2; exit 3"),
+    "a comparison that fails": ("alike", "echo tracedesk: new Unavailable >&2; exit 3"),
+    "a comparison that says nothing": ("alike", "exit 0"),
+    "a new desk with a piece more": (
+        "feed",
+        """sed '0,/"Quantity":\\([0-9]*\\)/s//"Quantity":1\\1/' > "$3.given"\n"""
+        """exec "$PROGRAM" "$@" < "$3.given" """,
+    ),
+}
+
+
+@pytest.mark.parametrize("fault", FAULTS)
+def test_program_that_fails(half: Line, shifted: Shifted, folder: pathlib.Path, fault: str) -> None:
+    word, act = FAULTS[fault]
+    half.rollover(program=wrapped(folder, half.program, word, act)).expect(1, AS_IT_WAS)
+    shifted.expect_unchanged(half)
+
+
+@pytest.mark.parametrize("share", [0.05, 0.6])
+def test_file_that_cannot_grow(half: Line, shifted: Shifted, share: float) -> None:
+    """The copy doesn't fit, or the new desk doesn't."""
+    limit = int(shifted.half.file.stat().st_size * share)
+    half.rollover(limit=limit).expect(1, AS_IT_WAS)
+    shifted.expect_unchanged(half)
+
+
+@pytest.fixture
+def disk(shifted: Shifted, folder: pathlib.Path) -> Iterator[pathlib.Path]:
+    """A disk of its own, twelve times as large as a desk."""
+    made = folder / "disk"
+    made.mkdir()
+    size = sum(path.stat().st_size for path in shifted.half.paths())
+    run(["mount", "-t", "tmpfs", "-o", f"size={12 * size}", "small", made]).expect()
+    try:
+        yield made
+    finally:
+        run(["umount", "--lazy", made]).expect()
+
+
+@pytest.mark.root
+@pytest.mark.gate
+@pytest.mark.parametrize("word", ["", "audit", "feed", "alike"])
+def test_disk_that_gets_full(
+    shifted: Shifted, folder: pathlib.Path, disk: pathlib.Path, word: str
+) -> None:
+    """Before, or when the program is asked for a word; with room again it is done."""
+    line = shifted.copy(disk)
+    line.serve()
+    try:
+        filler = disk / "filler"
+        fill = f'cat /dev/zero > "{filler}" 2> /dev/null'
+        if not word:
+            subprocess.run(["sh", "-c", fill], check=False)
+            os.truncate(filler, int(filler.stat().st_size * 0.9))
+        program = wrapped(folder, line.program, word or "none", fill)
+        line.rollover(program=program).expect(1, AS_IT_WAS)
+        filler.unlink()
+        line.expect_tidy()
+        line.rollover().expect()
+        shifted.expect_rolled_over(line)
+    finally:
+        line.end()
+
+
+# --- Signals
+
+
+def test_sigterm_puts_all_back(half: Line, shifted: Shifted) -> None:
+    tool = started(half.rollover_words())
+    messages = half.folder / "rollover-desk/messages"
+    wait_for("the new desk is begun", lambda: messages.exists() or tool.poll() is not None)
+    tool.terminate()
+    _, said = tool.communicate(timeout=PATIENCE)
+    assert tool.returncode == 1 and "it was stopped by SIGTERM" in said
+    shifted.expect_unchanged(half)
+
+
+def test_what_a_killed_call_runs_ends_with_it(
+    half: Line, shifted: Shifted, folder: pathlib.Path
+) -> None:
+    """Else a run of the program had a file open that the next call wants."""
+    child = folder / "child"
+    act = f'echo $$ > "{child}.new"; mv "{child}.new" "{child}"; while true; do sleep 0.1; done'
+    program = wrapped(folder, half.program, "feed", act)
+    chain = {"CHAIN": str(program.with_name("tracedesk-chain"))}
+    tool = started(half.rollover_words(program=program), env=chain)
+    wait_for("the new desk is begun", lambda: child.exists() or tool.poll() is not None)
+    tool.kill()
+    tool.communicate()
+    running = pathlib.Path("/proc", child.read_text().strip())
+    wait_for("the program's run has ended", lambda: not running.exists())
+    half.rollover().expect()
+    shifted.expect_rolled_over(half)
+
+
+def cut_after_the_plan(line: Line) -> None:
+    line.rollover(kill_after="plan").expect(KILLED)
+    plant.wait_until_closed(line.file, PATIENCE)
+
+
+def test_another_desk_in_the_place_of_one_that_was_to_be_archived(half: Line) -> None:
+    """The copy that was to be the archive stays."""
+    cut_after_the_plan(half)
+    kept = half.folder / "rollover-desk/archive"
+    before = catalogue.sha256_of(kept)
+    half.remove()
+    half.feed([part("O")])
+    half.rollover().expect(1, "is another desk")
+    assert catalogue.sha256_of(kept) == before and not half.archives()
+
+
+def test_line_of_another_archive_in_the_catalogue_stays(half: Line) -> None:
+    """It got the file name that a roll-over had planned, which is put back."""
+    cut_after_the_plan(half)
+    asked = argparse.Namespace(db=half.file, archive=half.archive, program=str(half.program))
+    planned = unfinished.Rolling(asked).read_plan()
+    other = planned._replace(sha256="0" * 64, desk="L2")
+    half.archive.mkdir()
+    catalogue.add(half.catalogue, other)
+    half.serve()
+    half.more("A")
+    half.end()
+    half.settle().expect()
+    assert half.archives() == [other] and not (half.folder / "rollover-desk").exists()
+
+
+# --- The proxy, and another user
+
+
+PROXY = """
+pid {folder}/nginx.pid;
+error_log /dev/null;
+events {{ }}
+http {{
+  access_log off;
+  client_body_temp_path {folder}/temp; proxy_temp_path {folder}/temp;
+  fastcgi_temp_path {folder}/temp; uwsgi_temp_path {folder}/temp; scgi_temp_path {folder}/temp;
+  server {{
+    listen 127.0.0.1:{front};
+    location / {{ if (-f {drained}) {{ return 503; }} proxy_pass http://127.0.0.1:{port}; }}
+  }}
+  server {{ listen 127.0.0.1:{count}; {counts} }}
+}}
+"""
+
+
+@pytest.fixture
+def front(half: Line, folder: pathlib.Path) -> Iterator[int]:
+    """The port of an nginx before the line, which counts requests as the packaged one does."""
+    packaged = (ROOT / "packaging/nginx.conf").read_text(encoding="utf-8")
+    (counts,) = [line for line in packaged.splitlines() if "stub_status" in line]
+    port, half.proxy_port = free_port(), free_port()
+    conf = folder / "nginx.conf"
+    text = PROXY.format(
+        folder=folder,
+        front=port,
+        drained=half.drained,
+        port=half.port,
+        count=half.proxy_port,
+        counts=counts,
+    )
+    conf.write_text(text, encoding="utf-8")
+    nginx = shutil.which("nginx", path=os.environ["PATH"] + ":/usr/sbin") or "nginx"
+    proxy = started([nginx, "-c", conf, "-g", "daemon off;"])
+    try:
+        wait_for("nginx answers", lambda: plant.get(half.proxy_port, "/requests") is not None)
+        yield port
+    finally:
+        proxy.terminate()
+        proxy.communicate()
+
+
+@pytest.mark.needs("nginx")
+def test_message_whose_head_came_through_the_proxy_is_answered(
+    half: Line, shifted: Shifted, front: int
+) -> None:
+    """However late its body comes; the old desk takes it."""
+    line = part("D", half.time)
+    link = half.begin_post(line, front)
+    wait_for("the proxy counts the request", lambda: writing(half.proxy_port) > 1)
+    tool = started(half.rollover_words("--drain-seconds", PATIENCE))
+    wait_for("the flag for senders", half.drained.exists)
+    stays("the roll-over waits", lambda: tool.poll() is None, 2)
+    link.sendall(line[10:])
+    answer = link.makefile("rb").read()
+    link.close()
+    assert b'"Answer":"Accepted"' in answer
+    _, said = tool.communicate(timeout=PATIENCE)
+    assert tool.returncode == 0, said
+    shifted.expect_rolled_over(half, "D")
+    assert half.uids_of(half.files()[0])["x-D"], "the old desk did not take it"
+
+
+def writing(port: int) -> int:
+    """How many requests an nginx has, this one among them."""
+    said = str(plant.get(port, "/requests"))
+    return int(said.partition("Writing: ")[2].split()[0])
+
+
+USER = 61_000  # of the service
+
+
+@pytest.fixture
+def users(shifted: Shifted, folder: pathlib.Path) -> Iterator[Line]:
+    """A line as `half`, whose service runs as another user."""
+    line = shifted.copy(folder / "its")
+    user = f"setsid setpriv --reuid={USER} --regid={USER} --clear-groups"
+    text = line.start_script.read_text().replace("setsid", user)
+    line.start_script.write_text(text, encoding="utf-8")
+    for path in (line.folder, *line.folder.iterdir()):
+        os.chown(path, USER, USER)
+    line.serve()
+    try:
+        yield line
+    finally:
+        line.end()
+
+
+@pytest.mark.root
+@pytest.mark.gate
+@pytest.mark.parametrize(
+    "name, target",
+    [("archive/catalogue.csv.new", "plan.json"), ("rollover-desk", "."), ("archive", ".")],
+)
+def test_links_of_the_services_user_lead_root_to_nothing(
+    users: Line, folder: pathlib.Path, name: str, target: str
+) -> None:
+    secret = folder / "secret"
+    secret.mkdir()
+    (secret / "plan.json").write_text("root's", encoding="utf-8")
+    link = users.folder / name
+    if link.parent != users.folder:
+        link.parent.mkdir()
+        os.chown(link.parent, USER, USER)
+    link.symlink_to(secret / target)
+    os.lchown(link, USER, USER)
+    done = users.rollover()
+    assert [path.name for path in secret.iterdir()] == ["plan.json"]
+    assert (secret / "plan.json").read_text() == "root's"
+    assert {path.stat().st_uid for path in (secret, secret / "plan.json")} == {0}
+    assert users.answers(), done.said
+    if done.status == 0:
+        own = ("desk-pid", "desk-start")
+        foreign = [
+            path
+            for path in users.folder.rglob("*")
+            if path.lstat().st_uid != USER and path.name not in own
+        ]
+        assert not foreign
+        users.more("A")

@@ -1,0 +1,243 @@
+"""Two lines that work on some of the same boards, asked three ways, which print the same rows: the program's report on each
+file, tracedesk-recall, and PostgreSQL; and a company of which each line is a plant.
+"""
+import contextlib
+import pathlib
+import random
+import tempfile
+from typing import Callable, Iterator, Sequence
+
+import pytest
+from lab import databases, messages, plants
+from lab.databases import Database
+from lab.desk import rows_of_archive
+from lab.plants import WorkedLine
+from lab.recalls import BOARD_TRACE, KINDS, TRACE, Asking, Rows
+from lab.world import RUNNING
+from tracedesk_dev import postgres, shift
+from tracedesk_ops import backups
+
+pytestmark = [pytest.mark.xdist_group("three_ways")]
+
+SEED, BOARDS = 7, 16
+SOME = [pytest.param(2, id="some"), pytest.param(12, id="more", marks=pytest.mark.whole)]
+# the parts of tables that a query reads
+READ = """BEGIN; SELECT FROM plant.pieces_of('{}', '{}');
+    SELECT DISTINCT relname FROM pg_locks JOIN pg_class ON oid = relation
+    WHERE pid = pg_backend_pid() AND relname ~ '^placement_\\d+$' ORDER BY 1; COMMIT"""
+HOLD = "SELECT DISTINCT format('placement_%s', file) FROM {} WHERE {} = '{}' ORDER BY 1"
+PLANTS = """INSERT INTO company.plant VALUES ('plant-L1', '100 years'), ('plant-L2', '100 years');
+    CREATE SERVER plants FOREIGN DATA WRAPPER plproxy OPTIONS ({}, modular_mapping '1');
+    CREATE USER MAPPING FOR PUBLIC SERVER plants"""
+
+
+@pytest.fixture(scope="module")
+def room() -> Iterator[pathlib.Path]:
+    with tempfile.TemporaryDirectory(prefix="ops-") as name:
+        yield pathlib.Path(name)
+
+
+@pytest.fixture(scope="module")
+def lines(program: pathlib.Path, room: pathlib.Path) -> Iterator[list[WorkedLine]]:
+    """Line L1 is rolled over three times, at moments at which no board is in work, and L2, which works on boards of L1, once."""
+    first, second = made = [WorkedLine(program, room / name, name) for name in ("L1", "L2")]
+    serials = [f"L1-{number:06}" for number in range(1, BOARDS // 2)]
+    serials += [f"L2-{number:06}" for number in range(1, 5)]
+    shifts = (
+        (first, 4, shift.Shift(SEED, BOARDS, "L1")),
+        (second, 2, shift.Shift(SEED + 1, line="L2", day="2026-03-04", serials=serials)),
+    )
+    try:
+        for line, count, its in shifts:
+            line.serve()
+            line.work(messages.parts_of(its.lines, count))
+        yield made
+    finally:
+        for line in made:
+            line.end()
+
+
+@pytest.fixture(scope="module")
+def server() -> Iterator[postgres.Server]:
+    databases.skip_without("plproxy")
+    with databases.server() as made:
+        yield made
+
+
+@pytest.fixture(scope="module")
+def asking(lines: list[WorkedLine], room: pathlib.Path) -> Asking:
+    (room / "reports").mkdir()
+    return Asking(lines, room / "reports")
+
+
+@pytest.fixture(scope="module")
+def whole(lines: list[WorkedLine], server: postgres.Server) -> Database:
+    """The database of one plant with both lines."""
+    made = databases.create(server, "whole")
+    made.load(lines[0].catalogue, *(line.copies for line in lines))
+    return made
+
+
+@pytest.fixture(scope="module")
+def company(lines: list[WorkedLine], server: postgres.Server) -> Database:
+    """A company over the database of each line's own plant."""
+    options = []
+    for number, line in enumerate(lines):
+        its = databases.create(server, f"plant_{line.name.lower()}")
+        its.load(line.copies)
+        its.change(f"INSERT INTO own_name VALUES ('plant-{line.name}')")
+        options.append(f"p{number} 'host={server.folder} dbname={its.name} user=plant'")
+    made = databases.create(server, "company", "company")
+    made.psql("-c", PLANTS.format(", ".join(options)))
+    return made
+
+
+@pytest.fixture
+def again(server: postgres.Server, whole: Database) -> Iterator[Database]:
+    """A copy of the whole database, which a test may change."""
+    made = databases.create(server, "again", schema="", more=f"TEMPLATE {whole.name}")
+    yield made
+    whole.psql("-c", f"DROP DATABASE {made.name}")
+
+
+# --- The three ways
+
+
+def of_running(rows: Rows) -> Rows:
+    """As a recall prints them: a running desk has no minutes for it."""
+    return [{**row, "minute": ""} if row["file"] == RUNNING else row for row in rows]
+
+
+def expect_same(asking: Asking, database: Database, kind: str, name: str) -> Rows:
+    """The pieces of a name, if all print the same, row by row."""
+    columns = BOARD_TRACE if kind == "board" else TRACE
+    by_tool = asking.tables(kind, name)["pieces"]
+    by_plant = database.query("pieces", **{kind: name}).rows
+    by_report = sorted(
+        (line, file, *row) for line, file, rows in asking.wanted(kind, name) for row in rows
+    )
+    for rows in (by_tool, by_plant):
+        got = [(row["line"], row["file"], *(row[its] for its in columns)) for row in rows]
+        assert sorted(got) == by_report, f"{kind} {name}"
+    for row in by_plant:
+        minutes = asking.minutes[row["line"], row["file"]]
+        assert row["minute"] == minutes[row["board"], row["designator"]], row
+    assert by_tool == of_running(by_plant), f"{kind} {name}"
+    return by_plant
+
+
+def by_items(rows: Rows) -> list[list[tuple[str, str]]]:
+    return sorted(sorted(row.items()) for row in rows)
+
+
+def two(asking: Asking, of: Callable[[str, str], str]) -> str:
+    """A board that lies in two of something, by the line and the file of its pieces."""
+    found: dict[str, set[str]] = {}
+    for line, file, path in asking.files:
+        for (board,) in rows_of_archive(path, "SELECT board FROM placement"):
+            found.setdefault(board, set()).add(of(line, file))
+    return min(board for board, them in found.items() if len(them) > 1)
+
+
+def chosen(asking: Asking, kind: str, some: int, lot: str) -> list[str]:
+    """Names at random, and in any case the lot with most pieces, a board in two files, and one on two lines."""
+    names = asking.names(kind)
+    musts: dict[str, list[str]] = {
+        "lot": [lot],
+        "board": [two(asking, lambda line, file: file), two(asking, lambda line, file: line)],
+        "reel": [],
+    }
+    return sorted({*random.Random(SEED).sample(names, min(some, len(names))), *musts[kind]})
+
+
+@pytest.fixture(scope="module")
+def lot(whole: Database) -> str:
+    """The lot with most pieces."""
+    ((name,),) = whole.rows("SELECT lot FROM piece GROUP BY 1 ORDER BY count(*) DESC, 1 LIMIT 1")
+    return name
+
+
+@pytest.mark.parametrize("some", SOME)
+@pytest.mark.parametrize("kind", KINDS)
+def test_reports_a_recall_and_databases_print_the_same(
+    asking: Asking, whole: Database, company: Database, lot: str, kind: str, some: int
+) -> None:
+    found = 0
+    for name in chosen(asking, kind, some, lot):
+        planted = expect_same(asking, whole, kind, name)
+        told = company.query("company-recall", pieces=1, **{kind: name}).rows
+        wanted = [{**row, "plant": f"plant-{row['line']}"} for row in planted]
+        assert by_items(told) == by_items(wanted), f"{kind} {name}"
+        found += len(planted)
+    assert found
+
+
+def test_boards_of_a_lot_are_the_same(asking: Asking, whole: Database, lot: str) -> None:
+    by_tool = [
+        (
+            row["board"],
+            row["line"].replace("; ", " "),
+            row["pieces"],
+            row["overdue"],
+            str(len(row["file"].split("; "))),
+        )
+        for row in asking.tables("lot", lot)["boards"]
+    ]
+    columns = ("board", "lines", "pieces", "overdue", "files")
+    rows = whole.query("recall", lot=lot).rows
+    assert [tuple(row[its] for its in columns) for row in rows] == by_tool
+
+
+@pytest.mark.parametrize(
+    "change",
+    [
+        "DELETE FROM placement WHERE ctid = (SELECT placement.ctid FROM placement"
+        " JOIN reel USING (file, reel) WHERE lot = '{}' LIMIT 1)",
+        "UPDATE placement SET slot = slot || 'x'"
+        " WHERE reel IN (SELECT reel FROM reel WHERE lot = '{}')",
+    ],
+    ids=["a row is taken out", "another slot"],
+)
+def test_the_comparison_finds_a_change(
+    asking: Asking, again: Database, lot: str, change: str
+) -> None:
+    again.change(change.format(lot))
+    with pytest.raises(AssertionError):
+        expect_same(asking, again, "lot", lot)
+
+
+@pytest.mark.parametrize(("kind", "table"), [("lot", "reel"), ("reel", "reel"), ("board", "start")])
+def test_files_without_the_name_are_not_read(whole: Database, kind: str, table: str) -> None:
+    ((name,),) = whole.rows(f"SELECT min({kind}) FROM {table}")
+    holding = [part for (part,) in whole.rows(HOLD.format(table, kind, name))]
+    assert whole.told(READ.format(kind, name)).split() == holding
+    assert 0 < len(holding) < plants.parts(whole) == 6
+
+
+# --- Loading
+
+
+def test_what_is_loaded_again_changes_nothing(lines: list[WorkedLine], again: Database) -> None:
+    """Nor does an older copy."""
+    before = plants.state(again)
+    said = again.load(lines[0].catalogue, *(line.copies for line in lines))
+    assert "pieces" not in said
+    files = sum(len(line.named_files()) for line in lines)
+    assert said.count("loaded before") == files + len(lines[0].archived)
+    older = again.load(lines[0].kept()[-2])
+    assert "running desk: loaded before: all of its commands are in the archive " in older
+    assert plants.state(again) == before
+
+
+def test_copies_in_their_order_make_the_same_tables(
+    lines: Sequence[WorkedLine], server: postgres.Server, whole: Database
+) -> None:
+    """As in a plant: a desk takes the place of its older copy, and its archive that of both."""
+    made = databases.create(server, "one_by_one")
+    with contextlib.ExitStack() as kept:
+        kept.callback(whole.psql, "-c", f"DROP DATABASE {made.name}")
+        for line in lines:
+            for copy in backups.kept_in(line.copies):
+                made.load("--line", line.name, copy)
+        assert plants.parts(made) == 6
+        assert plants.pieces(made) == plants.pieces(whole)

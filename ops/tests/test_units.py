@@ -1,0 +1,95 @@
+"""What the package has for a plant's own tools: rules and a dashboard of Prometheus, and the units of systemd."""
+import json
+import pathlib
+import re
+
+import pytest
+from lab import ROOT
+from lab.tools import run, run_tool
+
+PROMETHEUS = ROOT / "packaging/prometheus"
+RULES, TESTS = (PROMETHEUS / f"tracedesk-alerts{its}.yml" for its in ("", "-test"))
+METRIC = re.compile(r"\btracedesk_\w+")
+MOST_EXPOSED = 2.0  # of a unit, by systemd-analyze
+NARROW = ("tracedesk-watch", "tracedesk-clock", "tracedesk-untraced", "tracedesk-send@")
+
+
+def alerts() -> set[str]:
+    return set(re.findall(r"- alert: (\w+)$", RULES.read_text(), re.M))
+
+
+@pytest.fixture(scope="module")
+def metrics() -> set[str]:
+    """The names of all metrics of the watch."""
+    listed = run_tool("watch", "--list").expect().out
+    return set(re.findall(r"^(tracedesk_\w+) ", listed, re.M))
+
+
+def test_rules_are_about_metrics_that_there_are(metrics: set[str]) -> None:
+    assert set(METRIC.findall(RULES.read_text() + TESTS.read_text())) <= metrics
+
+
+def test_the_dashboard_shows_all_metrics(metrics: set[str]) -> None:
+    panels = json.loads((PROMETHEUS / "tracedesk-dashboard.json").read_text())["panels"]
+    texts = [target["expr"] for panel in panels for target in panel["targets"]]
+    assert {name for text in texts for name in METRIC.findall(text)} == metrics
+
+
+def test_each_rule_is_fired_by_a_test() -> None:
+    shape = r"eval_time: \w+\n +alertname: (\w+)\n +exp_alerts:\n"
+    assert set(re.findall(shape, TESTS.read_text())) == alerts()
+
+
+def test_the_page_has_a_row_of_each_metric_and_rule(metrics: set[str]) -> None:
+    page = (ROOT / "docs/operations.md").read_text()
+    assert [name for name in metrics | alerts() if f"`{name}`" not in page] == []
+
+
+@pytest.mark.needs("promtool")
+@pytest.mark.parametrize("words", [("check", RULES), ("test", TESTS)], ids=["check", "test"])
+def test_promtool_takes_the_rules(words: tuple[str, pathlib.Path]) -> None:
+    run(["promtool", words[0], "rules", words[1]]).expect()
+
+
+# --- Units
+
+
+@pytest.fixture(scope="module")
+def units(tmp_path_factory: pytest.TempPathFactory) -> list[pathlib.Path]:
+    """The units of the package, with scripts in the place of the installed programs."""
+    at = tmp_path_factory.mktemp("units")
+    (at / "bin").mkdir()
+    made = []
+    for unit in sorted((ROOT / "packaging").glob("tracedesk*.[st][ei][rm]*")):
+        text = unit.read_text()
+        for name in re.findall(r"/usr/bin/(\S+)", text):
+            (at / "bin" / name).write_text("#!/bin/sh\n")
+            (at / "bin" / name).chmod(0o755)
+        made.append(at / unit.name)
+        made[-1].write_text(text.replace("/usr/bin/", f"{at}/bin/"))
+    return [unit for unit in made if unit.suffix in (".service", ".timer")]
+
+
+@pytest.mark.needs("systemd-analyze")
+def test_units_have_no_fault(units: list[pathlib.Path]) -> None:
+    assert run(["systemd-analyze", "verify", *units]).expect().said == ""
+
+
+@pytest.mark.needs("systemd-analyze")
+@pytest.mark.parametrize("name", NARROW)
+def test_a_unit_is_little_exposed(units: list[pathlib.Path], name: str) -> None:
+    (unit,) = (its for its in units if its.name == f"{name}.service")
+    said = run(["systemd-analyze", "security", "--offline=true", "--no-pager", unit]).out
+    found = re.search(r"exposure level for .*: ([0-9.]+)", said)
+    assert found and float(found[1]) <= MOST_EXPOSED
+
+
+@pytest.mark.needs("systemd-analyze")
+def test_the_package_makes_each_user_of_a_unit(
+    units: list[pathlib.Path], folder: pathlib.Path
+) -> None:
+    (folder / "etc").mkdir()
+    run(["systemd-sysusers", f"--root={folder}", ROOT / "packaging/tracedesk.sysusers"]).expect()
+    made = {line.split(":")[0] for line in (folder / "etc/passwd").read_text().splitlines()}
+    wanted = {name for unit in units for name in re.findall(r"^User=(.*)$", unit.read_text(), re.M)}
+    assert wanted <= made

@@ -1,0 +1,285 @@
+"""The watch of a desk behind the packaged nginx: its format, its numbers, and who may read them."""
+import base64
+import json
+import os
+import pathlib
+import shutil
+import subprocess
+import time
+from typing import Any, Iterator, Optional
+
+import pytest
+from lab.tools import Word, run_tool
+from lab.waits import wait_for
+from lab.watched import COME_AGAIN, ODD, Metrics, Watched, expect, read, watched
+
+pytestmark = [pytest.mark.needs("nginx", "openssl"), pytest.mark.xdist_group("watch")]
+
+SAMPLE = """# HELP tracedesk_up whether the desk answers
+# TYPE tracedesk_up gauge
+tracedesk_up 1
+"""
+AT, SECOND = "2026-03-02T07:05:09Z", 1772435109
+
+
+@pytest.fixture(scope="module")
+def its(program: pathlib.Path) -> Iterator[Watched]:
+    with watched(program) as made:
+        yield made
+
+
+# --- The format
+
+
+def test_a_run_writes_one_file_that_all_can_read(its: Watched) -> None:
+    found, told = its.look()
+    assert (told, its.file.stat().st_mode & 0o777) == ("", 0o644)
+    assert os.listdir(its.file.parent) == ["metrics"]
+    assert read(its.call(to="-").out).keys() == found.keys()
+
+
+@pytest.mark.needs("promtool")
+def test_promtool_takes_the_file(its: Watched) -> None:
+    its.look()
+    checked = ["promtool", "check", "metrics"]
+    subprocess.run(checked, stdin=its.file.open(), check=True, capture_output=True)
+
+
+@pytest.mark.parametrize(
+    "text",
+    [
+        SAMPLE[:-1],
+        SAMPLE.replace("up 1", "up one"),
+        SAMPLE + "tracedesk_up 1\n",
+        SAMPLE.replace("# TYPE tracedesk_up gauge\n", ""),
+        SAMPLE + "tracedesk_other 1\n",
+    ],
+    ids=["no end", "no number", "twice", "no type", "not told"],
+)
+def test_the_reader_of_this_test_refuses(text: str) -> None:
+    assert read(SAMPLE) == {"up": 1.0}
+    with pytest.raises(ValueError):
+        read(text)
+
+
+# --- The numbers
+
+
+def test_reports_are_those_of_the_program(its: Watched) -> None:
+    """Two overdue pieces, an expired reel and an empty slot of a sheet; nothing of a machine that isn't there."""
+    rows = [line.split(",") for line in its.site.report("/slots?machine=M1").splitlines()[1:]]
+    lives = [int(row[6]) for row in rows if row[6].isdigit()]
+    pieces = {slot: sum(int(row[5]) for row in rows if row[0] == slot) for slot in ("1", "2")}
+    assert (sorted(lives), pieces) == ([0, 8180], {"1": 498 + 700, "2": 89})
+    assert len(its.site.report("/overdue").splitlines()) - 1 == 2
+    expect(
+        its.metrics(),
+        up=1,
+        proxy_up=1,
+        drained=0,
+        service_active=1,
+        service_restarts_total=3,
+        overdue_pieces=2,
+        least_floor_life_seconds__M1=0,
+        least_slot_pieces__M1=89,
+        least_floor_life_seconds__M2=None,
+        least_slot_pieces__M2=0,
+    )
+
+
+def test_sizes_are_those_of_the_files(its: Watched) -> None:
+    size, log = (its.room / name for name in ("desk", "desk-wal"))
+    pieces = size.stat().st_size // 120
+    expect(
+        its.metrics(),
+        file_bytes=size.stat().st_size,
+        log_bytes=log.stat().st_size,
+        pieces_estimate=pieces,
+        next_start_estimate_seconds=round(pieces * 19 / 1e6, 3),
+    )
+
+
+def test_times_are_those_of_the_run(its: Watched) -> None:
+    before = time.time()
+    found = its.metrics()
+    assert before - 1 <= found["watch_timestamp_seconds"] <= time.time() + 1
+    assert 0 < found["get_seconds"] < time.time() - before
+
+
+def test_machines_are_those_of_the_set_up(its: Watched) -> None:
+    kept = its.site.setup
+    its.site.set_up({**kept, "machines": [{"machine": "M9"}, {"machine": ODD}]})
+    try:
+        found = its.metrics()
+    finally:
+        its.site.set_up(kept)
+    slots = {name: value for name, value in found.items() if name.startswith("least_slot_pieces")}
+    assert slots == {r"least_slot_pieces{M \"3\" \\}": 33}
+
+
+def test_without_copies_archives_or_a_clock_nothing_is_told_of_them(its: Watched) -> None:
+    expect(
+        its.metrics(),
+        backup_timestamp_seconds=None,
+        backup_commands=None,
+        rollover_timestamp_seconds=None,
+        archive_commands=0,
+        clock_commands=None,
+        check_status=None,
+        watch_source_up__backup=1,
+    )
+
+
+def test_the_desks_file_is_not_opened(its: Watched) -> None:
+    """Nobody could open a pipe in the place of the file or of its log."""
+    (its.room / "pipes").mkdir()
+    for name in ("desk", "desk-wal"):
+        os.mkfifo(its.room / "pipes" / name)
+    found = its.metrics(db=its.room / "pipes/desk", archive=its.archive)
+    expect(found, file_bytes=0, log_bytes=0, up=1, watch_source_up__file=1)
+
+
+# --- What senders and tracedesk-untraced say of themselves
+
+
+@pytest.fixture
+def status(its: Watched) -> Iterator[pathlib.Path]:
+    """The status files of two senders and of untraced work."""
+    folder = its.room / "status"
+    folder.mkdir()
+    first: dict[str, Any] = {
+        "Aside": 2,
+        "At": AT,
+        "Machines": {"M1": {"State": "go"}, "M2": {"State": "stop"}},
+        "OldestWaiting": AT,
+        "Sender": "m1",
+        "Version": 1,
+        "Waiting": 3,
+    }
+    second = {**first, "Sender": "m2", "Machines": {}, "OldestWaiting": None, "Waiting": 0}
+    untraced = {"At": AT, "Decided": [], "Undecided": [{}, {}], "Version": 1}
+    for name, told in (("m1", first), ("m2", second), ("untraced", untraced)):
+        (folder / f"{name}.json").write_text(json.dumps(told))
+    yield folder
+    shutil.rmtree(folder)
+
+
+def of_senders(found: Metrics) -> Metrics:
+    names = ("sender_", "interlock_", "untraced_")
+    return {name: value for name, value in found.items() if name.startswith(names)}
+
+
+def test_without_senders_nothing_is_told_of_them(its: Watched) -> None:
+    expect(its.metrics(), watch_source_up__status=1, untraced_undecided=None)
+
+
+def test_senders_and_untraced_work_are_told(its: Watched, status: pathlib.Path) -> None:
+    found, told = its.look()
+    assert "watch: status: " not in told
+    assert of_senders(found) == {
+        "sender_waiting{m1}": 3,
+        "sender_waiting{m2}": 0,
+        "sender_aside{m1}": 2,
+        "sender_aside{m2}": 2,
+        "sender_timestamp_seconds{m1}": SECOND,
+        "sender_timestamp_seconds{m2}": SECOND,
+        "sender_oldest_waiting_timestamp_seconds{m1}": SECOND,
+        "interlock_go{m1,M1}": 1,
+        "interlock_go{m1,M2}": 0,
+        "untraced_undecided": 2,
+        "untraced_timestamp_seconds": SECOND,
+    }
+
+
+def test_a_status_that_is_spoilt_hides_no_other(its: Watched, status: pathlib.Path) -> None:
+    (status / "m1.json").write_text('{"Sender":"m1"}')
+    found, told = its.look()
+    expect(found, watch_source_up__status=0, untraced_undecided=2, sender_waiting__m2=0)
+    assert "m1.json" in told
+
+
+# --- Who may read them
+
+
+def test_nginx_serves_the_file_to_readers(its: Watched) -> None:
+    its.look()
+    status, headers, body = its.site.asked("GET", "/metrics", "office")
+    assert (status, body) == (200, its.file.read_text())
+    assert headers["Content-Type"] == "text/plain; version=0.0.4; charset=utf-8"
+
+
+@pytest.mark.parametrize(
+    ("method", "path", "user", "status"),
+    [
+        ("GET", "/metrics", "office", 404),
+        ("GET", "/metrics", None, 401),
+        ("POST", "/metrics", "op", 403),
+        ("GET", "/metrics/", "office", 404),
+        ("GET", "/health", None, 200),
+        ("HEAD", "/health", None, 200),
+        ("POST", "/health", None, 403),
+        ("GET", "/health/", None, 401),
+    ],
+)
+def test_the_health_is_anybodys_and_numbers_are_readers(
+    its: Watched, method: str, path: str, user: Optional[str], status: int
+) -> None:
+    its.file.unlink(missing_ok=True)
+    assert its.site.asked(method, path, user, "x" if method == "POST" else None)[0] == status
+
+
+def test_few_looks_at_the_health_come_to_the_desk(its: Watched) -> None:
+    served, began = its.site.connections(), time.monotonic()
+    said = {its.site.asked("GET", "/health")[::2] for _ in range(30)}
+    assert said == {(200, '{"Answer":"Proxy","Health":"Well"}')}
+    assert its.site.connections() - served <= time.monotonic() - began + 2
+
+
+@pytest.mark.parametrize(
+    ("method", "path", "user", "status"),
+    [("GET", "/overdue", "office", 200), ("POST", "/messages", "op", 400)],
+)
+def test_a_guess_is_answered_after_a_second_and_locks_nobody_out(
+    its: Watched, method: str, path: str, user: str, status: int
+) -> None:
+    body = "x" if method == "POST" else None
+    guess = "Basic " + base64.b64encode(f"{user}:guess".encode()).decode()
+    for _ in range(2):
+        began = time.monotonic()
+        assert its.site.asked(method, path, body=body, Authorization=guess)[0] == 401
+        assert time.monotonic() - began >= 1
+    assert its.site.asked(method, path, user, body)[0] == status
+
+
+def test_the_health_follows_a_drain_at_once(its: Watched) -> None:
+    its.site.drained.touch()
+    try:
+        status, headers, body = its.site.asked("GET", "/health")
+        expect(its.metrics(), drained=1, up=1)
+    finally:
+        its.site.drained.unlink()
+    assert ((status, body), headers.get("Retry-After")) == (COME_AGAIN, "10")
+    assert its.health()[0] == 200
+
+
+def test_the_health_follows_the_desk(its: Watched) -> None:
+    with its.desk_is_down():
+        wait_for("/health says that the desk is down", lambda: its.health() == COME_AGAIN)
+    wait_for("/health says that it is back", lambda: its.health()[0] == 200)
+
+
+# --- Words
+
+
+@pytest.mark.parametrize(
+    ("words", "status", "said"),
+    [
+        (["--help"], 0, "Exit status: 0 written"),
+        (["--list"], 0, "tracedesk_up gauge"),
+        (["--nothing"], 2, "--nothing"),
+        (["--timeout", "0"], 2, "takes some time"),
+        (["--health", "http://x/"], 2, "https"),
+    ],
+)
+def test_words_of_the_watch(words: list[Word], status: int, said: str) -> None:
+    run_tool("watch", *words).expect(status, said)

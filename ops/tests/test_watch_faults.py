@@ -1,0 +1,261 @@
+"""A watch whose desk, proxy, sources or disk fail: its file is whole, names what failed, and has no number of half a report."""
+import contextlib
+import os
+import pathlib
+import random
+import subprocess
+import time
+from typing import Iterator, Optional
+
+import pytest
+from lab.site import WELL
+from lab.tools import started
+from lab.waits import wait_for
+from lab.watched import COME_AGAIN, Watched, expect, read, saying, watched
+
+pytestmark = [pytest.mark.needs("nginx", "openssl"), pytest.mark.xdist_group("watch_faults")]
+
+KILLS = 40
+JSON = "application/json"
+OVERDUE = "board,designator,reel,minute\n"
+SLOTS = "slot,position,reel,part,lot,remaining,minutes_left\n"
+ROW = "1,1,K,P,L,7,unlimited\n"
+
+
+@pytest.fixture(scope="module")
+def its(program: pathlib.Path) -> Iterator[Watched]:
+    with watched(program) as made:
+        yield made
+
+
+def test_a_desk_that_is_down(its: Watched) -> None:
+    with its.desk_is_down():
+        found, told = its.look()
+    expect(
+        found,
+        up=0,
+        get_seconds=None,
+        proxy_up=1,
+        overdue_pieces=None,
+        least_slot_pieces__M1=None,
+        watch_source_up__reports=0,
+        watch_source_up__file=1,
+        service_active=1,
+    )
+    assert "Connection refused" in told and "not asked for them" in told
+    expect(its.metrics(), up=1, overdue_pieces=2)
+
+
+def test_a_desk_that_hangs(its: Watched) -> None:
+    """It takes connections and answers none: each wait has an end."""
+    its.site.pause_desk()
+    try:
+        found = its.metrics(timeout=2)
+        wait_for("/health says 503", lambda: its.health() == COME_AGAIN)
+    finally:
+        its.site.resume_desk()
+    expect(found, up=0, proxy_up=1, watch_source_up__reports=0)
+
+
+def test_a_proxy_that_is_down(its: Watched) -> None:
+    its.site.stop_nginx()
+    try:
+        found = its.metrics()
+    finally:
+        its.site.start_nginx()
+    expect(found, up=1, proxy_up=0, overdue_pieces=2, watch_source_up__reports=1)
+
+
+# --- What breaks off, is another's or makes no sense
+
+
+def head(
+    body: str, length: Optional[int] = None, status: str = "200 OK", kind: str = "text/csv"
+) -> bytes:
+    lines = (
+        f"HTTP/1.1 {status}",
+        f"Content-Type: {kind}",
+        f"Content-Length: {len(body) if length is None else length}",
+        "Connection: close",
+    )
+    return "\r\n".join([*lines, "", body]).encode()
+
+
+NO_REEL = head('{"Answer":"NotFound","Kind":"Reel"}', status="404 Not Found", kind=JSON)
+UNAVAILABLE = head('{"Answer":"Unavailable"}', status="503 Service Unavailable", kind=JSON)
+# what a port says of the overdue list
+OVERDUES = {
+    "half an overdue list": head(f"{OVERDUE}B,C1,K,2026-03-02T06:00:00Z\n", 900),
+    "a row that was cut": head(f"{OVERDUE}B,C1\n"),
+    "a last line that was cut": head(f"{OVERDUE}B,C1,K,2026"),
+    "fewer columns": head("board,reel\nB,K\n"),
+    "another column": head("board,designator,reel,lot\nB,C1,K,L\n"),
+    "no answer but an end": b"",
+    "503": UNAVAILABLE,
+}
+# what it says of slots
+LISTS = {
+    "a number that is none": head(SLOTS + ROW.replace("7", "many")),
+    "half a list of slots": head(SLOTS + ROW, 900),
+}
+# what it says of a reel, which shows whether it is a desk
+PROBES = {
+    "half a head": b"HTTP/1.1 404 Not",
+    "another program's page": head("<html></html>", kind="text/html"),
+    "another program's 404": head("nothing here", status="404 Not Found"),
+    "no HTTP": b"SSH-2.0-OpenSSH_9.2\r\n",
+}
+
+
+def expect_no_report(
+    its: Watched, answers: dict[str, bytes], is_up: bool, overdue: Optional[int]
+) -> None:
+    with saying(answers) as port:
+        found, told = its.look(port=port)
+    assert told
+    expect(
+        found,
+        up=int(is_up),
+        overdue_pieces=overdue,
+        least_slot_pieces__M1=None,
+        watch_source_up__reports=0,
+        watch_source_up__file=1,
+    )
+
+
+@pytest.mark.parametrize("name", OVERDUES)
+def test_no_number_is_of_half_an_overdue_list(its: Watched, name: str) -> None:
+    expect_no_report(its, {"/reel": NO_REEL, "/overdue": OVERDUES[name]}, True, None)
+
+
+@pytest.mark.parametrize("name", LISTS)
+def test_no_number_is_of_half_a_list_of_slots(its: Watched, name: str) -> None:
+    answers = {"/reel": NO_REEL, "/kit": NO_REEL, "/overdue": head(OVERDUE), "/slots": LISTS[name]}
+    expect_no_report(its, answers, True, 0)
+
+
+@pytest.mark.parametrize("name", PROBES)
+def test_what_is_no_desk_is_not_up(its: Watched, name: str) -> None:
+    expect_no_report(its, {"/reel": PROBES[name]}, False, None)
+
+
+# --- Each source
+
+
+SOURCES = {
+    "backup": "backups/2026-03-09T050000Z/backup.json",
+    "archive": "archive/catalogue.csv",
+    "clock": "clock.json",
+    "reports": "etc/station/setup.json",
+}
+
+
+@pytest.mark.parametrize("name", SOURCES)
+def test_a_source_that_is_spoilt_hides_no_other(its: Watched, name: str) -> None:
+    file = its.room / SOURCES[name]
+    with contextlib.ExitStack() as kept:
+        if not file.parent.exists():
+            file.parent.mkdir()
+            kept.callback(file.parent.rmdir)
+        if file.exists():
+            kept.callback(file.write_bytes, file.read_bytes())
+        kept.callback(file.unlink)
+        file.write_text('{"half":')
+        found, told = its.look()
+    others = {*SOURCES, "service", "file"} - {name}
+    expect(found, **{f"watch_source_up__{other}": 1 for other in others}, up=1, overdue_pieces=2)
+    expect(found, **{f"watch_source_up__{name}": 0})
+    assert f"watch: {name}: " in told
+
+
+@pytest.mark.parametrize(
+    ("text", "status"),
+    [
+        ("", 1),
+        ("LoadState=not-found\nActiveState=inactive\nNRestarts=0\n", 0),
+        ("LoadState=loaded\nActiveState=active\nNRestarts=\n", 0),
+    ],
+    ids=["fails", "no unit", "no number"],
+)
+def test_a_systemctl_that_fails(its: Watched, text: str, status: int) -> None:
+    its.site.systemd_says(text, status)
+    found = its.metrics()
+    its.site.systemd_says()
+    expect(
+        found,
+        watch_source_up__service=0,
+        service_restarts_total=None,
+        watch_source_up__reports=1,
+    )
+
+
+def test_a_service_that_failed(its: Watched) -> None:
+    its.site.systemd_says(WELL.replace("active", "failed"))
+    found = its.metrics()
+    its.site.systemd_says()
+    expect(found, service_active=0, watch_source_up__service=1)
+
+
+def test_a_desks_file_that_is_not_there(its: Watched) -> None:
+    found = its.metrics(db=its.room / "nowhere/desk", archive=its.archive)
+    expect(found, watch_source_up__file=0, file_bytes=None, up=1)
+
+
+# --- The file
+
+
+def expect_not_written(its: Watched, to: pathlib.Path, limit: int = 0) -> None:
+    its.call(limit, to=to).expect(1, f"{to} was not written")
+
+
+def test_a_file_that_cannot_be_written_leaves_the_one_before(its: Watched) -> None:
+    its.look()
+    before = its.file.read_bytes()
+    expect_not_written(its, its.file, limit=100)
+    expect_not_written(its, its.file / "metrics")
+    expect_not_written(its, its.room / "nowhere/metrics")
+    assert (its.file.read_bytes(), os.listdir(its.file.parent)) == (before, ["metrics"])
+
+
+@pytest.mark.root
+@pytest.mark.gate
+def test_a_full_disk_leaves_the_file_before(its: Watched) -> None:
+    at = its.room / "disk"
+    at.mkdir()
+    subprocess.run(["mount", "-t", "tmpfs", "-o", "size=16k", "small", at], check=True)
+    try:
+        its.look(to=at / "metrics")
+        before = (at / "metrics").read_bytes()
+        with contextlib.suppress(OSError), open(at / "filler", "wb", buffering=0) as filler:
+            while True:
+                filler.write(bytes(512))
+        expect_not_written(its, at / "metrics")
+        subprocess.run(["mount", "-o", "remount,ro", at], check=True)
+        expect_not_written(its, at / "metrics")
+        assert (at / "metrics").read_bytes() == before
+        assert sorted(os.listdir(at)) == ["filler", "metrics"]
+    finally:
+        subprocess.run(["umount", at], check=True)
+
+
+@pytest.mark.whole
+def test_a_run_that_is_killed_leaves_a_whole_file(its: Watched) -> None:
+    chance = random.Random(1)
+    its.look()
+    for _ in range(KILLS):
+        running = started(its.words(), {"PATH": its.site.path})
+        time.sleep(chance.uniform(0.05, 0.4))  # it is killed at some moment of its run
+        running.kill()
+        running.communicate()
+        read(its.file.read_text())
+
+
+@pytest.mark.whole
+def test_six_runs_at_once_leave_a_whole_file(its: Watched) -> None:
+    its.look()
+    crowd = [started(its.words(), {"PATH": its.site.path}) for _ in range(6)]
+    while any(running.poll() is None for running in crowd):
+        read(its.file.read_text())
+    assert [running.communicate()[1] for running in crowd] == [""] * 6
+    assert not any(running.returncode for running in crowd)
+    assert os.listdir(its.file.parent) == ["metrics"]

@@ -1,0 +1,286 @@
+"""Runs that share one desk, and what recalls say of each of their lots."""
+import collections
+import contextlib
+import csv
+import json
+import pathlib
+import random
+import time
+from typing import Any, Callable, Iterable, Iterator
+from unittest import mock
+
+from lab.tools import Ended, run_tool
+from tracedesk import desk as desks
+from tracedesk_ops import catalogue, chains, doubtful, firstlook, untraced
+from tracedesk_ops.cmd import recall
+from truth.run import ROUNDS, SETTLE, SLOTS, Run
+from truth.world import BEGIN, Clock, Killed, Killer, Place
+
+LINE = "L1"
+REFUSED_NOTHING = '{"archives": [], "commands": 0}'
+TABLES = ("pieces", "untraced", "doubtful")
+COMMANDS_OF = """SELECT number, own, effective, command FROM accepted
+    WHERE command LIKE ? AND command NOT LIKE 'SheetDefined%'"""
+
+
+class Asking(recall.Desk):
+    """A running desk, which isn't asked what is left."""
+
+    def stock(self, *_: object) -> list[object]:
+        return []
+
+
+def wrong(run: Run, answer_of: Callable[[str], Any]) -> Iterator[str]:
+    """What a recall of the run's lots leaves out, or has wrong."""
+    for lot in sorted({lot for lot, _ in run.reels.values()}):
+        told = answer_of(lot)
+        run.traced += len(told.pieces)
+        truth = {(board, name) for board, name, reel in run.truth if run.reels[reel][0] == lot}
+        listed = {(piece.board, piece.designator) for piece in told.pieces}
+        undecided = {row[3] for row in told.undecided()}
+        named = {row[3] for row in told.untraced} | {board for board, _ in listed}
+        in_doubt = {(row[1], row[2]) for row in told.doubtful}
+        status = told.status()
+        if (undecided and status != 3) or (in_doubt and status not in (3, 5)):
+            yield f"{lot}: status {status} with boards {undecided} and doubtful {in_doubt}"
+        for board, name in sorted(truth - listed - in_doubt):
+            if board not in named:
+                yield f"{lot}: {name} of board {board} is of it, and the board is in no list"
+        for board, name in sorted(listed - truth - in_doubt):
+            if board not in undecided:
+                yield f"{lot}: {name} of board {board} is listed, and isn't of it"
+
+
+def by_machine(those: Iterable[Any], machine_of: Callable[[Any], Any]) -> dict[Any, list[Any]]:
+    found = collections.defaultdict(list)
+    for its in those:
+        found[machine_of(its)].append(its)
+    return found
+
+
+def expect_done(done: Ended) -> None:
+    assert done.status in (0, 4), done.said
+
+
+class Batch:
+    """Runs that share one desk; `faults` are those of all of them, and `counts` say how much was tried. With `planted`, refused reports of
+    work are sent again unchanged, which a comparison has to find."""
+
+    def __init__(
+        self,
+        program: pathlib.Path,
+        folder: pathlib.Path,
+        seed: int,
+        number: int,
+        runs: int,
+        planted: bool = False,
+    ) -> None:
+        self.random = random.Random(seed * 1_000_003 + number)
+        self.faults: list[str] = []
+        self.counts: "collections.Counter[str]" = collections.Counter()
+        Clock.minute = BEGIN
+        self.place = Place(program, folder)
+        # Of all senders: a desk serves one connection at a time, and this one stays.
+        self.desk = desks.Desk(self.place.url, patience=60)
+        names = {f"M{number}-{its}": f"{seed}-{number}-{its}" for its in range(runs)}
+        self.runs = [Run(name, self.place, self.desk, its, planted) for name, its in names.items()]
+
+    def whole(self) -> None:
+        """Makes all runs, and compares."""
+        try:
+            self.work()
+            self.compare()
+        finally:
+            self.desk.close()
+            self.place.end()
+
+    def work(self) -> None:
+        parts = [
+            {
+                "MessageName": "TraceDesk.PartDefined",
+                "UniqueID": name,
+                "Source": "S",
+                "TimeStamp": Clock.text(),
+                "MessageBody": {"PartNumber": name},
+            }
+            for name in ("P", "Q")
+        ]
+        said = [json.dumps(part).encode() for part in parts]
+        self.place.begin([*said, *(text for run in self.runs for text in run.setup())])
+        for run in self.runs:
+            for slot in SLOTS:
+                run.handle("MaterialsLoaded", slot)
+        events = self.events()
+        for minute in range(ROUNDS):
+            Clock.minute += 1
+            for event in events[minute]:
+                self.desk.close()
+                event()
+            for run in self.runs:
+                run.minute(minute >= ROUNDS - SETTLE)
+            if self.random.random() < 0.3:
+                self.collect()
+        Clock.minute += 1
+        for run in self.runs:
+            run.settle()
+        self.desk.close()
+        self.collect()
+
+    def events(self) -> dict[int, list[Callable[[], None]]]:
+        """When the desk is killed, copied, restored and rolled over."""
+        found = collections.defaultdict(list)
+        for _ in range(2):
+            found[self.random.randrange(ROUNDS)].append(self.place.kill)
+        if self.random.random() < 0.5:
+            copied = self.random.randrange(2, ROUNDS - 6)
+            found[copied].append(self.copy)
+            found[self.random.randrange(copied + 1, ROUNDS - 1)].append(self.restore)
+        else:
+            found[self.random.randrange(3, ROUNDS - 2)].append(self.roll_over)
+        return found
+
+    def copy(self) -> None:
+        self.copied = time.time()
+        expect_done(self.place.backup())
+        self.counts["copies"] += 1
+
+    def restore(self) -> None:
+        """A copy takes the desk's place, and each sender sends again what was accepted since."""
+        expect_done(self.place.backup("--restore"))
+        for run in self.runs:
+            for name in run.in_any_order():
+                run.sources[name].end()
+                run.sources[name].spool.again_since(self.copied - 1)
+                run.send(name)
+        aside = self.place.folder.glob("aside/*/restore.json")
+        for lacks in (*self.place.lacks(), *aside):
+            lacks.write_text(REFUSED_NOTHING)  # what the copy lacked was sent again
+        self.counts["restores"] += 1
+
+    def roll_over(self) -> None:
+        expect_done(self.place.rollover("--with-board-in-work"))
+        self.counts["roll-overs"] += 1
+
+    def collect(self) -> None:
+        """Records get their rows; sometimes the tool is killed amid that."""
+        for kill in [self.random.randint(0, 25)] * (self.random.random() < 0.3) + [None]:
+            Killer.left = kill
+            with contextlib.suppress(Killed):
+                untraced.collect(self.place.archive)
+            Killer.left = None
+
+    # --- What recalls say
+
+    def compare(self) -> None:
+        """Asks for each lot of each run. The desk stands still by now, so what is the same for all of them is looked at once."""
+        path = self.place.catalogue
+        self.line = recall.Line(LINE, self.place.url, path)
+        self.chain = AskedOnce(str(self.place.program))
+        at = firstlook.at
+        with contextlib.ExitStack() as held:
+            patched = lambda owner, name, its: held.enter_context(
+                mock.patch.object(owner, name, its)
+            )
+            # The pieces of each lot are those of SQL.
+            patched(firstlook, "at", lambda *words: at(*words[:3]))
+            archives = catalogue.in_turn(catalogue.read(path)) if path.exists() else []
+            database = held.enter_context(doubtful.copied(self.place.file))
+            patched(doubtful, "copied", lambda _: contextlib.nullcontext(database))
+            its = doubtful.look(path, archives, self.place.url)
+            works = by_machine(its.works, lambda work: untraced.body_of(work[0]).get("Machine"))
+            pieces = by_machine(its.pieces, lambda piece: piece.machine)
+            for number, run in enumerate(self.runs):
+                own = its._replace(works=works[run.name], pieces=pieces[run.name])
+                with mock.patch.object(doubtful, "look", lambda *_: own):
+                    if number == 0:
+                        self.ask_the_tool(run)
+                    faults = [*run.faults, *wrong(run, self.answer_of)]
+                if faults:
+                    self.show(run, its)
+                self.faults += [f"run {number}: {fault}" for fault in faults]
+                self.count(run)
+        self.counts["untraced reports"] += len(its.works)
+        self.counts["decided"] += sum(1 for _, by, _ in its.works if by)
+        self.counts["doubtful pieces"] += len(its.pieces)
+
+    def answer_of(self, lot: str) -> Any:
+        """What tracedesk-recall says of a lot, in this process."""
+        question = recall.Question("lot", lot)
+        told = recall.Recall(
+            question, [self.line], lambda line: Asking(line, None, None), self.chain
+        )
+        told.ask()
+        faults = told.faults + told.breaks + told.doubts
+        assert not faults, f"a recall of {lot}: {faults}"
+        return told
+
+    def count(self, run: Run) -> None:
+        self.counts["runs"] += 1
+        self.counts["boards"] += run.boards
+        self.counts["pieces"] += len(run.truth)
+        self.counts["traced pieces"] += run.traced
+        self.counts["messages"] += run.numbers
+
+    def ask_the_tool(self, run: Run) -> None:
+        """The tool itself, as a process of its own, says the same of a run's first lot."""
+        lot = min(lot for lot, _ in run.reels.values())
+        told, folder = self.answer_of(lot), self.place.folder / "evidence"
+        words = [*self.place.recall_words(), "--evidence", folder]
+        done = run_tool("recall", "lot", lot, *words)
+        tables = {
+            name: list(csv.DictReader((folder / f"{name}.csv").open(newline=""))) for name in TABLES
+        }
+        said = {
+            name: sorted(
+                (row["board"], row.get("designator", ""))
+                for row in rows
+                if row["machine"] == run.name
+            )
+            for name, rows in tables.items()
+        }
+        assert said == {
+            "pieces": sorted((piece.board, piece.designator) for piece in told.pieces),
+            "untraced": sorted((row[3], "") for row in told.untraced),
+            "doubtful": sorted((row[1], row[2]) for row in told.doubtful),
+        }
+        undecided = any(not row["became"] for row in tables["untraced"])
+        done.expect(3 if undecided else 5 if tables["doubtful"] else 0)
+
+    def show(self, run: Run, its: Any) -> None:
+        """Prints what the files have of a run's machine, what was refused, and what really happened."""
+        files = {
+            archive.file: catalogue.path_of(self.place.catalogue, archive)
+            for archive in self.place.archives()
+        }
+        print(f"--- {run.name}")
+        with contextlib.ExitStack() as held:
+            databases = {
+                name: held.enter_context(catalogue.opened(file)) for name, file in files.items()
+            }
+            databases[catalogue.RUNNING] = held.enter_context(doubtful.copied(self.place.file))
+            for name, database in databases.items():
+                for row in database.execute(COMMANDS_OF, [f"%{run.name}\t%"]):
+                    minutes = [minute - BEGIN for minute in row[1:3]]
+                    print(name[-8:], row[0], *minutes, row[3].replace("\t", " "))
+                    query = "SELECT designator, reel FROM placement WHERE number = ?"
+                    for placed in database.execute(query, row[:1]):
+                        print("     ", *placed)
+        for work, by, _ in its.works:
+            said = untraced.said(work)
+            if said[3] == run.name:
+                time_of = work.told["Message"]["TimeStamp"]
+                print("refused", time_of, said[2:8], "decided" if by else "")
+        for happened in run.told:
+            print("really", *happened)
+
+
+class AskedOnce(chains.Asker):
+    """tracedesk-chain, whose answer is the same for all lots."""
+
+    def __init__(self, program: str) -> None:
+        super().__init__(program, recall.Question("lot", "no lot"))
+        self.told: Any = None
+
+    def ask(self, *words: Any) -> Any:
+        self.told = self.told or super().ask(*words)
+        return self.told

@@ -1,0 +1,226 @@
+"""What happens at a machine and its tablet, and what their senders say of it."""
+import json
+import random
+from typing import Any, Optional
+
+from tracedesk import desk as desks
+from tracedesk import records
+from tracedesk import untraced as places
+from tracedesk_ops import doubtful
+from truth.sources import Source
+from truth.world import BEGIN, Clock, Place
+
+ROUNDS, SETTLE = 26, 3  # minutes of a run, and at its end those in which no reel is changed
+SLOTS = {"1": ("C1", "C2", "C3"), "2": ("D1", "D2")}
+DESIGNATORS = {name: slot for slot, names in SLOTS.items() for name in names}
+MANY_LABELS = (10, 500, 500, 500)
+
+
+class Run:
+    """A machine with a tablet."""
+
+    def __init__(self, name: str, place: Place, desk: desks.Desk, seed: str, planted: bool) -> None:
+        self.name, self.planted, self.random = name, planted, random.Random(seed)
+        self.numbers = self.boards = self.traced = 0
+        self.reels: dict[str, list[Any]] = {}  # of each its lot, and the pieces that are left
+        self.truth: list[tuple[str, str, str]] = []  # board, designator, reel
+        # The reels on each slot, the one in front first.
+        self.slots: dict[str, list[str]] = {slot: [] for slot in SLOTS}
+        self.obeys = self.random.random() < 0.5
+        self.inbox = places.Place(str(place.untraced), lambda _: desk)
+        inbox = None if planted else self.inbox
+        machines: dict[str, list[str]] = {"machine": [name], "tablet": []}
+        self.sources = {
+            its: Source(place.spools / f"{name}-{its}", f"{name}-{its}", desk, inbox, those)
+            for its, those in machines.items()
+        }
+        self.is_out = {its: False for its in self.sources}
+        self.told: list[tuple[Any, ...]] = []  # for who looks at a failed run
+        self.faults: list[str] = []
+
+    def message(self, word: str, **body: Any) -> bytes:
+        self.numbers += 1
+        envelope = {
+            "MessageName": f"TraceDesk.{word}",
+            "UniqueID": f"{self.name}-{self.numbers}",
+            "Source": self.name,
+            "TimeStamp": Clock.text(),
+            "MessageBody": body,
+        }
+        return json.dumps(envelope).encode()
+
+    def setup(self) -> list[bytes]:
+        """What the desk is told before the first minute."""
+        rows = [
+            {"Slot": slot, "PartNumber": "P", "Designators": list(names)}
+            for slot, names in SLOTS.items()
+        ]
+        said = [
+            self.message("SheetDefined", Product="A", Machine=self.name, Rows=rows),
+            self.message("ProductSelected", Machine=self.name, Product="A"),
+        ]
+        for number in range(self.random.randint(6, 9)):
+            said += self.received(number)
+        return said
+
+    def received(self, number: int) -> list[bytes]:
+        """A reel that is there. Some are of another part, and some nobody said to the desk, or baked."""
+        reel, pieces = f"{self.name}-K{number}", self.random.choice((5, 9, 20, 60))
+        part = "Q" if self.random.random() < 0.05 else "P"
+        label = self.random.choice(MANY_LABELS)
+        lot = f"{self.name}-{part}{number % 3}"
+        self.reels[reel] = [lot, pieces]
+        if self.random.random() >= 0.97:
+            return []
+        body = {"Reel": reel, "PartNumber": part, "Lot": lot, "Level": "6", "Quantity": pieces}
+        said = [self.message("ReelReceived", **body, LabelMinutes=label)]
+        if self.random.random() < 0.97:
+            said.append(self.message("ReelBaked", Reel=reel))
+        return said
+
+    # --- Senders
+
+    def say(self, source: str, *messages: bytes) -> None:
+        """Keeps messages in a spool, and sends what is there unless it is out."""
+        for message in messages:
+            self.sources[source].put(message)
+        self.send(source)
+
+    def send(self, source: str) -> None:
+        if self.is_out[source]:
+            return
+        if self.random.random() < 0.05:
+            self.sources[source].end()
+        kill_after = self.random.randint(0, 60) if self.random.random() < 0.03 else None
+        self.sources[source].send(kill_after)
+
+    def in_any_order(self) -> list[str]:
+        return sorted(self.sources, key=lambda _: self.random.random())
+
+    # --- A minute of it
+
+    def minute(self, is_quiet: bool) -> None:
+        if self.random.random() < (0.4 if any(self.is_out.values()) else 0.06):
+            source = self.random.choice(tuple(self.sources))
+            self.is_out[source] = not self.is_out[source]
+            self.send(source)
+        deed = self.random.random()
+        if deed < 0.25 and not is_quiet:
+            self.change(self.any_slot())
+        elif deed < 0.35 and not is_quiet:
+            self.handle("MaterialsSpliced", self.any_slot())
+        elif deed < 0.40:
+            self.scrap(self.any_slot())
+        elif deed < 0.95:
+            self.board()
+        if self.random.random() < 0.05:
+            self.decide()
+
+    def any_slot(self) -> str:
+        return self.random.choice(tuple(SLOTS))
+
+    def free(self) -> list[str]:
+        mounted = {reel for reels in self.slots.values() for reel in reels}
+        return [reel for reel, (_, left) in self.reels.items() if left and reel not in mounted]
+
+    def handle(self, word: str, slot: str) -> None:
+        """A reel is put on a slot and scanned. What is refused is taken off again, or stays."""
+        if not (free := self.free()):
+            return
+        reel, before = self.random.choice(free), list(self.slots[slot])
+        self.told.append((Clock.minute - BEGIN, word, slot, reel, *self.slots.items()))
+        self.slots[slot] = [*(before if word == "MaterialsSpliced" else []), reel]
+        self.say("tablet", self.message(word, Machine=self.name, Slot=slot, Reel=reel))
+        is_known_refused = not self.is_out["tablet"] and not self.sources["tablet"].accepted()
+        if is_known_refused and self.random.random() < 0.7:
+            self.slots[slot] = before
+            if self.random.random() < 0.5:
+                self.taken_off()
+
+    def taken_off(self) -> None:
+        """Somebody decides of the refused reel that it was taken off."""
+        kept = self.sources["tablet"].spool
+        refused = kept.why(kept.set_aside()[-1])[2]["Id"]
+        more = {"Became": doubtful.TAKEN_OFF, "Of": refused, "Reason": "saw it"}
+        name, text = records.record("decided", "A. Person", Clock.text(), **more)
+        self.inbox.put(f"{name}.json", text)
+
+    def change(self, slot: str) -> None:
+        """A reel is taken off a slot, and another one put there. Some forget to scan what they take off."""
+        if self.random.random() < 0.95:
+            self.slots[slot] = []
+            self.say("tablet", self.message("MaterialsUnloaded", Machine=self.name, Slot=slot))
+        self.handle("MaterialsLoaded", slot)
+
+    def take(self, slot: str) -> Optional[str]:
+        """The piece that comes off a slot, by its reel; none where it is empty."""
+        for reel in self.slots[slot]:
+            if self.reels[reel][1]:
+                self.reels[reel][1] -= 1
+                return reel
+        return None
+
+    def board(self) -> None:
+        """A board is worked, in two parts. A machine that obeys places nothing while the interlock says `stop`."""
+        self.boards += 1
+        board, machine = f"{self.name}-B{self.boards}", self.sources["machine"]
+        at = {"Machine": self.name, "Board": board}
+        self.say("machine", self.message("WorkStarted", **at))
+        half = self.random.randint(0, len(DESIGNATORS))
+        for names in (tuple(DESIGNATORS)[:half], tuple(DESIGNATORS)[half:]):
+            if self.obeys and not machine.permits(self.name):
+                if machine.start_of(board):
+                    break
+                return
+            placed = [name for name in names if self.place_one(board, name)]
+            if placed and self.obeys and not self.planted and machine.is_refused(board):
+                self.faults.append(f"the machine obeys, and placed pieces of the refused {board}")
+            if placed:
+                self.say("machine", self.message("MaterialsInstalled", **at, Designators=placed))
+        self.say("machine", self.message("WorkCompleted", **at))
+
+    def place_one(self, board: str, designator: str) -> Optional[str]:
+        reel = self.take(DESIGNATORS[designator])
+        if reel:
+            self.truth.append((board, designator, reel))
+            self.told.append((Clock.minute - BEGIN, board, designator, reel))
+        return reel
+
+    def scrap(self, slot: str) -> None:
+        many = sum(self.take(slot) is not None for _ in range(self.random.randint(1, 3)))
+        if many:
+            at = {"Machine": self.name, "Slot": slot}
+            self.say("machine", self.message("MaterialsScrapped", **at, Quantity=many))
+
+    # --- Persons
+
+    def decide(self) -> None:
+        """A person decides about what was refused: mostly what became of the boards; that it is sent again only where nothing was
+        done since."""
+        machine = self.sources["machine"].spool
+        if self.planted:
+            for name, source in self.sources.items():
+                source.spool.again(source.spool.set_aside(), decided=True)
+                self.send(name)
+        elif names := [name for name in machine.set_aside() if machine.is_report(name)]:
+            machine.decide(names[-1], "A. Person", "looked at the board")
+        if self.random.random() < 0.3:
+            self.send_request_again()
+
+    def send_request_again(self) -> None:
+        """The slot has to be as the request says."""
+        tablet = self.sources["tablet"].spool
+        if names := tablet.set_aside():
+            body = tablet.message(names[-1])["MessageBody"]
+            if body.get("Reel") in self.slots.get(body.get("Slot"), ()):
+                tablet.again(names[-1:])
+                self.send("tablet")
+
+    def settle(self) -> None:
+        for source in self.in_any_order():
+            self.is_out[source] = False
+            self.send(source)
+        if self.planted:
+            self.decide()
+        for its in self.sources.values():
+            its.end()

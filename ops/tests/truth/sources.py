@@ -1,0 +1,90 @@
+"""The senders of a run."""
+import contextlib
+import json
+import pathlib
+from typing import Optional
+
+from tracedesk import desk as desks
+from tracedesk import interlock, sender, spool
+from tracedesk import untraced as places
+from truth.world import Killed, Killer
+
+
+def board_of(folder: pathlib.Path, name: str) -> tuple[str, Optional[str]]:
+    told = json.loads((folder / f"{name}.json").read_bytes())
+    return told["MessageName"], told["MessageBody"].get("Board")
+
+
+class Source:
+    """A sender that stays: its spool, and a lock on that until it ends or is killed. A Spool and a Sender are made anew then, as by a
+    new process."""
+
+    def __init__(
+        self,
+        folder: pathlib.Path,
+        name: str,
+        desk: desks.Desk,
+        inbox: Optional[places.Place],
+        machines: list[str],
+    ) -> None:
+        self.folder, self.name, self.desk, self.inbox = folder, name, desk, inbox
+        self.machines = machines  # that go by this sender's interlock
+        self.held = contextlib.ExitStack()
+        self.begin()
+        self.last = ""
+
+    def begin(self) -> None:
+        self.spool = spool.Spool(self.folder, name=self.name)
+        self.sender: Optional[sender.Sender] = None
+
+    def put(self, message: bytes) -> None:
+        self.last = self.spool.put(message)
+
+    def send(self, kill_after: Optional[int] = None) -> None:
+        """Sends what waits; it may be killed before one of its writes, and begins anew then."""
+        Killer.left = kill_after
+        try:
+            self.send_all()
+        except Killed as killed:
+            self.held.__exit__(Killed, killed, None)
+            self.begin()
+            self.send_all()
+        finally:
+            Killer.left = None
+
+    def send_all(self) -> None:
+        if self.sender is None:
+            self.held.enter_context(self.spool.sending())
+            states = interlock.Interlock(self.spool, self.machines, every=0.0, is_used=True)
+            self.sender = sender.Sender(self.spool, self.desk, inbox=self.inbox, interlock=states)
+        while self.sender.send_waiting():
+            pass
+        self.sender.line.look()
+
+    def permits(self, machine: str) -> bool:
+        """What the interlock says of a machine: without a sender it is silent, and a sender that is out has seen what waits."""
+        if self.sender is None:
+            return False
+        self.sender.interlock.look_ahead(self.spool.names())
+        self.sender.asker.ask()
+        return self.sender.interlock.state(machine).word == "go"
+
+    def start_of(self, board: str) -> str:
+        """The message by which the desk accepted the start of a board, if it did, by what is in the spool."""
+        sent, wanted = self.spool.sent, ("TraceDesk.WorkStarted", board)
+        names = reversed(spool.names_in(sent))
+        return next((name for name in names if board_of(sent, name) == wanted), "")
+
+    def is_refused(self, board: str) -> bool:
+        """Whether the desk has accepted no start of a board, or refused something since."""
+        start = self.start_of(board)
+        return not start or any(name > start for name in spool.names_in(self.spool.aside))
+
+    def end(self) -> None:
+        """Ends the sender: what is called for its spool needs that."""
+        self.held.close()
+        self.begin()
+
+    def accepted(self) -> bool:
+        """Whether the last message was accepted, as the machine or the operator sees it: not where there is no answer."""
+        return (self.spool.sent / f"{self.last}.json").exists()

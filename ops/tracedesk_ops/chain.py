@@ -1,0 +1,193 @@
+"""How the files of a line follow one another, by their contents alone: no clock, number, path or
+host decides.
+
+A file is *held* by a chain if one of the chain's files is it, or has its whole list as a beginning.
+Two histories of which neither holds the other are a fork: they are named, and a person decides.
+These are pure functions: what a file contains beyond its ends is asked of `Contents`, which
+store.py reads from disk and a test makes up.
+"""
+from __future__ import annotations
+
+import dataclasses
+import enum
+from collections.abc import Iterable, Sequence
+from typing import Protocol
+
+from tracedesk_ops.model import DIGITS, Copy, File, Said
+
+
+class Contents(Protocol):
+    """What the files contain."""
+
+    def command(self, file: File, number: int) -> Said | None:
+        """The command of this number, or none."""
+
+    def taken(self, file: File) -> frozenset[Said]:
+        """What the file has taken from senders since it was begun."""
+
+
+@dataclasses.dataclass(frozen=True)
+class Chain:
+    """A desk and the archives behind it, the newest first. `missing` is the mark of an archive that
+    isn't there.
+    """
+
+    files: tuple[File, ...]
+    missing: str = ""
+
+    @property
+    def desk(self) -> File:
+        return self.files[0]
+
+    @property
+    def archives(self) -> tuple[File, ...]:
+        """The archives, from the newest to the oldest."""
+        return self.files[1:]
+
+
+class Order(enum.Enum):
+    """How one history relates to another."""
+
+    SAME = "the same"
+    NEWER = "newer"
+    OLDER = "older"
+    FORK = "a fork"
+    UNKNOWN = "not known, since an archive is missing"
+
+
+def behind(desk: File, files: Iterable[File]) -> Chain:
+    """The chain from a desk backwards, by the marks."""
+    by_digits = {file.sha256[:DIGITS]: file for file in files}
+    found, mark = [desk], desk.mark
+    while mark:
+        archive = by_digits.pop(mark, None)
+        if archive is None:
+            return Chain(tuple(found), mark)
+        found.append(archive)
+        mark = archive.mark
+    return Chain(tuple(found))
+
+
+def is_beginning(older: File, newer: File, contents: Contents) -> bool:
+    """Whether a file's whole list is a beginning of another's. The list of an empty desk is one of
+    each list.
+    """
+    if older.last is None:
+        return True
+    return (
+        older.commands <= newer.commands
+        and older.has_same_beginning(newer)
+        and contents.command(newer, older.commands) == older.last
+    )
+
+
+def holds(chain: Chain, file: File, contents: Contents) -> bool:
+    """Whether a chain has all that a file has, in its order."""
+    if any(member.is_named_by(file.sha256[:DIGITS]) for member in chain.files):
+        return True
+    return any(
+        member.mark == file.mark and is_beginning(file, member, contents) for member in chain.files
+    )
+
+
+def compare(one: Chain, other: Chain, contents: Contents) -> Order:
+    """How the first history relates to the second."""
+    newer, older = holds(one, other.desk, contents), holds(other, one.desk, contents)
+    if newer and older:
+        return Order.SAME
+    if newer or older:
+        return Order.NEWER if newer else Order.OLDER
+    return Order.UNKNOWN if one.missing or other.missing else Order.FORK
+
+
+def lacking(chain: Chain, files: Iterable[File], contents: Contents) -> frozenset[Said]:
+    """What these files took from senders and no file of the chain has."""
+    wanted: set[Said] = set()
+    for file in files:
+        if not holds(chain, file, contents):
+            wanted |= contents.taken(file)
+    for member in chain.files if wanted else ():
+        wanted -= contents.taken(member)
+    return frozenset(wanted)
+
+
+@dataclasses.dataclass(frozen=True)
+class OffChain:
+    """A file that the chain doesn't reach, and how many of its commands the chain lacks."""
+
+    file: File
+    lacking: int
+
+
+def off_chain(chain: Chain, files: Iterable[File], contents: Contents) -> list[OffChain]:
+    """The files that the chain doesn't reach. Those of a line that shares the folder are for the
+    caller to leave out.
+    """
+    reached = {member.path for member in chain.files}
+    others = [file for file in files if file.path not in reached]
+    return [OffChain(file, len(lacking(chain, [file], contents))) for file in others]
+
+
+def left_by_a_roll_over(chain: Chain, files: Iterable[File], contents: Contents) -> list[File]:
+    """Archives that a roll-over linked before it was cut off: the running desk still has all of
+    each of them.
+    """
+    reached = {member.path for member in chain.files}
+    return [
+        file
+        for file in files
+        if file.path not in reached
+        and file.commands > file.begun
+        and file.mark == chain.desk.mark
+        and is_beginning(file, chain.desk, contents)
+    ]
+
+
+# --- Copies
+
+
+def chain_of(copy: Copy) -> Chain:
+    return behind(copy.desk, copy.archives)
+
+
+def newest(copies: Sequence[Copy], contents: Contents) -> list[Copy]:
+    """The copies that no other copy is newer than: several of them are a fork, or the same."""
+    chains = {copy.path: chain_of(copy) for copy in copies}
+    found: list[Copy] = []
+    for copy in copies:
+        if not any(
+            compare(chains[other.path], chains[copy.path], contents) is Order.NEWER
+            for other in copies
+            if other is not copy
+        ):
+            found.append(copy)
+    return found
+
+
+def not_held(chain: Chain, copies: Iterable[Copy], contents: Contents) -> list[Copy]:
+    """The copies with a command that the chain lacks: the desk was set back to before them, or they
+    are of a fork.
+    """
+    return [copy for copy in copies if lacking(chain, (copy.desk, *copy.archives), contents)]
+
+
+def superfluous(
+    chain: Chain, copies: Sequence[Copy], kept: Iterable[Copy], contents: Contents
+) -> list[Copy]:
+    """The copies that may be deleted if these are kept: each of their commands is in the chain or
+    in a copy that is kept.
+    """
+    kept = list(kept)
+    gone: list[Copy] = []
+    for copy in copies:
+        if copy in kept:
+            continue
+        wanted = lacking(chain, (copy.desk, *copy.archives), contents)
+        for other in kept if wanted else ():
+            for file in (other.desk, *other.archives):
+                wanted -= contents.taken(file)
+        if wanted:
+            kept.append(copy)
+        else:
+            gone.append(copy)
+    return gone

@@ -1,0 +1,1 @@
+"""The tools of a plant, a module each; ops/tracedesk-NAME starts one."""

@@ -1,0 +1,656 @@
+"""Loads archives, and running desks as of their last copies, into the plant's PostgreSQL: docs/plant.md.
+
+usage: tracedesk-plant-load [--line NAME] [CATALOGUE | COPY]..
+
+examples:
+  tracedesk-plant-load                     the copies of the lines that are set up on this machine, by /etc/tracedesk/LINE.conf
+  tracedesk-plant-load /var/lib/tracedesk/archive/catalogue.csv          the archives of a catalogue
+  tracedesk-plant-load /var/backups/tracedesk                            the newest copy of each desk in it: its archives and its desk
+  tracedesk-plant-load L1/2026-11-25T061203Z L2/2026-11-25T061511Z       these copies, of two lines
+  tracedesk-plant-load --line L1 /var/backups/tracedesk                  of a line that was never rolled over
+
+The database is that of psql's environment (PGHOST, PGDATABASE, ..), and schema.sql has been run on it. COPY is a folder
+that tracedesk-backup made. Each file must have the checksum that the catalogue, or the copy, has for it, and each archive from which
+one was begun must be there. A file becomes one part of the table placement, in one transaction. A running desk takes the place of its
+older copy. Then untraced work and doubtful pieces of the line are looked for, in all of its files.
+
+No piece of a line counts twice: a file that has some commands of another one that place pieces, as after a restore, is
+refused. What is refused is named, and the others are loaded. What is not loaded is in the table missing, and each recall says so; so
+is a line that is set up here, or named in the table line, and has no file. A desk is never loaded as two lines, and --line names one
+desk. drop.sql takes out a file that was loaded by mistake or that a restore put aside.
+
+It needs Debian's packages python3-psycopg and python3, not the program.
+
+Exit status: 0 all of it is loaded; 1 something was refused or is missing, or PostgreSQL failed; 2 bad command line, or
+no psycopg; 9 an unexpected failure.
+"""
+import hashlib
+import itertools
+import pathlib
+from typing import NamedTuple
+
+from tracedesk_ops import (
+    backups,
+    catalogue,
+    doubtful,
+    identity,
+    plant,
+    reader_of,
+    untraced,
+)
+
+try:
+    import psycopg
+    from psycopg.rows import namedtuple_row
+
+    ERRORS = (psycopg.Error,)
+except ImportError:  # the help is printed without it
+    psycopg, ERRORS = None, ()
+
+RUNNING = catalogue.RUNNING
+ROWS_AT_A_TIME = 10_000
+# a placement as a line of COPY's text form, in which a backslash stands twice; names have neither tabs nor line ends
+PLACEMENTS = """SELECT replace(?1 || char(9) || number || char(9) || place || char(9) || board || char(9) || designator || char(9) || placement.machine
+    || char(9) || slot || char(9) || reel || char(9) || overdue || char(9) || effective, '\\', '\\\\') || char(10)
+    FROM placement CROSS JOIN accepted USING (number) ORDER BY reel, number, place"""  # a reel's pieces lie on few pages
+REELS = "SELECT ?1, reel, part, lot, level FROM reel"
+STARTS = "SELECT ?1, number, command, effective FROM accepted WHERE command LIKE 'WorkStarted%'"
+SEEN = "SELECT count(*), min(effective), max(effective) FROM accepted"
+SAID = "SELECT uid, source, own, command FROM accepted WHERE command <> 'ClockSet'"
+PLACES = "MaterialsInstalled\t"  # how the commands begin that place pieces
+LOOK = (
+    "untraced work and doubtful pieces"  # what is missing of a line in which nobody looked for them
+)
+FAULTS = (*plant.FAULTS[:-1], *ERRORS)  # an interruption ends it
+AGAIN = "its load has begun: call tracedesk-plant-load again"
+
+
+class LoadedBefore(Exception):
+    """Why a file has nothing that is not loaded."""
+
+
+class Seen(NamedTuple):
+    """A file that is to be loaded; `taken` and `number` are those of the copy of a running desk, `pieces` is none where nothing says how many it has."""
+
+    file: pathlib.Path
+    line: str
+    name: str
+    sha256: str
+    taken: str
+    pieces: int | None
+    number: int = 0
+
+
+# --- The database
+
+
+def fields(*values):
+    """A line of COPY's text form."""
+    return "\t".join(str(it).replace("\\", "\\\\") for it in values) + "\n"
+
+
+class Tables:
+    """The plant's tables, over one connection; one call at a time has them."""
+
+    def __init__(self):
+        self.link = psycopg.connect(
+            autocommit=True, client_encoding="utf8", row_factory=namedtuple_row
+        )
+        if not self.rows(
+            "SELECT pg_try_advisory_lock(hashtext('tracedesk-plant-load')) AS is_taken"
+        )[0].is_taken:
+            plant.tell("another call is loading; it is waited for")
+            self.do("SELECT pg_advisory_lock(hashtext('tracedesk-plant-load'))")
+        self.do(
+            "SET search_path TO plant; CREATE TEMPORARY TABLE its (identity uuid, places boolean)"
+        )  # the commands of the file that is to be loaded
+        if old := self.files("pieces > 0 AND said = 0 AND NOT dropped"):
+            raise plant.Fault(
+                f"{old[0].line} {old[0].name} was loaded up to 0.2.0: make the database anew"
+            )
+
+    def do(self, text, *values):
+        return self.link.execute(text, values or None)
+
+    def rows(self, text, *values):
+        return self.do(text, *values).fetchall()
+
+    def files(self, which, *values):
+        """The files that a condition names: there may be ten thousand, so each question is asked of the database."""
+        return self.rows(
+            f"SELECT id, line, name, sha256, pieces, taken, dropped, copy_number AS number, said, desk FROM file WHERE {which} ORDER BY id",
+            *values,
+        )
+
+    def copy(self, target, lines):
+        """Copies lines of COPY's text form into a table; how many."""
+        count, lines = 0, iter(lines)
+        with self.link.cursor() as cursor, cursor.copy(f"COPY {target}") as to:
+            while some := list(itertools.islice(lines, ROWS_AT_A_TIME)):
+                to.write("".join(some))
+                count += len(some)
+                plant.reached(f"rows of {target.split()[0].partition('_')[0]}")
+        return count
+
+    def miss(self, line, name, why):
+        self.do(
+            "INSERT INTO lacking VALUES (%s, %s, %s) ON CONFLICT (line, name) DO UPDATE SET why = excluded.why, taken_out = ''",
+            line,
+            name,
+            why,
+        )
+
+    def has(self, line, name):
+        """Takes back that something is missing."""
+        self.do("DELETE FROM lacking WHERE line = %s AND name = %s AND taken_out = ''", line, name)
+
+    def load(self, seen, database, desk):
+        """Makes a file a part, in the place of the files that it replaces. How many pieces it has, and the copies of which it lacks commands."""
+        self.do("TRUNCATE its")
+        said = self.copy(
+            "its FROM STDIN",
+            (
+                fields(
+                    hashlib.md5(
+                        "\n".join(map(str, row)).encode(), usedforsecurity=False
+                    ).hexdigest(),
+                    row[3].startswith(PLACES),
+                )
+                for row in database.execute(SAID)
+            ),
+        )
+        replaced, cut = self.gives_way(seen, said, desk)
+        ((commands, first, last),) = database.execute(SEEN)
+        ((uid,),) = database.execute(
+            "SELECT uid FROM accepted WHERE number = ?", [commands]
+        ).fetchall() or [("",)]
+        with self.link.transaction():
+            number = self.rows("SELECT nextval('file_id') AS it")[0].it
+            part = f"placement_{number}"
+            self.do(
+                f"CREATE TABLE {part} (LIKE placement, CONSTRAINT part CHECK (file = {number}))"
+            )
+            plant.reached("created")
+            pieces = self.copy(
+                f"{part} FROM STDIN WITH (FREEZE)",
+                (line for (line,) in database.execute(PLACEMENTS, [number])),
+            )
+            if seen.pieces not in (None, pieces):
+                raise plant.Fault(
+                    f"{seen.name}: it has {pieces:,} pieces, and in the catalogue {seen.pieces:,}"
+                )
+            self.do(
+                f"CREATE INDEX ON {part} (reel); CREATE INDEX ON {part} (board); ANALYZE {part}"
+            )
+            plant.reached("indexed")
+            self.give_way(seen, replaced, cut)
+            self.do(
+                "INSERT INTO file VALUES (%s, %s, %s, %s, %s, %s, %s, %s, %s, %s, false, %s, %s, %s)",
+                number,
+                seen.line,
+                seen.name,
+                seen.sha256,
+                first,
+                last,
+                commands,
+                uid,
+                pieces,
+                seen.taken,
+                seen.number,
+                said,
+                desk,
+            )
+            self.do("INSERT INTO command SELECT %s, identity, places FROM its", number)
+            self.copy(
+                "reel FROM STDIN", (fields(*row) for row in database.execute(REELS, [number]))
+            )
+            self.copy(
+                "start FROM STDIN",
+                (
+                    fields(*row[:2], *row[2].split("\t")[1:], row[3])
+                    for row in database.execute(STARTS, [number])
+                ),
+            )
+            self.do(f"ALTER TABLE placement ATTACH PARTITION {part} FOR VALUES IN ({number})")
+            plant.reached("attached")
+        plant.reached("committed")
+        return pieces, cut
+
+    def give_way(self, seen, replaced, cut):
+        """Takes out the older copies of the same desk. One of another desk stays, under a name of its own, until its archive comes."""
+        for it in (*replaced, *cut):
+            self.do(f"DROP TABLE placement_{it.id}")
+            self.do("DELETE FROM file WHERE id = %s", it.id)
+        if seen.name == RUNNING:
+            self.do(
+                "UPDATE file SET name = 'desk of ' || taken WHERE line = %s AND name = %s",
+                seen.line,
+                RUNNING,
+            )
+        self.do("DELETE FROM lacking WHERE line = %s AND name = %s", seen.line, seen.name)
+        for it in cut:
+            self.miss(
+                it.line,
+                f"desk of {it.taken}",
+                f"{seen.name} takes its place, and lacks some of its commands: the desk was restored from an older copy. Once it is "
+                "known that they were sent again, or won't be, take this line away: drop.sql",
+            )
+
+    def gives_way(self, seen, said, desk):
+        """The files that give way to this one: those whose commands it has; and older ones that have more, as a desk that went back.
+
+        A Fault where its commands would count twice, or are another line's.
+        """
+        counts = {
+            it.file: it
+            for it in self.rows(
+                "SELECT file, count(*) AS both, count(*) FILTER (WHERE its.places) AS placing FROM its JOIN command USING (identity) GROUP BY file"
+            )
+        }
+        replaced, cut = self.files("line = %s AND taken <> '' AND said = 0", seen.line), []
+        for it in self.files("id = ANY (%s) OR desk = %s AND desk <> ''", list(counts), desk):
+            both, placing = (
+                (counts[it.id].both, counts[it.id].placing) if it.id in counts else (0, 0)
+            )
+            if (
+                it.line != seen.line
+                and not it.dropped
+                and (desk == it.desk if desk and it.desk else placing and both in (said, it.said))
+            ):
+                raise plant.Fault(
+                    f"{seen.file}: it is the desk of the line {it.line}, whose {it.name} is loaded, and not of {seen.line}. Where that name was wrong, drop that file: drop.sql"
+                )
+            if it.line != seen.line or not both:
+                continue
+            if not it.taken and both == said and placing and seen.taken:
+                raise LoadedBefore(
+                    f"loaded before: all of its commands are in the archive {it.name}"
+                )
+            if (
+                not it.taken and placing
+            ):  # else a sender set the same up again: no piece is there twice
+                raise plant.Fault(
+                    f"{seen.file}: {both:,} of its {said:,} commands are in {it.name} too, which is loaded, and would count twice. Where a restore has put that archive "
+                    "aside, drop it: drop.sql; then call again"
+                )
+            if not it.taken:
+                continue
+            if both == it.said and (both < said or seen.number >= it.number or not seen.taken):
+                replaced.append(it)
+            elif not seen.taken or seen.number > it.number:
+                cut.append(it)
+            elif both == said:
+                raise LoadedBefore(f"loaded before, as of {it.taken}")
+            else:
+                raise plant.Fault(
+                    f"{seen.file}: {said - both:,} of its commands are not in the copy of {it.taken}, which is loaded and newer: the desk was restored to before them"
+                )
+        return replaced, cut
+
+
+# --- What is loaded
+
+
+class Loading:
+    """All that is loaded in one call: `loaded` counts the files, and `refused` what is not."""
+
+    def __init__(self, line):
+        self.line, self.loaded, self.refused, self.named, self.tables = line, 0, 0, {}, Tables()
+
+    def refuse(self, fault):
+        self.refused += 1
+        plant.tell(f"REFUSED: {text_of(fault)}")
+
+    def miss(self, path, fault, line=""):
+        self.refuse(fault)
+        remedy = (
+            f". Where nothing is loaded from there any more: drop.sql with line={line} and name={path}"
+            if isinstance(path, pathlib.Path)
+            else ""
+        )
+        self.tables.miss(line, str(path), text_of(fault) + remedy)
+
+    def new(self, files):
+        known = {
+            (it.line, it.name, it.sha256)
+            for it in self.tables.files("sha256 = ANY (%s)", [it.sha256 for it in files])
+        }
+        return [it for it in files if it[1:4] not in known]
+
+    def begin(self, names):
+        """Makes files missing until they are loaded, so that no recall takes some of them for all, also where this call is killed."""
+        for line, name in names:
+            self.tables.do(
+                "INSERT INTO lacking VALUES (%s, %s, %s) ON CONFLICT DO NOTHING", line, name, AGAIN
+            )
+        plant.reached("begun")
+
+    def is_there(self, line, name):
+        """Takes back what `begin` said, where nothing is to be loaded."""
+        self.tables.do(
+            "DELETE FROM lacking WHERE line = %s AND name = %s AND why = %s", line, name, AGAIN
+        )
+
+    def one(self, seen, opened, name):
+        """Loads a file and says so; one that is refused is missing from then on. `opened` opens it once it has its checksum, `name` is its desk's by the catalogue."""
+        try:
+            for it in self.tables.files("line = %s AND name = %s", seen.line, seen.name):
+                if it.sha256 == seen.sha256:
+                    raise LoadedBefore(
+                        "dropped, and not loaded again"
+                        if it.dropped
+                        else f"loaded before{f', as of {it.taken}' * bool(it.taken)}"
+                    )
+                if not it.taken:
+                    raise plant.Fault(
+                        f"{seen.file}: a file of this name is loaded, and has the checksum {it.sha256}"
+                    )
+            with opened() as database:
+                pieces, cut = self.tables.load(seen, database, identity.read(database).name or name)
+            self.loaded += 1
+            print(f"{seen.line} {seen.name}: {pieces:,} pieces", flush=True)
+            for it in cut:
+                self.refuse(
+                    f"{seen.line}: the copy of {it.taken} gave way, and has commands that are in no file that is loaded: SELECT * FROM plant.missing"
+                )
+        except LoadedBefore as why:
+            print(f"{seen.line} {seen.name}: {why}", flush=True)
+            self.is_there(seen.line, seen.name)
+        except FAULTS as fault:
+            self.miss(seen.name, fault, seen.line)
+
+    def archives(self, path, archives, line="", copy=None):
+        """Loads the archives of a catalogue, then the running desk of the copy in which it lies, and then what is untraced or doubtful."""
+        desk = copy and Seen(
+            copy / "desk",
+            line,
+            RUNNING,
+            backups.sums_of(copy).get("desk", ""),
+            copy.name,
+            None,
+            backups.number_of(copy),
+        )
+        unasked = list(catalogue.unasked(path, archives))
+        lines = sorted({it.desk for it in archives} | ({line} - {""}))
+        for its in lines or [self.line or ""]:
+            self.tables.has(its, str(path))
+            for it in unasked:
+                self.miss(path, it, its)
+        refused = self.refused
+        seen = [
+            Seen(catalogue.path_of(path, it), it.desk, it.file, it.sha256, "", it.pieces)
+            for it in archives
+        ]
+        around = Around(path, archives, desk, lines)
+        new = self.new([*seen, desk] if desk else seen)
+        is_new, loaded = around.is_new(self.tables), self.loaded
+        self.begin([*(it[1:3] for it in new), *([(around.line, LOOK)] if is_new else [])])
+        for it, archive in zip(seen, archives):
+            self.one(it, lambda archive=archive: catalogue.unchanged(path, archive), archive.name)
+        for its in lines:  # what was taken out, and is not expected any more
+            self.tables.do(
+                "DELETE FROM lacking WHERE line = %s AND taken_out <> '' AND name <> %s AND name NOT LIKE 'desk of %%' AND NOT taken_out = ANY (%s)",
+                its,
+                RUNNING,
+                [it.sha256 for it in archives],
+            )
+        if desk:
+            self.one(desk, lambda: opened_desk(desk), "")
+        if is_new and self.loaded == loaded and around.unseen(self.tables):
+            self.is_there(
+                around.line, LOOK
+            )  # these are older than what is loaded, and nothing came of them
+        elif is_new:
+            is_whole = self.refused == refused
+            for fault in around.load(self.tables, is_whole):
+                if is_whole:
+                    self.refuse(fault)
+                self.tables.miss(around.line, LOOK, fault)
+
+    def copy(self, copy):
+        """Loads the archives of a copy, and its running desk."""
+        path, told = copy / backups.ARCHIVE / catalogue.FILE_NAME, backups.about(copy)
+        archives = catalogue.read(path)
+        desk, lines = identity.of_running(copy / "desk"), {it.desk for it in archives}
+        chain = (
+            identity.chain(path, archives, desk.mark)[0] if desk else archives[: len(lines) == 1]
+        )  # a damaged desk is refused later
+        known = {
+            it.line
+            for it in self.tables.files(
+                "desk = %s AND desk <> '' AND NOT dropped", told["name"] or ""
+            )
+        }
+        its = told["line"] or (chain[0].desk if chain else "")
+        line = self.line or its or (known.pop() if len(known) == 1 else "")
+        if not line or its not in ("", line):
+            self.archives(path, archives)
+            raise plant.Fault(
+                f"{copy}: its archives are of {its}, and its desk is to be that of {line}"
+                if line
+                else f"{copy}: its archives don't say whose desk it is: name it by --line"
+            )
+        self.archives(path, archives, line, copy)
+        self.want_chains(path, archives, [desk.mark] if desk else [])
+
+    def want_chains(self, path, archives, marks=()):
+        if gaps := identity.gaps(path, archives, marks):
+            raise plant.Fault(gaps[0])
+
+    def path(self, path):
+        """Loads a catalogue, a copy, or the newest copy of each desk in a folder. What is refused of it as a whole is missing until all of it is loaded."""
+        refused = self.refused
+        try:
+            if not path.is_dir():
+                if not (archives := catalogue.read(path)):
+                    raise plant.Fault(f"{path}: there is no catalogue, or it has no line")
+                self.archives(path, archives)
+                self.want_chains(path, archives)
+            else:
+                self.folder(path)
+        except FAULTS as fault:
+            self.miss(path, fault)
+        if self.refused == refused:
+            self.tables.has("", str(path))
+
+    def folder(self, path):
+        kept, faults = backups.survey(path)
+        if not kept and not faults and not (path / "desk").is_file():
+            raise plant.Fault(f"{path}: there is no copy in it, as tracedesk-backup makes them")
+        newest = newest_of(kept if kept or faults else [path])
+        one = next(iter(newest), "")
+        if self.line and (len(newest) > 1 or self.named.setdefault(self.line, one) != one):
+            raise plant.Fault(
+                f"{path}: --line {self.line} names one desk, and there are copies of more than one: call it for each"
+            )
+        for it in newest.values():
+            try:
+                self.copy(it)
+            except FAULTS as fault:
+                self.miss(path, fault)
+        if faults:
+            raise plant.Fault(faults[0])
+
+
+class Around:
+    """What is around the archives of a catalogue, and the running desk of their copy: untraced work, and pieces that may be of another reel."""
+
+    def __init__(self, path, archives, desk, lines):
+        self.path, self.archives, self.desk, self.line, self.lines = (
+            path,
+            catalogue.in_turn(archives),
+            desk,
+            "; ".join(lines),
+            lines,
+        )
+        book = untraced.read(path.parent)
+        self.checksum = hashlib.sha256(
+            repr(
+                (
+                    [it.sha256 for it in archives],
+                    desk and desk.sha256,
+                    [it.id for it in book.records],
+                    book.faults,
+                )
+            ).encode()
+        ).hexdigest()
+
+    def is_new(self, tables):
+        return not tables.rows(
+            "SELECT FROM looked WHERE line = %s AND at = %s", self.line, self.checksum
+        )
+
+    def load(self, tables, is_whole):
+        """Looks for it in all files, and puts it into the tables. Why it isn't known what is in doubt."""
+        its = doubtful.look(
+            self.path, self.archives if is_whole else [], is_whole and bool(self.desk)
+        )
+        with tables.link.transaction():
+            for it, by, reels in its.works:
+                told = (
+                    [by.told[key] for key in ("At", "Became", "By", "Reason")] if by else [""] * 4
+                )
+                tables.do(
+                    "INSERT INTO untraced VALUES (%s, %s, %s, %s, %s, %s, %s, %s, %s, %s, %s, %s, %s, %s) ON CONFLICT (line, id) DO UPDATE SET decided = excluded.decided, "
+                    "became = excluded.became, decided_by = excluded.decided_by, reason = excluded.reason WHERE excluded.decided >= untraced.decided",
+                    self.line,
+                    it.id,
+                    *untraced.said(it)[2:9],
+                    reels,
+                    *told,
+                )
+            if not (
+                faults := [
+                    *its.faults,
+                    *(
+                        self.unseen(tables)
+                        if is_whole
+                        else [
+                            f"{self.path}: {LOOK} were not looked for, since not all of it is loaded"
+                        ]
+                    ),
+                ]
+            ):
+                tables.do("DELETE FROM doubtful WHERE line = %s", self.line)
+                tables.do("DELETE FROM refused WHERE line = %s", self.line)
+                for reel, machine in (
+                    (reel, it)
+                    for reel, machines in its.story.machines.items()
+                    if reel and reel not in its.story.parts
+                    for it in machines
+                ):
+                    tables.do("INSERT INTO refused VALUES (%s, %s, %s)", self.line, reel, machine)
+                for piece in its.pieces:
+                    tables.do(
+                        "INSERT INTO doubtful VALUES (%s, %s, %s, %s, %s, %s, %s, %s, %s, %s, %s, %s, %s)",
+                        self.line,
+                        *piece[:7],
+                        list(piece.other_reels),
+                        list(piece.other_lots),
+                        piece.why,
+                        piece.file,
+                        its.story.parts.get(piece.reel, ""),
+                    )
+                tables.has(self.line, LOOK)
+                tables.do(
+                    "INSERT INTO looked VALUES (%s, %s) ON CONFLICT (line) DO UPDATE SET at = excluded.at",
+                    self.line,
+                    self.checksum,
+                )
+        return faults
+
+    def unseen(self, tables):
+        """Files of the line that are loaded, and newer than these or of another catalogue: then these alone don't say what is in doubt."""
+        here = {it.sha256 for it in self.archives}
+        return [
+            f"{self.path}: whether pieces may be of other reels isn't known, since {it.line} {it.name} is loaded and not in it: load the newest copy of the line"
+            for it in tables.files("line = ANY (%s) AND NOT dropped", self.lines)
+            if (
+                it.sha256 not in here
+                if not it.taken
+                else not self.desk or it.number > self.desk.number
+            )
+        ][:1]
+
+
+def opened_desk(seen):
+    """The running desk of a copy, once it has its checksum."""
+    if (
+        not seen.sha256
+        or catalogue.log_of(seen.file)
+        or catalogue.sha256_of(seen.file) != seen.sha256
+    ):
+        raise plant.Fault(
+            f"{seen.file}: it is not the file of its checksum in {backups.SUMS}: take another copy"
+        )
+    return catalogue.opened(seen.file)
+
+
+def newest_of(copies):
+    """The newest copy of each desk. One without a name is older than that of a desk which began as it did, itself or an archive of it."""
+    newest = {desk_of(it): it for it in copies}
+    firsts = {key: backups.firsts_in(it) for key, it in newest.items()}
+    return {
+        key: it
+        for key, it in newest.items()
+        if isinstance(key, str)
+        or not any(key[1] in those for other, those in firsts.items() if other != key)
+    }
+
+
+def desk_of(copy):
+    """What tells the desk of a copy from others: its name, else its file and its first command."""
+    told = backups.about(copy)
+    return told["name"] or (told["desk"], backups.command(copy / "desk", 1))
+
+
+def text_of(fault):
+    return f"PostgreSQL: {fault}".strip() if isinstance(fault, ERRORS) else str(fault)
+
+
+def main():
+    reader = reader_of(__doc__)
+    reader.add_argument(
+        "--line",
+        type=plant.line_name,
+        metavar="NAME",
+        help="whose running desk it is, where no archive says so",
+    )
+    reader.add_argument(
+        "paths",
+        nargs="*",
+        type=pathlib.Path,
+        metavar="PATH",
+        help="a catalogue, a copy, or a folder of copies",
+    )
+    words = reader.parse_args()
+    if psycopg is None:
+        plant.tell(
+            "there is no psycopg: apt-get install python3-psycopg, and let /usr/bin/python3 run this"
+        )
+        return 2
+    try:
+        set_up = (
+            []
+            if words.paths
+            else [it for it in plant.set_ups() if words.line in (None, it["line"])]
+        )
+        if not words.paths and not set_up:
+            reader.error(
+                f"name a catalogue, a copy or a folder of copies: no line is set up in {plant.SET_UP}"
+            )
+        loading = Loading(words.line)
+        for it in set_up:
+            loading.tables.do("INSERT INTO line VALUES (%s) ON CONFLICT DO NOTHING", it["line"])
+        for loading.line, path in [(words.line, it) for it in words.paths] or [
+            (it["line"], pathlib.Path(it["copies"])) for it in set_up
+        ]:
+            loading.path(path.absolute())
+        loading.tables.do(
+            "DELETE FROM lacking USING file WHERE taken_out = file.sha256 AND NOT dropped"
+        )
+        loading.tables.do("INSERT INTO state DEFAULT VALUES")
+    except (plant.Fault, *ERRORS) as fault:  # the database itself
+        plant.tell(f"REFUSED: {text_of(fault)}")
+        return 1
+    return 1 if loading.refused else 0

@@ -1,0 +1,159 @@
+"""Lists the work that a line's desk refused and did not trace, and keeps each person's decision about it.
+
+usage: tracedesk-untraced collect [--every SECONDS] [--line NAME] [--status FOLDER] [--archive FOLDER]
+       tracedesk-untraced list [--all] [--line NAME] [--archive FOLDER]
+       tracedesk-untraced decide ID --by NAME --became TEXT --reason TEXT [--line NAME] [--status FOLDER] [--archive FOLDER]
+
+examples:
+  tracedesk-untraced collect                     once
+  tracedesk-untraced collect --every 5           for ever, as the service does
+  tracedesk-untraced list                        what nobody decided yet, as CSV
+  tracedesk-untraced list --all                  all of it, with the decisions, and each refused load, splice and unload
+  tracedesk-untraced decide 3f0c9a.. --by 'A. Person' --became scrapped --reason 'built with the expired reel'
+
+Senders put a record of each refused report of work into the line's inbox, which its set-up file names: else the folder `untraced` next
+to that of the archives. `collect` appends it to untraced.csv, next to the catalogue. A recall names each board that is in it, and ends with status 3 until somebody decided what became
+of the board. ID may be the beginning of an id, if no other has it. A refused load, splice or unload has a record too, and needs no
+decision. If a recall names pieces as doubtful because of it, and nothing was placed from that reel, decide --became 'taken off'.
+
+--line     which line's, where several are set up
+--archive  the folder with the archives and the catalogue (that of the set-up file, else /var/lib/tracedesk/archive)
+--status   where collect and decide write untraced.json, which the station reads (that of the set-up file, if it is there)
+--became   scrapped, reworked, used as it is, sent again, or words of your own; of a refused reel, taken off
+
+Exit status: 0 done, and of list: nothing is undecided; 1 something is undecided; 2 bad command line; 3 a file is damaged or
+gone, and standard error says which; 9 an unexpected failure.
+"""
+import argparse
+import csv
+import io
+import pathlib
+import time
+
+from tracedesk_ops import places, plant, reader_of, untraced
+
+
+def collect(asked):
+    """Collects once, or for ever; then a fault is said, and what comes later is still taken."""
+    while True:
+        status = 0
+        try:
+            asked.archive.mkdir(mode=0o755, exist_ok=True)
+            records, count, wrong = untraced.collect(asked.archive)
+            for fault in wrong:
+                plant.tell(fault)
+            if count:
+                plant.tell(f"{count} new, {len(untraced.undecided(records))} undecided")
+            tell_station(asked, records)
+            status = 3 if wrong else 0
+        except (plant.Fault, OSError, ValueError) as fault:
+            plant.tell(str(fault))
+            status = 3
+        if not asked.every:
+            return status
+        time.sleep(asked.every)
+
+
+def tell_station(asked, records):
+    folder = asked.status or places.of_archive(asked.archive).status
+    if asked.status or folder.is_dir():
+        untraced.write_status(folder, records)
+
+
+def show(asked):
+    book = untraced.read(asked.archive)
+    decided, rows = untraced.decisions(book.records), []
+    for it in book.records:
+        if it.told["Kind"] != "decided" and (
+            asked.all or untraced.is_work(it) and it.id not in decided
+        ):
+            by = decided.get(it.id)
+            rows.append(
+                [
+                    *untraced.said(it)[:1],
+                    *untraced.said(it)[2:10],
+                    *(
+                        [by.told["Became"], by.told["By"], by.told["Reason"]]
+                        if by
+                        else ["", "", ""]
+                    ),
+                ]
+            )
+    text = io.StringIO()
+    csv.writer(text, lineterminator="\n").writerows(
+        [
+            [
+                "id",
+                "at",
+                "machine",
+                "board",
+                "work",
+                "refusal",
+                "place",
+                "source",
+                "sender",
+                "became",
+                "decided_by",
+                "reason",
+            ],
+            *rows,
+        ]
+    )
+    plant.write_out(text.getvalue())
+    for fault in book.faults:
+        plant.tell(fault)
+    return 3 if book.faults else 1 if untraced.undecided(book.records) else 0
+
+
+def decide(asked):
+    try:
+        records, _, _ = untraced.collect(asked.archive)
+        known = [*untraced.refused(records), *untraced.differing(records)]
+        ids = [it.id for it in known if it.id.startswith(asked.id)]
+        if len(ids) != 1:
+            raise plant.Fault(
+                f"{len(ids) or 'no'} ids begin with {asked.id}: tracedesk-untraced list has them"
+            )
+        untraced.decide(asked.archive, ids[0], asked.by, asked.became, asked.reason)
+        tell_station(asked, untraced.read(asked.archive).records)
+        return 0
+    except (plant.Fault, OSError, ValueError) as fault:
+        plant.tell(str(fault))
+        return 3
+
+
+def words_of(text):
+    if not text.strip() or not text.isprintable() or len(text) > 500:
+        raise argparse.ArgumentTypeError("it is a text of one line, of 1 to 500 letters")
+    return text.strip()
+
+
+def main():
+    reader = reader_of(__doc__)
+    verbs = reader.add_subparsers(dest="verb", required=True)
+    for verb, call in (("collect", collect), ("list", show), ("decide", decide)):
+        it = verbs.add_parser(
+            verb,
+            description=__doc__,
+            formatter_class=argparse.RawDescriptionHelpFormatter,
+            usage=argparse.SUPPRESS,
+        )
+        it.set_defaults(call=call)
+        it.add_argument(
+            "--archive", type=pathlib.Path, default=places.HOME / "archive", metavar="FOLDER"
+        )
+        if verb == "list":
+            it.add_argument("--all", action="store_true")
+        else:
+            it.add_argument("--status", type=pathlib.Path, metavar="FOLDER")
+        if verb == "collect":
+            it.add_argument("--every", type=float, metavar="SECONDS")
+        if verb == "decide":
+            it.add_argument("id", type=words_of)
+            for name in ("by", "became", "reason"):
+                it.add_argument(f"--{name}", required=True, type=words_of, metavar="TEXT")
+        plant.set_up(it, status="")
+    asked = reader.parse_args()
+    asked.archive = asked.archive.absolute()
+    with plant.as_owner(asked.archive.parent / plant.DESK.name):
+        return asked.call(asked)

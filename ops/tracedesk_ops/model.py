@@ -1,0 +1,134 @@
+"""What the files of a line are. Nothing here reads a disk: store.py does, and chain.py compares.
+
+A desk's file is an append-only list of commands. It names, in its first command, the archive from
+which it was begun, and it records its own heads: accepted `ClockSet`s of the source `tracedesk`,
+which change nothing. They are the desk's name, its line, its epoch (a new one after each restore),
+the head of the untraced book and the newest copy.
+
+    heads_of([Head(7, "line-L1")]).line == "L1"
+"""
+from __future__ import annotations
+
+import dataclasses
+import pathlib
+import re
+from collections.abc import Iterable
+
+SOURCE = "tracedesk"
+DIGITS = (
+    24  # of a file's checksum, in the mark of the desk that was begun from it and in its own name
+)
+MARK = re.compile(r"begin-([0-9a-f]{24})-1")
+KINDS = ("desk", "line", "epoch", "untraced", "copy")  # the first word of a head's UniqueID
+LONGEST_LINE = 59  # letters of a line's name: `line-NAME` is a UniqueID of at most 64
+
+
+@dataclasses.dataclass(frozen=True)
+class Said:
+    """A command with all that its sender said. Two desks that have it took the same message."""
+
+    uid: str
+    source: str
+    own: int
+    command: str
+
+    def is_senders(self) -> bool:
+        """Whether a sender may have to send it again: heads and the clock change no answer."""
+        return self.source != SOURCE and self.command != "ClockSet"
+
+
+@dataclasses.dataclass(frozen=True)
+class Head:
+    """An accepted head: its number in the desk, and its UniqueID."""
+
+    number: int
+    uid: str
+
+
+@dataclasses.dataclass(frozen=True)
+class Heads:
+    """What a desk records of itself, the newest of each kind; empty if it has none."""
+
+    desk: str = ""
+    line: str = ""
+    epoch: str = ""
+    untraced: str = ""
+    copy: str = ""
+
+    def uids(self) -> list[str]:
+        """The UniqueIDs of these heads, as a roll-over carries them to the new desk."""
+        return [f"{kind}-{value}" for kind in KINDS if (value := getattr(self, kind))]
+
+
+def heads_of(heads: Iterable[Head]) -> Heads:
+    """The newest head of each kind. A desk keeps its first name."""
+    newest: dict[str, str] = {}
+    for head in sorted(heads, key=lambda head: head.number):
+        kind, _, value = head.uid.partition("-")
+        if kind == "desk":
+            newest.setdefault(kind, value)
+        elif kind in KINDS:
+            newest[kind] = value
+    return Heads(**newest)
+
+
+@dataclasses.dataclass(frozen=True)
+class File:
+    """A desk's file that is whole without a log: an archive, a copy, or a desk that no run has
+    open.
+    """
+
+    path: pathlib.Path
+    sha256: str  # all of it, or the digits in its name if the name is believed
+    mark: str  # of the archive from which it was begun; empty if there is none
+    begun: int  # the number of the last command of its beginning
+    commands: int
+    first: Said | None
+    last: Said | None
+    first_minute: int
+    last_minute: int
+    heads: Heads = Heads()
+
+    def is_named_by(self, mark: str) -> bool:
+        """Whether a desk with this mark was begun from this file."""
+        return bool(mark) and self.sha256[:DIGITS] == mark
+
+    def has_same_beginning(self, other: File) -> bool:
+        """Whether both have one first command, so that one may be a beginning of the other."""
+        return self.first == other.first
+
+
+@dataclasses.dataclass(frozen=True)
+class Copy:
+    """A copy of a line: its desk, and the archives behind it."""
+
+    path: pathlib.Path
+    day: str  # the folder's name begins with it; only retention uses it, and no order
+    desk: File
+    archives: tuple[File, ...]
+
+
+@dataclasses.dataclass(frozen=True)
+class Line:
+    """A line on this machine, with each of its places. No place is derived from another."""
+
+    name: str
+    desk: pathlib.Path
+    archive: pathlib.Path
+
+    @property
+    def room(self) -> pathlib.Path:
+        """A folder for unfinished work. Whatever it contains may be thrown away."""
+        return self.desk.with_name(f".{self.desk.name}.work")
+
+    @property
+    def aside(self) -> pathlib.Path:
+        """Where a restore puts the desk that gives way, in a folder of its own, under the desk's
+        name.
+        """
+        return self.desk.with_name("aside")
+
+    @property
+    def lost(self) -> str:
+        """The file that is there in place of a desk that was gone."""
+        return f"{self.desk.name}.lost"

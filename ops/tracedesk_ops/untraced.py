@@ -1,0 +1,475 @@
+"""Untraced work of a line: reports of work that its desk refused, and what a person decided about each. For ops/tracedesk-untraced, ops/tracedesk-recall
+and those that copy a line's files. Refused loads, splices and unloads have records too, but nobody has to decide about them: a recall
+says which pieces they make doubtful (doubtful.py).
+
+Senders put records into the line's inbox (places.py). `collect` appends each of them to `untraced.csv`, beside the catalogue, once:
+
+    id,kind,at,machine,board,what,refusal,place,source,by,of,became,reason,record,chain
+
+`record` is the whole record as its sender wrote it, and `id` the first 32 digits of its SHA-256; the columns before it are for
+readers. `chain` is the SHA-256 of the row's record and of the chain of the row before it. A row is never changed. How many rows there
+are, and the last chain, are also in the inbox (`collected.json`): so a file that was cut, replaced by an older one, or is gone is noticed.
+"""
+import contextlib
+import csv
+import datetime
+import hashlib
+import io
+import json
+import os
+import pathlib
+import re
+from typing import NamedTuple
+
+from tracedesk_ops import files, places, plant
+
+FILE_NAME, INBOX, COLLECTED, STATUS = "untraced.csv", "untraced", "collected.json", "untraced.json"
+HEADER = (
+    "id",
+    "kind",
+    "at",
+    "machine",
+    "board",
+    "what",
+    "refusal",
+    "place",
+    "source",
+    "by",
+    "of",
+    "became",
+    "reason",
+    "record",
+    "chain",
+)
+RECORD = re.compile(r"[0-9a-f]{32}\.json")
+HANDLING = ("MaterialsLoaded", "MaterialsSpliced", "MaterialsUnloaded")
+BEGIN = "0" * 64
+MOST_DECIDED = 1_000  # ids that the status file names
+LONGEST = (
+    4 << 20
+)  # bytes of a record: a message has 1,048,576 at most, and is there as read and as it came
+MOST_WAITING = 256 << 20  # bytes of an inbox, in which nginx keeps no more then
+DECIDED, FULL = (
+    "decided",
+    "full",
+)  # the folder of decisions beside the inbox, and the file that says so
+csv.field_size_limit(LONGEST)  # a row has its record as one field
+
+
+class Record(NamedTuple):
+    """A record by its id; `told` is what it says, and `text` its bytes without the line feed."""
+
+    id: str
+    told: dict
+    text: str
+
+
+class Book(NamedTuple):
+    """What a line's file and inbox say: records in the order in which they came, and what is wrong."""
+
+    records: list
+    faults: list
+
+
+def record_of(text):
+    """The record of these bytes; a ValueError says why they are none."""
+    told = json.loads(text)
+    is_refused = (
+        isinstance(told, dict)
+        and told.get("Kind") == "refused"
+        and isinstance(told.get("Message"), dict)
+        and isinstance(told.get("Answer"), dict)
+    )
+    is_decided = has_texts(told, "decided", "Of", "By", "Reason", "Became")
+    is_differing = has_texts(told, "differs", "Board", "By", "DeskReel", "Machine", "MachineReel")
+    if (
+        not (is_refused or is_decided or is_differing and isinstance(told["Designators"], list))
+        or not isinstance(told.get("At"), str)
+        or not text.endswith(b"\n")
+        or text.count(b"\n") != 1
+    ):
+        raise ValueError("it is no record of untraced work")
+    return Record(hashlib.sha256(text).hexdigest()[:32], told, text[:-1].decode("ascii"))
+
+
+def has_texts(told, kind, *names):
+    """Whether it is a record of this kind, with a text of each name."""
+    is_kind = isinstance(told, dict) and told.get("Kind") == kind
+    return is_kind and all(isinstance(told.get(it), str) for it in names)
+
+
+def inbox_of(archive):
+    """The inbox of the line whose archives, and catalogue, are in that folder."""
+    return places.of_archive(pathlib.Path(archive)).inbox
+
+
+def said(record):
+    """What a record says to a reader: the columns of its row up to `reason`, of which half a letter is spelled."""
+    return [it.encode("utf-8", "backslashreplace").decode() for it in columns(record)]
+
+
+def columns(record):
+    told = record.told
+    if told["Kind"] == "differs":
+        what = f"{' '.join(map(str, told['Designators']))} by the desk of reel {told['DeskReel']}"
+        its = [told["At"], told["Machine"], told["Board"], what, "Differs", told["MachineReel"]]
+        return [record.id, "differs", *its, "", told["By"], "", "", ""]
+    if told["Kind"] == "decided":
+        return [
+            record.id,
+            "decided",
+            told["At"],
+            "",
+            "",
+            "",
+            "",
+            "",
+            "",
+            told["By"],
+            told["Of"],
+            told["Became"],
+            told["Reason"],
+        ]
+    message, answer, body = told["Message"], told["Answer"], body_of(record)
+    names = body.get("Designators") if isinstance(body.get("Designators"), list) else []
+    of_slot = f"slot {body.get('Slot')}, " + (
+        f"{body.get('Quantity')} pieces" if is_work(record) else f"reel {body.get('Reel', 'none')}"
+    )
+    work = f"{word_of(record)} {' '.join(map(str, names)) or of_slot * ('Slot' in body)}".strip()
+    return [
+        record.id,
+        "refused",
+        told["At"],
+        str(body.get("Machine", "")),
+        str(body.get("Board", "")),
+        work,
+        str(answer.get("Refusal", answer.get("Answer", ""))),
+        str(answer.get("At", "")),
+        str(message.get("Source", "")),
+        str(told.get("By", "")),
+        "",
+        "",
+        "",
+    ]
+
+
+def body_of(record):
+    body = record.told.get("Message", {}).get("MessageBody")
+    return body if isinstance(body, dict) else {}
+
+
+def word_of(record):
+    if record.told["Kind"] == "differs":
+        return "MaterialsInstalled"
+    return str(record.told["Message"].get("MessageName", "")).removeprefix("TraceDesk.")
+
+
+def is_work(record):
+    """Whether a record of a refusal is about work, and not about a load, splice or unload."""
+    return word_of(record) not in HANDLING
+
+
+def chained(before, record):
+    return hashlib.sha256(f"{before}\n{record.text}\n".encode()).hexdigest()
+
+
+# --- Reading
+
+
+def read(archive):
+    """The records of a line, those of its inbox last, and what is wrong with its files. Nothing is written."""
+    rows, faults = rows_of(archive)
+    inbox, known = inbox_of(archive), {it.id for it in rows}
+    try:
+        waiting, wrong = waiting_in(inbox)
+    except OSError as fault:
+        waiting, wrong = [], [
+            f"{fault.filename}: it can't be read, so it isn't known whether untraced work is in it: {fault.strerror}"
+        ]
+    return Book(rows + [it for it in waiting if it.id not in known], faults + wrong)
+
+
+def rows_of(archive):
+    """The records of the line's file, and what is wrong with it."""
+    path, inbox = pathlib.Path(archive) / FILE_NAME, inbox_of(archive)
+    try:
+        count, chain = collected_in(inbox)
+        text = path.read_bytes() if path.exists() else b""
+    except (OSError, ValueError) as fault:
+        return [], [
+            f"{getattr(fault, 'filename', None) or inbox / COLLECTED}: it can't be read, so it isn't known whether work was untraced: {fault}"
+        ]
+    records, chains, wrong = parsed(path, text)
+    if wrong:
+        return records, [wrong]
+    if len(records) < count or (count and chains[count - 1] != chain):
+        why = (
+            "is gone"
+            if not text
+            else "has fewer rows"
+            if len(records) < count
+            else "is another file"
+        )
+        return records, [
+            f"{path}: it {why}: {inbox / COLLECTED} names {count} rows and another last one. Take it from a copy"
+        ]
+    if records and not count:
+        return records, [
+            f"{inbox / COLLECTED}: it is gone, or the folder isn't there, so records may be missing: bring the folder {inbox.name} back, then call tracedesk-untraced collect"
+        ]
+    return records, []
+
+
+def collected_in(inbox):
+    """How many rows were collected from the inbox, and the chain of the last one."""
+    try:
+        told = json.loads((inbox / COLLECTED).read_text(encoding="ascii"))
+        return int(told["Rows"]), str(told["Chain"])
+    except FileNotFoundError:
+        return 0, BEGIN
+    except (KeyError, TypeError, UnicodeDecodeError) as fault:
+        raise ValueError(f"it is damaged: {fault!r}") from fault
+
+
+def parsed(path, text):
+    """The records of a file's whole lines and their chains, and what is wrong; a last line without its end was cut off, and is none yet."""
+    records: list = []
+    chains: list = []
+    before = BEGIN
+    lines = text[: text.rfind(b"\n") + 1].decode("utf-8", "replace")
+    rows = csv.reader(io.StringIO(lines, newline=""), strict=True)
+    try:
+        for number, row in enumerate(rows):
+            if number == 0:
+                if row != list(HEADER):
+                    return records, chains, f"{path}, line 1: the header is not {','.join(HEADER)}"
+                continue
+            record = record_of(row[13].encode() + b"\n") if len(row) == len(HEADER) else None
+            if (
+                record is None
+                or row[:13] != said(record)
+                or row[14] != (before := chained(before, record))
+            ):
+                return (
+                    records,
+                    chains,
+                    f"{path}, line {rows.line_num}: it is not as it was written, nor is what follows it. Take the file from a copy",
+                )
+            records.append(record)
+            chains.append(before)
+    except (csv.Error, ValueError) as fault:
+        return (
+            records,
+            chains,
+            f"{path}, line {max(1, rows.line_num)}: {fault}. Take the file from a copy",
+        )
+    return records, chains, ""
+
+
+def waiting_in(inbox):
+    """The records in an inbox, and in the folder of decisions beside it, and what is wrong there. A decision in the inbox is none: who
+    may send may put it there."""
+    records, faults = [], []
+    for file in files_in(inbox):
+        try:
+            text = file.read_bytes()
+            record = record_of(text) if len(text) <= LONGEST else None
+            if record is None or record.id != file.stem:
+                raise ValueError("its name is not that of its bytes")
+            if (record.told["Kind"] == "decided") == (file.parent != inbox):
+                records.append(record)
+        except FileNotFoundError:
+            continue  # collected meanwhile: its row is on disk
+        except (ValueError, UnicodeDecodeError, RecursionError) as fault:
+            faults.append(f"{file}: {fault}: look at what its sender has of it, then move it away")
+    records.sort(key=lambda it: (it.told["At"], it.id))
+    return records, faults
+
+
+def files_in(inbox):
+    """The files of records that wait, and of decisions."""
+    for folder in (inbox, inbox.parent / DECIDED):
+        for file in sorted(folder.iterdir()) if folder.is_dir() else ():
+            if RECORD.fullmatch(file.name):
+                yield file
+
+
+def decisions(records):
+    """The newest decision about each record that was decided, by its id."""
+    return {it.told["Of"]: it for it in records if it.told["Kind"] == "decided"}
+
+
+def refused(records):
+    return [it for it in records if it.told["Kind"] == "refused"]
+
+
+def differing(records):
+    """The boards of which a machine names other reels than the desk."""
+    return [it for it in records if it.told["Kind"] == "differs"]
+
+
+def undecided(records):
+    """The reports of work, and the boards whose reels differ, about which nobody decided."""
+    decided, its = decisions(records), [*refused(records), *differing(records)]
+    return [it for it in its if is_work(it) and it.id not in decided]
+
+
+# --- Writing
+
+
+def collect(archive):
+    """Appends what is in the inbox to the line's file. Returns its records, how many are new, and what is wrong in the inbox; a Fault where the file is damaged."""
+    archive = pathlib.Path(archive)
+    with files.held(archive):
+        records, faults = rows_of(archive)
+        inbox, path = inbox_of(archive), archive / FILE_NAME
+        if faults and not (records and not collected_in(inbox)[0] and inbox.is_dir()):
+            raise plant.Fault(faults[0])
+        waiting, wrong = waiting_in(inbox)
+        known = {it.id for it in records}
+        new = [it for it in waiting if it.id not in known]
+        if new:
+            append(path, records, new)
+            plant.reached("appended")
+        if new or len(records) != collected_in(inbox)[0]:
+            records += new
+            note(inbox, records)
+            plant.reached("noted")
+        for it in waiting:
+            place_of(inbox, it).unlink(missing_ok=True)
+        limit(inbox)
+    return records, len(new), wrong
+
+
+def place_of(inbox, record):
+    """Where a record waits."""
+    folder = inbox.parent / DECIDED if record.told["Kind"] == "decided" else inbox
+    return folder / f"{record.id}.json"
+
+
+def limit(inbox):
+    """Has nginx take no more where too much waits, and no record can be made of it."""
+    with contextlib.suppress(FileNotFoundError):
+        waiting = sum(it.stat().st_size for it in files_in(inbox))
+        if waiting > MOST_WAITING:
+            (inbox / FULL).touch()
+        else:
+            (inbox / FULL).unlink(missing_ok=True)
+
+
+def append(path, records, new):
+    """Writes the rows of new records behind those that are there, and waits until they are on disk. What a killed call left of a row goes."""
+    before = BEGIN
+    for it in records:
+        before = chained(before, it)
+    text = io.StringIO()
+    rows = csv.writer(text, lineterminator="\n")
+    if not records and not (
+        path.exists() and path.read_bytes().startswith(",".join(HEADER).encode() + b"\n")
+    ):
+        rows.writerow(HEADER)
+    for it in new:
+        before = chained(before, it)
+        rows.writerow([*said(it), it.text, before])
+    with open(path, "a+b") as file:
+        file.seek(0)
+        kept = file.read()
+        file.truncate(kept.rfind(b"\n") + 1)
+        file.write(text.getvalue().encode())
+        file.flush()
+        os.fsync(file.fileno())
+    files.keep(path.parent)
+
+
+def note(inbox, records):
+    chain = BEGIN
+    for it in records:
+        chain = chained(chain, it)
+    files.put(inbox / COLLECTED, json.dumps({"Rows": len(records), "Chain": chain}) + "\n", 0o644)
+
+
+def now():
+    return f"{datetime.datetime.now(datetime.timezone.utc):%Y-%m-%dT%H:%M:%SZ}"
+
+
+def decide(archive, of, by, became, reason):
+    """Puts a decision into the inbox and collects it. Returns its record; a Fault where there is no such report of work."""
+    records, _, _ = collect(archive)
+    if of not in {it.id for it in [*refused(records), *differing(records)]}:
+        raise plant.Fault(f"there is no untraced work {of}: tracedesk-untraced list has the ids")
+    told = {
+        "At": now(),
+        "Became": became,
+        "By": by,
+        "Kind": "decided",
+        "Of": of,
+        "Reason": reason,
+        "Version": 1,
+    }
+    record = record_of(json.dumps(told, sort_keys=True, separators=(",", ":")).encode() + b"\n")
+    place = place_of(inbox_of(archive), record)
+    place.parent.mkdir(exist_ok=True)
+    files.put(place, record.text + "\n", 0o644)
+    collect(archive)
+    return record
+
+
+def write_status(folder, records):
+    """Writes what the station's screens read: what is undecided, and the ids of what was decided last."""
+    names = ("Id", "At", "Machine", "Board", "MessageName", "Refusal", "Place")
+    open_ones = [
+        dict(zip(names, [row[0], *row[2:5], f"TraceDesk.{word_of(it)}", *row[6:8]]))
+        for it in undecided(records)
+        for row in [said(it)]
+    ]
+    told = {
+        "At": now(),
+        "Decided": list(decisions(records))[-MOST_DECIDED:],
+        "Undecided": open_ones,
+        "Version": 1,
+    }
+    files.put(pathlib.Path(folder) / STATUS, json.dumps(told) + "\n", 0o644)
+
+
+def copy(archive, to, opened):
+    """Copies the inbox and the file into a copy of the line, the archives of which are in its folder of that name; what is wrong with them.
+
+    The inbox goes first: a record that leaves it meanwhile is in the file by then."""
+    inbox, path = inbox_of(archive), pathlib.Path(archive) / FILE_NAME
+    names = (
+        sorted(
+            it.name for it in inbox.iterdir() if RECORD.fullmatch(it.name) or it.name == COLLECTED
+        )
+        if inbox.is_dir()
+        else []
+    )
+    decided = inbox.parent / DECIDED
+    decisions_there = [it for it in files_in(inbox) if it.parent == decided]
+    for file, copied in [
+        *((it, to / DECIDED / it.name) for it in decisions_there),
+        *((inbox / it, to / INBOX / it) for it in names),
+        (path, to / pathlib.Path(archive).name / FILE_NAME),
+    ]:
+        with contextlib.suppress(FileNotFoundError), opened(file) as source:
+            copied.parent.mkdir(mode=0o700, parents=True, exist_ok=True)
+            copied.write_bytes(source.read())
+    return read(archive).faults
+
+
+def records_of(folder, name="archive"):
+    """The records of a copy of the line, or of what a restore put aside, as far as they can be read."""
+    path = folder / name / FILE_NAME
+    return [
+        *(parsed(path, path.read_bytes())[0] if path.exists() else ()),
+        *waiting_in(folder / INBOX)[0],
+    ]
+
+
+def take_back(archive, records):
+    """Puts those of these records into the inbox that the line doesn't have: so a restore loses none."""
+    inbox, known = inbox_of(archive), {it.id for it in read(archive).records}
+    for it in records:
+        if it.id not in known:
+            place = place_of(inbox, it)
+            place.parent.mkdir(exist_ok=True)
+            files.put(place, it.text + "\n", 0o644)
