@@ -74,11 +74,16 @@ def asked(chain, words, files, archives, about=""):
     """
     parts, options, first, last = [], [], 0, len(files)
     middle: list = []
+    links: list = []
     while first < len(files):
         try:
-            parts.append((first, asked_of(chain, [*words, *middle], files[first:last], about)))
+            asks = [*words, *middle, *links]
+            parts.append((first, asked_of(chain, asks, files[first:last], about)))
             first, last, middle = last, len(files), ["--from-middle"]
         except NoAnswer as fault:
+            if fault.status == BEGUN and len(fault.ends) > 1 and not links:
+                links = ["--without-marks"]  # marks of older tools are compared below alone
+                continue
             if (
                 fault.status == BEGUN and not middle and not identity.mark_of(files[0])
             ):  # a sender's UniqueIDs begin as those of a beginning do
