@@ -300,7 +300,7 @@ def test_commands_are_spelled_as_they_were_said(
     desk = random_desk(program, folder, number)
     copy = check.Copy(desk.file, 3)
     with contextlib.closing(copy.database), check.place_of_new(0) as room:
-        assert not list(check.Replay(copy, desk.program, room).findings())
+        assert not list(check.Replay(copy, str(desk.program), room).findings())
 
 
 def test_those_commands_are_of_all_kinds(program: pathlib.Path, folder: pathlib.Path) -> None:
