@@ -9,10 +9,12 @@ import pytest
 
 pytest.register_assert_rewrite("lab")
 
-from lab import line as lines  # noqa: E402
+from lab import installed as installations, line as lines  # noqa: E402
 from lab import messages, world as worlds  # noqa: E402
 from lab.desk import Desk  # noqa: E402
+from lab.installed import Installed  # noqa: E402
 from lab.line import Line, NewLine  # noqa: E402
+from lab.machine import Machine  # noqa: E402
 from lab.shifted import Shifted  # noqa: E402
 from lab.world import World  # noqa: E402
 
@@ -108,3 +110,16 @@ def site(program: pathlib.Path) -> "Iterator[object]":
 
     with Site(str(program)) as made:
         yield made
+
+
+@pytest.fixture(scope="session")
+def installed(program: pathlib.Path) -> Iterator[Installed]:
+    """The packages on a fresh Debian 12, on which all commands of docs/operations.md were run."""
+    with installations.installed(program) as made:
+        yield made
+
+
+@pytest.fixture(scope="session")
+def machine(installed: Installed) -> Machine:
+    """That Debian, and a client beside it."""
+    return installed.machine
