@@ -1,4 +1,5 @@
-"""The fixtures of the tests of ops/. The conftest.py at the top has the options, markers and programs."""
+"""The fixtures of the tests of ops/. The conftest.py at the top has the options, markers and
+programs."""
 import os
 import pathlib
 import tempfile
@@ -26,7 +27,8 @@ def quick_tools() -> None:
 
 @pytest.fixture
 def folder() -> Iterator[pathlib.Path]:
-    """A folder of the test's own, which root's tools and other users can reach, and whose name is short."""
+    """A folder of the test's own, which root's tools and other users can reach, and whose name is
+    short."""
     with tempfile.TemporaryDirectory(prefix="ops-") as name:
         pathlib.Path(name).chmod(0o755)
         yield pathlib.Path(name)
@@ -44,8 +46,9 @@ def desk(program: pathlib.Path, folder: pathlib.Path) -> Iterator[Desk]:
 
 @pytest.fixture
 def new_line(program: pathlib.Path, folder: pathlib.Path) -> Iterator[NewLine]:
-    """Makes lines that are served, and ended afterwards: `new_line(folder, name, desk, messages)`. Without a folder it is the
-    test's; without messages they are those of the first line, with UniqueIDs of the line's own."""
+    """Makes lines that are served, and ended afterwards: `new_line(folder, name, desk, messages)`.
+    Without a folder it is the test's; without messages they are those of the first line, with
+    UniqueIDs of the line's own."""
     made: list[Line] = []
 
     def new(
