@@ -101,6 +101,10 @@ class Plant:
         done = [self.message("WorkCompleted", Board=self.model.board)] if self.model.board else []
         self.say(*done, self.message("WorkStarted", Board=f"B{self.number}"))
 
+    def is_idle(self) -> bool:
+        """Whether nothing of the machine waits for an answer."""
+        return not any(self.out.iterdir()) and not any(self.room.glob("spool/waiting/*"))
+
     def calls(self) -> Iterator[Tuple[float, str, str]]:
         """Each call of the command: when, the state, and the reason."""
         for line in self.log.read_text().splitlines():
@@ -121,6 +125,7 @@ class Plant:
 
     def refusal(self, from_tablet: bool) -> float:
         """Seconds from the answer that refuses to the call that stops."""
+        self.wait_for(self.is_idle)
         self.log.write_text("")
         self.begin_board()
         self.wait_for(self.is_permitted)
@@ -143,6 +148,7 @@ class Plant:
 
     def killed(self, chance: random.Random) -> bool:
         """Kills the sender around a start; whether the machine stops, and stays so until a start is accepted anew."""
+        self.wait_for(self.is_idle)
         self.log.write_text("")
         self.begin_board()
         if chance.random() < 0.7:
@@ -213,6 +219,7 @@ def run(
                 took[deed].append(plant.refusal(deed == "tablet"))
             if number % 20 == 19:
                 say(shown(figures(done, stopped, took)))
+        plant.wait_for(plant.is_idle)
         plant.begin_board()
         plant.wait_for(plant.is_permitted)
         plant.sender.terminate()

@@ -191,6 +191,15 @@ def test_a_scan_that_is_answered_again_mends_nothing(line: Line) -> None:
     assert line.scan(told, line.model.say(json.dumps(told).encode())[0]) == "stop"
 
 
+def test_a_refused_scan_that_is_sent_again_and_accepted_mends(line: Line) -> None:
+    line.start()
+    told = line.message("MaterialsSpliced", Slot="1", Reel="1-K9")
+    line.model.tapes["2"].append("1-K9")
+    assert line.scan(told, line.model.say(json.dumps(told).encode())[0]) == "stop"
+    line.model.tapes["2"].remove("1-K9")
+    assert line.scan(told, line.model.say(json.dumps(told).encode())[0]) == "go"
+
+
 def test_an_own_message_that_is_answered_again_mends_nothing(line: Line) -> None:
     line.start()
     told = line.message("MaterialsSpliced", Slot="1", Reel="1-K2")

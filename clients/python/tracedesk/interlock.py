@@ -385,8 +385,10 @@ class Interlock:
                 is_news = True
                 if status == 200:
                     self.mend(it, body.get("Slot"), str(message.get("Source")), first)
-                elif status in (400, 409, 422) and not told["IsOwn"]:
-                    self.refuse_scan(it, message)
+                elif status in (400, 409, 422):
+                    del self.first_seen[uid]  # accepted later, it is new
+                    if not told["IsOwn"]:
+                        self.refuse_scan(it, message)
             cut(self.first_seen)
             self.scan_place, self.scans_at = place, clock()
         if scans:
