@@ -50,9 +50,8 @@ def new():
     return http.client.HTTPSConnection("desk.plant", context=trust)
 
 told, threads = [], [threading.Thread(target=ask, args=([new()], 20)) for _ in range(10)]
-began = time.monotonic()
 [it.start() for it in threads] and [it.join() for it in threads]
-print(set(told), f"{time.monotonic() - began:.1f}")
+print(set(told))
 held, told = [], []
 for _ in range(64):  # each has begun a request, and doesn't end it
     plain = socket.create_connection(("desk.plant", 443))
@@ -129,12 +128,10 @@ def test_inner_ports_are_out_of_reach(machine: Machine, port: int) -> None:
 # --- Many clients
 
 
-def test_rates_of_an_address_are_limited(machine: Machine) -> None:
-    """200 requests take four seconds, and a 65th connection is told so."""
+def test_a_65th_connection_of_an_address_is_refused(machine: Machine) -> None:
+    """And 200 requests in a row are not."""
     machine.write(MANY_CLIENTS, "/tmp/many.py")
-    said = machine.by_client("python3 /tmp/many.py").split("\n")
-    seconds = re.fullmatch(r"\{200\} ([0-9.]+)", said[0])
-    assert seconds and float(seconds[1]) >= 3.9 and said[1] == "[429, 200]"
+    assert machine.by_client("python3 /tmp/many.py").split("\n")[:2] == ["{200}", "[429, 200]"]
 
 
 def slow_client(byte_pause: float) -> str:
