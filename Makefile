@@ -2,7 +2,7 @@
 # wants beside Python 3: rt is Rattle's kit, and the others are packages of Debian 12. A line of #: begins a group.
 # The program is that of PROGRAM=FILE, else crates/tracedesk/out/tracedesk as long as no source is newer. Where neither is there,
 # make build and make test prove and build it, make demo runs it before its proof, and the others say so and end.
-.PHONY: help demo build day plant-recall test ops-test wrong-bodies faults send-test bridge-test station-test plant-test bench pictures dist
+.PHONY: help demo build day plant-recall test lint ops-test wrong-bodies faults send-test bridge-test station-test plant-test bench pictures dist
 row = sed -n 's/^\($(1)\):\( *\)\#\# /make \1\2/p; s/^\#: /\n/p' $(firstword $(MAKEFILE_LIST))
 say = @$(call row,$@) | grep make >&2
 
@@ -22,9 +22,11 @@ plant-recall:  ## three lines in one PostgreSQL, and a recall over them, compare
 	@/usr/bin/python3 -m pytest -q ops/tests/test_plant_*.py ops/tests/test_three_ways.py ops/tests/test_company.py
 
 #: test
-test:          ## the tests: proves everything from nothing, tries wrong bodies, runs the tests and the worked cases, fails calls | 1 h | rt curl, and gcc libc6-dev, or failing calls are skipped
+test:          ## the gate: looks at the sources, proves everything from nothing, tries wrong bodies, runs the tests and the worked cases, fails calls; a table says what each step cost | 1 h | rt, and the packages of dev/packages.txt, or what wants them is skipped
 	$(say)
 	@dev/test
+lint:          ## format, types, unused names, scripts and lengths of files, in all that isn't Rattle | 1 min | black mypy pyflakes3 eslint shellcheck
+	@dev/lint
 ops-test:      ## all tests of the tools in ops/, also those that take minutes or want root, but for make plant-test | 30 min | postgresql postgresql-15-plproxy python3-psycopg python3-pytest nginx openssl
 	$(say)
 	@/usr/bin/python3 -m pytest -q ops/tests --ignore-glob='*installed*'
@@ -52,9 +54,9 @@ bridge-test:   ## the bridge: its table, its sources, kills, and kills of Rabbit
 station-test:  ## the station in headless Chromium behind nginx: each flow, kills, looks: docs/station.md | 15 min | chromium chromium-driver python3-selenium nginx zbar-tools poppler-utils openssl
 	$(say)
 	@station/tests/station-test
-plant-test:    ## installs the packages on a fresh Debian 12 of its own, as root, follows docs/operations.md there, and runs the tests of ops/ | 20 min | debootstrap iproute2 pandoc binutils debhelper
+plant-test:    ## installs the packages on a fresh Debian 12 of its own, as root, follows docs/operations.md there, and runs the tests of ops/ | 20 min | debootstrap iproute2 pandoc binutils debhelper python3-pytest
 	$(say)
-	@ops/tests/plant-test
+	@/usr/bin/python3 -m pytest -q ops/tests/test_installed*.py
 
 #: measure
 bench:         ## what a day costs, beside stock SQLite | 5 min | time

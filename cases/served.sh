@@ -1,3 +1,4 @@
+# shellcheck shell=bash disable=SC2016,SC2034  # scripts that source this use its names
 # For scripts of cases that a step of the kind `tool` runs: sourced by them, in the folder where the case runs. The desk in `desk` is
 # served at a free port, and `here` are the words by which ops/tracedesk-rollover and ops/tracedesk-backup know that service.
 set -u

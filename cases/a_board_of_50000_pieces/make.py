@@ -4,6 +4,7 @@ Slot n feeds 5,000 designators off the reel Kn. The reels are opened by their lo
 the board is begun a minute before that and built at the minute.
 """
 import pathlib
+from typing import Any
 
 from spelling import accepted, message, write
 
@@ -12,26 +13,26 @@ names = {n: [f"R{n}-{place}" for place in range(1, 5_001)] for n in slots}
 rows = [{"Slot": str(n), "PartNumber": "P", "Designators": names[n]} for n in slots]
 
 
-def received(n):
+def received(n: int) -> tuple[str, str]:
     asked = message(
         f"r{n}", "ReelReceived", Reel=f"K{n}", PartNumber="P", Lot="L1", Level="5a", Quantity=5_000
     )
     return asked, accepted(3 + n, f"r{n}")
 
 
-def loaded(n):
+def loaded(n: int) -> Any:
     asked = message(f"l{n}", "MaterialsLoaded", Machine="M", Slot=str(n), Reel=f"K{n}")
     return asked, accepted(13 + n, f"l{n}", MinutesLeft=1_440)
 
 
-def installed(n):
+def installed(n: int) -> tuple[str, str]:
     asked = message(
         f"i{n}", "MaterialsInstalled", 1_440, Machine="M", Board="B1", Designators=names[n]
     )
     return asked, accepted(24 + n, f"i{n}", Reels=[f"K{n}"] * 5_000)
 
 
-def csv(name, header, rows):
+def csv(name: str, header: str, rows: Any) -> None:
     pathlib.Path(name).write_text("".join(f"{line}\n" for line in [header, *rows]))
 
 

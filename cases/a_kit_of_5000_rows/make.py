@@ -13,7 +13,7 @@ rows = [{"Slot": str(n), "PartNumber": parts[n], "Designators": [f"R{n}"]} for n
 reels = [(f"K{n:03}", "P", 1) for n in range(1, 101)] + [("Q1", "Q", 3_000)]
 
 
-def received(number, reel, part, quantity):
+def received(number: int, reel: str, part: str, quantity: int) -> tuple[str, str]:
     asked = message(
         f"u{number}",
         "ReelReceived",
@@ -26,7 +26,7 @@ def received(number, reel, part, quantity):
     return asked, accepted(number, f"u{number}")
 
 
-def kit_rows(n):
+def kit_rows(n: int) -> list[str]:
     if parts[n] == "P" and n < 100:
         return [f"{n},P,2,K{n:03},1,unlimited", f"{n},P,2,K{n + 1:03},1,unlimited"]
     if n == 2:

@@ -1,4 +1,5 @@
 """A machine with as many slots as a sheet may have rows: each is loaded, and a board takes a piece off each."""
+from typing import Any
 from spelling import accepted, message, refused, write
 
 slots = range(1, 5_001)
@@ -6,7 +7,7 @@ names = [f"R{n}" for n in slots]
 rows = [{"Slot": str(n), "PartNumber": "P", "Designators": [f"R{n}"]} for n in slots]
 
 
-def fed(n):
+def fed(n: int) -> tuple[Any, Any]:
     """Receipt and load of the reel of slot n: the commands 2n + 2 and 2n + 3."""
     reel = message(
         f"r{n}", "ReelReceived", Reel=f"K{n}", PartNumber="P", Lot="L1", Level="1", Quantity=1
@@ -18,7 +19,7 @@ def fed(n):
     )
 
 
-def start(uid, board):
+def start(uid: str, board: str) -> str:
     return message(uid, "WorkStarted", Machine="M", Board=board)
 
 

@@ -6,6 +6,7 @@ of level 3's 10,080 minutes. K3 was baked, and has used up its label's 60 minute
 800, so 4,020 of level 4's 4,320 minutes are left.
 """
 import pathlib
+from typing import Any, Iterator
 
 from spelling import accepted, answer, message, refused, stamp, text
 
@@ -22,7 +23,7 @@ SETUP = [
 ]
 
 
-def receipt(reel, part, lot, level, quantity, **label):
+def receipt(reel: str, part: str, lot: str, level: str, quantity: int, **label: int) -> Any:
     return (
         "ReelReceived",
         {
@@ -36,16 +37,16 @@ def receipt(reel, part, lot, level, quantity, **label):
     )
 
 
-def mount(word, slot, reel):
+def mount(word: str, slot: str, reel: str) -> Any:
     return (word, {"Machine": "M", "Slot": slot, "Reel": reel})
 
 
-def work(word, **more):
+def work(word: str, **more: Any) -> Any:
     return (word, {"Machine": "M", "Board": "B1", **more})
 
 
 # of the old desk: minute, word and body, and what the answer tells
-OLD = [(0, *it, {}) for it in SETUP] + [
+OLD: list[Any] = [(0, *it, {}) for it in SETUP] + [
     (0, *receipt("K1", "P", "L1", "5a", 10), {}),
     (0, *receipt("K2", "P", "L1", "3", 30), {}),
     (0, *receipt("K3", "P", "L2", "6", 5, LabelMinutes=60), {}),
@@ -68,7 +69,7 @@ OLD = [(0, *it, {}) for it in SETUP] + [
 
 # of the new one: K2's exposure of 1,600 minutes is the longest, so it begins at minute 400. K1 is told as out for its
 # whole floor life, from 560 on, and K2 can't stand behind it before
-NEW = [(400, *it, {}) for it in SETUP] + [
+NEW: list[Any] = [(400, *it, {}) for it in SETUP] + [
     (400, *receipt("K1", "P", "L1", "5a", 9), {}),
     (400, *receipt("K2", "P", "L1", "3", 30), {}),
     (400, *receipt("K3", "P", "L2", "6", 5, LabelMinutes=60), {}),
@@ -93,12 +94,12 @@ KNOWN = [
 ALL = len(NEW) + len(KNOWN) + 1  # the last command is a ClockSet of its own
 
 
-def own(number):
+def own(number: int) -> str:
     """The UniqueID of a message that begins the new desk; all but the last name the checksum of the old desk's file, which is the same in each run."""
     return "desk-begun" if number == len(NEW) else f"begin-fd09d4110d58226e648b787d-{number}"
 
 
-def begun(uid, minute, word, body, source="begin"):
+def begun(uid: str, minute: int, word: str, body: Any, source: str = "begin") -> str:
     """A message of ops/tracedesk-begin."""
     envelope = {
         "MessageName": "TraceDesk." + word,
@@ -108,11 +109,11 @@ def begun(uid, minute, word, body, source="begin"):
     return text({**envelope, "TimeStamp": stamp(minute).removesuffix("Z"), "MessageBody": body})
 
 
-def lines(name, them):
+def lines(name: str, them: Any) -> None:
     pathlib.Path(name).write_text("".join(it + "\n" for it in them))
 
 
-def later(first):
+def later(first: int) -> Iterator[Any]:
     """What both desks are told afterwards, of which the second is one number behind the first, and their answers."""
     yield message("v1", "MaterialsLoaded", 2000, Machine="M", Slot="2", Reel="K3"), refused(
         "v1", "Expired", "K3"
@@ -139,7 +140,7 @@ def later(first):
     )
 
 
-def again():
+def again() -> Iterator[Any]:
     """What the old desk accepted is sent to the new one, and once more as a ClockSet, by which the message is known."""
     for place, (uid, minute) in enumerate(KNOWN, len(NEW) + 1):
         _, word, body, _ = OLD[int(uid[1:]) - 1]

@@ -8,13 +8,13 @@ import time
 PORT = int(sys.argv[1])
 
 
-def told(link):
+def told(link: http.client.HTTPConnection) -> None:
     answer = link.getresponse()
     body = answer.read().decode()
     print(answer.status, answer.headers["content-type"], answer.headers["content-length"], body)
 
 
-def link():
+def link() -> socket.socket:
     for _ in range(500):
         try:
             return socket.create_connection(("127.0.0.1", PORT), timeout=20)

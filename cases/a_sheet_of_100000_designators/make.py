@@ -1,8 +1,9 @@
 """A sheet of 20 rows with 5,000 designators each, and one whose last designator is the first one again."""
+from typing import Any
 from spelling import accepted, message, refused, write
 
 
-def sheet(uid, names):
+def sheet(uid: str, names: Any) -> Any:
     rows = [names[at : at + 5_000] for at in range(0, 100_000, 5_000)]
     told = [
         {"Slot": str(n), "PartNumber": "P", "Designators": row} for n, row in enumerate(rows, 1)

@@ -1,8 +1,9 @@
 """A sheet of as many rows as may be, one row more, and what is wrong only in the last row."""
+from typing import Any
 from spelling import accepted, faulty, message, refused, write
 
 
-def sheet(uid, *rows):
+def sheet(uid: str, *rows: Any) -> Any:
     told = [{"Slot": slot, "PartNumber": "P", "Designators": [name]} for slot, name in rows]
     return message(uid, "SheetDefined", Product="PR", Machine="M", Rows=told)
 

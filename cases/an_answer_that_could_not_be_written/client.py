@@ -13,7 +13,7 @@ MESSAGE = open("messages.jsonl", "rb").read().rstrip(b"\n")
 POST = b"POST /messages HTTP/1.1\r\nContent-Length: %d\r\n\r\n" % len(MESSAGE) + MESSAGE
 
 
-def link():
+def link() -> socket.socket:
     for _ in range(2_000):
         try:
             return socket.create_connection(("127.0.0.1", PORT), timeout=20)
@@ -22,7 +22,7 @@ def link():
     raise SystemExit("no connection was taken")
 
 
-def last_line(answers):
+def last_line(answers: bytes) -> str:
     return answers.split(b"\n")[-1].decode()
 
 

@@ -1,19 +1,20 @@
 """A sheet row of as many designators as may be, and one install of them all off two reels."""
+from typing import Any
 from spelling import accepted, faulty, message, refused, write
 
 
-def sheet(uid, names):
+def sheet(uid: str, names: Any) -> Any:
     row = {"Slot": "1", "PartNumber": "P", "Designators": names}
     return message(uid, "SheetDefined", Product="PR", Machine="M", Rows=[row])
 
 
-def reel(uid, name, quantity):
+def reel(uid: str, name: Any, quantity: int) -> Any:
     return message(
         uid, "ReelReceived", Reel=name, PartNumber="P", Lot="L1", Level="1", Quantity=quantity
     )
 
 
-def install(uid, names):
+def install(uid: str, names: Any) -> str:
     return message(uid, "MaterialsInstalled", Machine="M", Board="B1", Designators=names)
 
 

@@ -4,11 +4,12 @@ import http.client
 import socket
 import sys
 import time
+from typing import Any
 
 PORT = int(sys.argv[1])
 
 
-def link():
+def link() -> socket.socket:
     for _ in range(500):
         try:
             return socket.create_connection(("127.0.0.1", PORT), timeout=20)
@@ -17,7 +18,7 @@ def link():
     raise SystemExit("no connection was taken")
 
 
-def asked(desk):
+def asked(desk: Any) -> Any:
     desk.request("GET", "/overdue")
     answer = desk.getresponse()
     return answer.status, answer.read().decode()

@@ -1,14 +1,15 @@
 """As many counts in a message as may be, and one more."""
+from typing import Any
 from spelling import accepted, faulty, message, refused, write
 
 
-def counts(uid, rows):
+def counts(uid: str, rows: Any) -> str:
     return message(
         uid, "CountsTaken", Counts=[{"Reel": reel, "Quantity": quantity} for reel, quantity in rows]
     )
 
 
-def reel(n):
+def reel(n: int) -> Any:
     asked = message(
         f"r{n}", "ReelReceived", Reel=f"K{n}", PartNumber="P", Lot="L1", Level="1", Quantity=10
     )

@@ -13,9 +13,10 @@ page = (ROOT / "docs/messages.md").read_text(encoding="utf-8")
 examples = [block.splitlines() for block in re.findall(r"^```json\n(.*?)^```$", page, re.M | re.S)]
 assert all(len(it) == 2 for it in examples), "an example is a message and its answer"
 words = {
-    re.search(r'"MessageName":"TraceDesk\.(\w+)"', asked)[1]
+    word
     for asked, _ in examples
-    if "TraceDesk." in asked and "MessageBody" in asked
+    if "MessageBody" in asked
+    for word in re.findall(r'"MessageName":"TraceDesk\.(\w+)"', asked)
 }
 assert len(words) == 17, f"of the seventeen messages {len(words)} have an example"
 answers = "".join(

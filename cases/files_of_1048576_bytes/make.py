@@ -1,10 +1,11 @@
 """Files of as many bytes as may be, and of one byte more, by the lines of no byte after what they say."""
 import pathlib
+from typing import Any
 
 MOST = 1_048_576
 
 
-def put(name, text, length=MOST, end="\n"):
+def put(name: str, text: str, length: int = MOST, end: Any = "\n") -> None:
     data = text.encode()
     pathlib.Path(name).write_bytes(data + end.encode() * (length - len(data)))
 

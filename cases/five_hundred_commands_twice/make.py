@@ -2,7 +2,7 @@
 from spelling import accepted, message, write
 
 
-def pair(n):
+def pair(n: int) -> tuple[str, str]:
     return message(f"u{n}", "PartDefined", PartNumber=f"P{n}"), accepted(n, f"u{n}")
 
 

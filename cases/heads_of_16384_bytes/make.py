@@ -5,7 +5,7 @@ begin = "GET /overdue HTTP/1.1\r\nX: "
 end = "\r\n\r\n"
 
 
-def put(name, text):
+def put(name: str, text: str) -> None:
     pathlib.Path(name).write_text(text, newline="")
 
 

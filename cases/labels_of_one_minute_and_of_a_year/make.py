@@ -1,10 +1,11 @@
 """Two reels of level 6 with the least and the greatest label, baked and opened at once, on a machine of two slots."""
+from typing import Any
 from spelling import accepted, faulty, message, refused, write
 
 YEAR = 525_600
 
 
-def received(uid, reel, label):
+def received(uid: str, reel: str, label: int) -> str:
     return message(
         uid,
         "ReelReceived",
@@ -17,11 +18,11 @@ def received(uid, reel, label):
     )
 
 
-def loaded(uid, slot, reel, minute):
+def loaded(uid: str, slot: str, reel: str, minute: int) -> Any:
     return message(uid, "MaterialsLoaded", minute, Machine="M", Slot=slot, Reel=reel)
 
 
-def started(uid, board, minute):
+def started(uid: str, board: str, minute: int) -> str:
     return message(uid, "WorkStarted", minute, Machine="M", Board=board)
 
 

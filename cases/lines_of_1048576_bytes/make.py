@@ -6,7 +6,7 @@ from spelling import accepted, faulty, message
 MOST = 1_048_576
 
 
-def line(number, length):
+def line(number: int, length: int) -> str:
     return message(f"u{number}", "PartDefined", PartNumber=f"P{number}").ljust(length)
 
 

@@ -7,7 +7,7 @@ import time
 PORT, BOARDS = int(sys.argv[2]), open(sys.argv[1]).read().split()[1:]
 
 
-def link():
+def link() -> socket.socket:
     for _ in range(5_000):
         try:
             return socket.create_connection(("127.0.0.1", PORT), timeout=100)
@@ -16,7 +16,7 @@ def link():
     raise SystemExit("no connection was taken")
 
 
-def lines(target):
+def lines(target: str) -> int:
     desk.request("GET", target)
     return desk.getresponse().read().count(b"\n")
 

@@ -1,14 +1,15 @@
 """Installs, sheets and counts of 16 lengths from 3 to 3,072, and a lot whose boards have as many pieces."""
 import pathlib
+from typing import Any
 
 from spelling import accepted, message, write
 
 LENGTHS = sorted([*(3 << n for n in range(11)), 250, 500, 1_000, 2_000, 2_500])
 NAMES = [f"R{n}" for n in range(1, 3_073)]
-pairs = []
+pairs: list[tuple[str, str]] = []
 
 
-def accept(word, body, **detail):
+def accept(word: str, body: Any, **detail: Any) -> None:
     uid = f"u{len(pairs) + 1}"
     pairs.append((message(uid, word, **body), accepted(len(pairs) + 1, uid, **detail)))
 

@@ -2,12 +2,13 @@
 import socket
 import sys
 import time
+from typing import Any
 
 PORT = int(sys.argv[1])
 REEL = b"reel,part,lot,level,received,placed,scrapped,remaining,minutes_left,state\nK1,P,L1,1,9,0,0,9,unlimited,sealed\n"
 
 
-def link():
+def link() -> socket.socket:
     for _ in range(5_000):
         try:
             return socket.create_connection(("127.0.0.1", PORT), timeout=20)
@@ -16,7 +17,7 @@ def link():
     raise SystemExit("no connection was taken")
 
 
-def report(body):
+def report(body: Any) -> bytes:
     return b"HTTP/1.1 200 OK\r\nContent-Type: text/csv\r\nContent-Length: %d\r\n\r\n%b" % (
         len(body),
         body,

@@ -2,7 +2,7 @@
 from spelling import accepted, faulty, message, write
 
 
-def nested(number, arrays):
+def nested(number: int, arrays: int) -> str:
     return (
         message(f"u{number}", "PartDefined", PartNumber=f"P{number}")[:-1]
         + f',"Extra":{"[" * arrays}{"]" * arrays}}}'

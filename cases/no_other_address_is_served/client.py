@@ -7,7 +7,7 @@ import time
 PORT = int(sys.argv[1])
 
 
-def link(address):
+def link(address: str) -> socket.socket | None:
     """A connection, or none where it is refused."""
     try:
         return socket.create_connection((address, PORT), timeout=20)

@@ -8,7 +8,7 @@ import time
 PORT = int(sys.argv[1])
 
 
-def link():
+def link() -> socket.socket:
     for _ in range(500):
         try:
             return socket.create_connection(("127.0.0.1", PORT), timeout=20)

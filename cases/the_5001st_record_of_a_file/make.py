@@ -2,7 +2,7 @@
 import pathlib
 
 
-def put(name, text):
+def put(name: str, text: str) -> None:
     pathlib.Path(name).write_bytes(text.encode("utf-8", "surrogateescape"))
 
 

@@ -40,9 +40,9 @@ import sys
 import tempfile
 import time
 
-import starts
+
 from typing import Any, Iterator
-from tracedesk_dev import postgres, program
+from tracedesk_dev import bench_line, postgres, program
 from tracedesk_dev.program import ROOT
 from tracedesk_ops import catalogue, plant
 from tracedesk_dev.bench_archives import LOT, MEMORY, line_of, made, whole
@@ -89,7 +89,7 @@ def loads(asked: argparse.Namespace, server: Any, room: pathlib.Path) -> Iterato
 
 def chain_of(asked: argparse.Namespace, at: Any) -> Any:
     """Makes the archives of one line that rolls over, and its catalogue; the path of each, and how many pieces there are."""
-    messages, pieces, ticks = starts.Line().messages(), 0, program.Ticks()
+    messages, pieces, ticks = bench_line.Line().messages(), 0, program.Ticks()
     files: list[Any] = []
     end = time.monotonic() + 60 * asked.minutes
     for number in range(asked.archives):
@@ -114,7 +114,7 @@ def chain_of(asked: argparse.Namespace, at: Any) -> Any:
                 if (
                     placed >= asked.pieces
                     and b"WorkCompleted" in text
-                    and f"-M{starts.MACHINES}".encode() in text
+                    and f"-M{bench_line.MACHINES}".encode() in text
                 ):
                     break  # no board is in work
             given.seek(

@@ -1,8 +1,9 @@
 """The gate counts what passed, failed and was skipped, and where nothing may be skipped a skip has failed."""
 import pathlib
+import re
 
 import pytest
-from tracedesk_dev import gate
+from tracedesk_dev import ROOT, gate, packages
 from tracedesk_dev.gate import Count, Step
 
 TESTS = """import pytest
@@ -94,3 +95,16 @@ def test_the_table_has_each_step_and_all_but_the_proofs(capsys: pytest.CaptureFi
         ["3", "4"],
         ["93", "104"],
     ]
+
+
+def test_each_command_that_a_test_wants_has_a_package() -> None:
+    tests = [
+        file
+        for name in ("ops", "clients", "station", "dev", "examples")
+        for file in (ROOT / name).rglob("test_*.py")
+    ]
+    marked = [
+        it for file in tests for it in re.findall(r"mark\.needs\(([^)]*)\)", file.read_text())
+    ]
+    wanted = {name for names in marked for name in re.findall(r'"([^"]+)"', names)}
+    assert wanted and wanted <= packages.by_command().keys()

@@ -7,11 +7,12 @@ import pytest
 from tracedesk_dev import ROOT
 
 CLEAN = '"""A tool."""\n\n\ndef twice(number: int) -> int:\n    return 2 * number\n'
+IGNORED = "  # type" + ": ignore[arg-type]\n"
 PLANTED = {
     "black": (CLEAN.replace("2 * number", "2*number"), 5),
     "mypy": (CLEAN + '\n\nprint(twice("2"))\n', 8),
     "pyflakes": (CLEAN.replace("\n\n\n", "\nimport os\n\n\n", 1), 2),
-    "reasons": (CLEAN + '\n\nprint(twice("2"))  # type: ignore[arg-type]\n', 8),
+    "reasons": (CLEAN + '\n\nprint(twice("2"))' + IGNORED, 8),
     "length": (CLEAN + "# a line\n" * 500, 501),
 }
 

@@ -262,7 +262,6 @@ def test_lintian_finds_nothing(packages: Packages) -> None:
     said = [it for it in done.stdout.splitlines() if not it.startswith("N:")]
     if done.returncode or said:
         raise Difference("\n".join(said) or f"status {done.returncode}")
-    overrides = (ROOT / "packaging/debian/lintian-overrides").read_text().splitlines()
 
 
 @pytest.mark.needs("man")

@@ -1,4 +1,5 @@
-"""The fixtures of the tests of ops/. The conftest.py at the top has the options, markers and programs."""
+"""The fixtures of the tests of ops/. The conftest.py at the top has the options, markers and
+programs."""
 import os
 import pathlib
 import tempfile
@@ -8,10 +9,12 @@ import pytest
 
 pytest.register_assert_rewrite("lab")
 
-from lab import line as lines  # noqa: E402
+from lab import installed as installations, line as lines  # noqa: E402
 from lab import messages, world as worlds  # noqa: E402
 from lab.desk import Desk  # noqa: E402
+from lab.installed import Installed  # noqa: E402
 from lab.line import Line, NewLine  # noqa: E402
+from lab.machine import Machine  # noqa: E402
 from lab.shifted import Shifted  # noqa: E402
 from lab.world import World  # noqa: E402
 
@@ -24,7 +27,8 @@ def quick_tools() -> None:
 
 @pytest.fixture
 def folder() -> Iterator[pathlib.Path]:
-    """A folder of the test's own, which root's tools and other users can reach, and whose name is short."""
+    """A folder of the test's own, which root's tools and other users can reach, and whose name is
+    short."""
     with tempfile.TemporaryDirectory(prefix="ops-") as name:
         pathlib.Path(name).chmod(0o755)
         yield pathlib.Path(name)
@@ -42,8 +46,9 @@ def desk(program: pathlib.Path, folder: pathlib.Path) -> Iterator[Desk]:
 
 @pytest.fixture
 def new_line(program: pathlib.Path, folder: pathlib.Path) -> Iterator[NewLine]:
-    """Makes lines that are served, and ended afterwards: `new_line(folder, name, desk, messages)`. Without a folder it is the
-    test's; without messages they are those of the first line, with UniqueIDs of the line's own."""
+    """Makes lines that are served, and ended afterwards: `new_line(folder, name, desk, messages)`.
+    Without a folder it is the test's; without messages they are those of the first line, with
+    UniqueIDs of the line's own."""
     made: list[Line] = []
 
     def new(
@@ -105,3 +110,16 @@ def site(program: pathlib.Path) -> "Iterator[object]":
 
     with Site(str(program)) as made:
         yield made
+
+
+@pytest.fixture(scope="session")
+def installed(program: pathlib.Path) -> Iterator[Installed]:
+    """The packages on a fresh Debian 12, on which all commands of docs/operations.md were run."""
+    with installations.installed(program) as made:
+        yield made
+
+
+@pytest.fixture(scope="session")
+def machine(installed: Installed) -> Machine:
+    """That Debian, and a client beside it."""
+    return installed.machine

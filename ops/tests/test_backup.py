@@ -66,7 +66,8 @@ def test_last_copies_of_days_and_months_are_kept(line: Line, folder: pathlib.Pat
 
 
 def test_copies_that_come_back_are_as_old_as_they_are(line: Line, folder: pathlib.Path) -> None:
-    """Copies were moved elsewhere to make room, and lie in the folder again: the newest is the one that was taken last."""
+    """Copies were moved elsewhere to make room, and lie in the folder again: the newest is the one
+    that was taken last."""
     for _ in range(3):
         line.backup().expect()
     elsewhere = line.copies.rename(folder / "elsewhere")
@@ -322,7 +323,8 @@ def beheaded(file: pathlib.Path) -> None:
 
 
 def test_lost_desk_among_copies_of_others(new_line: NewLine, folder: pathlib.Path) -> None:
-    """Its own copy is restored, though only the other desk has archives; where only the other has copies, none is."""
+    """Its own copy is restored, though only the other desk has archives; where only the other has
+    copies, none is."""
     one, two = new_line(folder / "line"), new_line(folder / "line", "L2", "other")
     one.backup().expect()
     first = one.newest()

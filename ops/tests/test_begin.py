@@ -1,6 +1,7 @@
 """tracedesk-begin on desks of random messages: the new desk answers as the old one.
 
-Of each seed random messages are fed to a desk, some of them refused, and a new one is begun with what tracedesk-begin prints.
+Of each seed random messages are fed to a desk, some of them refused, and a new one is begun with
+what tracedesk-begin prints.
 
     /usr/bin/python3 -m pytest ops/tests/test_begin.py -m whole -n 4
 """
@@ -80,7 +81,8 @@ def test_new_desk_answers_as_the_old_one(begun: Begun) -> None:
 
 
 def test_nothing_acts_that_the_old_desk_accepted(begun: Begun) -> None:
-    """It is refused as IdReused; a ClockSet in its place is Accepted, and says that it was this message."""
+    """It is refused as IdReused; a ClockSet in its place is Accepted, and says that it was this
+    message."""
     begin(begun.old, begun.new)
     query = "SELECT number, uid FROM accepted"
     there = begun.new.rows(query)

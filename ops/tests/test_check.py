@@ -1,4 +1,5 @@
-"""tracedesk-check of files that are sound, are no desk, can't be read or can't be judged, and how it ends."""
+"""tracedesk-check of files that are sound, are no desk, can't be read or can't be judged, and how
+it ends."""
 import argparse
 import contextlib
 import errno

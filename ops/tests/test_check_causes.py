@@ -1,4 +1,5 @@
-"""What tracedesk-check says of a file with a fault: which row of which table, which thing or which command it is."""
+"""What tracedesk-check says of a file with a fault: which row of which table, which thing or which
+command it is."""
 import contextlib
 import pathlib
 import random
@@ -201,7 +202,8 @@ def test_texts_in_utf_16(checked: Checked, folder: pathlib.Path) -> None:
         (
             "UPDATE accepted SET source = '' WHERE number = 10",
             "NotLawful 10",
-            'judged again it has \'{"Answer":"Faulty","Fault":"EnvelopeMember","Member":"Source"}\'',
+            "judged again it has "
+            """'{"Answer":"Faulty","Fault":"EnvelopeMember","Member":"Source"}'""",
         ),
         (
             "UPDATE accepted SET effective = 1 WHERE number = 4; "

@@ -1,4 +1,4 @@
-"""The idle clock: once a minute, only where the machine's clock is in sync, and not while senders are told to come again."""
+"""The idle clock: once a minute, if the machine's clock is in sync and senders may send."""
 import json
 import pathlib
 import random
@@ -19,7 +19,7 @@ def its(program: pathlib.Path) -> Iterator[Watched]:
 
 
 def in_one_minute(its: Watched) -> tuple[str, Ended, int]:
-    """The answer to one call, and a second call, both within a minute of the clock, which is that second."""
+    """The answer to a call, a second call within the same minute, and the first second of that."""
     for _ in range(20):
         minute = int(time.time()) // 60 * 60
         its.clock().expect()

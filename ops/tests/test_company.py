@@ -1,7 +1,7 @@
 """A company of several plants, each a PostgreSQL of its own, asked by PL/Proxy.
 
-Its answer is never a smaller one with status 0. Each plant has some files of made-up pieces. PLANTS in the environment says
-how many plants there are.
+Its answer is never a smaller one with status 0. Each plant has some files of made-up pieces.
+PLANTS in the environment says how many plants there are.
 """
 import concurrent.futures
 import contextlib
@@ -20,8 +20,8 @@ pytestmark = [pytest.mark.xdist_group("company")]
 PLANTS = int(os.environ.get("PLANTS", "3"))
 NOW = """to_char(now() AT TIME ZONE 'UTC', 'YYYY-MM-DD"T"HH24MISS"Z"')"""
 GRANTS = "GRANT USAGE ON SCHEMA plant TO recall; GRANT EXECUTE ON FUNCTION plant.answer TO recall;"
-# Of the plant NAME: two archives and the copy of a running desk. Each has pieces of the lot, on boards of its own and on
-# boards that other plants have too.
+# Of the plant NAME: two archives and the copy of a running desk. Each has pieces of the lot, on
+# boards of its own and on boards that other plants have too.
 FILES = f"""CREATE ROLE recall LOGIN; {GRANTS}
 SET search_path TO plant;
 INSERT INTO own_name VALUES ('NAME');

@@ -1,4 +1,5 @@
-"""A roll-over or a restore is killed, and then a file is lost or damaged: what the next tool makes of that."""
+"""A roll-over or a restore is killed, and then a file is lost or damaged: what the next tool makes
+of that."""
 import json
 import pathlib
 import shutil
@@ -19,7 +20,8 @@ def cut_rollover(line: Line, step: str) -> None:
 
 
 def each_command_once(line: Line) -> None:
-    """All commands of the line are there, each in one desk; the service is stopped for it, and started again."""
+    """All commands of the line are there, each in one desk; the service is stopped for it, and
+    started again."""
     with line.stopped():
         assert set(line.uids().values()) == {1}, line.uids()
 
@@ -35,7 +37,8 @@ FINISHES: dict[str, Callable[[Line], Ended]] = {
 @pytest.mark.parametrize("finish", FINISHES)
 @pytest.mark.parametrize("step", ["plan", "catalogue", "log"])
 def test_desk_that_is_lost_after_a_cut_rollover(line: Line, step: str, finish: str) -> None:
-    """The roll-over's own copy of the desk is archived, and each recall says that the file may have had more."""
+    """The roll-over's own copy of the desk is archived, and each recall says that the file may have
+    had more."""
     line.backup().expect()
     line.more("A")
     cut_rollover(line, step)
@@ -60,7 +63,8 @@ def test_desk_that_is_lost_after_a_cut_rollover(line: Line, step: str, finish: s
 
 @pytest.mark.parametrize("starter", ["service", "settle"])
 def test_desk_that_is_lost_after_a_cut_restore(line: Line, starter: str) -> None:
-    """Once its copy was in place, and may have taken commands, the older desk that lies aside is not put back."""
+    """Once its copy was in place, and may have taken commands, the older desk that lies aside is
+    not put back."""
     line.backup().expect()
     line.more("A")
     line.backup("--restore", kill_after="in place").expect(KILLED)
@@ -119,7 +123,8 @@ def cut(file: pathlib.Path) -> None:
 def test_file_of_a_cut_rollover_is_damaged(
     line: Line, step: str, name: str, spoil: Callable[[pathlib.Path], None]
 ) -> None:
-    """It is put back, unless the archive's folder has the file too: the desk and its commands are as before."""
+    """It is put back, unless the archive's folder has the file too: the desk and its commands are
+    as before."""
     cut_rollover(line, step)
     spoil(line.folder / "rollover-desk" / name)
     line.settle().expect()

@@ -1,4 +1,5 @@
-"""One point of each scenario of ops/tests/evidence-faults, and five sequences, chosen by the commit's hash.
+"""One point of each scenario of ops/tests/evidence-faults, and five sequences, chosen by the
+commit's hash.
 
 A point that is wrong is named, and ops/tests/evidence-faults POINT --seed N tries it again.
 """

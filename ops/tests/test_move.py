@@ -1,8 +1,10 @@
-"""tracedesk-move on desks of random messages: the new desk reports the same of a reel as the old one, and goes on alike.
+"""tracedesk-move on desks of random messages: the new desk reports the same of a reel as the old
+one, and goes on alike.
 
-Of each seed random messages are fed to an old desk, and the set-up of the same floor to a new one, whose clock is before, at or
-after the old one's, or which has accepted nothing. Each reel of the old desk is then moved, to a copy of the new one. Whether that is
-refused, and why, is worked out here from the tables.
+Of each seed random messages are fed to an old desk, and the set-up of the same floor to a new one,
+whose clock is before, at or after the old one's, or which has accepted nothing. Each reel of the
+old desk is then moved, to a copy of the new one. Whether that is refused, and why, is worked out
+here from the tables.
 
     /usr/bin/python3 -m pytest ops/tests/test_move.py -m whole -n 4
 """
@@ -52,7 +54,8 @@ def say(word: str, uid: str, minute: int, **body: Any) -> Message:
 
 
 def move(*words: Word) -> tuple[Union[str, list[Message]], str]:
-    """The messages that the tool prints, or the name of what it refuses; and what it says besides."""
+    """The messages that the tool prints, or the name of what it refuses; and what it says
+    besides."""
     done = call_here("move", *words)
     lines = [line.partition(": ")[2] for line in done.err.splitlines()]
     if done.status:
@@ -173,7 +176,8 @@ class Moving(Two):
         return "moved, pieces too late" if self.goes_on(reel, arrived, stays, end) else "moved"
 
     def goes_for_good(self, reel: str, leaves: list[Message]) -> None:
-        """The old desk takes all of its pieces off, and doesn't count them twice where it is told twice."""
+        """The old desk takes all of its pieces off, and doesn't count them twice where it is told
+        twice."""
         goes = self.copy(self.old, "goes")
         ((pieces,),) = goes.rows("SELECT remaining FROM reel WHERE reel = ?", reel)
         before, answers = minute_of(goes), accept(goes, leaves)
@@ -182,7 +186,8 @@ class Moving(Two):
         assert table(card(goes, reel))[0]["remaining"] == "0" and minute_of(goes) == before
 
     def goes_on(self, reel: str, arrived: Desk, stays: Desk, minute: int) -> int:
-        """Both get the same messages: answers, overdue lists and cards have to be the same; how many pieces are overdue."""
+        """Both get the same messages: answers, overdue lists and cards have to be the same; how
+        many pieces are overdue."""
         ((part,),) = stays.rows("SELECT part FROM reel WHERE reel = ?", reel)
         later = texts(self.later(reel, part, minute))
         answers = [
@@ -199,7 +204,8 @@ class Moving(Two):
         return len(overdue[0])
 
     def later(self, reel: str, part: str, minute: int) -> list[Message]:
-        """The reel is loaded, pieces are placed before and after its floor life ends, and it is sealed."""
+        """The reel is loaded, pieces are placed before and after its floor life ends, and it is
+        sealed."""
         names = iter(f"later{number}" for number in range(100))
         at = {"Machine": "MX", "Slot": "1"}
         work = {"Machine": "MX", "Board": "BX"}

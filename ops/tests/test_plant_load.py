@@ -1,4 +1,4 @@
-"""What a load of the plant's tables can meet: no piece is there twice, and each recall names what is missing, with status 3."""
+"""What a load can meet: no piece is there twice, and each recall names what is missing."""
 import pathlib
 import re
 import shutil
@@ -61,7 +61,7 @@ class Wanted:
         ((self.lot,),) = database.rows(MANY)
 
     def expect_files(self, database: Database) -> int:
-        """Looks whether each file that is there is there whole, and nothing else is; how many there are."""
+        """Looks whether whole files are there and nothing else is; how many there are."""
         files = plants.files(database)
         names = {row[1] for row in files}
         assert [row for row in files if row not in self.files] == []
@@ -300,7 +300,7 @@ def test_a_file_that_is_taken_out_amid_a_recall_is_an_error(
 
 
 def test_tables_of_0_3_0_are_upgraded(server: postgres.Server, folder: pathlib.Path) -> None:
-    """Nothing is lost or counted twice, and what it had not looked at is missing until it is loaded."""
+    """Nothing is lost or counted twice, and what it had not looked at is missing."""
     with tarfile.open(databases.OLDER) as packed:
         packed.extractall(folder / "older")
     upgraded = databases.create(server, "upgraded", schema="")

@@ -1,4 +1,4 @@
-"""Loads of lines on which something happened: a restore, work that the desk refused, and reels of which it heard late."""
+"""Loads of lines after a restore, after refused work, and after a reel was reported late."""
 import pathlib
 import re
 import shutil
@@ -42,7 +42,7 @@ def database(made: Database) -> Iterator[Database]:
 
 
 class Restored:
-    """A line whose desk went back to its oldest copy, and whose messages are sent again in another order."""
+    """A line that went back to its oldest copy, and gets its messages in another order."""
 
     def __init__(self, line: WorkedLine, database: Database) -> None:
         self.line, self.database, self.others = line, database, 0
@@ -77,7 +77,7 @@ class Restored:
 
 @pytest.fixture
 def restored(program: pathlib.Path, folder: pathlib.Path, database: Database) -> Iterator[Restored]:
-    """With a copy of its first part, one of both, and the older one put back after the tables had both."""
+    """With a copy of its first part and one of both parts; the tables have both."""
     line = WorkedLine(program, folder / "R1", "R1")
     line.serve()
     its = Restored(line, database)
@@ -98,7 +98,7 @@ def test_the_same_messages_behind_another_one_are_counted_once(restored: Restore
 
 
 def give_way(its: Restored) -> None:
-    """The tables have a copy of a later day, of a desk that went back then, and has a half of the second part."""
+    """The tables have a copy of a later day; then the desk went back to half of the second part."""
     its.go_back()
     its.go_on(its.other(), *its.sent[1])
     its.hand_in()
@@ -153,7 +153,7 @@ def test_a_desk_from_before_its_archive_is_missing_until_that_is_dropped(
 
 
 class Doubted:
-    """The line D1, whose reel K1 is on slot 1 of machine M, and which was copied into the tables."""
+    """The line D1, whose reel K1 is on slot 1 of machine M. The tables have its copies."""
 
     def __init__(self, line: WorkedLine, database: Database) -> None:
         self.line, self.database, self.said = line, database, 0
@@ -188,7 +188,7 @@ class Doubted:
 
 @pytest.fixture
 def doubted(program: pathlib.Path, folder: pathlib.Path, database: Database) -> Iterator[Doubted]:
-    """The reel was changed to K2 in minute 15, of which the desk heard after it had two pieces of minute 20."""
+    """Reel K2 was loaded in minute 15, and reported after two pieces of minute 20."""
     line = WorkedLine(program, folder / "D1", "D1")
     line.feed(FIRST_LINE)
     line.serve()

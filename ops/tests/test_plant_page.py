@@ -1,7 +1,8 @@
 """The commands of docs/plant.md, as they are written, on a plant of three lines.
 
-Lines L1 and L2 work on one day, and L3 on the next, also on the first boards of L1. In the middle of its shift each is rolled
-over, and it is copied at its end. The page's blocks are run in a folder that has the copies, by the rules of dev/try-pages.
+Lines L1 and L2 work on one day, and L3 on the next, also on the first boards of L1. In the middle
+of its shift each is rolled over, and it is copied at its end. The page's blocks are run in a folder
+that has the copies, by the rules of dev/try-pages.
 """
 import dataclasses
 import os
@@ -54,7 +55,7 @@ def shifts() -> dict[str, shift.Shift]:
 
 
 def make_lines(program: pathlib.Path, room: pathlib.Path) -> Iterator[WorkedLine]:
-    """The three lines, whose copies are in the folder `backups`, with a damaged one of the first line."""
+    """The three lines. The folder `backups` has their copies, and a damaged one of L1."""
     (room / "backups").mkdir()
     for name, its in shifts().items():
         line = WorkedLine(program, room / name, name)

@@ -1,4 +1,5 @@
-"""Tools that read a desk's file: its log is read too, nothing is changed, and a file that a run has open is refused."""
+"""Tools that read a desk's file: its log is read too, nothing is changed, and a file that a run has
+open is refused."""
 import itertools
 import multiprocessing
 import pathlib

@@ -1,4 +1,4 @@
-"""A recall of each lot, reel and board over two lines: its answer is the program's own, file by file."""
+"""A recall of lots, reels and boards over two lines is what the program reports of each file."""
 import concurrent.futures
 import os
 import pathlib

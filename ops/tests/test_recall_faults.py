@@ -1,4 +1,4 @@
-"""What a recall can't ask: it is named, all else is asked, and the status says that the answer is not whole."""
+"""What a recall can't ask: it is named, all else is asked, and the status says so."""
 import contextlib
 import pathlib
 import shutil
@@ -116,7 +116,8 @@ def test_what_is_altered_is_named(
 
 # --- A gap in the chain that no checksum and no line of the catalogue shows
 
-# the archives in the order of a catalogue that is right by itself, and what is said; `o` is the second one before its last commands
+# the archives in the order of a catalogue that is right by itself, and what is said; `o` is the
+# second one before its last commands
 GAPS = {
     "the oldest is missing": ("234", "NOT ASKED: L1: L1-2: begun from "),
     "one in the middle is missing": ("134", "NOT A CHAIN: L1: L1-3: differs minute "),
@@ -139,7 +140,7 @@ def link_desk(line: ArchivedLine, folder: pathlib.Path) -> None:
 
 
 def archives_of(line: ArchivedLine, folder: pathlib.Path, order: str) -> list[Word]:
-    """A folder of these archives, with a catalogue that is right by itself, and the words of a recall over it."""
+    """A folder of these archives with a catalogue, and the words of a recall over it."""
     folder.mkdir(parents=True)
     link_desk(line, folder.parent)
     assert line.older

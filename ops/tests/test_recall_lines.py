@@ -1,4 +1,4 @@
-"""Recalls of lines whose archives are young, missing or elsewhere, and what roll-overs and restores leave around them."""
+"""Recalls of young lines, and what roll-overs and restores leave around a line's archives."""
 import pathlib
 import shutil
 from typing import Iterator

@@ -1,4 +1,4 @@
-"""What a recall writes: its page and its evidence, whole or not at all; and the words that it doesn't take."""
+"""What a recall writes, whole or not at all; and the words that it doesn't take."""
 import contextlib
 import html
 import os
@@ -20,8 +20,9 @@ SHIPPED = """board,customer,date,note
 L1-000001,Customer A,2026-03-05,
 L1-000001,Customer B,2026-04-01,again
 """
-EVIDENCE = """SHA256SUMS asked.csv boards.csv catalogue-1.csv catalogue-2.csv chain-1.csv chain-2.csv desk-1.txt desk-2.txt
-    doubtful.csv pieces.csv question.txt recall.html reels.csv shipped.csv untraced.csv""".split()
+EVIDENCE = """SHA256SUMS asked.csv boards.csv catalogue-1.csv catalogue-2.csv
+    chain-1.csv chain-2.csv desk-1.txt desk-2.txt doubtful.csv pieces.csv question.txt recall.html
+    reels.csv shipped.csv untraced.csv""".split()
 NOBODY = 65534
 
 
@@ -183,7 +184,8 @@ FILES = {
     "nobody.csv": b"board,customer,date\nB,,2026-03-09\n",
     "netrc-binary": b"\xff",
 }
-# `@` is a folder with these files, `:` the words of the first line, URL and CATALOGUE those of its desk and archives
+# `@` is a folder with these files, `:` the words of the first line, URL its desk, ARCHIVE the
+# folder of its archives
 BAD_WORDS = (
     "lot X --line L1 URL -",
     "lot X --line L1 - -",

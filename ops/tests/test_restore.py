@@ -1,11 +1,11 @@
-"""Copies that tracedesk-backup puts back: what they lack is named, until somebody has seen to it."""
+"""Copies that tracedesk-backup puts back: what they lack is named, until somebody has seen to
+it."""
 import fcntl
 import json
 import os
 import pathlib
 import re
 import shutil
-import signal
 import tarfile
 from typing import Any
 
@@ -29,7 +29,8 @@ def told_aside(line: Line) -> tuple[pathlib.Path, dict[str, Any]]:
 
 
 def test_what_an_older_copy_lacks_is_named(line: Line, folder: pathlib.Path) -> None:
-    """And a recall ends with status 3 until what lies aside and the entry in the archive's folder are gone."""
+    """And a recall ends with status 3 until what lies aside and the entry in the archive's folder
+    are gone."""
     line.backup().expect()
     line.more("A")
     line.rollover().expect()
@@ -88,7 +89,8 @@ def test_restore_that_is_stopped_once_the_copy_is_in_place(line: Line) -> None:
     with_an_older_copy(line)
     change = (
         "import os; from tracedesk_ops import plant\n"
-        f"plant.reached = lambda step: step == 'in place' and os.kill(os.getpid(), {signal.SIGTERM:d})"
+        "stop = lambda: os.kill(os.getpid(), 15)\n"
+        "plant.reached = lambda step: step == 'in place' and stop()"
     )
     run_changed("backup", restore_words(line), change).expect(3, "it was interrupted when")
     assert line.answers()
@@ -103,8 +105,8 @@ def test_lost_desk_gets_its_copy(line: Line) -> None:
 
 
 def test_restore_brings_its_own_archives(new_line: NewLine, folder: pathlib.Path) -> None:
-    """A copy has the archives of all desks of the folder; one that gave way by a restore of its own desk doesn't come back by that
-    of another's."""
+    """A copy has the archives of all desks of the folder; one that gave way by a restore of its own
+    desk doesn't come back by that of another's."""
     one, two = new_line(folder / "line"), new_line(folder / "line", "L2", "other")
     one.backup().expect()
     first = one.newest()

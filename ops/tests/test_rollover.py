@@ -1,4 +1,5 @@
-"""Roll-overs of a line that works on: nothing is lost, nothing acts twice, and every report is that of one desk."""
+"""Roll-overs of a line that works on: nothing is lost, nothing acts twice, and every report is that
+of one desk."""
 import csv
 import io
 import pathlib

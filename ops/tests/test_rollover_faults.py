@@ -1,4 +1,5 @@
-"""Roll-overs that fail, are stopped or are killed: the old desk is as it was, and what is not the tool's stays."""
+"""Roll-overs that fail, are stopped or are killed: the old desk is as it was, and what is not the
+tool's stays."""
 import argparse
 import os
 import pathlib

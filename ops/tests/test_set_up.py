@@ -1,4 +1,5 @@
-"""The set-up files of the lines that a machine serves: with one the tools need no words, with two the line's name alone."""
+"""The set-up files of the lines that a machine serves: with one the tools need no words, with two
+the line's name alone."""
 import pathlib
 
 
@@ -114,8 +115,8 @@ def test_recall_of_lines_that_share_a_folder(
     has_own_disk: bool,
     is_swapped: bool,
 ) -> None:
-    """A recall takes the file that the line's set-up names for its running desk's, wherever its archives are: swapped ports are
-    a fault."""
+    """A recall takes the file that the line's set-up names for its running desk's, wherever its
+    archives are: swapped ports are a fault."""
     lines = [new_line(folder / "its", "L1", "one"), new_line(folder / "its", "L2", "two")]
     big = folder / "big"
     big.mkdir()

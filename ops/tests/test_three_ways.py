@@ -1,5 +1,7 @@
-"""Two lines that work on some of the same boards, asked three ways, which print the same rows: the program's report on each
-file, tracedesk-recall, and PostgreSQL; and a company of which each line is a plant.
+"""Two lines that work on some of the same boards, asked three ways, which print the same rows.
+
+The ways are the program's report on each file, tracedesk-recall, and PostgreSQL; and a company of
+which each line is a plant prints them too.
 """
 import contextlib
 import pathlib
@@ -39,7 +41,7 @@ def room() -> Iterator[pathlib.Path]:
 
 @pytest.fixture(scope="module")
 def lines(program: pathlib.Path, room: pathlib.Path) -> Iterator[list[WorkedLine]]:
-    """Line L1 is rolled over three times, at moments at which no board is in work, and L2, which works on boards of L1, once."""
+    """Line L1 is rolled over three times, and L2, which works on boards of L1, once."""
     first, second = made = [WorkedLine(program, room / name, name) for name in ("L1", "L2")]
     serials = [f"L1-{number:06}" for number in range(1, BOARDS // 2)]
     serials += [f"L2-{number:06}" for number in range(1, 5)]
@@ -140,7 +142,7 @@ def two(asking: Asking, of: Callable[[str, str], str]) -> str:
 
 
 def chosen(asking: Asking, kind: str, some: int, lot: str) -> list[str]:
-    """Names at random, and in any case the lot with most pieces, a board in two files, and one on two lines."""
+    """Names at random, the lot with most pieces, a board in two files, and one on two lines."""
     names = asking.names(kind)
     musts: dict[str, list[str]] = {
         "lot": [lot],

@@ -1,11 +1,12 @@
 """Recalls of what really happened at simulated lines.
 
-At the end of a batch, of each lot: every board that holds a piece of it is listed by tracedesk-recall, or named as untraced or doubtful
-with a status that is not 0; and no piece is listed that isn't of the lot, unless it is named so too. A machine that obeys
-the interlock places nothing while the desk refuses.
+At the end of a batch, of each lot: every board that holds a piece of it is listed by
+tracedesk-recall, or named as untraced or doubtful with a status that is not 0; and no piece is
+listed that isn't of the lot, unless it is named so too. A machine that obeys the interlock places
+nothing while the desk refuses.
 
-    /usr/bin/python3 -m pytest ops/tests/test_truth.py -m whole -n 4 --seed 41
-    /usr/bin/python3 -m pytest ops/tests/test_truth.py -k "batch_of_runs and [7]"      one batch again
+    /usr/bin/python3 -m pytest ops/tests/test_truth.py -m whole -n 4 --seed 41 /usr/bin/python3 -m
+    pytest ops/tests/test_truth.py -k "batch_of_runs and [7]"      one batch again
 
 A batch that fails prints the files of each failed run, its refusals, and what really happened.
 """

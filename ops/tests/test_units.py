@@ -1,4 +1,4 @@
-"""What the package has for a plant's own tools: rules and a dashboard of Prometheus, and the units of systemd."""
+"""What the package has for Prometheus and systemd: rules, a dashboard, and units."""
 import json
 import pathlib
 import re

@@ -1,4 +1,4 @@
-"""The line's file of untraced work under kills and damage, and the pieces that a refused load or splice makes doubtful."""
+"""The line's file of untraced work, and the pieces that a refused load or splice makes doubtful."""
 import contextlib
 import os
 import pathlib
@@ -32,7 +32,7 @@ class Killed(BaseException):
 
 @contextlib.contextmanager
 def killed_at(number: int) -> Iterator[list[str]]:
-    """Kills what is called before its write of this number; the writes that it came to are in the list."""
+    """Kills what is called before its write of this number; the list has its writes."""
     writes: list[str] = []
 
     def counted(name: str, call: Callable[..., Any]) -> Callable[..., Any]:
@@ -127,7 +127,8 @@ def placed(own: int, reel: str) -> Accepted:
 
 
 FIRST = (loaded(1, "R1"), placed(2, "R1"))
-# what was refused, for what, what was accepted beside FIRST, and the boards in doubt, each with another reel that it may have
+# what was refused, for what, what was accepted after FIRST, and the boards in doubt, each with
+# another reel that it may have
 STORIES: dict[str, tuple[str, str, list[Accepted], list[tuple[str, str]]]] = {
     "a splice that stays": (
         "MaterialsSpliced",

@@ -1,4 +1,4 @@
-"""From a refused report to the recall that names its board: the commands of docs/connect.md, a desk and a sender."""
+"""From a refused report to the recall that names its board, with a desk and a sender."""
 import json
 import pathlib
 import shutil
@@ -33,7 +33,7 @@ class Plant:
         self.line.accept(self.message(time, word, **body))
 
     def make_ready(self, *reels: tuple[str, str, str, int]) -> None:
-        """Product A on machine M1 wants part P on slot 1; reels by name, part, level and pieces, each of a lot of its own."""
+        """Product A on machine M1 wants part P on slot 1. A reel: name, part, level and pieces."""
         for part in ("P", "Q"):
             self.accept(FIRST, "PartDefined", PartNumber=part)
         self.accept(FIRST, "SheetDefined", Product="A", Machine="M1", Rows=SHEET)
@@ -80,7 +80,7 @@ def plant(program: pathlib.Path, folder: pathlib.Path) -> Iterator[Plant]:
 
 @pytest.fixture
 def expired(plant: Plant) -> Plant:
-    """OLD expired on M1, two boards were worked although the desk refuses them, NEW was loaded, and all was sent again."""
+    """OLD expired, two boards were worked all the same, NEW was loaded, and all was sent again."""
     plant.make_ready(("OLD", "P", "5a", 100), ("NEW", "P", "5a", 100))
     plant.on_slot(FIRST, "MaterialsLoaded", Reel="OLD")
     works = []
@@ -136,7 +136,7 @@ def test_a_recall_misses_the_file_that_is_gone(expired: Plant) -> None:
 
 
 def test_a_refused_splice_makes_pieces_doubtful_until_it_is_decided(plant: Plant) -> None:
-    """The refused reel WRONG stays between FIRST, which has one piece, and NEXT; the desk has a piece of it on NEXT."""
+    """The refused reel WRONG is between FIRST, which has one piece, and NEXT."""
     times = [f"2026-03-02T06:0{minute}:00Z" for minute in range(6)]
     plant.make_ready(("FIRST", "P", "1", 1), ("WRONG", "Q", "1", 100), ("NEXT", "P", "1", 100))
     plant.on_slot(times[1], "MaterialsLoaded", Reel="FIRST")

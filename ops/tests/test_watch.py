@@ -66,7 +66,7 @@ def test_the_reader_of_this_test_refuses(text: str) -> None:
 
 
 def test_reports_are_those_of_the_program(its: Watched) -> None:
-    """Two overdue pieces, an expired reel and an empty slot of a sheet; nothing of a machine that isn't there."""
+    """Two overdue pieces, an expired reel, an empty slot, and nothing of another machine."""
     rows = [line.split(",") for line in its.site.report("/slots?machine=M1").splitlines()[1:]]
     lives = [int(row[6]) for row in rows if row[6].isdigit()]
     pieces = {slot: sum(int(row[5]) for row in rows if row[0] == slot) for slot in ("1", "2")}

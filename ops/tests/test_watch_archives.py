@@ -1,4 +1,4 @@
-"""A watch of a line with copies, archives, a check and an idle clock, and of each archive that is gone."""
+"""A watch of a line with copies, archives, a check and an idle clock."""
 import datetime
 import json
 import pathlib

@@ -1,4 +1,4 @@
-"""A watch whose desk, proxy, sources or disk fail: its file is whole, names what failed, and has no number of half a report."""
+"""A watch whose desk, proxy, sources or disk fail: its file is whole, and has no half report."""
 import contextlib
 import os
 import pathlib

@@ -17,6 +17,7 @@ import pathlib
 import re
 import shutil
 import subprocess
+import sys
 import tempfile
 import time
 
@@ -73,11 +74,16 @@ def asked(chain, words, files, archives, about=""):
     """
     parts, options, first, last = [], [], 0, len(files)
     middle: list = []
+    links: list = []
     while first < len(files):
         try:
-            parts.append((first, asked_of(chain, [*words, *middle], files[first:last], about)))
+            asks = [*words, *middle, *links]
+            parts.append((first, asked_of(chain, asks, files[first:last], about)))
             first, last, middle = last, len(files), ["--from-middle"]
         except NoAnswer as fault:
+            if fault.status == BEGUN and len(fault.ends) > 1 and not links:
+                links = ["--without-marks"]  # marks of older tools are compared below alone
+                continue
             if (
                 fault.status == BEGUN and not middle and not identity.mark_of(files[0])
             ):  # a sender's UniqueIDs begin as those of a beginning do
@@ -162,7 +168,7 @@ def said_of(run, words, files, about):
                 ends.append(
                     End(int(found[2]), int(found[3]) if found[3] != "none" else 0, found[4] or "")
                 )
-                if time.monotonic() >= due:
+                if sys.stderr.isatty() and time.monotonic() >= due:
                     plant.tell(f"{about}{len(ends)} of {len(files)} files were read")
                     due = time.monotonic() + SECONDS_BETWEEN_NOTES
         out.seek(0)

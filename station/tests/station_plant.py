@@ -209,8 +209,8 @@ def long_line(site: Site) -> Any:
             ).encode()
         )
 
-    for part in range(60):
-        say("PartDefined", {"PartNumber": f"RES-0402-{part:03}"})
+    for number in range(60):
+        say("PartDefined", {"PartNumber": f"RES-0402-{number:03}"})
     machines = [f"SIPLACE-{number + 1}" for number in range(MACHINES)]
     for at, machine in enumerate(machines):
         slots = [

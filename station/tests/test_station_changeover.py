@@ -30,7 +30,7 @@ def test_a_changeover_counts_what_is_mounted(site: Site) -> None:
             "1": ["2,000", "0", ""],
             "2": ["1,000", "5,000", ""],
             "10": ["3,000", "0", "960"],
-            "3": ["1,000", "0, and 900 of ALT", "700, if ALT may not stay"],
+            "3": ["1,000", "0, and 900 of ALT", "700, if ALT is not allowed"],
         }  # K-1 is for slot 1, and of K-3 there are 300
         text = it.script("return document.getElementById('main').textContent")
         if rows != wanted or "MISSING: 1" not in text or "another part: 1." not in text:

@@ -1,6 +1,7 @@
 """Red stays until somebody has seen it, and nothing is dropped without a word."""
 import json
 import time
+from typing import Any
 
 import hashlib
 import pytest
@@ -47,9 +48,11 @@ def test_untraced_work_is_red(site: Site) -> None:
         wait_for("it is decided", lambda: "SN-7" not in it.script(first))
         it.does("S/M1/1", "K-2", kind="refused", holds=("TAKEN OFF",))
         it.seen()
-        inbox = lambda: [
-            it["Message"]["MessageBody"] for it in records(site) if it["Kind"] == "refused"
-        ]
+
+        def inbox() -> list[Any]:
+            told = [one for one in records(site) if one["Kind"] == "refused"]
+            return [one["Message"]["MessageBody"] for one in told]
+
         wait_for(
             "the refused load is recorded",
             lambda: inbox() == [{"Machine": "M1", "Slot": "1", "Reel": "K-2"}],

@@ -186,7 +186,8 @@ def test_the_operators_sheet_is_one_page(site: Site) -> None:
         pytest.skip("there is no pandoc here: apt-get install pandoc")
     page = ROOT / "docs/station-operator.md"
     text = page.read_text()
-    (site.room / "made.html").write_text(layout.html(page))
+    made_of: Any = layout.html
+    (site.room / "made.html").write_text(made_of(page))
     with Operator(site) as it:
         names = it.script(
             "return import('/station/words.js').then((it) => [it.TEXTS.actions, it.TEXTS.line.states, it.TEXTS.line.urgent, it.TEXTS.verdict])"

@@ -3,4 +3,5 @@ mod AskedPieces
 pub mod FirstMessage
 pub mod NextOfFirst
 pub mod OneFileMore
+pub mod ReadWords
 mod RefusedFiles

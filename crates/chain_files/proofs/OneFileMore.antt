@@ -1,5 +1,5 @@
 -- One more file of a chain, or one that ends it.
-use Rattle.std.proofs.Common.{◌↔◌, ◌≡◌, ◌∙◌, ◌+◌, ℕ, All, Option, List, [], ◌∷◌, ◌++◌, get_or, length, length-append, sym, ap, subst, inl, arith}
+use Rattle.std.proofs.Common.{◌↔◌, ◌≡◌, ◌∙◌, ◌+◌, ℕ, All, Option, List, [], ◌∷◌, ◌++◌, get_or, length, length-append, sym, ap, subst, inr, arith}
 use Rattle.std.specs.List.{AllByRecursion}
 use Rattle.std.proofs.lemmas.List.Elements.{All-from_recursion, recursion_from_All}
 use Rattle.sqlite_disk.specs.declared.Disk as disk
@@ -30,7 +30,7 @@ use Rattle.chain_files.specs.declared.chain.Fault.TheVariants.{Refused, BegunFro
 use Rattle.chain_files.specs.Files.{Adds, Answer, AreHonest, BreaksChain, Continues, HasWanted, HoldHistory, HoldsSaid, IsStop, Reaches, SoFar, Stops}
 use Rattle.chain_files.proofs.Answered.{are-chain}
 
-front : {X : Type 0} (P : X → Type 0) (xs : List X) (x : X) → AllByRecursion P (xs ++ x ∷ []) → AllByRecursion P xs × P x
+pub front : {X : Type 0} (P : X → Type 0) (xs : List X) (x : X) → AllByRecursion P (xs ++ x ∷ []) → AllByRecursion P xs × P x
 front P [] x all = (tt, all.0)
 front P (y ∷ xs) x all = let rest = front P xs x all.1 in ((all.0, rest.0), rest.1)
 
@@ -73,7 +73,7 @@ module _ {D : Type 0} (g : disk.Ghosts D) (image : ℕ → Image) (question : Qu
 
   pub added : (after : List (Files D)) (next : Older) (answer' : Answer) → after ≡ closed ++ f ∷ [] → length closed ≡ n → Reaches g image question links paths closed n older answer
       → (AreClean g f.log f.db → HasOursFirst (image n) → HoldsSaid g (image n) question f taken.looked)
-      → (AreClean g f.log f.db → WantsNext links.by_marks g f taken.wanted)
+      → (AreClean g f.log f.db → WantsNext links.without_marks g f taken.wanted)
       → (path : List ℕ) → path ≡ get_or paths n []
       → ((H : History) → Says state.Stands H question taken.looked → HasWanted older.wanted H)
       → next.wanted ≡ taken.wanted
@@ -98,27 +98,29 @@ module _ {D : Type 0} (g : disk.Ghosts D) (image : ℕ → Image) (question : Qu
         written = subst (HasWritten answer') (answer-next question paths files file path (at ∙ ap (λ k. get_or paths k []) (sym it.before.count))) more.written;
       }
 
-  to-stop : (fault : Fault) → BreaksChain g image links n fault → IsStop g image links n fault
-  to-stop (Refused fault) breaks = inl breaks.stops
-  to-stop (BegunFrom mark) breaks = breaks
-  to-stop NotBegun breaks = breaks
-  to-stop (Differs difference) breaks = breaks
+  to-stop : (after : List (Files D)) (fault : Fault) → BreaksChain g image links after n fault → IsStop g image links after n fault
+  to-stop after (Refused fault) breaks = inr breaks
+  to-stop after (BegunFrom mark) breaks = breaks
+  to-stop after NotBegun breaks = breaks
+  to-stop after (Differs difference) breaks = breaks
 
   pub stopped : (after : List (Files D)) (fault : Fault) → after ≡ closed ++ f ∷ [] → length closed ≡ n → Reaches g image question links paths closed n older answer
       → (AreClean g f.log f.db → HasOursFirst (image n) → HoldsSaid g (image n) question f taken.looked)
       → ((files : List DeskFile) (H : History) → Continues older.chain files → Says state.Stands H question taken.looked → Stops (IsWanted older.wanted) files H fault)
-      → AreHonest g image after → IsStop g image links n fault
+      → AreHonest g image after → IsStop g image links after n fault
   stopped after fault is long was said stops honest =
       let it = both-in long was said (subst (λ (fs : List (Files D)). AreHonest g image fs) is honest) in
       let H = it.said.0 in
       let files = it.before.files in
-      to-stop fault (record {
+      to-stop after fault (record {
         newest_first = it.before.newest_first;
         before = files;
+        f = f;
+        order = is ∙ ap (λ (fs : List (Files D)). fs ++ f ∷ []) it.before.order;
         count = it.before.count;
         held = it.before.held;
         chain = are-chain older.chain files it.before.chained;
-        f = f;
+        linked = it.before.linked;
         history = H;
         holds = it.said.1;
         stops = stops-for (IsWanted older.wanted) (IsLinked links g it.before.newest_first) (λ m. (it.before.wants m).1) files H fault (stops files H it.before.chained it.said.2);

@@ -1,6 +1,8 @@
 -- A file that was refused, once it is closed.
-use Rattle.std.proofs.Common.{◌≡◌, ◌∙◌, All, Option, Some, None, List, [], ◌∷◌, ◌++◌, refl, sym, subst, append-nil, inl, inr}
+use Rattle.std.proofs.Common.{◌≡◌, ◌∙◌, ℕ, All, Option, Some, None, List, [], ◌∷◌, ◌++◌, length-append, refl, sym, subst, append-nil, arith, inl, inr}
 use Rattle.std.specs.Prelude.{IsSomeAnd, MatchOption}
+use Rattle.std.specs.Option.{option_to_list}
+use Rattle.std.proofs.lemmas.List.Elements.{All-from_recursion, recursion_from_All}
 use Rattle.sqlite_disk.specs.declared.Disk as disk
 use Rattle.sqlite_disk.specs.declared.Files.{Files}
 use Rattle.sqlite_store.specs.declared.store.FileStore.{FileStore}
@@ -14,38 +16,54 @@ use Rattle.desk_file.specs.Refused.{RefusesRun}
 use Rattle.desk_commands.specs.declared.left.ToClose.TheVariants.{Refused}
 use Rattle.desk_commands.specs.Closed.{Close, whole, ClosesConn}
 use Rattle.desk_commands.proofs.ClosedFiles.{refuses_to}
-use Rattle.chain_files.specs.Files.{IsFaultOf, IsRefused, start_of}
-use Rattle.chain_files.proofs.OneFileMore.{last-clean}
+use Rattle.chain_files.specs.Files.{AreHonest, IsFaultOf, IsRefused, start_of}
+use Rattle.chain_files.proofs.OneFileMore.{front, last-clean}
 
 module _ {D : Type 0} {g : disk.Ghosts D} (stays : SeenMayStay g) (image : Image) (r : RefusedFile D g) (refuses : RefusesRun image None r) (closed closed' : List (Files D)) where
   -- It was not opened.
   pub not-opened : r.file ≡ None → closed' ≡ closed → IsRefused g image closed closed' r.fault
-  not-opened none same =
-      inr (
-        whole,
-        None,
-        same ∙ sym (append-nil closed),
-        refuses_to (start_of image) stays whole (Refused r) None None r.fault
-            (subst (λ (file : Option (Held (FileStore D g))). MatchOption file (◌≡◌ {A = Option (Files D)} None None) (λ conn. IsSomeAnd None (ClosesConn whole conn))) (sym none) refl) (refl, refuses),
-      )
+  not-opened none same = (
+    None,
+    same ∙ sym (append-nil closed),
+    inr (
+      whole,
+      refuses_to (start_of image) stays whole (Refused r) None None r.fault
+          (subst (λ (file : Option (Held (FileStore D g))). MatchOption file (◌≡◌ {A = Option (Files D)} None None) (λ conn. IsSomeAnd None (ClosesConn whole conn))) (sym none) refl) (refl, refuses),
+    ),
+  )
 
   -- It was opened, and closed again.
   pub closed-again : (how : Close) (conn : Held (FileStore D g)) (f : Files D) → r.file ≡ Some conn → ClosesConn how conn f → closed' ≡ closed ++ f ∷ [] → IsRefused g image closed closed' r.fault
-  closed-again how conn f is closes order =
-      inr (
-        how,
-        Some f,
-        order,
-        refuses_to (start_of image) stays how (Refused r) (Some f) None r.fault
-            (subst (λ (file : Option (Held (FileStore D g))). MatchOption file (◌≡◌ {A = Option (Files D)} (Some f) None) (λ conn. IsSomeAnd (Some f) (ClosesConn how conn))) (sym is) closes) (refl, refuses),
-      )
+  closed-again how conn f is closes order = (
+    Some f,
+    order,
+    inr (
+      how,
+      refuses_to (start_of image) stays how (Refused r) (Some f) None r.fault
+          (subst (λ (file : Option (Held (FileStore D g))). MatchOption file (◌≡◌ {A = Option (Files D)} (Some f) None) (λ conn. IsSomeAnd (Some f) (ClosesConn how conn))) (sym is) closes) (refl, refuses),
+    ),
+  )
 
 -- The fault is in its contents.
 pub to-fault : {D : Type 0} (g : disk.Ghosts D) (image : Image) (closed closed' : List (Files D)) (fault : OpenFault) → IsRefused g image closed closed' fault → All (λ (f : Files D). AreClean g f.log f.db) closed' → IsFaultOf image fault
-to-fault g image closed closed' fault (inl is) clean = inl is
-to-fault g image closed closed' fault (inr (how, None, order, refused)) clean =
+to-fault g image closed closed' fault (files, order, inl is) clean = inl is
+to-fault g image closed closed' fault (None, order, inr (how, refused)) clean =
     elim refused.0 [
       | inl is ↦ inl is
       | inr is ↦ inr (inl is.0)
     ]
-to-fault g image closed closed' fault (inr (how, Some f, order, refused)) clean = inr (inr (refused.0 (last-clean g closed closed' f order clean)).0)
+to-fault g image closed closed' fault (Some f, order, inr (how, refused)) clean = inr (inr (refused.0 (last-clean g closed closed' f order clean)).0)
+
+-- No disk of the files before it lied either.
+pub honest-before : {D : Type 0} (g : disk.Ghosts D) (image : ℕ → Image) (closed closed' : List (Files D)) (files : Option (Files D))
+    → closed' ≡ closed ++ option_to_list files → AreHonest g image closed' → AreHonest g image closed
+honest-before g image closed closed' None order honest =
+    subst (λ (fs : List (Files _)). AreHonest g image fs) (order ∙ append-nil closed) honest
+honest-before {D} g image closed closed' (Some f) order honest =
+    let P : Files D → Type 0 = λ f. AreClean g f.log f.db in
+    let more = length-append closed (f ∷ []) in
+    let all = subst (λ (fs : List (Files D)). AreHonest g image fs) order honest in
+    record {
+      clean = All-from_recursion P closed (front P closed f (recursion_from_All P (closed ++ f ∷ []) all.clean)).0;
+      ours = λ place low. all.ours place (omega (arith, more, low));
+    }

@@ -1,5 +1,5 @@
 -- The comparison of two files, and its line.
-use Rattle.std.specs.Prelude.{◌≡◌, ◌⊎◌, ℕ, List, [], ◌∷◌, ◌++◌, Option, codes, decimal}
+use Rattle.std.specs.Prelude.{◌≡◌, ◌≤◌, ◌⊎◌, ℕ, List, [], ◌∷◌, ◌++◌, Option, codes, decimal}
 use Rattle.std.specs.Io.KnownBytes.{Appends}
 use Rattle.sqlite_disk.specs.declared.Disk as disk
 use Rattle.sqlite_disk.specs.declared.Files.{Files}
@@ -8,6 +8,7 @@ use Rattle.sqlite_wal.specs.Reads.{AreClean}
 use Rattle.desk_types.specs.declared.wire.Wire.{Wire}
 use Rattle.desk_types.specs.Wire.{inner_of}
 use Rattle.desk_types.specs.History.{History}
+use Rattle.desk_answers.specs.Sent.{SendsFront}
 use Rattle.desk_commands.specs.Told.{unavailable_line, TellsLine}
 use Rattle.line_schema.specs.Opening.{fault_text}
 use Rattle.desk_file.specs.Files.{HasOursFirst}
@@ -18,7 +19,7 @@ use Rattle.chain_files.specs.declared.compared.Compared.{Compared}
 use Rattle.chain_files.specs.declared.compared.Compared.TheVariants.{Alike, Differs, Refused}
 use Rattle.chain_files.specs.declared.compared.Side.{Side}
 use Rattle.chain_files.specs.declared.compared.Side.TheVariants.{Old, New}
-use Rattle.chain_files.specs.Files.{HoldHistory, IsRefused}
+use Rattle.chain_files.specs.Files.{HoldHistory, IsRefused, placed}
 
 -- ---- the files
 
@@ -44,6 +45,10 @@ abbrev pub FindsBoth : {D : Type 0} → disk.Ghosts D → (ℕ → Image) → Li
 FindsBoth {D = D} g image closed found =
     (old : Files D) × (new : Files D) × (closed ≡ old ∷ new ∷ [])
     × HoldBoth g image old new (SaysOf found)
+
+-- What the two files with these paths held.
+abbrev pub placed_both : (List ℕ → ℕ → Image) → List ℕ → List ℕ → ℕ → Image
+placed_both image old new = placed image (old ∷ new ∷ [])
 
 -- The result of a comparison, by the files that it closed.
 abbrev pub Finds : {D : Type 0} → disk.Ghosts D → (ℕ → Image) → List (Files D) → Compared → Type 0
@@ -85,6 +90,13 @@ abbrev pub Shows : {W : Type 0} → (Compared → Type 0) → (W → Option (Lis
     → Wire W → Wire W → ℕ → Type 0
 Shows Made writes output output' status = (found : Compared) × (found_status found ≡ status)
     × Made found × Appends (writes (inner_of output)) (writes (inner_of output')) (found_line found)
+
+-- A comparison with status 0 or 1 was made, but only the first bytes of its line were written.
+abbrev pub ShowsFront : {W : Type 0} → (Compared → Type 0) → (W → Option (List ℕ))
+    → Wire W → Wire W → Type 0
+ShowsFront Made writes output output' = (found : Compared) × (found_status found ≤ 1)
+    × Made found
+    × SendsFront (writes (inner_of output)) (writes (inner_of output')) (found_line found)
 
 -- A file was refused, or memory was, and nothing was written.
 abbrev pub NoDesk : {W E : Type 0} → (Compared → Type 0) → (E → Option (List ℕ)) → Wire W → Wire W

@@ -1,5 +1,5 @@
 -- The files of a recall: their contents, and why there is no answer.
-use Rattle.std.specs.Prelude.{◌≡◌, ◌<◌, ◌⊎◌, ◌↔◌, ⊤, ℕ, Bool, true, false, Option, Some, None, List, [], ◌∷◌, ◌++◌, length, string_bytes, All, Vec}
+use Rattle.std.specs.Prelude.{◌≡◌, ◌<◌, ◌⊎◌, ◌↔◌, ⊤, ℕ, Bool, true, false, Option, Some, None, List, [], ◌∷◌, ◌++◌, get_or, length, string_bytes, All, Vec}
 use Rattle.sqlite_disk.specs.declared.Disk as disk
 use Rattle.sqlite_disk.specs.declared.Files.{Files}
 use Rattle.sqlite_disk.specs.declared.start.Start as start
@@ -43,6 +43,10 @@ use Rattle.chain_files.specs.declared.chain.Stopped.{Stopped}
 use Rattle.chain_files.specs.declared.closed.ClosedChain.{ClosedChain}
 
 -- ---- the closed files
+
+-- What the files with these paths held, each when it was opened at its place.
+abbrev pub placed : (List ℕ → ℕ → Image) → List (List ℕ) → ℕ → Image
+placed image paths place = image (get_or paths place []) place
 
 -- The first to be closed comes first.
 abbrev pub files_in : {D : Type 0} → ClosedChain D → List (Files D)
@@ -92,22 +96,23 @@ HoldsSaid g image question f looked = (H : History) × HoldHistory g image f H
 -- One more was closed. If it is honest, it held such a history, and this is wanted of the next.
 abbrev pub Takes : {D : Type 0} → disk.Ghosts D → Image → Question → Bool → List (Files D)
     → List (Files D) → Taken → Type 0
-Takes {D} g image question by_marks closed closed' taken =
+Takes {D} g image question without_marks closed closed' taken =
     (f : Files D) × (closed' ≡ closed ++ f ∷ [])
     × (AreClean g f.log f.db → HasOursFirst image → HoldsSaid g image question f taken.looked)
-    × (AreClean g f.log f.db → WantsNext by_marks g f taken.wanted)
+    × (AreClean g f.log f.db → WantsNext without_marks g f taken.wanted)
 
 -- What is known of files with these contents.
 abbrev pub start_of : Image → start.Ghosts ⊤
 start_of image = record { log = image.log; db = image.db; is_mixing = false }
 
--- A file was refused for this fault. If its disk never lied, the fault is in its contents, and these are unchanged. Or it
--- could not be read or closed.
+-- A file was refused for this fault, and closed if it was opened. If its disk never lied, the fault is in its contents,
+-- and these are unchanged. Or it could not be read or closed, or memory was refused.
 abbrev pub IsRefused : {D : Type 0} → disk.Ghosts D → Image → List (Files D) → List (Files D)
     → OpenFault → Type 0
-IsRefused {D = D} g image closed closed' fault = (fault ≡ open_fault.Unavailable)
-    ⊎ ((how : Close) × (files : Option (Files D)) × (closed' ≡ closed ++ option_to_list files)
-    × RefusesTo how (start_of image) g files None fault)
+IsRefused {D = D} g image closed closed' fault = (files : Option (Files D))
+    × (closed' ≡ closed ++ option_to_list files)
+    × ((fault ≡ open_fault.Unavailable)
+    ⊎ ((how : Close) × RefusesTo how (start_of image) g files None fault))
 
 -- The fault of a file that was refused is in it. That a file is missing or empty is reported without one.
 abbrev pub IsFaultOf : Image → OpenFault → Type 0
@@ -158,10 +163,11 @@ Reaches g image question links paths closed number older answer = AreHonest g im
     → SoFar g image question links paths closed number older answer
 
 -- All of them.
-abbrev pub Recalled : {D : Type 0} → disk.Ghosts D → (ℕ → Image) → Question → Links
+abbrev pub Recalled : {D : Type 0} → disk.Ghosts D → (List ℕ → ℕ → Image) → Question → Links
     → List (List ℕ) → List (Files D) → ℕ → Answer → Type 0
 Recalled g image question links paths closed number answer =
-    (older : Older) × Reaches g image question links paths closed number older answer
+    (older : Older)
+    × Reaches g (placed image paths) question links paths closed number older answer
 
 -- ---- why there is no answer
 
@@ -176,25 +182,43 @@ Stops Wants [] H (Differs difference) = ⊥
 Stops Wants (before ∷ older) H (Differs difference) =
     (B : History) × IsPrefix B H × IsReason before.whole B difference
 
--- The files before this place are a chain, and the file at it held a history that doesn't carry it on.
+-- The closed files before this place are a chain, and begun as wanted. The one at it, the last that was closed, held a
+-- history that doesn't carry them on, or wasn't begun as wanted.
 pub record BreaksChain {D : Type 0} (g : disk.Ghosts D) (image : ℕ → Image) (links : Links)
-    (place : ℕ) (fault : Fault) : Type 0 where
+    (closed : List (Files D)) (place : ℕ) (fault : Fault) : Type 0 where
+  pub newest_first : List (Files D)
+  pub before : List DeskFile
+  pub f : Files D
+  pub order : closed ≡ oldest_first (f ∷ newest_first)
+  pub count : length before ≡ place
+  pub held : HoldEach g image newest_first before
+  pub chain : IsChain before
+  pub linked : AreLinked links g newest_first before
+  pub history : History
+  pub holds : HoldHistory g (image place) f history
+  pub stops : Stops (IsLinked links g newest_first) before history fault
+
+-- The closed files before this place are a chain, and begun as wanted. The file at it was refused for this fault.
+pub record StopsReading {D : Type 0} (g : disk.Ghosts D) (image : ℕ → Image) (links : Links)
+    (closed : List (Files D)) (place : ℕ) (fault : OpenFault) : Type 0 where
   pub newest_first : List (Files D)
   pub before : List DeskFile
   pub count : length before ≡ place
   pub held : HoldEach g image newest_first before
   pub chain : IsChain before
-  pub f : Files D
-  pub history : History
-  pub holds : HoldHistory g (image place) f history
-  pub stops : Stops (IsLinked links g newest_first) before history fault
+  pub linked : AreLinked links g newest_first before
+  pub refused : IsRefused g (image place) (oldest_first newest_first) closed fault
+  pub in_file : IsFaultOf (image place) fault
 
-abbrev pub IsStop : {D : Type 0} → disk.Ghosts D → (ℕ → Image) → Links → ℕ → Fault → Type 0
-IsStop g image links place (Refused fault) = IsFaultOf (image place) fault
-IsStop g image links place fault = BreaksChain g image links place fault
+abbrev pub IsStop : {D : Type 0} → disk.Ghosts D → (ℕ → Image) → Links → List (Files D) → ℕ
+    → Fault → Type 0
+IsStop g image links closed place (Refused fault) =
+    StopsReading g image links closed place fault
+    ⊎ BreaksChain g image links closed place (Refused fault)
+IsStop g image links closed place fault = BreaksChain g image links closed place fault
 
 -- Why the files are no chain: the first one at fault, and its fault.
-abbrev pub IsWhyStopped : {D : Type 0} → disk.Ghosts D → (ℕ → Image) → Links → List (Files D)
-    → Stopped → Type 0
-IsWhyStopped g image links closed stopped =
-    AreHonest g image closed → IsStop g image links stopped.place stopped.fault
+abbrev pub IsWhyStopped : {D : Type 0} → disk.Ghosts D → (List ℕ → ℕ → Image) → Links
+    → List (List ℕ) → List (Files D) → Stopped → Type 0
+IsWhyStopped g image links paths closed stopped = AreHonest g (placed image paths) closed
+    → IsStop g (placed image paths) links closed stopped.place stopped.fault

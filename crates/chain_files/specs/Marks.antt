@@ -1,6 +1,5 @@
 -- From which file each desk of a chain was begun.
-use Rattle.std.specs.Prelude.{◌≡◌, ◌↔◌, ⊤, ℕ, Bool, true, false, IsTrue, List, [], ◌∷◌, Option, Some, None, take, string_bytes}
-use Rattle.std.specs.Option.{option_map}
+use Rattle.std.specs.Prelude.{◌≡◌, ◌≤◌, ◌↔◌, ⊤, ℕ, Bool, false, IsTrue, List, [], ◌∷◌, Option, Some, None, length, string_bytes}
 use Rattle.sqlite_disk.specs.declared.Disk as disk
 use Rattle.sqlite_disk.specs.declared.Files.{Files}
 use Rattle.sqlite_wal.specs.Files.{outcomes}
@@ -13,13 +12,18 @@ use Rattle.desk_laws.specs.Chain.{DeskFile}
 use Rattle.chain_files.specs.Begin.{IsMarkOf}
 use Rattle.chain_files.specs.declared.marks.Links.{Links}
 use Rattle.chain_files.specs.declared.marks.Wanted.{Wanted}
-use Rattle.chain_files.specs.declared.marks.Wanted.TheVariants.{Anything, Mark}
+use Rattle.chain_files.specs.declared.marks.Wanted.TheVariants.{Anything, Nothing, Checksum}
+use Rattle.chain_files.specs.Words.{Begins}
 
 -- ---- checksums
 
--- The checksum of a file's bytes: the first 24 hex digits of their SHA-256.
-abbrev pub file_mark : List ℕ → List ℕ
-file_mark bytes = encode_lower (take 12 (sha256 bytes))
+-- The checksum of a file's bytes: the hex digits of their SHA-256.
+abbrev pub file_checksum : List ℕ → List ℕ
+file_checksum bytes = encode_lower (sha256 bytes)
+
+-- A mark names a checksum by its first digits, at least 24.
+abbrev pub NamesChecksum : List ℕ → List ℕ → Type 0
+NamesChecksum checksum mark = (24 ≤ length mark) × Begins mark checksum
 
 -- A file was only read: it has the same bytes, and a crash leaves nothing else.
 pub record OnlyRead {D : Type 0} (g : disk.Ghosts D) (old new : D) : Type 0 where
@@ -38,22 +42,25 @@ pub record OnlyReadFiles {D : Type 0} (g : disk.Ghosts D) (old new : Files D) : 
 -- A first UniqueID that names this checksum, or none, is wanted.
 abbrev pub IsWanted : Wanted → Option (List ℕ) → Type 0
 IsWanted Anything mark = ⊤
-IsWanted (Mark wanted) mark = mark ≡ option_map string_bytes wanted
+IsWanted Nothing mark = mark ≡ None
+IsWanted (Checksum checksum) mark =
+    (named : List ℕ) × (mark ≡ Some named) × NamesChecksum (string_bytes checksum) named
 
--- The file after this one may name this checksum, or none. By marks it must be that of this file.
+-- The file after this one may have this mark, or none. Unless marks are left aside, it must name the checksum of this file.
 abbrev pub IsNext : {D : Type 0} → Bool → disk.Ghosts D → Files D → Option (List ℕ) → Type 0
-IsNext by_marks g f mark = by_marks ≡ true → mark ≡ Some (file_mark (g.seen f.db))
+IsNext without_marks g f mark = without_marks ≡ false
+    → (named : List ℕ) × (mark ≡ Some named) × NamesChecksum (file_checksum (g.seen f.db)) named
 
 abbrev pub WantsNext : {D : Type 0} → Bool → disk.Ghosts D → Files D → Wanted → Type 0
-WantsNext by_marks g f wanted =
-    (mark : Option (List ℕ)) → IsWanted wanted mark ↔ IsNext by_marks g f mark
+WantsNext without_marks g f wanted =
+    (mark : Option (List ℕ)) → IsWanted wanted mark ↔ IsNext without_marks g f mark
 
--- The file after these, newest first, may name this checksum, or none. The first file was begun from no other, unless a chain
+-- The file after these, newest first, may have this mark, or none. The first file was begun from no other, unless a chain
 -- may begin in the middle.
 abbrev pub IsLinked : {D : Type 0} → Links → disk.Ghosts D → List (Files D)
     → Option (List ℕ) → Type 0
 IsLinked links g [] mark = links.from_middle ≡ false → mark ≡ None
-IsLinked links g (f ∷ closed) mark = IsNext links.by_marks g f mark
+IsLinked links g (f ∷ closed) mark = IsNext links.without_marks g f mark
 
 -- Each file names what it may, by its first UniqueID.
 abbrev pub AreLinked : {D : Type 0} → Links → disk.Ghosts D → List (Files D) → List DeskFile

@@ -17,6 +17,10 @@ status_of (BegunFrom mark) = 5
 status_of NotBegun = 5
 status_of (Differs difference) = 1
 
+-- The line of a recall without marks.
+abbrev pub without_marks_line : List ℕ
+without_marks_line = codes "tracedesk-chain: without marks: a gap or a fork may not show"
+
 -- The line on standard error.
 abbrev pub stop_line : List (List ℕ) → ℕ → Fault → List ℕ
 stop_line paths place fault =

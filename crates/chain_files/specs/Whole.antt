@@ -1,23 +1,24 @@
 -- The effect of a run of the program.
-use Rattle.std.specs.Prelude.{◌≡◌, ◌⊎◌, ℕ, Option, List, ◌∷◌, ◌++◌, length, codes}
+use Rattle.std.specs.Prelude.{◌≡◌, ◌⊎◌, ℕ, true, Option, List, [], length}
 use Rattle.std.specs.Io.KnownBytes.{Appends}
 use Rattle.sqlite_disk.specs.declared.Disk as disk
 use Rattle.sqlite_disk.specs.declared.Files.{Files}
 use Rattle.sqlite_wal.specs.Recovery.{Image}
 use Rattle.desk_types.specs.declared.wire.Wire.{Wire}
 use Rattle.desk_types.specs.Wire.{inner_of}
-use Rattle.desk_commands.specs.Told.{unavailable_line, TellsLine, TellsUnwritten}
+use Rattle.desk_answers.specs.Sent.{SendsFront}
+use Rattle.desk_commands.specs.Told.{unavailable_line, Tells, TellsLine, TellsUnwritten}
 use Rattle.desk_laws.specs.Chain.{DeskFile, IsChain}
 use Rattle.chain_check.specs.declared.question.Question.{Question}
 use Rattle.chain_check.specs.Rows.{answer_over}
 use Rattle.chain_files.specs.declared.chain.Fault.{Fault}
 use Rattle.chain_files.specs.declared.compared.Compared.{Compared}
-use Rattle.chain_files.specs.Compared.{Finds, NoDesk, Shows}
+use Rattle.chain_files.specs.Compared.{Finds, NoDesk, Shows, ShowsFront, placed_both}
 use Rattle.chain_files.specs.declared.marks.Links.{Links}
-use Rattle.chain_files.specs.Files.{AreHonest, HoldEach, IsStop, oldest_first}
+use Rattle.chain_files.specs.Files.{AreHonest, HoldEach, IsStop, oldest_first, placed}
 use Rattle.chain_files.specs.Marks.{AreLinked}
-use Rattle.chain_files.specs.Stops.{status_of, stop_line}
-use Rattle.chain_files.specs.Words.{alike_words, link_words, question_words}
+use Rattle.chain_files.specs.Stops.{status_of, stop_line, without_marks_line}
+use Rattle.chain_files.specs.Words.{AsksForHelp, AsksForVersion, AsksOf, AsksToCompare, MeanNothing}
 
 -- The files of these paths held, and still hold, lawful histories that are a chain, and this is the answer over them.
 pub record IsAnswer {D : Type 0} (g : disk.Ghosts D) (image : ℕ → Image) (closed : List (Files D))
@@ -32,47 +33,71 @@ pub record IsAnswer {D : Type 0} (g : disk.Ghosts D) (image : ℕ → Image) (cl
   pub linked : AreLinked links g newest_first files
   pub answer : text ≡ answer_over question paths files
 
--- This text was written. If no disk lied, it is the answer.
-abbrev pub Answers : {D W : Type 0} → disk.Ghosts D → (ℕ → Image) → List (Files D) → Question
-    → Links → List (List ℕ) → (W → Option (List ℕ)) → Wire W → Wire W → Type 0
-Answers g image closed question links paths writes output output' = (text : List ℕ)
-    × Appends (writes (inner_of output)) (writes (inner_of output')) text
-    × (AreHonest g image closed → IsAnswer g image closed question links paths text)
+-- If no disk lied, this text is the answer.
+abbrev pub GivesAnswer : {D : Type 0} → disk.Ghosts D → (List ℕ → ℕ → Image) → List (Files D)
+    → Question → Links → List (List ℕ) → List ℕ → Type 0
+GivesAnswer g image closed question links paths text = AreHonest g (placed image paths) closed
+    → IsAnswer g (placed image paths) closed question links paths text
 
--- The words ask this of these files.
-abbrev pub AsksOf : List (List ℕ) → Question → Links → List (List ℕ) → Type 0
-AsksOf words question links paths =
-    words ≡ question_words question ++ link_words links ++ paths
+-- The last line on standard error says that marks were left aside, if they were.
+abbrev pub SaysLinks : {E : Type 0} → Links → (E → Option (List ℕ)) → Wire E → Type 0
+SaysLinks {E = E} links tells errors' = links.without_marks ≡ true
+    → (errors : Wire E) × TellsLine tells errors errors' without_marks_line
+
+-- The answer was written.
+abbrev pub Answers : {D W E : Type 0} → disk.Ghosts D → (List ℕ → ℕ → Image) → List (Files D)
+    → Question → Links → List (List ℕ) → (W → Option (List ℕ)) → (E → Option (List ℕ))
+    → Wire W → Wire W → Wire E → Type 0
+Answers g image closed question links paths writes tells output output' errors' = (text : List ℕ)
+    × Appends (writes (inner_of output)) (writes (inner_of output')) text
+    × GivesAnswer g image closed question links paths text × SaysLinks links tells errors'
+
+-- Only its first bytes were, and standard error says so.
+abbrev pub AnswersFront : {D W E : Type 0} → disk.Ghosts D → (List ℕ → ℕ → Image)
+    → List (Files D) → Question → Links → List (List ℕ) → (W → Option (List ℕ))
+    → (E → Option (List ℕ)) → Wire W → Wire W → Wire E → Type 0
+AnswersFront {E = E} g image closed question links paths writes tells output output' errors' =
+    (text : List ℕ) × SendsFront (writes (inner_of output)) (writes (inner_of output')) text
+    × GivesAnswer g image closed question links paths text
+    × (errors : Wire E) × TellsUnwritten tells output output' errors errors'
 
 -- The words ask for help or the version.
 abbrev pub AsksForText : List (List ℕ) → Type 0
-AsksForText words = (rest : List (List ℕ))
-    × ((words ≡ codes "--help" ∷ rest) ⊎ (words ≡ codes "--version" ∷ rest))
+AsksForText words = AsksForHelp words ⊎ AsksForVersion words
 
--- Status 0: the answer was written, or a text that was asked for.
-abbrev pub Done : {D W : Type 0} → disk.Ghosts D → (ℕ → Image) → List (Files D) → List (List ℕ)
-    → (W → Option (List ℕ)) → Wire W → Wire W → Type 0
-Done g image closed words writes output output' =
+-- Status 0 of a recall or a text: the answer was written, or the text that was asked for. No file was opened for a text.
+abbrev pub Done : {D W E : Type 0} → disk.Ghosts D → (List ℕ → ℕ → Image) → List (Files D)
+    → List (List ℕ) → (W → Option (List ℕ)) → (E → Option (List ℕ)) → Wire W → Wire W → Wire E
+    → Type 0
+Done g image closed words writes tells output output' errors' =
     ((question : Question) × (links : Links) × (paths : List (List ℕ))
     × AsksOf words question links paths
-    × Answers g image closed question links paths writes output output')
-    ⊎ AsksForText words
+    × Answers g image closed question links paths writes tells output output' errors')
+    ⊎ (AsksForText words × (closed ≡ []) × (text : List ℕ)
+    × Appends (writes (inner_of output)) (writes (inner_of output')) text)
+
+-- Status 2: the words have no meaning, and standard error says so. No file was opened, and nothing was written.
+abbrev pub Bad : {D W E : Type 0} → List (Files D) → List (List ℕ) → (E → Option (List ℕ))
+    → Wire W → Wire W → Wire E → Wire E → Type 0
+Bad closed words tells output output' errors errors' = MeanNothing words × (closed ≡ [])
+    × (output' ≡ output) × (text : List ℕ) × Tells tells errors errors' text
 
 -- Status 1, 3 or 5: there is no answer.
 abbrev pub IsStopped : ℕ → Type 0
 IsStopped status = (status ≡ 1) ⊎ (status ≡ 3) ⊎ (status ≡ 5)
 
 -- Standard error names the first file at fault, and its fault. Or memory was refused.
-abbrev pub StopsAt : {D E : Type 0} → disk.Ghosts D → (ℕ → Image) → List (Files D) → Links
+abbrev pub StopsAt : {D E : Type 0} → disk.Ghosts D → (List ℕ → ℕ → Image) → List (Files D) → Links
     → List (List ℕ) → (E → Option (List ℕ)) → Wire E → ℕ → Type 0
 StopsAt {E = E} g image closed links paths writes errors' status =
     (errors : Wire E) × (((place : ℕ) × (fault : Fault) × (status_of fault ≡ status)
     × TellsLine writes errors errors' (stop_line paths place fault)
-    × (AreHonest g image closed → IsStop g image links place fault))
+    × (AreHonest g (placed image paths) closed
+    → IsStop g (placed image paths) links closed place fault))
     ⊎ ((status ≡ 3) × TellsLine writes errors errors' unavailable_line))
 
-abbrev pub Stops : {D E : Type 0} → disk.Ghosts D → (ℕ → Image) → List (Files D) → List (List ℕ)
-    → (E → Option (List ℕ)) → Wire E → ℕ → Type 0
+abbrev pub Stops : {D E : Type 0} → disk.Ghosts D → (List ℕ → ℕ → Image) → List (Files D)
+    → List (List ℕ) → (E → Option (List ℕ)) → Wire E → ℕ → Type 0
 Stops g image closed words writes errors' status =
     (question : Question) × (links : Links) × (paths : List (List ℕ))
     × AsksOf words question links paths × StopsAt g image closed links paths writes errors' status
@@ -80,10 +105,10 @@ Stops g image closed words writes errors' status =
 -- ---- a comparison
 
 -- The words ask for a comparison, which found this.
-abbrev pub Compares : {D : Type 0} → disk.Ghosts D → (ℕ → Image) → List (Files D)
+abbrev pub Compares : {D : Type 0} → disk.Ghosts D → (List ℕ → ℕ → Image) → List (Files D)
     → List (List ℕ) → Compared → Type 0
-Compares g image closed words found =
-    ((old : List ℕ) × (new : List ℕ) × (words ≡ alike_words old new)) × Finds g image closed found
+Compares g image closed words found = (old : List ℕ) × (new : List ℕ)
+    × AsksToCompare words old new × Finds g (placed_both image old new) closed found
 
 -- Status 1 or 3: the desks differ, or there is no desk.
 abbrev pub Unlike : {W E : Type 0} → (Compared → Type 0) → (W → Option (List ℕ))
@@ -92,10 +117,15 @@ Unlike Made writes tells output output' errors errors' status =
     ((status ≡ 1) × Shows Made writes output output' 1)
     ⊎ ((status ≡ 3) × NoDesk Made tells output output' errors errors')
 
--- Status 4: the output failed. Standard error says so, unless the words ask for a recall.
-abbrev pub Fails : {W E : Type 0} → List (List ℕ) → (E → Option (List ℕ)) → Wire W → Wire W
+-- Status 4: the output failed, and standard error says so. Only the first bytes of the text were written.
+abbrev pub Fails : {D W E : Type 0} → disk.Ghosts D → (List ℕ → ℕ → Image) → List (Files D)
+    → List (List ℕ) → (W → Option (List ℕ)) → (E → Option (List ℕ)) → Wire W → Wire W
     → Wire E → Wire E → Type 0
-Fails words tells output output' errors errors' =
+Fails g image closed words writes tells output output' errors errors' =
     ((question : Question) × (links : Links) × (paths : List (List ℕ))
-    × AsksOf words question links paths)
-    ⊎ TellsUnwritten tells output output' errors errors'
+    × AsksOf words question links paths
+    × AnswersFront g image closed question links paths writes tells output output' errors')
+    ⊎ (((AsksForText words × (closed ≡ []) × (text : List ℕ)
+    × SendsFront (writes (inner_of output)) (writes (inner_of output')) text)
+    ⊎ ShowsFront (Compares g image closed words) writes output output')
+    × TellsUnwritten tells output output' errors errors')

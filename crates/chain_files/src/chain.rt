@@ -101,14 +101,14 @@ pub fn look_at<O: Opener>(
     place: u64,
     path: &str,
     question: &Question,
-    by_marks: bool,
+    without_marks: bool,
     closed: &mut ClosedChain<O::File>,
 ) -> Result<Taken, OpenFault>
     ensures takes { IfOk result
-        (Takes ⟦<O::File as Disk>⟧ (O.image opener.now place) question.now by_marks
+        (Takes ⟦<O::File as Disk>⟧ (O.image opener.now path.now place) question.now without_marks
         (files_in closed.old) (files_in closed.new)) }
     ensures refused { IfErr result
-        (IsRefused ⟦<O::File as Disk>⟧ (O.image opener.now place)
+        (IsRefused ⟦<O::File as Disk>⟧ (O.image opener.now path.now place)
         (files_in closed.old) (files_in closed.new)) }
 {
     let files = opener.open(rt, place, path)?;
@@ -118,7 +118,7 @@ pub fn look_at<O: Opener>(
             let Ok(files) = close_file(conn) else {
                 return Err(OpenFault::Unavailable);
             };
-            let (wanted, files) = wanted_after(rt.alloc(), files, by_marks);
+            let (wanted, files) = wanted_after(rt.alloc(), files, without_marks);
             let Ok(()) = add_closed(closed, files) else {
                 return Err(OpenFault::Unavailable);
             };
@@ -325,7 +325,8 @@ pub fn recall_files<O: Opener, E: Write>(
         (Recalled ⟦<O::File as Disk>⟧ (O.image opener.now) question.now links
         (map string_bytes paths.now) (files_in closed.new) (length paths.now)) }
     ensures stopped { IfErr result
-        (IsWhyStopped ⟦<O::File as Disk>⟧ (O.image opener.now) links (files_in closed.new)) }
+        (IsWhyStopped ⟦<O::File as Disk>⟧ (O.image opener.now) links (map string_bytes paths.now)
+        (files_in closed.new)) }
     ensures few { failures_of errors.new < 2 ^ 63 }
 {
     let Ok(mut answer) = begin_rows(rt.alloc(), question) else {
@@ -341,7 +342,15 @@ pub fn recall_files<O: Opener, E: Write>(
     for place in 0..paths.len() {
         let number = place as u64;
         let path = path_at(paths, number);
-        let taken = match look_at(rt, opener, number, path, question, links.by_marks, closed) {
+        let taken = match look_at(
+            rt,
+            opener,
+            number,
+            path,
+            question,
+            links.without_marks,
+            closed,
+        ) {
             Ok(taken) => taken,
             Err(fault) => {
                 return Err(Stopped {

@@ -1,6 +1,6 @@
 //! The files that a run closed.
 
-ghost use Rattle.std.specs.Prelude.{◌≡◌, [], ◌∷◌, ◌++◌, OnOk};
+ghost use Rattle.std.specs.Prelude.{◌≡◌, [], ◌∷◌, ◌++◌, OnErr, OnOk};
 ghost use Rattle.chain_files.specs.Files.{files_in};
 
 use sqlite::Files;
@@ -29,7 +29,8 @@ pub fn add_closed<D: Disk + Drop>(
     closed: &mut ClosedChain<D>,
     files: Files<D>,
 ) -> Result<(), AllocError>
-    ensures { OnOk result (files_in closed.new ≡ files_in closed.old ++ files ∷ []) }
+    ensures ok { OnOk result (files_in closed.new ≡ files_in closed.old ++ files ∷ []) }
+    ensures err { OnErr result (files_in closed.new ≡ files_in closed.old) }
 {
     match closed.files.push(files) {
         Ok(()) => Ok(()),

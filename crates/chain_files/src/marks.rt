@@ -4,8 +4,9 @@ ghost use Rattle.std.specs.Prelude.{◌≡◌, ◌≤◌, ◌↔◌, ℕ, None, 
 ghost use Rattle.std.specs.Option.{option_map};
 ghost use Rattle.sha2.specs.Hashers.{Holds256};
 ghost use Rattle.sqlite_wal.specs.Reads.{AreClean};
-ghost use Rattle.chain_files.specs.Marks.{IsWanted, OnlyRead, OnlyReadFiles, WantsNext, file_mark};
+ghost use Rattle.chain_files.specs.Marks.{IsWanted, NamesChecksum, OnlyRead, OnlyReadFiles, WantsNext, file_checksum};
 
+use crate::words::begins_with;
 use hex::encode;
 use line_schema::Unavailable;
 use sha2::{Digest, Sha256};
@@ -18,23 +19,25 @@ use std::alloc::Global;
 pub struct Links {
     /// The first file may have been begun from another.
     pub from_middle: bool,
-    /// Each later file has to name the checksum of the file before it.
-    pub by_marks: bool,
+    /// A later file needs not name the checksum of the file before it.
+    pub without_marks: bool,
 }
 
 /// What the first UniqueID of the next file has to name.
 #[derive(Drop)]
 pub enum Wanted {
     Anything,
-    /// This checksum, or none.
-    Mark(Option<String>),
+    /// No file.
+    Nothing,
+    /// The file with this checksum, of 64 digits.
+    Checksum(String),
 }
 
 /// The bytes of a file that are read at once.
 const PART: usize = 16384;
 
-/// The bytes of a digest that a UniqueID names.
-const NAMED: usize = 12;
+/// The fewest digits of a checksum that a UniqueID names.
+const FEWEST: usize = 24;
 
 /// Returns what the first file has to name.
 pub fn wanted_first(links: Links) -> Wanted
@@ -44,7 +47,7 @@ pub fn wanted_first(links: Links) -> Wanted
     if links.from_middle {
         Wanted::Anything
     } else {
-        Wanted::Mark(None)
+        Wanted::Nothing
     }
 }
 
@@ -55,40 +58,48 @@ pub fn is_wanted(wanted: &Wanted, mark: &Option<String>) -> bool
 {
     match wanted {
         Wanted::Anything => true,
-        Wanted::Mark(None) => mark.is_none(),
-        Wanted::Mark(Some(wanted)) => match mark {
-            Some(mark) => mark.as_str() == wanted.as_str(),
+        Wanted::Nothing => mark.is_none(),
+        Wanted::Checksum(checksum) => match mark {
+            Some(mark) => names_checksum(checksum.as_str(), mark.as_str()),
             None => false,
         },
     }
+}
+
+/// Returns whether a mark names a checksum: by its first digits, all of which are compared.
+fn names_checksum(checksum: &str, mark: &str) -> bool
+    ensures yes { result ≡ true → NamesChecksum checksum.now mark.now }
+    ensures no { result ≡ false → ¬ NamesChecksum checksum.now mark.now }
+{
+    FEWEST <= mark.len() && begins_with(checksum, mark)
 }
 
 /// Returns what the file after this closed one has to name, whose bytes are read for that.
 pub fn wanted_after<D: Disk + Drop>(
     alloc: Global,
     files: Files<D>,
-    by_marks: bool,
+    without_marks: bool,
 ) -> (Result<Wanted, Unavailable>, Files<D>)
     ensures wants { IfOk result.0 (λ wanted. AreClean D.Disk result.1.log result.1.db
-        → WantsNext by_marks D.Disk result.1 wanted) }
+        → WantsNext without_marks D.Disk result.1 wanted) }
     ensures read { OnlyReadFiles D.Disk files result.1 }
 {
-    if !by_marks {
+    if without_marks {
         return (Ok(Wanted::Anything), files);
     }
     let Files { log, mut db } = files;
-    let mark = checksum(alloc, &mut db);
+    let read = checksum(alloc, &mut db);
     let files = Files { log, db };
-    match mark {
-        Ok(mark) => (Ok(Wanted::Mark(Some(mark))), files),
+    match read {
+        Ok(checksum) => (Ok(Wanted::Checksum(checksum)), files),
         Err(fault) => (Err(fault), files),
     }
 }
 
-/// Returns the checksum of a file as UniqueIDs name it: the first 24 hex digits of its SHA-256.
+/// Returns the checksum of a file: the hex digits of its SHA-256.
 fn checksum<D: Disk>(alloc: Global, file: &mut D) -> Result<String, Unavailable>
-    ensures mark { IfOk result (λ mark. IsTrue (D.Disk.is_clean file.new)
-        → string_bytes mark ≡ file_mark (D.Disk.seen file.new)) }
+    ensures checksum { IfOk result (λ checksum. IsTrue (D.Disk.is_clean file.new)
+        → string_bytes checksum ≡ file_checksum (D.Disk.seen file.new)) }
     ensures read { OnlyRead D.Disk file.old file.new }
 {
     if !file.may_be_used() {
@@ -109,8 +120,8 @@ fn checksum<D: Disk>(alloc: Global, file: &mut D) -> Result<String, Unavailable>
         at += step;
     }
     let digest = hasher.finalize();
-    match encode(alloc, &digest[..NAMED]) {
-        Ok(mark) => Ok(mark),
+    match encode(alloc, &digest) {
+        Ok(checksum) => Ok(checksum),
         Err(_) => Err(Unavailable),
     }
 }

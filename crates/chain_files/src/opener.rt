@@ -1,6 +1,6 @@
 //! The files of a run, which are opened one after the other.
 
-ghost use Rattle.std.specs.Prelude.{◌≡◌, ◌⊎◌, ℕ, None, IsTrue, IfOk, IfErr};
+ghost use Rattle.std.specs.Prelude.{◌≡◌, ◌⊎◌, ℕ, List, None, IsTrue, IfOk, IfErr};
 ghost use Rattle.sqlite_wal.specs.Recovery.{Image};
 ghost use Rattle.sqlite.specs.Files.{image_of};
 ghost use Rattle.line_schema.specs.declared.fault.OpenFault.TheVariants as Fault;
@@ -10,12 +10,12 @@ use line_schema::OpenFault;
 use sqlite::{FileFrom, Files, Start, Unknown};
 use sqlite_disk::Disk;
 
-/// Opens the files of a run. They have one type, and contents of their own: `image` is what the file at each place, from
-/// 0, held when it was opened.
+/// Opens the files of a run. They have one type, and contents of their own: `image` is what the file with a path held when
+/// it was opened at each place of the command line, from 0.
 pub trait Opener {
     type File: Disk + Drop;
 
-    ghost image: { Self → ℕ → Image };
+    ghost image: { Self → List ℕ → ℕ → Image };
 
     /// Opens the file at a path, and its log. None is made.
     fn open(&self, rt: &HostRuntime, place: u64, path: &str) -> Result<Files<Self::File>, OpenFault>
@@ -24,7 +24,7 @@ pub trait Opener {
         ensures db { IfOk result
             (λ files. IsTrue (⟦<Self::File as Disk>⟧.is_usable files.db)) }
         ensures image { IfOk result
-            (λ files. image_of ⟦<Self::File as Disk>⟧ files ≡ image self.now place) }
+            (λ files. image_of ⟦<Self::File as Disk>⟧ files ≡ image self.now path.now place) }
         ensures err { IfErr result
             (λ fault. (fault ≡ Fault.Unavailable) ⊎ (fault ≡ Fault.NotADesk)) };
 }
@@ -38,7 +38,7 @@ impl Opener for SystemFiles {
 
     type File = FileFrom<Unknown>;
 
-    ghost image = { λ _ _. image_at ⟦<Unknown as Start>⟧ };
+    ghost image = { λ _ _ _. image_at ⟦<Unknown as Start>⟧ };
 
     fn open(
         &self,

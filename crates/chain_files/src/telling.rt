@@ -1,8 +1,9 @@
 //! The line of a comparison.
 
-ghost use Rattle.std.specs.Prelude.{◌≡◌, ◌⊎◌, ◌^◌, ◌<◌};
+ghost use Rattle.std.specs.Prelude.{◌≡◌, ◌⊎◌, ◌^◌, ◌<◌, ◌≤◌};
 ghost use Rattle.std.specs.Io.KnownBytes.{Appends};
 ghost use Rattle.desk_types.specs.Wire.{inner_of, failures_of};
+ghost use Rattle.desk_answers.specs.Sent.{SendsFront};
 ghost use Rattle.desk_commands.specs.Told.{unavailable_line, TellsLine, TellsUnwritten};
 ghost use Rattle.desk_commands.specs.Wires.{HaveFewFailures};
 ghost use Rattle.chain_files.specs.Compared.{found_line, refused_line, found_status};
@@ -32,7 +33,10 @@ pub fn tell_found<W: Write, E: Write>(
         × TellsLine E.contents errors.old errors.new (refused_line found.now)) }
     ensures untouched { result ≡ 3 → output.new ≡ output.old }
     ensures failed { result ≡ 4
-        → TellsUnwritten E.contents output.old output.new errors.old errors.new }
+        → TellsUnwritten E.contents output.old output.new errors.old errors.new
+        × (found_status found.now ≤ 1)
+        × SendsFront (W.contents (inner_of output.old)) (W.contents (inner_of output.new))
+        (found_line found.now) }
 {
     let status = found_status(found);
     if status == Exit::NoDesk as u8 {

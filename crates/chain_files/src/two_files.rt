@@ -3,7 +3,7 @@
 ghost use Rattle.std.specs.Prelude.{◌≡◌, ◌⊎◌, []};
 ghost use Rattle.desk_commands.specs.Told.{TellsUnwritten};
 ghost use Rattle.desk_commands.specs.Wires.{HaveFewFailures};
-ghost use Rattle.chain_files.specs.Compared.{Finds, NoDesk, Shows};
+ghost use Rattle.chain_files.specs.Compared.{Finds, NoDesk, Shows, ShowsFront, placed_both};
 ghost use Rattle.chain_files.specs.Files.{files_in};
 
 use crate::chain::look_at;
@@ -30,13 +30,18 @@ pub fn alike<O: Opener, W: Write, E: Write>(
     requires few { HaveFewFailures output.old errors.old }
     ensures status { (result.0 ≡ 0) ⊎ (result.0 ≡ 1) ⊎ (result.0 ≡ 3) ⊎ (result.0 ≡ 4) }
     ensures shown { (result.0 ≡ 0) ⊎ (result.0 ≡ 1)
-        → Shows (Finds ⟦<O::File as Disk>⟧ (O.image opener.now) (files_in result.1))
+        → Shows (Finds ⟦<O::File as Disk>⟧ (placed_both (O.image opener.now) old.now new.now)
+        (files_in result.1))
         W.contents output.old output.new result.0 }
     ensures no_desk { result.0 ≡ 3
-        → NoDesk (Finds ⟦<O::File as Disk>⟧ (O.image opener.now) (files_in result.1))
+        → NoDesk (Finds ⟦<O::File as Disk>⟧ (placed_both (O.image opener.now) old.now new.now)
+        (files_in result.1))
         E.contents output.old output.new errors.old errors.new }
     ensures failed { result.0 ≡ 4
         → TellsUnwritten E.contents output.old output.new errors.old errors.new }
+    ensures front { result.0 ≡ 4
+        → ShowsFront (Finds ⟦<O::File as Disk>⟧ (placed_both (O.image opener.now) old.now new.now)
+        (files_in result.1)) W.contents output.old output.new }
 {
     let mut closed = ClosedChain::new(rt.alloc());
     let found = compare_files(rt, opener, old, new, &mut closed);
@@ -53,9 +58,10 @@ fn compare_files<O: Opener>(
     closed: &mut ClosedChain<O::File>,
 ) -> Compared
     requires none { files_in closed.old ≡ [] }
-    ensures { Finds ⟦<O::File as Disk>⟧ (O.image opener.now) (files_in closed.new) result }
+    ensures { Finds ⟦<O::File as Disk>⟧ (placed_both (O.image opener.now) old.now new.now)
+        (files_in closed.new) result }
 {
-    let first = match look_at(rt, opener, 0, old, &Question::Chain, false, closed) {
+    let first = match look_at(rt, opener, 0, old, &Question::Chain, true, closed) {
         Ok(first) => first,
         Err(fault) => {
             return Compared::Refused {
@@ -64,7 +70,7 @@ fn compare_files<O: Opener>(
             };
         }
     };
-    let second = match look_at(rt, opener, 1, new, &Question::Chain, false, closed) {
+    let second = match look_at(rt, opener, 1, new, &Question::Chain, true, closed) {
         Ok(second) => second,
         Err(fault) => {
             return Compared::Refused {

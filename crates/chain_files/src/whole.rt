@@ -1,15 +1,16 @@
 //! A whole run of the program, over any files and output.
 
-ghost use Rattle.std.specs.Prelude.{◌≡◌, ◌⊎◌, ◌≤◌, ◌^◌, ◌<◌, List, ℕ, map, string_bytes};
+ghost use Rattle.std.specs.Prelude.{◌≡◌, ◌⊎◌, ◌≤◌, ◌^◌, ◌<◌, List, ℕ, true, map, string_bytes};
 ghost use Rattle.std.specs.Io.KnownBytes.{Appends};
 ghost use Rattle.desk_types.specs.Wire.{inner_of, failures_of};
-ghost use Rattle.desk_commands.specs.Told.{unavailable_line, TellsLine};
+ghost use Rattle.desk_answers.specs.Sent.{SendsFront};
+ghost use Rattle.desk_commands.specs.Told.{unavailable_line, TellsLine, TellsUnwritten};
 ghost use Rattle.desk_commands.specs.Wires.{HaveFewFailures};
 ghost use Rattle.trace_reports.specs.Csv.{HasWritten};
 ghost use Rattle.chain_files.specs.Compared.{Shows};
 ghost use Rattle.chain_files.specs.Files.{files_in};
-ghost use Rattle.chain_files.specs.Stops.{status_of, stop_line};
-ghost use Rattle.chain_files.specs.Whole.{Answers, Compares, Done, Fails, IsStopped, Stops, StopsAt, Unlike};
+ghost use Rattle.chain_files.specs.Stops.{status_of, stop_line, without_marks_line};
+ghost use Rattle.chain_files.specs.Whole.{Answers, AnswersFront, Bad, Compares, Done, Fails, IsStopped, SaysLinks, Stops, StopsAt, Unlike};
 
 use crate::chain::{Fault, Stopped, recall_files};
 use crate::closed::ClosedChain;
@@ -40,7 +41,7 @@ pub fn program<O: Opener, W: Write, E: Write>(
     ensures status { result.0 ≤ 5 }
     ensures done { result.0 ≡ 0
         → Done ⟦<O::File as Disk>⟧ (O.image opener.now) (files_in result.1)
-        (map string_bytes words.now) W.contents output.old output.new
+        (map string_bytes words.now) W.contents E.contents output.old output.new errors.new
         ⊎ Shows
         (Compares ⟦<O::File as Disk>⟧ (O.image opener.now) (files_in result.1)
         (map string_bytes words.now)) W.contents output.old output.new 0 }
@@ -52,9 +53,12 @@ pub fn program<O: Opener, W: Write, E: Write>(
         (Compares ⟦<O::File as Disk>⟧ (O.image opener.now) (files_in result.1)
         (map string_bytes words.now)) W.contents E.contents output.old output.new errors.old
         errors.new result.0 }
-    ensures bad { result.0 ≡ 2 → output.new ≡ output.old }
+    ensures bad { result.0 ≡ 2
+        → Bad (files_in result.1) (map string_bytes words.now) E.contents output.old output.new
+        errors.old errors.new }
     ensures failed { result.0 ≡ 4
-        → Fails (map string_bytes words.now) E.contents output.old output.new errors.old
+        → Fails ⟦<O::File as Disk>⟧ (O.image opener.now) (files_in result.1)
+        (map string_bytes words.now) W.contents E.contents output.old output.new errors.old
         errors.new }
 {
     match read_words(words) {
@@ -75,7 +79,7 @@ pub fn program<O: Opener, W: Write, E: Write>(
         ChainCommand::Bad => {
             tell(
                 errors,
-                "usage: tracedesk-chain check|lot NAME|board NAME|reel NAME [--pieces] [--from-middle] [--marks] FILE.., alike OLD NEW, or --help\n",
+                "usage: tracedesk-chain check|lot NAME|board NAME|reel NAME [--pieces] [--from-middle] [--without-marks] [--] FILE.., alike OLD NEW, or --help\n",
             );
             (Exit::BadCommandLine as u8, ClosedChain::new(rt.alloc()))
         }
@@ -96,15 +100,20 @@ fn answer<O: Opener, W: Write, E: Write>(
     ensures status { (result.0 ≤ 1) ⊎ (3 ≤ result.0) × (result.0 ≤ 5) }
     ensures done { result.0 ≡ 0
         → Answers ⟦<O::File as Disk>⟧ (O.image opener.now) (files_in result.1) question.now
-        links (map string_bytes paths.now) W.contents output.old output.new }
+        links (map string_bytes paths.now) W.contents E.contents output.old output.new
+        errors.new }
     ensures stopped { IsStopped result.0
         → (output.new ≡ output.old)
         × StopsAt ⟦<O::File as Disk>⟧ (O.image opener.now) (files_in result.1) links
         (map string_bytes paths.now) E.contents errors.new result.0 }
+    ensures failed { result.0 ≡ 4
+        → AnswersFront ⟦<O::File as Disk>⟧ (O.image opener.now) (files_in result.1) question.now
+        links (map string_bytes paths.now) W.contents E.contents output.old output.new
+        errors.new }
 {
     let mut closed = ClosedChain::new(rt.alloc());
     match recall_files(rt, opener, paths, question, links, errors, &mut closed) {
-        Ok(answer) => (send_answer(answer, output, errors), closed),
+        Ok(answer) => (send_answer(answer, links, output, errors), closed),
         Err(stopped) => {
             let status = tell_stop(rt.alloc(), paths, &stopped, errors);
             (status, closed)
@@ -112,9 +121,10 @@ fn answer<O: Opener, W: Write, E: Write>(
     }
 }
 
-/// Prints the answer.
+/// Prints the answer, and that marks were left aside.
 fn send_answer<W: Write, E: Write>(
     answer: TextWriter,
+    links: Links,
     output: &mut Wire<W>,
     errors: &mut Wire<E>,
 ) -> u8
@@ -123,20 +133,42 @@ fn send_answer<W: Write, E: Write>(
     ensures done { result ≡ 0
         → (text : List ℕ)
         × Appends (W.contents (inner_of output.old)) (W.contents (inner_of output.new)) text
-        × ((all : List ℕ) → HasWritten answer all → text ≡ all) }
+        × ((all : List ℕ) → HasWritten answer all → text ≡ all)
+        × SaysLinks links E.contents errors.new }
     ensures untouched { result ≡ 3
         → (output.new ≡ output.old)
         × TellsLine E.contents errors.old errors.new unavailable_line }
+    ensures failed { result ≡ 4
+        → (text : List ℕ)
+        × SendsFront (W.contents (inner_of output.old)) (W.contents (inner_of output.new)) text
+        × ((all : List ℕ) → HasWritten answer all → text ≡ all)
+        × TellsUnwritten E.contents output.old output.new errors.old errors.new }
 {
     let Ok(text) = end_rows(answer) else {
         return unavailable(errors);
     };
     match send(output, text.as_slice()) {
-        Ok(()) => Exit::Done as u8,
+        Ok(()) => {
+            tell_links(links, errors);
+            Exit::Done as u8
+        }
         Err(_) => {
             tell_line(errors, "tracedesk: Write");
             Exit::Failed as u8
         }
+    }
+}
+
+/// Prints that marks were left aside, if they were.
+fn tell_links<E: Write>(links: Links, errors: &mut Wire<E>)
+    requires error_failures { failures_of errors.old < 2 ^ 63 }
+    ensures { SaysLinks links E.contents errors.new }
+{
+    if links.without_marks {
+        tell_line(
+            errors,
+            "tracedesk-chain: without marks: a gap or a fork may not show",
+        );
     }
 }
 

@@ -56,7 +56,8 @@ class Asked(NamedTuple):
 
 
 class Point(NamedTuple):
-    """A scenario, the number of the call at which the tool is killed, and that of the moment at which something else happens."""
+    """A scenario, the number of the call at which the tool is killed, and that of the moment at
+    which something else happens."""
 
     scenario: str
     number: int
@@ -83,7 +84,8 @@ class Outcome(NamedTuple):
 
 
 class Met(NamedTuple):
-    """How many calls a tool makes that change a file where nothing is in its way, and how long it takes."""
+    """How many calls a tool makes that change a file where nothing is in its way, and how long it
+    takes."""
 
     calls: int
     seconds: float
@@ -168,8 +170,8 @@ def points_of(asked: Asked, scenario: str, calls: int) -> list[Point]:
 
 
 def all_tried(asked: Asked, room: pathlib.Path) -> tuple[int, int]:
-    """Tries all points, and prints what came of each scenario and of each point that is wrong; how many there were, and how many are
-    wrong."""
+    """Tries all points, and prints what came of each scenario and of each point that is wrong; how
+    many there were, and how many are wrong."""
     base = base_of(asked.program, room / "base")
     ends: dict[str, list[Outcome]] = collections.defaultdict(list)
     if any(scenario.startswith("load") for scenario in asked.scenarios):

@@ -37,7 +37,8 @@ own_ports: dict[str, int] = {}  # of this process, by the names of lines
 
 
 class KilledLine(Line):
-    """A line whose tools are killed. `lines` are those that a recall asks; `other` is the other line in the same folder."""
+    """A line whose tools are killed. `lines` are those that a recall asks; `other` is the other
+    line in the same folder."""
 
     other: "KilledLine"
 
@@ -87,7 +88,8 @@ class KilledLine(Line):
                 pids.write(f"{service.pid}\n")
 
     def serve_again(self, tries: int = 100) -> None:
-        """Starts the service as its unit does it, where it doesn't run: as often as that, since another tool may have the file."""
+        """Starts the service as its unit does it, where it doesn't run: as often as that, since
+        another tool may have the file."""
         end = time.monotonic() + PATIENCE
         while not self.answers():
             assert tries and time.monotonic() < end, "the desk can't be served"
@@ -215,7 +217,8 @@ class KilledLine(Line):
         return sum((line.doubtful for line in self.lines), collections.Counter())
 
     def differences(self, told: Pieces, wanted: Optional[Pieces] = None) -> str:
-        """Which of the acknowledged pieces are missing, and which are there once more; nothing if all is well."""
+        """Which of the acknowledged pieces are missing, and which are there once more; nothing if
+        all is well."""
         wanted = self.all_acknowledged() if wanted is None else wanted
         missing, more = sorted(wanted - told), sorted(told - wanted - self.all_doubtful())
         found = [f"{missing[:6]} are missing"] * bool(missing)
@@ -255,7 +258,8 @@ def pieces_in(text: str) -> Pieces:
 
 
 def base_of(program: pathlib.Path, folder: pathlib.Path) -> KilledLine:
-    """A plant with an archive, two copies and a running desk that each have pieces of their own; and the desk of another line."""
+    """A plant with an archive, two copies and a running desk that each have pieces of their own;
+    and the desk of another line."""
     folder.mkdir()
     line = KilledLine(program, folder)
     line.other = KilledLine(program, folder, "L2", "other")

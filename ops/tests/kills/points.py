@@ -25,7 +25,8 @@ BESIDE = {  # what happens meanwhile
     "load": ("", "second", "clock"),
 }
 AT_RANDOM = ("start", "second")  # happen at a random moment
-# The status of a tool that is called again; 4: the copy lacks what lies aside, and no call before said so.
+# The status of a tool that is called again; 4: the copy lacks what lies aside, and no call before
+# said so.
 ALLOWED = {"restore": (0, 4), "older": (0, 4)}
 TEN_YEARS = 315_360_000
 
@@ -61,7 +62,8 @@ def call_second(line: KilledLine, name: str, chance: random.Random) -> None:
 
 
 def expect_after_change(line: KilledLine, name: str) -> None:
-    """What holds after a tool was killed that changes the desk, its archive or its copies, and after it is called again."""
+    """What holds after a tool was killed that changes the desk, its archive or its copies, and
+    after it is called again."""
     if name in RESTORES:
         # Killed, it may leave no desk, or one with a second name, which no run opens.
         with contextlib.suppress(AssertionError):
@@ -88,8 +90,8 @@ def expect_after_change(line: KilledLine, name: str) -> None:
 def expect_after_reading(
     line: KilledLine, name: str, was: Ended, before: "dict[str, str] | None"
 ) -> None:
-    """A tool that changes nothing: every file is as it was, what it printed is whole or was not told as done, and it does it when it is
-    called again."""
+    """A tool that changes nothing: every file is as it was, what it printed is whole or was not
+    told as done, and it does it when it is called again."""
     now = line.content()
     changed = {file for file, _ in before.items() ^ now.items()} if before is not None else set()
     assert not changed, f"{changed} are other files"
@@ -117,7 +119,8 @@ def sessions() -> str:
 
 
 def expect_after_load(line: KilledLine) -> None:
-    """PostgreSQL has no piece twice, and all of them, of the newest copy or of the one before, where it says that nothing is missing."""
+    """PostgreSQL has no piece twice, and all of them, of the newest copy or of the one before,
+    where it says that nothing is missing."""
     expect_in_database(line, "after the kill", may_be_older=True)
     line.begin("load").ends().expect()
     expect_in_database(line, "called again", may_be_older=False)
@@ -155,6 +158,6 @@ def make_older_database(base: KilledLine) -> None:
     os.environ["PGDATABASE"] = "postgres"
     postgres.asked("-c", "CREATE DATABASE older")
     os.environ["PGDATABASE"] = "older"
-    postgres.asked("-f", postgres.SQL / "schema.sql")
+    postgres.asked("-f", str(postgres.SQL / "schema.sql"))
     words: list[Word] = ["--line", "L1", base.kept()[0]]
     Run("load", words, base.told / "older").ends().expect()

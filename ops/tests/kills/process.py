@@ -1,4 +1,5 @@
-"""A tool in a copy of this process, since an interpreter of its own would take longer than the tool itself."""
+"""A tool in a copy of this process, since an interpreter of its own would take longer than the tool
+itself."""
 import ctypes
 import datetime
 import mmap
@@ -28,8 +29,8 @@ def is_armed() -> bool:
 
 
 class Run:
-    """A tool that runs. `kill_at` is the number of the call before which it is killed, 0 for none; `count` is how many calls it made;
-    `off` are the seconds by which its clock is wrong."""
+    """A tool that runs. `kill_at` is the number of the call before which it is killed, 0 for none;
+    `count` is how many calls it made; `off` are the seconds by which its clock is wrong."""
 
     def __init__(
         self, tool: str, words: Sequence[Word], told: pathlib.Path, kill_at: int = 0, off: int = 0

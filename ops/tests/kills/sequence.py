@@ -123,7 +123,8 @@ class Steps:
         self.tool("settle", "--catalogue")
 
     def move(self) -> None:
-        """A reel goes to the other line, which is told by what tracedesk-move prints, and mounts it."""
+        """A reel goes to the other line, which is told by what tracedesk-move prints, and mounts
+        it."""
         name = f"M-{os.urandom(4).hex()}"
         with contextlib.suppress(*LOST_ANSWERS):
             if not self.it.reel(name):
@@ -144,7 +145,8 @@ class Steps:
             self.its_other.tell("MaterialsLoaded", Machine="M", Slot="1", Reel=name)
 
     def again(self) -> None:
-        """The senders send all of it again, and somebody sees to what a roll-over left and a restore had put aside."""
+        """The senders send all of it again, and somebody sees to what a roll-over left and a
+        restore had put aside."""
         for line in self.lines:
             if plant.rolled_in(line.file).joinpath(plant.PLAN).exists():
                 self.tool("settle", of=line)
@@ -172,7 +174,8 @@ class Steps:
                 self.kept.setdefault(path, set()).add(path.read_bytes())
 
     def damage(self) -> None:
-        """One file, whichever it is, is damaged; of a file with several names it is so in all of them."""
+        """One file, whichever it is, is damaged; of a file with several names it is so in all of
+        them."""
         files = self.files()
         if not self.damaged and files:
             path = self.chance.choice(files)
@@ -181,8 +184,8 @@ class Steps:
             self.spoil(path, sorted(self.kept.get(path, set()) - {content}))
 
     def damage_desk(self) -> None:
-        """The file of a desk is damaged that was killed. What a log lost, or an older file in its place, would say nothing of what there
-        was."""
+        """The file of a desk is damaged that was killed. What a log lost, or an older file in its
+        place, would say nothing of what there was."""
         self.end(self.it)
         if self.it.file.exists():
             self.spoil(self.it.file)

@@ -1,4 +1,5 @@
-"""What the tests of ops/ share: the tools, a desk that is served, a line around it, and two lines with archives.
+"""What the tests of ops/ share: the tools, a desk that is served, a line around it, and two lines
+with archives.
 
 The fixtures of ../conftest.py give tests these objects. What they find wrong is an AssertionError.
 """

@@ -66,7 +66,8 @@ class Checked:
         return done
 
     def expect(self, status: int, *texts: str) -> Ended:
-        """A check that ends with this status and says these texts; of a fault it also says what to do."""
+        """A check that ends with this status and says these texts; of a fault it also says what to
+        do."""
         return says(self.check().expect(status, *texts))
 
     def expect_cause(self, audit: str, *texts: str) -> None:

@@ -16,7 +16,8 @@ from tracedesk_ops import copies, plant
 
 START = """#!/bin/sh
 ulimit -S -f unlimited
-setsid "{program}" serve --db "{file}" --port {port} --connections 1000000 > /dev/null 2>&1 < /dev/null &
+exec > /dev/null 2>&1 < /dev/null
+setsid "{program}" serve --db "{file}" --port {port} --connections 1000000 &
 echo $! > "{file}-pid"
 """
 STOP = 'kill $(cat "{file}-pid") || true'
@@ -24,7 +25,8 @@ TAILS = ("", "-wal")  # of a desk's file, and of its log
 
 
 class Desk:
-    """A desk in a file. Its service is started by a script beside it, as tools that stop it do too."""
+    """A desk in a file. Its service is started by a script beside it, as tools that stop it do
+    too."""
 
     def __init__(self, program: pathlib.Path, file: pathlib.Path, port: int = 0) -> None:
         self.program, self.file = program, file
@@ -120,7 +122,8 @@ class Desk:
         )
 
     def begin_post(self, line: bytes, port: int = 0) -> socket.socket:
-        """A connection over which a part of a message has been sent, with the end of it to come after 10 bytes."""
+        """A connection over which a part of a message has been sent, with the end of it to come
+        after 10 bytes."""
         link = socket.create_connection(("127.0.0.1", port or self.port), PATIENCE)
         head = f"POST /messages HTTP/1.1\r\nHost: desk\r\nContent-Length: {len(line)}\r\n"
         link.sendall(f"{head}Connection: close\r\n\r\n".encode() + line[:10])

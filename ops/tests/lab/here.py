@@ -1,4 +1,5 @@
-"""Calls a tool in this very process, since an interpreter of its own would take longer than the tool itself."""
+"""Calls a tool in this very process, since an interpreter of its own would take longer than the
+tool itself."""
 import contextlib
 import importlib
 import io

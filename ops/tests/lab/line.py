@@ -16,7 +16,7 @@ OWN_COMMANDS = """SELECT uid FROM accepted WHERE source <> 'tracedesk' AND numbe
 
 
 class Line(Desk):
-    """A line in a folder. `desk` is the name of its desk's file; several lines may share a folder."""
+    """A line in a folder, which may be that of other lines; `desk` is the name of its file."""
 
     quiet = QUIET
 
@@ -48,7 +48,7 @@ class Line(Desk):
         return [tool("rollover"), *self.service(program), "--line", self.name, *more]
 
     def rollover(self, *more: Word, program: Optional[pathlib.Path] = None, **how: Any) -> Ended:
-        """Calls tracedesk-rollover. `kill_after` names the step after which it is killed, `limit` the size of files."""
+        """Calls tracedesk-rollover; `how` are the last three arguments of `call`."""
         return self.call(self.rollover_words(*more, program=program), program, **how)
 
     def backup(self, *more: Word, program: Optional[pathlib.Path] = None, **how: Any) -> Ended:
@@ -66,6 +66,7 @@ class Line(Desk):
         limit: int = 0,
         env: Optional[Mapping[str, str]] = None,
     ) -> Ended:
+        """Calls a tool, which may be killed after a step, or make no file larger than a limit."""
         own = {"TRACEDESK_QUIET": self.quiet, KILL_AFTER: kill_after}
         if program:  # of `wrapped`: tracedesk-chain lies next to it
             own["CHAIN"] = str(program.with_name("tracedesk-chain"))
@@ -110,7 +111,7 @@ class Line(Desk):
         return [*(catalogue.path_of(self.catalogue, it) for it in self.archives()), self.file]
 
     def uids(self) -> "collections.Counter[str]":
-        """The UniqueIDs of all accepted commands that no roll-over made, with how many desks have each."""
+        """The UniqueIDs of all commands that no roll-over made, and how many desks have each."""
         return sum(map(self.uids_of, self.files()), collections.Counter())
 
     def uids_of(self, file: pathlib.Path) -> "collections.Counter[str]":
@@ -122,7 +123,7 @@ class Line(Desk):
             return self.lawful()
 
     def expect_tidy(self, *also: str, answers: bool = True) -> None:
-        """Looks for what holds whenever no tool is on its way: nothing else lies there, and the desk answers."""
+        """Whenever no tool is on its way nothing else lies in the folder, and the desk answers."""
         own = {self.archive.name, self.copies.name, "aside", *also}
         own |= {f"{self.file.name}{tail}" for tail in ("", "-wal", "-start", "-pid")}
         others = {path.name for path in self.folder.iterdir()} - own

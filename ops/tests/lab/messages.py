@@ -26,7 +26,8 @@ def message(word: str, uid: str, time: str = EPOCH, source: str = "t", **body: A
 
 
 def part(name: str, time: str = EPOCH) -> bytes:
-    """A message that each desk accepts that hasn't got it yet, if it isn't ahead of the desk's minute by too much."""
+    """A message that each desk accepts that hasn't got it yet, if it isn't ahead of the desk's
+    minute by too much."""
     return message("PartDefined", f"x-{name}", time, PartNumber=name)
 
 
@@ -36,7 +37,8 @@ def first_line(line: str) -> list[bytes]:
 
 
 def with_lots(told: Message) -> Message:
-    """A message in which every other reel is of one lot of its part: such lots have several reels, and spaces in their names."""
+    """A message in which every other reel is of one lot of its part: such lots have several reels,
+    and spaces in their names."""
     body = told["MessageBody"]
     if told["MessageName"] == "TraceDesk.ReelReceived" and int(body["Reel"][-1]) % 2:
         body["Lot"] = f"LOT {body['PartNumber']} & more"
@@ -62,7 +64,8 @@ class InWork:
 def parts_of(
     lines: Iterable[shift.Said], count: int, changed: Callable[[Message], Message] = with_lots
 ) -> list[bytes]:
-    """The lines of a shift, each changed, in parts of as much work each; between two of them no board is in work."""
+    """The lines of a shift, each changed, in parts of as much work each; between two of them no
+    board is in work."""
     said = [
         (line.wanted == "Accepted", changed(json.loads(line.text)))
         for line in lines

@@ -1,4 +1,4 @@
-"""Lines that the tools roll over and copy while they are served, as a plant does, and the databases that are loaded from their copies."""
+"""Lines that tools roll over and copy while they are served, and what databases have of them."""
 from __future__ import annotations
 
 import pathlib
@@ -24,7 +24,7 @@ class WorkedLine(Line):
     """A line whose desk is rolled over and copied by the tools, while it is served."""
 
     def work(self, parts: Sequence[bytes]) -> None:
-        """Posts the parts of a shift, with a copy and a roll-over before each but the first, and a copy at the end."""
+        """Posts the parts of a shift. The desk is rolled over between two of them."""
         for number, part in enumerate(parts):
             if number:
                 self.copy()

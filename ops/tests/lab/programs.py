@@ -5,8 +5,9 @@ from tracedesk_ops import plant
 
 
 def wrapped(folder: pathlib.Path, program: pathlib.Path, word: str, act: str) -> pathlib.Path:
-    """Both programs as scripts in a folder, which do something of their own when they are asked for a word, as `audit`.
-    Returns the first one's file; `alike` is a word of the other one, tracedesk-chain."""
+    """Both programs as scripts in a folder, which do something of their own when they are asked for
+    a word, as `audit`. Returns the first one's file; `alike` is a word of the other one,
+    tracedesk-chain."""
     chain = plant.chain_of(str(program))
     for name, its in (("tracedesk-chain", chain), ("program", program)):
         file = folder / name

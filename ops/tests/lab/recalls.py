@@ -1,4 +1,4 @@
-"""What tracedesk-recall prints of lots, reels and boards, compared with what the program reports of each file."""
+"""What tracedesk-recall prints, compared with what the program reports of each file."""
 from __future__ import annotations
 
 import collections
@@ -100,7 +100,7 @@ def minutes_of(file: pathlib.Path) -> dict[tuple[str, str], str]:
 
 
 class Asking:
-    """Asks the tool for names, in this process, and the program for its reports of copies of each file."""
+    """Asks the tool for names, in this process, and the program for reports of each file."""
 
     def __init__(self, lines: Sequence[Asked], room: pathlib.Path) -> None:
         self.lines, self.room, self.program = lines, room, lines[0].program
@@ -138,7 +138,7 @@ class Asking:
         return {name: table(catalogue.csv_text(rows)) for name, rows in found}
 
     def report(self, file: pathlib.Path, path: str, **query: Any) -> Rows:
-        """The rows of the program's report of a copy of a file; none if it doesn't know what is asked."""
+        """The rows of the program's report of a file; none if it doesn't know what is asked."""
         target = f"{path}?{urllib.parse.urlencode(query)}"
         with self.locks[file]:
             if (file, target) not in self.reports:
@@ -152,7 +152,7 @@ class Asking:
             return self.reports[file, target]
 
     def wanted(self, kind: str, name: str) -> Iterator[tuple[str, str, list[tuple[str, ...]]]]:
-        """The pieces by the program's reports: a line, a file of it, and what the report has of each piece."""
+        """The pieces by the program's reports: a line, a file, and rows of the report."""
         for line, file_name, file in self.files:
             if kind == "board":
                 told = self.report(file, "/trace/board", board=name, detail=4)

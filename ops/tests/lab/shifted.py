@@ -16,8 +16,9 @@ def without_number(answer: Answer) -> Answer:
 
 
 class Shifted:
-    """The messages of a shift, their answers, and a desk's file that has them all. `upto` is a place without a board in work, and
-    `half` a line that has taken what is before it; the newest commands of that are in its log."""
+    """The messages of a shift, their answers, and a desk's file that has them all. `upto` is a
+    place without a board in work, and `half` a line that has taken what is before it; the newest
+    commands of that are in its log."""
 
     def __init__(self, program: pathlib.Path, folder: pathlib.Path, boards: int = 12) -> None:
         self.program = program
@@ -46,7 +47,8 @@ class Shifted:
                 yield place
 
     def cuts(self, number: int) -> list[int]:
-        """So many places without a board in work, spread over the part of the shift in which boards are made."""
+        """So many places without a board in work, spread over the part of the shift in which boards
+        are made."""
         length = self.last - self.first
         wanted = [self.first + length * (n + 1) // (number + 1) for n in range(number)]
         return [min(self.quiet, key=lambda place: abs(place - it)) for it in wanted]
@@ -74,7 +76,8 @@ class Shifted:
             assert without_number(got) == without_number(wanted), f"{text[:300]!r}"
 
     def expect_rolled_over(self, line: Line, *more: str) -> None:
-        """One archive and the new desk have every command once, these parts too; the rest of the shift is answered as on one desk."""
+        """One archive and the new desk have every command once, these parts too; the rest of the
+        shift is answered as on one desk."""
         line.expect_tidy()
         assert len(line.archives()) == 1
         self.post(line, self.upto)

@@ -1,5 +1,5 @@
-"""The station's site: a desk behind the packaged nginx in a folder of its own, with a folder of the watch and a systemctl
-of its own."""
+"""The station's site: a desk behind the packaged nginx in a folder of its own, with a folder of the
+watch and a systemctl of its own."""
 import os
 import pathlib
 

@@ -61,7 +61,8 @@ def run(
     out: Optional[IO[str]] = None,
     cwd: Optional[pathlib.Path] = None,
 ) -> Ended:
-    """Runs a command to its end. `env` is added to the environment; no file may grow beyond `limit` bytes."""
+    """Runs a command to its end. `env` is added to the environment; no file may grow beyond `limit`
+    bytes."""
 
     def bound() -> None:
         resource.setrlimit(resource.RLIMIT_FSIZE, (limit, resource.RLIM_INFINITY))

@@ -9,7 +9,8 @@ T = TypeVar("T")
 
 PATIENCE = 300.0  # seconds for what takes less than one where nothing else is busy
 PAUSE = 0.02
-# Below the ports that the system gives to connections, so that a desk that is stopped finds its own free again.
+# Below the ports that the system gives to connections, so that a desk that is stopped finds its own
+# free again.
 PORTS = os.environ.get("TRACEDESK_TEST_PORTS", "20000-29999")
 
 held: list[socket.socket] = []  # their names are those of the ports that this process has taken
@@ -25,7 +26,8 @@ def wait_for(what: str, holds: Callable[[], T], patience: float = PATIENCE) -> T
 
 
 def stays(what: str, holds: Callable[[], object], seconds: float) -> None:
-    """Looks for this time whether something goes on. A busy machine makes it less sharp, and never wrong."""
+    """Looks for this time whether something goes on. A busy machine makes it less sharp, and never
+    wrong."""
     end = time.monotonic() + seconds
     while time.monotonic() < end:
         assert holds(), f"no more: {what}"
@@ -33,7 +35,8 @@ def stays(what: str, holds: Callable[[], object], seconds: float) -> None:
 
 
 def free_port() -> int:
-    """A port on which nobody listens, and which no other call of this function gets while this process runs."""
+    """A port on which nobody listens, and which no other call of this function gets while this
+    process runs."""
     first, last = map(int, PORTS.split("-"))
     ports = list(range(first, last + 1))
     random.shuffle(ports)

@@ -1,4 +1,4 @@
-"""A desk behind the packaged nginx whose numbers are known, the watch of it, the idle clock, and a reader of their text files."""
+"""A desk behind the packaged nginx whose numbers are known, its watch, and its idle clock."""
 from __future__ import annotations
 
 import contextlib
@@ -25,7 +25,7 @@ Metrics = dict[
 
 
 class Reader:
-    """Reads a text file of Prometheus, line by line; a ValueError says where it breaks the format."""
+    """Reads a text file of Prometheus; a ValueError says where it breaks the format."""
 
     def __init__(self) -> None:
         self.found: Metrics = {}

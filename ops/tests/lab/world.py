@@ -1,8 +1,9 @@
 """Two lines with archives, which work on some of the same boards.
 
-A shift of line L1 is fed to four desks, each begun with the messages of tracedesk-begin from the one before it, at moments at
-which a board has passed one machine and not the other; an idle desk is between two of them. The second archive is
-without the indexes by reel and by overdue. Line L2 goes over once. Both last desks are served.
+A shift of line L1 is fed to four desks, each begun with the messages of tracedesk-begin from the
+one before it, at moments at which a board has passed one machine and not the other; an idle desk is
+between two of them. The second archive is without the indexes by reel and by overdue. Line L2 goes
+over once. Both last desks are served.
 """
 import contextlib
 import pathlib
@@ -33,8 +34,8 @@ class ArchivedLine(Line):
         self.archive.mkdir(parents=True)
 
     def archive_it(self, has_indexes: bool = True, later: int = 0) -> None:
-        """Archives the desk's file, with or without the indexes that older programs made, and begins the next one, so many
-        minutes later."""
+        """Archives the desk's file, with or without the indexes that older programs made, and
+        begins the next one, so many minutes later."""
         file = self.archive / f"{self.name}-{len(self.archived) + 1}"
         with contextlib.closing(sqlite3.connect(self.file, isolation_level=None)) as database:
             for name, columns in declared.OLDER_LAYOUT.items():

@@ -63,8 +63,9 @@ def expect_done(done: Ended) -> None:
 
 
 class Batch:
-    """Runs that share one desk; `faults` are those of all of them, and `counts` say how much was tried. With `planted`, refused reports of
-    work are sent again unchanged, which a comparison has to find."""
+    """Runs that share one desk; `faults` are those of all of them, and `counts` say how much was
+    tried. With `planted`, refused reports of work are sent again unchanged, which a comparison has
+    to find."""
 
     def __init__(
         self,
@@ -172,7 +173,8 @@ class Batch:
     # --- What recalls say
 
     def compare(self) -> None:
-        """Asks for each lot of each run. The desk stands still by now, so what is the same for all of them is looked at once."""
+        """Asks for each lot of each run. The desk stands still by now, so what is the same for all
+        of them is looked at once."""
         path = self.place.catalogue
         self.line = recall.Line(LINE, self.place.url, path)
         self.chain = AskedOnce(str(self.place.program))
@@ -247,7 +249,8 @@ class Batch:
         done.expect(3 if undecided else 5 if tables["doubtful"] else 0)
 
     def show(self, run: Run, its: Any) -> None:
-        """Prints what the files have of a run's machine, what was refused, and what really happened."""
+        """Prints what the files have of a run's machine, what was refused, and what really
+        happened."""
         files = {
             archive.file: catalogue.path_of(self.place.catalogue, archive)
             for archive in self.place.archives()

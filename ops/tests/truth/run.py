@@ -64,7 +64,8 @@ class Run:
         return said
 
     def received(self, number: int) -> list[bytes]:
-        """A reel that is there. Some are of another part, and some nobody said to the desk, or baked."""
+        """A reel that is there. Some are of another part, and some nobody said to the desk, or
+        baked."""
         reel, pieces = f"{self.name}-K{number}", self.random.choice((5, 9, 20, 60))
         part = "Q" if self.random.random() < 0.05 else "P"
         label = self.random.choice(MANY_LABELS)
@@ -146,7 +147,8 @@ class Run:
         self.inbox.put(f"{name}.json", text)
 
     def change(self, slot: str) -> None:
-        """A reel is taken off a slot, and another one put there. Some forget to scan what they take off."""
+        """A reel is taken off a slot, and another one put there. Some forget to scan what they take
+        off."""
         if self.random.random() < 0.95:
             self.slots[slot] = []
             self.say("tablet", self.message("MaterialsUnloaded", Machine=self.name, Slot=slot))
@@ -161,7 +163,8 @@ class Run:
         return None
 
     def board(self) -> None:
-        """A board is worked, in two parts. A machine that obeys places nothing while the interlock says `stop`."""
+        """A board is worked, in two parts. A machine that obeys places nothing while the interlock
+        says `stop`."""
         self.boards += 1
         board, machine = f"{self.name}-B{self.boards}", self.sources["machine"]
         at = {"Machine": self.name, "Board": board}
@@ -195,8 +198,8 @@ class Run:
     # --- Persons
 
     def decide(self) -> None:
-        """A person decides about what was refused: mostly what became of the boards; that it is sent again only where nothing was
-        done since."""
+        """A person decides about what was refused: mostly what became of the boards; that it is
+        sent again only where nothing was done since."""
         machine = self.sources["machine"].spool
         if self.planted:
             for name, source in self.sources.items():

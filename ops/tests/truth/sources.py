@@ -16,8 +16,8 @@ def board_of(folder: pathlib.Path, name: str) -> tuple[str, Optional[str]]:
 
 
 class Source:
-    """A sender that stays: its spool, and a lock on that until it ends or is killed. A Spool and a Sender are made anew then, as by a
-    new process."""
+    """A sender that stays: its spool, and a lock on that until it ends or is killed. A Spool and a
+    Sender are made anew then, as by a new process."""
 
     def __init__(
         self,
@@ -62,7 +62,8 @@ class Source:
         self.sender.line.look()
 
     def permits(self, machine: str) -> bool:
-        """What the interlock says of a machine: without a sender it is silent, and a sender that is out has seen what waits."""
+        """What the interlock says of a machine: without a sender it is silent, and a sender that is
+        out has seen what waits."""
         if self.sender is None:
             return False
         self.sender.interlock.look_ahead(self.spool.names())
@@ -70,7 +71,8 @@ class Source:
         return self.sender.interlock.state(machine).word == "go"
 
     def start_of(self, board: str) -> str:
-        """The message by which the desk accepted the start of a board, if it did, by what is in the spool."""
+        """The message by which the desk accepted the start of a board, if it did, by what is in the
+        spool."""
         sent, wanted = self.spool.sent, ("TraceDesk.WorkStarted", board)
         names = reversed(spool.names_in(sent))
         return next((name for name in names if board_of(sent, name) == wanted), "")
@@ -86,5 +88,6 @@ class Source:
         self.begin()
 
     def accepted(self) -> bool:
-        """Whether the last message was accepted, as the machine or the operator sees it: not where there is no answer."""
+        """Whether the last message was accepted, as the machine or the operator sees it: not where
+        there is no answer."""
         return (self.spool.sent / f"{self.last}.json").exists()

@@ -32,20 +32,20 @@ WorkCompleted\tM\tB2";
 
 /// Runs of the program: whether the files are turned round, the arguments, the status, the output, and the end of standard
 /// error. The UniqueIDs of both desks are those of a begin.
-const RUNS: [(bool, &str, u8, &str, &str); 6] = [
+const RUNS: [(bool, &str, u8, &str, &str); 8] = [
     (
         false,
-        "lot L1 --from-middle a b",
+        "lot L1 --from-middle --without-marks a b",
         0,
         "board,file\nB1,a\nB2,b\n",
-        "; 1 to go\n",
+        "tracedesk-chain: without marks: a gap or a fork may not show\n",
     ),
     (
         false,
-        "board B2 --from-middle a b",
+        "board B2 --from-middle --without-marks -- a b",
         0,
         "lot,file\nL1,b\n",
-        "; 1 to go\n",
+        "tracedesk-chain: without marks: a gap or a fork may not show\n",
     ),
     (
         false,
@@ -56,24 +56,32 @@ const RUNS: [(bool, &str, u8, &str, &str); 6] = [
     ),
     (
         false,
-        "lot L1 --from-middle --marks a b",
+        "lot L1 --from-middle a b",
         5,
         "",
         "tracedesk-chain: b: begun from 0\n",
     ),
     (
         true,
-        "lot L1 --from-middle b a",
+        "lot L1 --from-middle --without-marks b a",
         1,
         "",
         "tracedesk-chain: a: differs reel K1 remaining 98 100\n",
     ),
     (
         false,
-        "lot L1 --from-middle a b c",
+        "lot L1 --from-middle --without-marks a b c",
         3,
         "",
         "tracedesk-chain: c: NotADesk\n",
+    ),
+    (false, "lot --without-marks a b", 2, "", "or --help\n"),
+    (
+        false,
+        "lot --from-middle -- --odd b",
+        0,
+        "board,file\n",
+        "; 1 to go\n",
     ),
 ];
 

@@ -21,7 +21,7 @@ impl Opener for KeptFiles {
 
     type File = Memory;
 
-    ghost image = { λ kept place. get_or (map (image_of ⟦<Memory as Disk>⟧) kept.files.items) place
+    ghost image = { λ kept _ place. get_or (map (image_of ⟦<Memory as Disk>⟧) kept.files.items) place
         (record { log = []; db = [] }) };
 
     fn open(&self, rt: &HostRuntime, place: u64, _path: &str) -> Result<Files<Memory>, OpenFault> {

@@ -1,4 +1,4 @@
-use Rattle.std.proofs.Common.{◌∙◌, ℕ, None, IsTrue, inl, inr, refl, sym, subst, arith}
+use Rattle.std.proofs.Common.{◌∙◌, ℕ, None, Some, IsTrue, inl, inr, refl, sym, subst, arith}
 use Rattle.std.specs.Prelude.{IfOk}
 use Rattle.sqlite_disk.specs.declared.Disk as disk
 use Rattle.sqlite_disk.specs.declared.Files.{Files}
@@ -30,7 +30,7 @@ still-read g f f' tables read holds image (inr left) = holds image (inr (read.le
 pub returns-in-Ok-looked-clause-takes : goal.returns-in-Ok-looked-clause-takes
 returns-in-Ok-looked-clause-takes g c = (
   c.wanted_after-wanted.result.1,
-  c.in-Ok-add_closed.ensures,
+  c.in-Ok-add_closed.ensures.ok,
   λ clean' ours.
       let read = c.wanted_after-wanted.ensures.read in
       let clean = read.clean clean' in
@@ -48,11 +48,16 @@ returns-in-Ok-looked-clause-takes g c = (
         (b.0, held, still-read _ _ _ tables read (c.in-Ok-close_file.ensures.whole tables keeps clean), b.3.lawful before refl, b.3.consistent),
         subst (λ r. IfOk r (Says state.Stands b.1 c.args.question.now)) c.in-Ok-looked.is (c.look-conn.ensures.says (record { greatest = b.0; history = b.1; own = _ }) b.3 refl after),
       ),
-  subst (λ r. IfOk r (λ wanted. AreClean g.O.File.Disk c.wanted_after-wanted.result.1.log c.wanted_after-wanted.result.1.db → WantsNext c.args.by_marks g.O.File.Disk c.wanted_after-wanted.result.1 wanted)) c.in-Ok-wanted.is c.wanted_after-wanted.ensures.wants,
+  subst (λ r. IfOk r (λ wanted. AreClean g.O.File.Disk c.wanted_after-wanted.result.1.log c.wanted_after-wanted.result.1.db → WantsNext c.args.without_marks g.O.File.Disk c.wanted_after-wanted.result.1 wanted)) c.in-Ok-wanted.is c.wanted_after-wanted.ensures.wants,
 )
 
 pub returns-in-Err-clause-refused : goal.returns-in-Err-clause-refused
 returns-in-Err-clause-refused g c =
-    let image : ℕ → Image = g.O.Opener.image c.args.opener.now in
-    c.shut.ensures (image c.args.place)
+    c.shut.ensures (g.O.Opener.image c.args.opener.now c.args.path.now c.args.place)
     (subst (λ (i : Image). RefusesRun i None c.in-Err.refusal) c.in_ok-files.ensures.image c.in-Err.ensures.refused)
+
+pub returns-in_default-wanted-clause-refused : goal.returns-in_default-wanted-clause-refused
+returns-in_default-wanted-clause-refused g c = (Some c.wanted_after-wanted.result.1, c.in-Ok-add_closed.ensures.ok, inl refl)
+
+pub returns-in-Err-looked-clause-refused : goal.returns-in-Err-looked-clause-refused
+returns-in-Err-looked-clause-refused g c = (Some c.wanted_after-wanted.result.1, c.in-Ok-add_closed.ensures.ok, inl refl)

@@ -10,7 +10,7 @@ returns-in-Recall-clause-stopped g c stopped =
 pub returns-in-Recall-clause-failed : goal.returns-in-Recall-clause-failed
 returns-in-Recall-clause-failed g c failed =
     let asked = c.in-Recall in
-    inl (asked.question, asked.links, map string_bytes asked.files.now, asked.ensures)
+    inl (asked.question, asked.links, map string_bytes asked.files.now, asked.ensures, c.answer.ensures.failed failed)
 
 pub returns-in-Alike-clause-status : goal.returns-in-Alike-clause-status
 returns-in-Alike-clause-status g c =
@@ -25,7 +25,7 @@ pub returns-in-Alike-clause-done : goal.returns-in-Alike-clause-done
 returns-in-Alike-clause-done g c zero =
     let asked = c.in-Alike in
     let shown = c.alike.ensures.shown (inl zero) in
-    inr (shown.0, shown.1 ∙ zero, ((asked.old.now, asked.new.now, asked.ensures), shown.2), shown.3)
+    inr (shown.0, shown.1 ∙ zero, (asked.old.now, asked.new.now, asked.ensures, shown.2), shown.3)
 
 pub returns-in-Alike-clause-stopped : goal.returns-in-Alike-clause-stopped
 returns-in-Alike-clause-stopped g c stopped =
@@ -33,7 +33,7 @@ returns-in-Alike-clause-stopped g c stopped =
     elim stopped [
       | inl one ↦ (
           let shown = c.alike.ensures.shown (inr one) in
-          inr (inl (one, (shown.0, shown.1 ∙ one, ((asked.old.now, asked.new.now, asked.ensures), shown.2), shown.3))))
+          inr (inl (one, (shown.0, shown.1 ∙ one, (asked.old.now, asked.new.now, asked.ensures, shown.2), shown.3))))
       | inr (inl three) ↦ (
           let told = c.alike.ensures.no_desk three in
           inr (
@@ -43,7 +43,7 @@ returns-in-Alike-clause-stopped g c stopped =
               told.0,
               elim told.1 [
                 | inl memory ↦ inl memory
-                | inr shown ↦ inr (shown.0, shown.1, ((asked.old.now, asked.new.now, asked.ensures), shown.2), shown.3)
+                | inr shown ↦ inr (shown.0, shown.1, (asked.old.now, asked.new.now, asked.ensures, shown.2), shown.3)
               ],
             ),
           )))
@@ -67,4 +67,18 @@ returns-in-Alike-clause-bad g c two =
     ])
 
 pub returns-in-Alike-clause-failed : goal.returns-in-Alike-clause-failed
-returns-in-Alike-clause-failed g c four = inr (c.alike.ensures.failed four)
+returns-in-Alike-clause-failed g c four =
+    let asked = c.in-Alike in
+    let front = c.alike.ensures.front four in
+    inr (inr (front.0, front.1, (asked.old.now, asked.new.now, asked.ensures, front.2), front.3), c.alike.ensures.failed four)
+
+pub returns-in-Version-clause-done : goal.returns-in-Version-clause-done
+returns-in-Version-clause-done g c zero =
+    inl (inr (inr c.in-Version.ensures, c.new-in-Version.ensures, _, c.send_text-in-Version.ensures.done zero))
+
+pub returns-in-Version-clause-failed : goal.returns-in-Version-clause-failed
+returns-in-Version-clause-failed g c four =
+    inr (
+      inl (inr c.in-Version.ensures, c.new-in-Version.ensures, _, c.send_text-in-Version.ensures.front four),
+      c.send_text-in-Version.ensures.failed four,
+    )

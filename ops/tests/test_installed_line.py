@@ -1,0 +1,206 @@
+"""A line on a fresh Debian 12: roll-overs, copies, timers, recalls, the watch and the clock."""
+import json
+import re
+
+import pytest
+from lab.installed import archives_of, metrics_of
+from lab.machine import ARCHIVE, COPIES, URL, Machine, block_with
+from lab.waits import wait_for
+
+pytestmark = [pytest.mark.root, pytest.mark.xdist_group("machine")]
+
+LOT = f"tracedesk-recall lot L-77 --line L1 http://127.0.0.1:8080 {ARCHIVE}/catalogue.csv"
+REPORT = "/trace/lot?lot=L-77&detail=4"
+CLOCK_ALONE = r"""
+mkdir -p /root/idle; rm -f /root/idle/desk*
+tracedesk serve --db /root/idle/desk --port 8090 --connections 9 > /dev/null & at=$!
+for n in $(seq 600); do curl -s http://127.0.0.1:8090/overdue > /dev/null && break; sleep 0.1; done
+at_unit=/run/systemd/system/tracedesk-clock.service.d; mkdir -p $at_unit
+call='/usr/bin/tracedesk-clock --url http://127.0.0.1:8090 --synced "echo %s"'
+printf '[Service]\nExecStart=\nExecStart=%%s\n' "$call" > $at_unit/tried.conf
+systemctl daemon-reload
+systemctl start tracedesk-clock || systemctl show -P ExecMainStatus tracedesk-clock
+cat /run/tracedesk-clock/answer.json || true
+kill $at; wait $at || true
+rm -r $at_unit; systemctl daemon-reload; systemctl reset-failed tracedesk-clock || true
+"""
+BY_POSTGRES = r"""
+cd /
+pg_ctlcluster 15 main status > /dev/null || pg_ctlcluster 15 main start ||
+    pg_createcluster --start 15 main > /dev/null
+sed -i 's/^local .*/local all all trust/' /etc/postgresql/15/main/pg_hba.conf
+pg_ctlcluster 15 main reload
+runuser -u postgres -- createuser plant; runuser -u postgres -- createdb --owner plant plant
+export PGDATABASE=plant PGUSER=plant PGHOST=/var/run/postgresql
+psql -q -f /usr/share/tracedesk/plant/schema.sql
+tracedesk-plant-load /var/backups/tracedesk > /tmp/loaded
+psql --csv -v lot=L-77 -f /usr/share/tracedesk/plant/pieces.sql
+"""
+
+
+def sums(machine: Machine, folder: str) -> set[str]:
+    """The checksum of each file in a folder but of logs, of which each run writes the head anew."""
+    find = f"find {folder} -type f ! -name '*-wal' -print0 | sort -z | xargs -0 sha256sum"
+    return set(machine.shell(find).splitlines())
+
+
+def rows_in(text: str) -> list[str]:
+    """The lines of a CSV text, but for what is said beside it."""
+    return [line for line in text.splitlines() if not line.startswith("tracedesk-")]
+
+
+# --- Archives and copies
+
+
+def test_a_roll_over_keeps_the_archives_before(machine: Machine) -> None:
+    """And it is refused where the desk has taken nothing since."""
+    archives_of(machine, 1)
+    before = sums(machine, f"{ARCHIVE}/L1-*")
+    assert machine.post("kept") == "200"
+    said = machine.restart("tracedesk-rollover 2>&1")
+    archived = re.search(r"(L1-\S+) is archived", said)
+    after = sums(machine, f"{ARCHIVE}/L1-*")
+    assert archived and before < after and f"/{archived[1]}" in "".join(after - before)
+    desk = sums(machine, "/var/lib/tracedesk/desk")
+    assert "has taken no command" in machine.shell("! tracedesk-rollover 2>&1")
+    assert sums(machine, f"{ARCHIVE}/L1-*") == after
+    assert sums(machine, "/var/lib/tracedesk/desk") == desk
+
+
+def test_timers_copy_and_roll_over_once_it_is_due(machine: Machine) -> None:
+    """And again after a kill, until which senders come again."""
+    before = machine.shell(f"ls {ARCHIVE}").split()
+    machine.shell("systemctl start tracedesk-backup tracedesk-rollover")
+    assert machine.shell(f"ls {ARCHIVE}").split() == before
+    at = "/run/systemd/system/tracedesk-rollover.service.d"
+    call = "/usr/bin/tracedesk-rollover --if-due --pieces 0"
+    lines = (
+        "[Service]",
+        "ExecStart=",
+        f"ExecStart={call}",
+        "Environment=TRACEDESK_KILL_AFTER=plan",
+    )
+    assert machine.post("T1") == "200"
+    machine.write("\n".join(lines) + "\n", f"{at}/now.conf")
+    machine.shell("systemctl daemon-reload; ! systemctl start tracedesk-rollover")
+    come_again = '503\n{"Answer":"Proxy","Fault":"ComeAgain"}'
+    assert machine.post("T2", body=True) == come_again
+    drained = "ls /run/tracedesk-drained 2> /dev/null || true"
+    wait_for("senders are served again", lambda: machine.answers() and not machine.shell(drained))
+    assert machine.post("T2") == "200"
+    reset = "systemctl reset-failed tracedesk-rollover || true"
+    machine.shell(f"rm -r {at}; systemctl daemon-reload; {reset}")
+    assert len(machine.shell(f"ls {ARCHIVE}").split()) == len(before) + 1
+
+
+def test_a_copy_has_the_archives_and_overwrites_none(machine: Machine) -> None:
+    archives_of(machine, 3)
+    kept, copies = sums(machine, ARCHIVE), sums(machine, f"{COPIES}/2*")
+    machine.restart("tracedesk-backup")
+    newest = machine.shell(f"ls -d {COPIES}/2* | tail -n 1").strip()
+    wanted = {line.replace(ARCHIVE, f"{newest}/archive") for line in kept}
+    assert sums(machine, f"{newest}/archive") == wanted
+    assert copies < sums(machine, f"{COPIES}/2*")
+
+
+def test_a_restore_brings_archives_and_a_desk_back(machine: Machine) -> None:
+    """The desk's unit had failed. A recall names what lies aside, and a damaged copy is named."""
+    archives_of(machine, 3)
+    kept = sums(machine, ARCHIVE)
+    machine.restart("tracedesk-backup")
+    start = (
+        "for n in $(seq 40); do systemctl start tracedesk || break; sleep 0.1; done 2> /dev/null"
+    )
+    machine.shell(f"rm -r {ARCHIVE}/*; systemctl stop tracedesk")
+    machine.shell(f"echo no desk > /var/lib/tracedesk/desk; {start}")
+    machine.restart(block_with("tracedesk-backup --restore"))
+    back = {line for line in sums(machine, ARCHIVE) if "/lacks-" not in line}
+    assert back == kept  # an entry says that nobody can read what was there
+    said = machine.shell(f"{LOT} 2>&1 > /dev/null && exit 1 || test $? = 3")
+    assert "a restore put it aside" in said
+    machine.shell(
+        f"rm -rf /root/aside; mv /var/lib/tracedesk/aside /root; rm {ARCHIVE}/lacks-*.json"
+    )
+    machine.shell(f"{LOT} > /dev/null 2>&1")
+    newest = machine.shell(f"ls -d {COPIES}/2* | tail -n 1").strip()
+    archive = f"$(ls {newest}/archive/L1-* | head -n 1)"
+    machine.shell(f"printf x | dd of={archive} bs=1 seek=50000 conv=notrunc status=none")
+    assert "is damaged: archive/L1-" in machine.shell("! tracedesk-backup --check 2>&1")
+    machine.restart("tracedesk-backup || test $? = 4")  # 4: it names the damaged one
+    machine.shell("tracedesk-backup --check; tracedesk-backup --age")
+
+
+# --- Recalls
+
+
+def test_a_recall_is_the_reports_of_all_files(machine: Machine) -> None:
+    files = archives_of(machine, 3)
+    said = machine.shell(f"{LOT} --show pieces 2> /dev/null")
+    report = "runuser -u tracedesk -- tracedesk report --db {}/{} --get '{}' || true"
+    texts = [machine.shell(report.format(ARCHIVE, file, REPORT)) for file in files]
+    texts.append(machine.shell(f"curl -sS 'http://127.0.0.1:8080{REPORT}'"))
+    own = [line for text in texts for line in text.splitlines() if line.startswith("SN-")]
+    told = sorted(line.split(",")[:2] for line in rows_in(said)[1:])
+    assert told and told == sorted(line.split(",")[:2] for line in own)
+
+
+def test_postgresql_prints_what_a_recall_prints(machine: Machine) -> None:
+    machine.restart("tracedesk-backup")
+    by_plant = rows_in(machine.shell(BY_POSTGRES))
+    by_tool = rows_in(machine.shell(f"{LOT} --show pieces 2> /dev/null"))
+    assert by_plant == by_tool and len(by_plant) > 1
+
+
+# --- The watch and the clock
+
+
+def health(machine: Machine) -> str:
+    return machine.ask(f"{URL}/health")
+
+
+def test_the_watch_sees_a_desk_that_is_well(machine: Machine) -> None:
+    machine.shell("systemctl is-active tracedesk-watch.timer")
+    found = metrics_of(machine)
+    show = "systemctl show -P NRestarts tracedesk; stat -c %s /var/lib/tracedesk/desk"
+    restarts, size = machine.shell(show).split()
+    its = "tracedesk_watch_source_up"
+    sources = [value for name, value in found.items() if name.startswith(its)]
+    assert sources == ["1"] * 7
+    assert (found["tracedesk_up"], health(machine)) == ("1", "200")
+    assert found["tracedesk_service_restarts_total"] == restarts
+    assert found["tracedesk_file_bytes"] == size
+    owner = machine.shell("stat -c '%U %a' /run/tracedesk-watch/metrics").strip()
+    assert owner == "tracedesk-watch 644"
+
+
+def test_the_watch_sees_a_desk_that_is_drained(machine: Machine) -> None:
+    machine.shell("touch /run/tracedesk-drained")
+    found = metrics_of(machine)["tracedesk_drained"], health(machine)
+    machine.shell("rm /run/tracedesk-drained")
+    assert found == ("1", "503")
+
+
+def test_the_watch_sees_a_desk_that_is_stopped(machine: Machine) -> None:
+    machine.shell("systemctl stop tracedesk")
+    wait_for("/health says so", lambda: health(machine) == "503")
+    found = metrics_of(machine)
+    machine.restart("systemctl start tracedesk")
+    wait_for("/health says that it is back", lambda: health(machine) == "200")
+    assert (found["tracedesk_up"], found["tracedesk_service_active"]) == ("0", "0")
+    assert found['tracedesk_watch_source_up{source="reports"}'] == "0"
+
+
+def test_the_idle_clock_is_off_and_tells_a_desk_of_its_own(machine: Machine) -> None:
+    """Where the machine's clock is said to be in sync, and not where it isn't."""
+    enabled = machine.shell("systemctl is-enabled tracedesk-clock.timer || true").strip()
+    assert enabled == "disabled"
+    not_sent = machine.shell(CLOCK_ALONE % "no")
+    assert "\n3\n" in f"\n{not_sent}" and "Accepted" not in not_sent
+    journal = "journalctl --unit tracedesk-clock --output cat | grep -q 'not in sync'"
+    sent = re.search(r"^\{.*", machine.shell(CLOCK_ALONE % "yes"), re.MULTILINE)
+    assert sent
+    said = json.loads(sent[0])
+    assert (said["Answer"], said["Number"]) == ("Accepted", 1)
+    assert metrics_of(machine)["tracedesk_clock_commands"] == "1"
+    machine.shell(f"rm /run/tracedesk-clock/answer.json; {journal}")
+    assert "tracedesk_clock_commands" not in metrics_of(machine)

@@ -1,0 +1,195 @@
+"""The sender on a fresh Debian 12 loses nothing by kills, roll-overs and a wrong log-in."""
+import re
+import subprocess
+import time
+
+import pytest
+from lab.machine import ARCHIVE, Machine, part
+from lab.waits import wait_for
+
+pytestmark = [pytest.mark.root, pytest.mark.xdist_group("machine")]
+
+SEND = "tracedesk-send --url https://desk.plant --ca /etc/tracedesk/server.crt"
+BY_PASSWORD = "--user m1 --password-file /etc/tracedesk/m1.password"
+FILES = "/tmp/sent.jsonl /tmp/sent.answers"
+MESSAGES, KILLS = 1000, 20  # of each
+# how each is killed as by a power cut, and started if nothing else does it
+KILLED = {
+    "sender": "kill -KILL $(cat /tmp/sender.pid)",
+    "proxy": "systemctl kill --kill-whom=all --signal=KILL nginx; sleep 1;"
+    " systemctl reset-failed nginx; systemctl start nginx",
+    "desk": "systemctl kill --signal=KILL tracedesk",
+}
+FOLLOWER = f"""
+mkdir -p /tmp/out; rm -f /tmp/sender.ended
+until [ -e /tmp/sender.ended ]; do
+  {SEND} {BY_PASSWORD} --stop-at-refusal --spool /tmp/spool --follow /tmp/out \\
+    > /tmp/sender.txt 2>&1 &
+  echo $! > /tmp/sender.pid; wait $! 2> /dev/null || true
+done
+"""
+ACCEPTED = """
+import pathlib
+from tracedesk_ops import catalogue, copies
+path = pathlib.Path("{archive}/catalogue.csv")
+query = "SELECT uid FROM accepted WHERE uid LIKE '{uids}' AND command LIKE 'PartDefined%'"
+found = []
+files = [catalogue.path_of(path, archive) for archive in catalogue.read(path)]
+for file in [*files, path.parent.parent / "desk"]:
+    with copies.opened(file) as database:
+        found += [uid for (uid,) in database.execute(query)]
+print(len(found), len(set(found)))
+"""
+
+
+def accepted(machine: Machine, uids: str) -> list[int]:
+    """How many messages with such UniqueIDs the line has, and how many different ones."""
+    script = ACCEPTED.format(archive=ARCHIVE, uids=uids)
+    machine.write(script, "/tmp/accepted.py")
+    machine.wait_for_desk()
+    ask = "PYTHONPATH=/usr/lib/tracedesk python3 -B /tmp/accepted.py"
+    said = machine.shell(f"systemctl stop tracedesk; {ask}")
+    machine.restart("systemctl reset-failed tracedesk; systemctl start tracedesk")
+    return [int(number) for number in said.split()]
+
+
+def write_messages(machine: Machine, *texts: str) -> None:
+    machine.shell("rm -f /tmp/sent.*")
+    machine.write("".join(f"{text}\n" for text in texts), "/tmp/sent.jsonl")
+
+
+def begin(machine: Machine, words: str) -> subprocess.Popen[str]:
+    return machine.started(f"{SEND} {words} {FILES} 2>&1; echo status $?", by_client=True)
+
+
+def expect_sent(machine: Machine, words: str, status: int, lines: int, said: str = "") -> None:
+    """Looks whether the sender ends with this status and so many lines of answers."""
+    call = f"{SEND} {words} {FILES} 2>&1 && echo status 0 || echo status $?"
+    got = machine.by_client(f"{call}; wc -l < /tmp/sent.answers")
+    assert got.endswith(f"status {status}\n{lines}\n") and said in got
+
+
+def test_what_the_proxy_says_for_the_desk_is_no_answer(machine: Machine) -> None:
+    refused = part("S2").replace("PartDefined", "ReelOpened").replace("PartNumber", "Reel")
+    write_messages(machine, part("S0"), part("S1"), refused, part("S3").ljust(1_048_576))
+    machine.shell("systemctl stop tracedesk")
+    expect_sent(machine, f"{BY_PASSWORD} --patience 1", 3, 0, "status 502")
+    waiting = begin(machine, f"{BY_PASSWORD} --stop-at-refusal")
+    time.sleep(3)
+    machine.restart("systemctl start tracedesk")
+    said, _ = waiting.communicate()
+    assert "UnknownReel" in said and " 0 times sent again" not in said
+    wrong = "--user m1 --password-file /etc/tracedesk/office.password"
+    expect_sent(machine, wrong, 4, 2, "log-in")
+    machine.shell(
+        "openssl req -x509 -newkey ec -pkeyopt ec_paramgen_curve:P-256 -nodes -days 9 -subj /CN=m2"
+        " -keyout /tmp/other.key -out /tmp/other.crt"
+    )
+    bad = '{"Answer":"Proxy","Fault":"BadRequest"}'
+    expect_sent(machine, "--cert /tmp/other.crt --key /tmp/other.key", 4, 2, bad)
+    expect_sent(machine, f"{BY_PASSWORD} --stop-at-refusal", 1, 2, "UnknownReel")
+    own = "--cert /etc/tracedesk/m2.crt --key /etc/tracedesk/m2.key"
+    expect_sent(machine, own, 0, 4, " 0 times sent again")
+    machine.shell(f"printf '%-1048577s\\n' '{part('S4')}' >> /tmp/sent.jsonl")
+    expect_sent(machine, BY_PASSWORD, 4, 4, "too long")
+
+
+def test_a_sender_goes_on_over_a_roll_over_and_a_copy(machine: Machine) -> None:
+    """Each message is taken, and none twice."""
+    write_messages(machine, *(part(f"R{number}") for number in range(600)))
+    sending = begin(machine, f"{BY_PASSWORD} --stop-at-refusal")
+    wait_for("it sends", lambda: machine.shell("cat /tmp/sent.answers 2> /dev/null || true"))
+    machine.shell("tracedesk-rollover 2>&1")
+    machine.shell("tracedesk-backup 2>&1")
+    said, _ = sending.communicate()
+    assert "status 0" in said
+    assert machine.shell("grep -c Accepted /tmp/sent.answers").strip() == "600"
+    assert accepted(machine, "t-R%") == [600, 600]
+
+
+def test_a_thousand_messages_under_kills_are_taken_once_and_in_order(machine: Machine) -> None:
+    """A follower sends through TLS while it, nginx and the desk are killed in turn."""
+    machine.shell("rm -rf /tmp/out /tmp/spool; mkdir /tmp/out")
+    texts = [part(f"K{number:04}") for number in range(MESSAGES)]
+    machine.write("".join(f"{text}\n" for text in texts), "/tmp/out/1.tmp")
+    machine.shell("mv /tmp/out/1.tmp /tmp/out/1.jsonl")
+    sending, kills = machine.started(FOLLOWER, by_client=True), dict.fromkeys(KILLED, 0)
+    answered = "cat /tmp/spool/answers/*.jsonl 2> /dev/null"
+
+    def kill_one() -> bool:
+        assert sending.poll() is None, machine.shell("cat /tmp/sender.txt")
+        what = min(kills, key=lambda name: kills[name])
+        if kills[what] < KILLS:  # then it gets ready, however busy the machine is
+            machine.shell(KILLED[what])
+            kills[what] += 1
+        time.sleep(2)
+        return int(machine.shell(f"{answered} | wc -l || true")) >= MESSAGES
+
+    wait_for("all are answered", kill_one, 3600)
+    machine.shell("touch /tmp/sender.ended; kill -TERM $(cat /tmp/sender.pid)")
+    sending.communicate()
+    numbers = [int(text) for text in re.findall(r'"Number":(\d+)', machine.shell(answered))]
+    assert len(numbers) == MESSAGES and numbers == sorted(set(numbers))
+    assert accepted(machine, "t-K____") == [MESSAGES, MESSAGES]
+
+
+class Unit:
+    """The sender of machine m1 as a service."""
+
+    AT = "/var/lib/tracedesk-send/m1"
+
+    def __init__(self, machine: Machine) -> None:
+        self.machine = machine
+
+    def show(self, what: str) -> str:
+        return self.machine.shell(f"systemctl show -P {what} tracedesk-send@m1").strip()
+
+    def answered(self) -> int:
+        return int(self.machine.shell(f"cat {self.AT}/spool/answers/*.jsonl | wc -l"))
+
+    def put(self, name: str, count: int, user: str = "root") -> None:
+        """Puts a file of so many messages before it, as a user."""
+        text = "".join(f"{part(f'{name}{number}')}\n" for number in range(count))
+        self.machine.write(text, f"/tmp/{name}")
+        hand = f"umask 027; cat > {self.AT}/out/{name}.tmp"
+        move = f"mv {self.AT}/out/{name}.tmp {self.AT}/out/{name}.jsonl"
+        self.machine.shell(f"runuser -u {user} -- sh -c '{hand}; {move}' < /tmp/{name}")
+
+    def is_active(self) -> bool:
+        return self.show("ActiveState") == "active"
+
+
+@pytest.fixture
+def unit(machine: Machine) -> Unit:
+    machine.shell("id -u machine || useradd --system --groups tracedesk-send machine")
+    machine.shell("systemctl enable --now tracedesk-send@m1")
+    return Unit(machine)
+
+
+def test_the_senders_unit_goes_on_over_a_kill_and_a_stop_of_the_desk(unit: Unit) -> None:
+    machine, before = unit.machine, unit.answered()
+    unit.put("U", 200, "machine")
+    restarts = int(unit.show("NRestarts"))
+    machine.shell("systemctl kill --signal=KILL tracedesk-send@m1; systemctl stop tracedesk")
+    back = lambda: unit.is_active() and int(unit.show("NRestarts")) > restarts
+    wait_for("the sender is back", back)
+    machine.restart("systemctl start tracedesk")
+    wait_for("200 messages are answered", lambda: unit.answered() == before + 200)
+    machine.shell(f"runuser -u machine -- ls {unit.AT}/spool && exit 1 || true")
+    folders = " ".join(f"{unit.AT}/{name}" for name in ("spool/aside", "spool/waiting", "out"))
+    assert machine.shell(f"ls {folders} | grep -c json || true").strip() == "0"
+
+
+def test_the_senders_unit_names_a_wrong_password_and_goes_on_with_the_right_one(unit: Unit) -> None:
+    machine, before = unit.machine, unit.answered()
+    secret = "/etc/tracedesk-send/m1.password"
+    restart = "systemctl restart tracedesk-send@m1"
+    machine.shell(
+        f"cp {secret} /root/kept; cat /etc/tracedesk/office.password > {secret}; {restart}"
+    )
+    unit.put("V", 1)
+    journal = "journalctl --unit tracedesk-send@m1 --output cat"
+    is_named = lambda: unit.is_active() and "the log-in is refused" in machine.shell(journal)
+    wait_for("a wrong password is named", is_named)
+    machine.shell(f"cat /root/kept > {secret}; {restart}")
+    wait_for("the message is answered", lambda: unit.answered() == before + 1)

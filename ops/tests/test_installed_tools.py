@@ -1,0 +1,47 @@
+"""The repository's tests of the tools, on a fresh Debian 12: they try what is installed there."""
+import subprocess
+
+import pytest
+from lab import ROOT
+from lab.machine import Machine
+
+pytestmark = [pytest.mark.root, pytest.mark.xdist_group("machine")]
+
+AT, INSTALLED = "/root/tests", "/usr/lib/tracedesk"
+GIVEN = (  # what the tests are given of the repository
+    *("pyproject.toml", "examples/first-line.jsonl", "packaging", "docs/operations.md"),
+    "cases/tables_that_were_altered/messages.jsonl",
+    *("clients/python/tests", "ops/tests", "dev", "station/tests"),
+)
+LINKS = {
+    "ops/tracedesk_ops": f"{INSTALLED}/tracedesk_ops",
+    "ops/plant": "/usr/share/tracedesk/plant",
+    "clients/python/tracedesk": "$(python3 -c 'import tracedesk; print(tracedesk.__path__[0])')",
+    "docs/api": "/usr/share/doc/tracedesk/api",
+}
+QUICK = (  # files of tests, which want nothing that the machine hasn't
+    *("backup", "begin", "check", "move", "rollover"),
+    *("recall", "recall_faults", "recall_lines", "recall_written", "three_ways", "plant_load"),
+    *("untraced", "untraced_line", "watch", "watch_faults", "clock"),
+)
+
+
+@pytest.fixture(scope="module")
+def tested(machine: Machine) -> Machine:
+    """With the tests, and links to the installed tools in place of the repository's."""
+    tar = ["tar", "--create", "--directory", str(ROOT), "--exclude", "__pycache__", *GIVEN]
+    packed = subprocess.run(tar, stdout=subprocess.PIPE, check=True).stdout
+    unpack = f"rm -rf {AT}; mkdir {AT}; tar --extract --no-same-owner --directory {AT}"
+    subprocess.run([*machine.words(), "sh", "-c", unpack], input=packed, check=True)
+    links = "\n".join(f"ln -s {there} {AT}/{here}" for here, there in LINKS.items())
+    machine.shell(
+        f"{links}\nfor it in /usr/bin/tracedesk-*; do ln -s $it {AT}/ops; done;"
+        f" ln -s /usr/bin/tracedesk-send {AT}/clients/python"
+    )
+    return machine
+
+
+@pytest.mark.parametrize("name", QUICK)
+def test_the_installed_tools_pass(tested: Machine, name: str) -> None:
+    words = "python3 -B -m pytest -q -p no:cacheprovider -m 'gate and not whole'"
+    tested.shell(f"cd {AT}; PROGRAM=/usr/bin/tracedesk {words} ops/tests/test_{name}*.py")
