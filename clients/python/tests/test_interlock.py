@@ -75,6 +75,10 @@ class Line:
         fault = self.states.state("M1").fault
         return fault.cause if fault else ""
 
+    def slot(self) -> Optional[str]:
+        fault = self.states.state("M1").fault
+        return fault.slot if fault else None
+
     def reason(self) -> str:
         return self.states.state("M1").reason
 
@@ -148,7 +152,7 @@ def test_only_that_slot_mends_a_refused_scan(line: Line, word: str) -> None:
         line.say("MaterialsUnloaded", Slot="1")
     more = {} if word == "MaterialsUnloaded" else {"Reel": "2-WRONG"}
     assert line.say(word, Slot="1", **more) == "stop"
-    assert line.states.state("M1").fault.slot == "1"  # type: ignore[union-attr]  # it stands
+    assert line.slot() == "1"
     line.say("MaterialsScrapped", Slot="1", Quantity=1)
     line.say("MaterialsSpliced", Slot="2", Reel="2-K2")
     line.say("WorkCompleted", Board="B1")
@@ -226,7 +230,7 @@ def test_an_old_start_permits_only_what_holds_now(line: Line) -> None:
 def test_a_slot_that_is_emptied_stops(line: Line) -> None:
     line.start()
     line.model.say(json.dumps(line.message("MaterialsUnloaded", Slot="2")).encode())
-    assert (line.cause(), line.states.state("M1").fault.slot) == ("empty", "2")  # type: ignore
+    assert (line.cause(), line.slot()) == ("empty", "2")
     line.begin()
     line.states.begin_board(line.states.of("M1"), line.message("WorkStarted", Board="B1"), True)
     assert line.cause() == "empty", "the slots of the sheet are known to a sender that begins anew"

@@ -51,32 +51,31 @@ def put(site: Any, path: str, user: "str | None" = None, text: str = RECORD, **m
 def test_a_record_is_put_once_and_stays(site: Any) -> None:
     file = site.room / "line" / PATH.partition("/line/")[2]
     for user in (None, "office", "qm"):
-        assert put(site, PATH, user) == 403
-    assert put(site, PATH, None, certificate="auditor") == 403
+        assert put(site, PATH, user) == 401
+    assert put(site, PATH, None, certificate="auditor") == 401
     assert not file.exists()
     assert (put(site, PATH, "op"), put(site, PATH, "op", "other")) == (201, 204)
     assert (file.read_text(), file.stat().st_mode & 0o777) == (RECORD, 0o644)
     assert put(site, PATH, None, certificate="m2") == 204
+    other = f"{PATH[:-9]}0000.json"
     for user in (None, "office"):  # nobody learns whether it is there
-        assert (
-            put(site, PATH, user)
-            == put(site, PATH.replace("line/untraced/", "line/untraced/0")[:-6] + ".json", user)
-            == 403
-        )
+        assert put(site, PATH, user) == put(site, other, user) == 401
     for method in ("GET", "DELETE", "MKCOL", "POST"):
         assert site.asked(method, PATH, "op")[0] == 403
     assert put(site, PATH[:-6] + "G.json", "op") in (403, 404)
 
 
 def test_no_place_of_the_line_asks_a_browser_for_a_password(site: Any) -> None:
+    """A page's request, which says that it is one, is answered without a challenge."""
     for path in (PATH, DECIDED):
-        status, _, body = site.asked("PUT", path, None, RECORD)
-        assert (status, json.loads(body)) == (403, {"Answer": "Proxy", "Fault": "LogIn"})
+        for user, dest, wanted in ((None, None, 401), ("office", "empty", 403)):
+            status, _, body = site.asked("PUT", path, user, RECORD, Sec_Fetch_Dest=dest)
+            assert (status, json.loads(body)) == (wanted, {"Answer": "Proxy", "Fault": "LogIn"})
 
 
 def test_a_decision_wants_a_log_in_of_its_own(site: Any) -> None:
     for user, certificate in ((None, None), ("office", None), (None, "m2"), ("m1", None)):
-        assert put(site, DECIDED, user, certificate=certificate) == 403
+        assert put(site, DECIDED, user, certificate=certificate) == 401
     assert (put(site, DECIDED, "qm"), put(site, DECIDED, "qm")) == (201, 204)
     file = site.room / "line" / DECIDED.partition("/line/")[2]
     assert file.read_text() == RECORD

@@ -30,8 +30,28 @@ from .desk import Desk, GivenUp, NotTaken, NotThere, trust_of
 from .forms import Command, Message, OutOfRange
 from .sender import Folder, Lines, Sender, Stopped
 from .spool import Spool, SpoolError
-from .words import *  # noqa: F401,F403
-from .words import MESSAGES
+from .words import (
+    AlternateAllowed,
+    ClockSet,
+    CountRow,
+    CountsTaken,
+    MESSAGES,
+    MaterialsInstalled,
+    MaterialsLoaded,
+    MaterialsScrapped,
+    MaterialsSpliced,
+    MaterialsUnloaded,
+    PartDefined,
+    ProductSelected,
+    ReelBaked,
+    ReelOpened,
+    ReelReceived,
+    ReelSealed,
+    SheetDefined,
+    SheetRow,
+    WorkCompleted,
+    WorkStarted,
+)
 
 __version__ = "0.3.0"
 __all__ = [
@@ -61,7 +81,24 @@ __all__ = [
     "trust_of",
     "verdict",
     "why",
+    "MESSAGES",
     "CountRow",
     "SheetRow",
-    *(it.__name__ for it in MESSAGES),
+    "AlternateAllowed",
+    "ClockSet",
+    "CountsTaken",
+    "MaterialsInstalled",
+    "MaterialsLoaded",
+    "MaterialsScrapped",
+    "MaterialsSpliced",
+    "MaterialsUnloaded",
+    "PartDefined",
+    "ProductSelected",
+    "ReelBaked",
+    "ReelOpened",
+    "ReelReceived",
+    "ReelSealed",
+    "SheetDefined",
+    "WorkCompleted",
+    "WorkStarted",
 ]

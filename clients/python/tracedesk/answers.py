@@ -136,7 +136,7 @@ def read(text: bytes, archived: bool = False) -> Optional[Answer]:
     if archived:
         found["archived"] = True
     try:
-        return kind(**found, text=text)  # type: ignore[no-any-return]
+        return kind(**found, text=text)  # type: ignore[no-any-return]  # its kind
     except TypeError:
         return None
 

@@ -191,7 +191,7 @@ class Desk:
         """Ends what a request waits for, from another thread."""
         for it in (self.socket, getattr(self.connection, "sock", None)):
             with contextlib.suppress(OSError, AttributeError):
-                socket.socket.shutdown(it, socket.SHUT_RDWR)  # type: ignore[arg-type]
+                socket.socket.shutdown(it, socket.SHUT_RDWR)  # type: ignore[arg-type]  # of TLS too
 
     def until(self, call: Callable[[], Tuple[Optional[Any], str, float]]) -> Any:
         """Tries until the call finds something. It returns none with why, and how long to wait at least."""

@@ -8,7 +8,7 @@ import re
 import sys
 from typing import Any, Callable, Dict, Iterator, List, Optional, Type
 
-from . import answers, forms, words
+from . import forms, words
 
 TIME = re.compile(r"\d{4}-\d\d-\d\d[Tt ]\d\d:\d\d(:\d\d([.,]\d+)?)?([Zz]|[+-]\d\d:\d\d)")
 AS = "write it as 2026-03-02T06:00:00Z, or with an offset, as 2026-03-02T07:00:00+01:00"
