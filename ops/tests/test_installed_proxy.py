@@ -233,7 +233,7 @@ def test_a_full_disk_is_survived(machine: Machine) -> None:
 def test_the_stations_page_is_shown(machine: Machine) -> None:
     """In a browser of the client, by TLS and the log-in: its screens, and the desk's answer."""
     password = machine.shell("cat /etc/tracedesk/m1.password").strip()
-    paths = [str(ROOT / "station/tests"), str(ROOT / "dev"), str(ROOT / "dev/lib")]
+    paths = [str(ROOT / "station/tests"), str(ROOT / "dev")]
     script = LOOK.format(paths=paths, password=urllib.parse.quote(password, safe=""))
     net = f"--net=/proc/{machine.client.pid}/ns/net"
     said = run("nsenter", net, "/usr/bin/python3", "-B", "-c", script)

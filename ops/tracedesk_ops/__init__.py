@@ -2,6 +2,13 @@
 from __future__ import annotations
 
 import argparse
+import pathlib
+import sys
+
+# In the repository the package of clients has a folder of its own; installed, it is on Python's path.
+CLIENTS = pathlib.Path(__file__).resolve().parents[2] / "clients/python"
+if CLIENTS.is_dir():
+    sys.path.append(str(CLIENTS))
 
 __version__ = "0.3.0"
 
