@@ -15,6 +15,10 @@ class Site(station_site.Site):
 
     room: pathlib.Path
 
+    def __enter__(self) -> "Site":
+        super().__enter__()
+        return self
+
     def write_proxy(self) -> None:
         super().write_proxy()
         file = self.room / "tracedesk.conf"
