@@ -19,7 +19,7 @@ told() {
 
 # ready            waits until the desk answers
 ready() {
-  for _ in $(seq 400); do
+  for _ in $(seq 6000); do
     if curl -s -o ready.txt "http://127.0.0.1:$port/overdue"; then return; fi
     sleep 0.05
   done

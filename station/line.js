@@ -14,6 +14,8 @@ const COUNTED = [...URGENT, "OTHER", "OFF", "NOSHEET"];
 const MOST_TILES = 10;
 const MOST_ABOVE = 4; // of what needs a person: above the slots, and above the overview, which
                         // names the worst slot of each machine
+const LEAST_TILES = 4; // where the slots have no room else
+const WIDE = 1_200; // pixels of a screen that shows all slots without scrolling
 const MOST_ROWS = 100; // slots that are all shown; of more there is an overview
 // of the slots' letters, in pixels of a screen of 1080 lines
 const SIZES = [54, 48, 42, 38, 34, 30, 28, 26, 24, 22, 20, 19, 18, 17, 16, 15, 14];
@@ -89,7 +91,8 @@ export class LineScreen {
     put(this.first, ...this.firstTiles());
     this.counts(lines);
     this.order(isMany && shown.length > 0);
-    this.tiles(urgentOf(lines), isMany ? shown.length ? 0 : MOST_ABOVE : MOST_TILES);
+    this.ranked = urgentOf(lines);
+    this.tiles(isMany ? shown.length ? 0 : MOST_ABOVE : MOST_TILES);
     put(this.overview, ...(shown.length ? [] : lines.map((it) => this.machineTile(it))));
     put(this.machines, ...shown.map((it) => this.machine(it)));
     this.fit();
@@ -201,17 +204,17 @@ export class LineScreen {
     document.getElementById("scan").focus();
   }
 
-  tiles(urgent, most) {
-    const count = urgent.length > most ? Math.max(0, most - 1) : urgent.length;
-    const rest = most ? urgent.length - count : 0;
-    put(
-      this.urgent,
-      ...urgent.slice(0, count).map(
-        (it) =>
-          el("li", { class: it.states[0] }, this.tile(it, said(TEXTS.line.urgent.where, it))),
-      ),
-      ...(rest ? [el("li", { class: "more" }, said(TEXTS.line.more, { count: rest }))] : []),
-    );
+  /** Shows so many of the slots that need a person, and how many more there are. */
+  tiles(most) {
+    const { ranked } = this;
+    const count = ranked.length > most ? Math.max(0, most - 1) : ranked.length;
+    const rest = most ? ranked.length - count : 0;
+    const where = (it) => said(TEXTS.line.urgent.where, it);
+    const tile = (it) => el("li", { class: it.states[0] }, this.tile(it, where(it)));
+    const more =
+      rest ? [el("li", { class: "more" }, said(TEXTS.line.more, { count: rest }))] : [];
+    this.most = most;
+    put(this.urgent, ...ranked.slice(0, count).map(tile), ...more);
   }
 
   /** A slot that needs a person: where, what is wrong, and with which reel. */
@@ -377,6 +380,10 @@ export class LineScreen {
     while (least < most) { // to the first that fits
       const middle = (least + most) >> 1;
       [least, most] = fits(SIZES[middle]) ? [least, middle] : [middle + 1, most];
+    }
+    const isWide = main.clientWidth >= WIDE;
+    while (isWide && this.most > LEAST_TILES && !fits(SIZES[least])) {
+      this.tiles(this.most - 1); // all slots are below them
     }
     if (!fits(SIZES[least])) {
       SIZES.filter((it) => it <= SCROLLED).find((it) => set(it) ?? isNarrow());

@@ -14,6 +14,8 @@ const WIDEST = 0.06; // of its width
 const CALMER = 0.6; // of these letters, where none is
 const LEAST = 16; // pixels
 const STEP = 2;
+const WORTH = 0.84; // of the largest letters: so small they may be for one line each
+const TWO_LINES = 2; // of the letters' size: a line that wraps is higher
 
 /** The reel to load, or of which part one is wanted. */
 function loadText({ part, reel }) {
@@ -91,16 +93,25 @@ export class MachineLines {
     }
   }
 
-  /** The largest letters in which all lines are in their room. */
+  /**
+   * The largest letters in which all lines are in their room. Somewhat smaller ones are better,
+   * if each machine then has one line.
+   */
   fit() {
-    const isCalm = this.place.querySelector(".stop, .unknown") === null;
+    const { place } = this;
+    const isCalm = place.querySelector(".stop, .unknown") === null;
     const most = Math.min(innerHeight * LARGEST, innerWidth * WIDEST);
-    const largest = Math.round(most * (isCalm ? CALMER : 1));
-    for (let size = Math.max(LEAST, largest); size >= LEAST; size -= STEP) {
-      this.place.style.setProperty("--letters", `${size}px`);
-      if (this.place.scrollHeight <= this.place.clientHeight) {
-        break;
-      }
+    const largest = Math.max(LEAST, Math.round(most * (isCalm ? CALMER : 1)));
+    const set = (size) => place.style.setProperty("--letters", `${size}px`);
+    const isInRoom = () => place.scrollHeight <= place.clientHeight;
+    const isOneLine =
+      (size) => [...place.children].every((it) => it.offsetHeight < size * TWO_LINES);
+    const sizes = [];
+    for (let size = largest; size >= LEAST; size -= STEP) {
+      sizes.push(size);
     }
+    const isBest = (size) =>
+      set(size) ?? (size >= largest * WORTH && isOneLine(size) && isInRoom());
+    sizes.find(isBest) ?? sizes.find((size) => set(size) ?? isInRoom());
   }
 }

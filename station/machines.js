@@ -44,18 +44,18 @@ function stateOf(machine, said, age) {
   };
 }
 
-/** A board whose trace the machine contradicts. */
+/** A board whose trace the machine contradicts, as a sender's file has it. */
 function differsOf(machine, said) {
   return {
     id: textOf(said.Id),
-    machine: machine ?? textOf(said.Machine),
+    machine,
     kind: "differs",
     at: timeOf(said.At),
     board: textOf(said.Board),
     slot: textOf(said.Slot),
     designators: listOf(said.Designators).map(textOf).filter(Boolean),
     desk: textOf(said.Desk),
-    took: textOf(said.Took) ?? (machine === null ? null : textOf(said.Machine)),
+    took: textOf(said.Machine),
     isKnown: said.Known !== false,
   };
 }
@@ -78,15 +78,15 @@ function refusedOf(machine, said) {
   };
 }
 
-/** The same, as the collector's file has it. */
+/** Work that nobody has decided about, as the collector's file has it. */
 function undecidedOf(said) {
-  if (said.Kind === "differs") {
-    const { Machine, ...rest } = said;
-    return differsOf(textOf(Machine), { ...rest, Machine: said.MachineReel });
+  const machine = textOf(said.Machine);
+  if (said.Refusal === "Differs") {
+    return differsOf(machine, { ...said, Desk: said.DeskReel, Machine: said.Place });
   }
   return {
     id: textOf(said.Id),
-    machine: textOf(said.Machine),
+    machine,
     kind: "refused",
     at: timeOf(said.At),
     message: textOf(said.MessageName),
@@ -126,13 +126,19 @@ function rank(it, now) {
   return parts.reduce((sum, one) => sum + one, 0);
 }
 
-/** Of each machine the newest refusal, and each board whose trace the machine contradicts. */
+/**
+ * Of each machine the newest refusal, and each board whose trace the machine contradicts: by the
+ * file that says most of it.
+ */
 function openOf(found, decided) {
   const kept = new Map();
+  const isLess = (it, before) => {
+    const isSame = before?.id === it.id && before?.desk !== null;
+    return it.kind === "differs" ? isSame : before?.at >= it.at;
+  };
   for (const it of found) {
     const key = it.kind === "differs" ? `differs ${it.id}` : `refused ${it.machine}`;
-    const before = kept.get(key);
-    if (it.machine !== null && !decided.has(it.id) && !(before?.at >= it.at)) {
+    if (it.machine !== null && !decided.has(it.id) && !isLess(it, kept.get(key))) {
       kept.set(key, it);
     }
   }

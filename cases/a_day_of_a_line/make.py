@@ -2,7 +2,7 @@
 import pathlib
 import sys
 
-sys.path.insert(0, str(pathlib.Path(__file__).resolve().parents[2] / "dev/lib"))
+sys.path.insert(0, str(pathlib.Path(__file__).resolve().parents[2] / "dev"))
 from tracedesk_dev import shift  # noqa: E402
 
 said = shift.Shift(seed=5, boards=120).lines

@@ -3,7 +3,8 @@ import http.client
 import json
 import socket
 import sys
-import time
+
+from serving import PATIENCE, link
 
 PORT = int(sys.argv[1])
 
@@ -14,17 +15,8 @@ def told(link: http.client.HTTPConnection) -> None:
     print(answer.status, answer.headers["content-type"], answer.headers["content-length"], body)
 
 
-def link() -> socket.socket:
-    for _ in range(500):
-        try:
-            return socket.create_connection(("127.0.0.1", PORT), timeout=20)
-        except ConnectionRefusedError:
-            time.sleep(0.01)
-    raise SystemExit("no connection was taken")
-
-
-first = http.client.HTTPConnection("127.0.0.1", PORT, timeout=20)
-first.sock = link()
+first = http.client.HTTPConnection("127.0.0.1", PORT, timeout=PATIENCE)
+first.sock = link(PORT)
 first.request("GET", "/trace/lot?lot=L-77&detail=1", headers={"ACCEPT": "text/csv"})
 told(first)
 message = {
@@ -45,7 +37,7 @@ first.request("GET", "/trace/board?board=SN-119&detail=1")
 told(first)
 first.close()
 
-with link() as second:  # three in one piece, and then half of one
+with link(PORT) as second:  # three in one piece, and then half of one
     second.sendall(
         b"GET /trace/board?board=SN-117&detail=1 HTTP/1.1\r\n\r\nGET /trace/board?board=SN-118&detail=1 HTTP/1.1\r\n\r\nGET /overdue HTTP/1.1\r\n\r\nGET /over"
     )
@@ -60,8 +52,8 @@ print(
     "with a part",
 )
 
-third = http.client.HTTPConnection("127.0.0.1", PORT, timeout=20)
-third.sock = link()
+third = http.client.HTTPConnection("127.0.0.1", PORT, timeout=PATIENCE)
+third.sock = link(PORT)
 third.request("GET", "/overdue", headers={"Connection": "close"})
 answer = third.getresponse()
 answer.read()

@@ -6,33 +6,25 @@ is reset: the desk finds the whole request, and no one to write to.
 import socket
 import struct
 import sys
-import time
+
+from serving import link
 
 PORT = int(sys.argv[1])
 MESSAGE = open("messages.jsonl", "rb").read().rstrip(b"\n")
 POST = b"POST /messages HTTP/1.1\r\nContent-Length: %d\r\n\r\n" % len(MESSAGE) + MESSAGE
 
 
-def link() -> socket.socket:
-    for _ in range(2_000):
-        try:
-            return socket.create_connection(("127.0.0.1", PORT), timeout=20)
-        except ConnectionRefusedError:
-            time.sleep(0.01)
-    raise SystemExit("no connection was taken")
-
-
 def last_line(answers: bytes) -> str:
     return answers.split(b"\n")[-1].decode()
 
 
-first = link()
+first = link(PORT)
 first.sendall(b"GET /overdue HTTP/1.1\r\n\r\n")
 got = b""
 while not got.endswith(b"board,designator,reel,minute\n"):
     got += first.recv(65536)
 
-second = link()
+second = link(PORT)
 second.sendall(POST)
 second.setsockopt(
     socket.SOL_SOCKET, socket.SO_LINGER, struct.pack("ii", 1, 0)
@@ -41,7 +33,7 @@ second.close()
 first.close()
 
 for _ in range(2):
-    with link() as again:
+    with link(PORT) as again:
         again.sendall(POST)
         again.shutdown(socket.SHUT_WR)
         got = b""

@@ -1,21 +1,12 @@
 """Asks 1,100 times on one connection, each time once the request before is answered."""
 import collections
 import http.client
-import socket
 import sys
-import time
 from typing import Any
 
+from serving import link
+
 PORT = int(sys.argv[1])
-
-
-def link() -> socket.socket:
-    for _ in range(500):
-        try:
-            return socket.create_connection(("127.0.0.1", PORT), timeout=20)
-        except ConnectionRefusedError:
-            time.sleep(0.01)
-    raise SystemExit("no connection was taken")
 
 
 def asked(desk: Any) -> Any:
@@ -25,7 +16,7 @@ def asked(desk: Any) -> Any:
 
 
 desk = http.client.HTTPConnection("127.0.0.1", PORT)
-desk.sock = link()
+desk.sock = link(PORT)
 for (status, text), times in collections.Counter(asked(desk) for _ in range(1_100)).items():
     print(times, "times", status, text, end="")
 desk.close()

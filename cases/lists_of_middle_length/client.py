@@ -1,19 +1,10 @@
 """Requests the trace of each board and the kit of each product, and prints how many lines they have."""
 import http.client
-import socket
 import sys
-import time
+
+from serving import PATIENCE, link
 
 PORT, BOARDS = int(sys.argv[2]), open(sys.argv[1]).read().split()[1:]
-
-
-def link() -> socket.socket:
-    for _ in range(5_000):
-        try:
-            return socket.create_connection(("127.0.0.1", PORT), timeout=100)
-        except ConnectionRefusedError:
-            time.sleep(0.01)
-    raise SystemExit("no connection was taken")
 
 
 def lines(target: str) -> int:
@@ -21,8 +12,8 @@ def lines(target: str) -> int:
     return desk.getresponse().read().count(b"\n")
 
 
-desk = http.client.HTTPConnection("127.0.0.1", PORT, timeout=100)
-desk.sock = link()
+desk = http.client.HTTPConnection("127.0.0.1", PORT, timeout=PATIENCE)
+desk.sock = link(PORT)
 for n in sorted(int(board[1:]) for board in BOARDS):
     print(
         f"{n}: {lines(f'/trace/board?board=B{n}&detail=4')} {lines(f'/kit?product=PR{n}&machine=M&boards=1')}"

@@ -1,20 +1,11 @@
 """Requests one report 200,000 times on one connection, fifty at a time, and prints how many came."""
-import socket
 import sys
-import time
 from typing import Any
+
+from serving import link
 
 PORT = int(sys.argv[1])
 REEL = b"reel,part,lot,level,received,placed,scrapped,remaining,minutes_left,state\nK1,P,L1,1,9,0,0,9,unlimited,sealed\n"
-
-
-def link() -> socket.socket:
-    for _ in range(5_000):
-        try:
-            return socket.create_connection(("127.0.0.1", PORT), timeout=20)
-        except ConnectionRefusedError:
-            time.sleep(0.01)
-    raise SystemExit("no connection was taken")
 
 
 def report(body: Any) -> bytes:
@@ -24,7 +15,7 @@ def report(body: Any) -> bytes:
     )
 
 
-desk, came = link(), 0
+desk, came = link(PORT), 0
 asked = b"GET /reel?reel=K1 HTTP/1.1\r\n\r\n" * 50
 wanted = report(REEL) * 50
 for _ in range(4_000):

@@ -10,12 +10,12 @@ PORT = int(sys.argv[1])
 def link(address: str) -> socket.socket | None:
     """A connection, or none where it is refused."""
     try:
-        return socket.create_connection((address, PORT), timeout=20)
+        return socket.create_connection((address, PORT), timeout=300)
     except ConnectionRefusedError:
         return None
 
 
-for _ in range(500):
+for _ in range(30_000):
     taken = link("127.0.0.1")
     if taken:
         break

@@ -1,24 +1,15 @@
 """Defines seventy parts on one connection, each in a body as long as may be, and prints the answers."""
 import http.client
 import json
-import socket
 import sys
-import time
+
+from serving import PATIENCE, link
 
 PORT = int(sys.argv[1])
 
 
-def link() -> socket.socket:
-    for _ in range(500):
-        try:
-            return socket.create_connection(("127.0.0.1", PORT), timeout=20)
-        except ConnectionRefusedError:
-            time.sleep(0.01)
-    raise SystemExit("no connection was taken")
-
-
-desk = http.client.HTTPConnection("127.0.0.1", PORT, timeout=20)
-desk.sock = link()
+desk = http.client.HTTPConnection("127.0.0.1", PORT, timeout=PATIENCE)
+desk.sock = link(PORT)
 for n in range(1, 71):
     message = {
         "MessageName": "TraceDesk.PartDefined",

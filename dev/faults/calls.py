@@ -294,7 +294,7 @@ def words(reader: argparse.ArgumentParser) -> None:
     reader.add_argument(
         "--seed", type=int, help="1 where none is given, and with --gate the commit's"
     )
-    reader.add_argument("--patience", type=float, default=60, help="seconds for one run")
+    reader.add_argument("--patience", type=float, default=300, help="seconds for one run")
     reader.add_argument("--only", help="the stories alone that have this in their names")
     reader.add_argument(
         "--folder",

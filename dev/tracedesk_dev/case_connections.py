@@ -4,6 +4,7 @@ Requests and answers are spelled here, apart from the program.
 """
 import contextlib
 import json
+import os
 import pathlib
 import shutil
 import socket
@@ -12,7 +13,7 @@ import threading
 import time
 from typing import Any, Sequence
 
-from tracedesk_dev.case_files import BytesOf, Step, bytes_of_text, object_line
+from tracedesk_dev.case_files import CASES, BytesOf, Step, bytes_of_text, object_line
 from tracedesk_dev.case_steps import (
     SECONDS_FOR_A_RUN,
     SECONDS_FOR_AN_ANSWER,
@@ -206,6 +207,7 @@ def clients(program: str, step: Step, bytes_of: BytesOf, work: pathlib.Path) -> 
         asked = subprocess.run(
             [*step["by"], port],
             cwd=work,
+            env={**os.environ, "PYTHONPATH": str(CASES), "PYTHONDONTWRITEBYTECODE": "1"},
             stdin=subprocess.DEVNULL,
             capture_output=True,
             timeout=SECONDS_FOR_A_RUN,

@@ -20,7 +20,7 @@ from tracedesk_dev import shift
 from tracedesk_dev.trial import Difference as Found
 from tracedesk_dev.trial import free_port, remove, rows_in
 
-PATIENCE = float(os.environ.get("PATIENCE", "120"))  # seconds for a run of audit, or for an answer
+PATIENCE = float(os.environ.get("PATIENCE", "600"))  # seconds for a run of audit, or for an answer
 LOGS = ("", "-wal", "-journal")  # the desk's file, and what it is whole with
 
 

@@ -32,6 +32,12 @@ def tools():
     return sorted((ROOT / "ops").glob("tracedesk-*"))
 
 
+def packages() -> list[str]:
+    """The folders of the tools' Python package, below ops/."""
+    top = ROOT / "ops"
+    return sorted({str(path.parent.relative_to(top)) for path in top.glob("tracedesk_ops/**/*.py")})
+
+
 def files():
     """Of each folder below the prefix: what goes there. What can be run here can be run there."""
 
@@ -47,8 +53,7 @@ def files():
     return [
         *((f"share/tracedesk/{name}", these(f"packaging/{name}/*")) for name in own),
         ("lib/tracedesk", tools()),
-        ("lib/tracedesk/tracedesk_ops", these("ops/tracedesk_ops/*.py")),
-        ("lib/tracedesk/tracedesk_ops/cmd", these("ops/tracedesk_ops/cmd/*.py")),
+        *((f"lib/tracedesk/{name}", these(f"ops/{name}/*.py")) for name in packages()),
         ("lib/systemd/system", these("packaging/*.service", "packaging/*.timer")),
         ("share/tracedesk/plant", these("ops/plant/*.sql")),
         ("share/tracedesk/station", these("station/*")),

@@ -105,7 +105,7 @@ def rows_in(database: sqlite3.Connection) -> dict[str, list[Any]]:
 
 @contextlib.contextmanager
 def served(
-    program: str, file: object, patience: float = 60
+    program: str, file: object, patience: float = 300
 ) -> Iterator[tuple[subprocess.Popen[bytes], http.client.HTTPConnection]]:
     """A run of `serve` for one connection, and that connection; the caller closes it, and then the run ends."""
     port = free_port()

@@ -11,6 +11,7 @@ pytest.register_assert_rewrite("lab")
 
 from lab import installed as installations, line as lines  # noqa: E402
 from lab import messages, world as worlds  # noqa: E402
+from lab.checked import Checked  # noqa: E402
 from lab.desk import Desk  # noqa: E402
 from lab.installed import Installed  # noqa: E402
 from lab.line import Line, NewLine  # noqa: E402
@@ -42,6 +43,12 @@ def desk(program: pathlib.Path, folder: pathlib.Path) -> Iterator[Desk]:
         yield made
     finally:
         made.end()
+
+
+@pytest.fixture
+def checked(program: pathlib.Path, folder: pathlib.Path) -> Checked:
+    """A desk's file with a row in each table, to which something may be done."""
+    return Checked(program, folder)
 
 
 @pytest.fixture

@@ -8,13 +8,12 @@ what tracedesk-begin prints.
 import datetime
 import json
 import pathlib
-from typing import Any
 
 import pytest
 
 from lab import Answer
 from lab.desk import Desk
-from lab.floor import MACHINES, NEW_BOARDS, OLD_BOARDS, Floor, spelled, texts
+from lab.floor import MACHINES, NEW_BOARDS, OLD_BOARDS, Floor, say, spelled, texts
 from lab.here import call_here
 from lab.messages import Message
 from lab.tools import Word, run
@@ -99,16 +98,6 @@ def test_nothing_acts_that_the_old_desk_accepted(begun: Begun) -> None:
     assert begun.new.rows(query) == there
 
 
-def say(number: int, minute: int, word: str, **body: Any) -> Message:
-    return {
-        "MessageName": f"TraceDesk.{word}",
-        "UniqueID": f"on-{number}",
-        "Source": "S",
-        "TimeStamp": spelled(minute),
-        "MessageBody": body,
-    }
-
-
 def last_minute(desk: Desk) -> int:
     ((minute,),) = desk.rows("SELECT max(effective) FROM accepted")
     return int(minute)
@@ -120,7 +109,7 @@ def test_desk_that_is_begun_without_its_loads(begun: Begun) -> None:
     minute = last_minute(begun.old)
     slots = begun.old.rows("SELECT DISTINCT machine, slot FROM mount")
     unloads = [
-        say(number, minute, "MaterialsUnloaded", Machine=machine, Slot=slot)
+        say("MaterialsUnloaded", f"on-{number}", minute, Machine=machine, Slot=slot)
         for number, (machine, slot) in enumerate(slots)
     ]
     begun.old.feed(texts(unloads))
@@ -131,7 +120,7 @@ def test_desk_that_is_begun_later(begun: Begun) -> None:
     """It is alike to the old one once that has taken a ClockSet."""
     minute = last_minute(begun.old) + 5_000
     begin(begun.old, begun.new, "--at", spelled(minute))
-    begun.old.feed(texts([say(0, minute, "ClockSet")]))
+    begun.old.feed(texts([say("ClockSet", "on", minute)]))
     expect_alike(begun.old, begun.new)
 
 

@@ -16,7 +16,7 @@ from unittest import mock
 
 import pytest
 
-from lab.checked import MESSAGES, Checked
+from lab.checked import LET_BE, MESSAGES, Checked
 from lab.desk import Desk
 from lab.tools import Word, run, started, tool
 from lab.waits import PATIENCE, wait_for
@@ -25,14 +25,6 @@ from tracedesk_ops.cmd import check
 
 OTHER_LAYOUT = """DROP INDEX IF EXISTS placement_reel; DROP INDEX IF EXISTS placement_overdue;
     PRAGMA journal_mode = DELETE; PRAGMA page_size = 1024; VACUUM;"""
-LET_BE = """CREATE TABLE note (reel TEXT REFERENCES reel, words TEXT DEFAULT '');
-    INSERT INTO note VALUES ('K1', 'seen'); CREATE VIEW boards AS SELECT board FROM board;
-    CREATE INDEX by_lot ON reel (lot); ALTER TABLE board ADD COLUMN more TEXT;"""
-
-
-@pytest.fixture
-def checked(program: pathlib.Path, folder: pathlib.Path) -> Checked:
-    return Checked(program, folder)
 
 
 # --- Sound files

@@ -7,24 +7,16 @@ import sqlite3
 
 import pytest
 
-from lab.checked import Checked
+from lab.checked import LET_BE, Checked
 from lab.desk import Desk
 from lab.floor import OLD_BOARDS, Floor, texts
 from tracedesk_ops import declared, stored
 from tracedesk_ops.cmd import check
 
 UNCHECKED = "PRAGMA ignore_check_constraints = ON; "
-LET_BE = """CREATE TABLE note (reel TEXT REFERENCES reel, words TEXT DEFAULT '');
-    INSERT INTO note VALUES ('K1', 'seen'); CREATE VIEW boards AS SELECT board FROM board;
-    CREATE INDEX by_lot ON reel (lot); ALTER TABLE board ADD COLUMN more TEXT;"""
 DECLARATION = """PRAGMA writable_schema = ON;
     UPDATE sqlite_schema SET sql = replace(sql, {}, {}) WHERE name = {};
     PRAGMA writable_schema = RESET;"""
-
-
-@pytest.fixture
-def checked(program: pathlib.Path, folder: pathlib.Path) -> Checked:
-    return Checked(program, folder)
 
 
 # --- Rows that break their table's declaration
@@ -300,7 +292,7 @@ def test_commands_are_spelled_as_they_were_said(
     desk = random_desk(program, folder, number)
     copy = check.Copy(desk.file, 3)
     with contextlib.closing(copy.database), check.place_of_new(0) as room:
-        assert not list(check.Replay(copy, desk.program, room).findings())
+        assert not list(check.Replay(copy, str(desk.program), room).findings())
 
 
 def test_those_commands_are_of_all_kinds(program: pathlib.Path, folder: pathlib.Path) -> None:

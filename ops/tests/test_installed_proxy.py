@@ -50,9 +50,8 @@ def new():
     return http.client.HTTPSConnection("desk.plant", context=trust)
 
 told, threads = [], [threading.Thread(target=ask, args=([new()], 20)) for _ in range(10)]
-began = time.monotonic()
 [it.start() for it in threads] and [it.join() for it in threads]
-print(set(told), f"{time.monotonic() - began:.1f}")
+print(set(told))
 held, told = [], []
 for _ in range(64):  # each has begun a request, and doesn't end it
     plain = socket.create_connection(("desk.plant", 443))
@@ -129,12 +128,10 @@ def test_inner_ports_are_out_of_reach(machine: Machine, port: int) -> None:
 # --- Many clients
 
 
-def test_rates_of_an_address_are_limited(machine: Machine) -> None:
-    """200 requests take four seconds, and a 65th connection is told so."""
+def test_a_65th_connection_of_an_address_is_refused(machine: Machine) -> None:
+    """And 200 requests in a row are not."""
     machine.write(MANY_CLIENTS, "/tmp/many.py")
-    said = machine.by_client("python3 /tmp/many.py").split("\n")
-    seconds = re.fullmatch(r"\{200\} ([0-9.]+)", said[0])
-    assert seconds and float(seconds[1]) >= 3.9 and said[1] == "[429, 200]"
+    assert machine.by_client("python3 /tmp/many.py").split("\n")[:2] == ["{200}", "[429, 200]"]
 
 
 def slow_client(byte_pause: float) -> str:
@@ -236,7 +233,7 @@ def test_a_full_disk_is_survived(machine: Machine) -> None:
 def test_the_stations_page_is_shown(machine: Machine) -> None:
     """In a browser of the client, by TLS and the log-in: its screens, and the desk's answer."""
     password = machine.shell("cat /etc/tracedesk/m1.password").strip()
-    paths = [str(ROOT / "station/tests"), str(ROOT / "dev"), str(ROOT / "dev/lib")]
+    paths = [str(ROOT / "station/tests"), str(ROOT / "dev")]
     script = LOOK.format(paths=paths, password=urllib.parse.quote(password, safe=""))
     net = f"--net=/proc/{machine.client.pid}/ns/net"
     said = run("nsenter", net, "/usr/bin/python3", "-B", "-c", script)

@@ -15,7 +15,7 @@ FILES = "/tmp/sent.jsonl /tmp/sent.answers"
 MESSAGES, KILLS = 1000, 20  # of each
 # how each is killed as by a power cut, and started if nothing else does it
 KILLED = {
-    "sender": "kill -KILL $(cat /tmp/sender.pid)",
+    "sender": "kill -KILL $(cat /tmp/sender.pid) || true",
     "proxy": "systemctl kill --kill-whom=all --signal=KILL nginx; sleep 1;"
     " systemctl reset-failed nginx; systemctl start nginx",
     "desk": "systemctl kill --signal=KILL tracedesk",
@@ -109,11 +109,12 @@ def test_a_sender_goes_on_over_a_roll_over_and_a_copy(machine: Machine) -> None:
 
 def test_a_thousand_messages_under_kills_are_taken_once_and_in_order(machine: Machine) -> None:
     """A follower sends through TLS while it, nginx and the desk are killed in turn."""
-    machine.shell("rm -rf /tmp/out /tmp/spool; mkdir /tmp/out")
+    machine.shell("rm -rf /tmp/out /tmp/spool /tmp/sender.*; mkdir /tmp/out")
     texts = [part(f"K{number:04}") for number in range(MESSAGES)]
     machine.write("".join(f"{text}\n" for text in texts), "/tmp/out/1.tmp")
     machine.shell("mv /tmp/out/1.tmp /tmp/out/1.jsonl")
     sending, kills = machine.started(FOLLOWER, by_client=True), dict.fromkeys(KILLED, 0)
+    wait_for("it follows", lambda: machine.shell("cat /tmp/sender.pid 2> /dev/null || true"))
     answered = "cat /tmp/spool/answers/*.jsonl 2> /dev/null"
 
     def kill_one() -> bool:
@@ -185,11 +186,11 @@ def test_the_senders_unit_names_a_wrong_password_and_goes_on_with_the_right_one(
     secret = "/etc/tracedesk-send/m1.password"
     restart = "systemctl restart tracedesk-send@m1"
     machine.shell(
-        f"cp {secret} /root/kept; cat /etc/tracedesk/office.password > {secret}; {restart}"
+        f"cp {secret} /root/kept.password; cat /etc/tracedesk/office.password > {secret}; {restart}"
     )
     unit.put("V", 1)
     journal = "journalctl --unit tracedesk-send@m1 --output cat"
     is_named = lambda: unit.is_active() and "the log-in is refused" in machine.shell(journal)
     wait_for("a wrong password is named", is_named)
-    machine.shell(f"cat /root/kept > {secret}; {restart}")
+    machine.shell(f"cat /root/kept.password > {secret}; {restart}")
     wait_for("the message is answered", lambda: unit.answered() == before + 1)

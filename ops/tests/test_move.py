@@ -20,7 +20,7 @@ import pytest
 
 from lab import Answer
 from lab.desk import Desk
-from lab.floor import OLD_BOARDS, PARTS, Floor, spelled, texts
+from lab.floor import OLD_BOARDS, PARTS, Floor, say, spelled, texts
 from lab.here import call_here
 from lab.line import table
 from lab.messages import Message
@@ -41,16 +41,6 @@ BEHIND = (None, -5_000, -60, -1, 0, 0, 1, 90, 1_500, 4_000, 30_000, 600_000)
 AHEAD = (None, None, None, 0, 45, 2_000, 45_000)
 STEPS = (0, 1, 60, 1_439, 3_000, 10_050)
 PAST = ("received", "placed", "scrapped")  # of a card: what each desk counts for itself
-
-
-def say(word: str, uid: str, minute: int, **body: Any) -> Message:
-    return {
-        "MessageName": f"TraceDesk.{word}",
-        "UniqueID": uid,
-        "Source": "T",
-        "TimeStamp": spelled(minute),
-        "MessageBody": body,
-    }
 
 
 def move(*words: Word) -> tuple[Union[str, list[Message]], str]:

@@ -80,7 +80,11 @@ def run_page(room: pathlib.Path, server: postgres.Server) -> Iterator[Printed]:
         f"{{ {block.script} }} > out{number} 2>&1\necho $? > status{number}\n"
         for number, block in enumerate(blocks)
     )
-    folders = (room / "bin", pathlib.Path(postgres.found("createdb")).parent, os.environ["PATH"])
+    folders = (
+        room / "bin",
+        pathlib.Path(str(postgres.found("createdb"))).parent,
+        os.environ["PATH"],
+    )
     environment = Database(server, "postgres").environment
     subprocess.run(
         ["bash", "-c", script.replace(INSTALLED, str(databases.SQL))],

@@ -101,7 +101,7 @@ def test_who_looks_whether_a_desk_is_open_is_in_no_runs_way(served: Desk) -> Non
     for looker in lookers:
         looker.start()
     try:
-        assert {audit_status(served) for _ in range(40)} == {0}
+        assert {audit_status(served) for _ in range(20)} == {0}
     finally:
         for looker in lookers:
             looker.kill()

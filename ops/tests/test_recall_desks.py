@@ -10,12 +10,12 @@ import threading
 from typing import Iterator, Optional
 
 import pytest
+from tracedesk import words
 from lab.desk import rows_of_archive
 from lab.recalls import last_minute, lot_of, recall, recalled
 from lab.tools import Word, run_changed
 from lab.waits import free_port
 from lab.world import RUNNING, World
-from tracedesk_ops.cmd import recall as tool
 
 pytestmark = [pytest.mark.xdist_group("recall_desks")]
 
@@ -25,6 +25,7 @@ CERTIFICATE = (
     "openssl req -x509 -newkey ec -pkeyopt ec_paramgen_curve:P-256 -nodes -days 2"
     " -subj /CN=desk -addext subjectAltName=IP:127.0.0.1"
 )
+LOT_TRACE = ",".join(words.LotPiece._fields).encode() + b"\n"
 # what no desk answers to a trace, and what is said of it; by the first letter of a path
 ODD = {
     "1": (503, b'{"Answer":"Unavailable"}', "status 503"),
@@ -32,7 +33,7 @@ ODD = {
     "3": (404, b"no such page", "status 404"),
     "4": (404, b'{"Answer":"NotFound","Kind":"Path"}', "status 404"),
     "5": (200, b"board,designator\n", "7 more expected"),
-    "6": (200, tool.LOT_TRACE.encode() + b"\n", "the answer says no length"),
+    "6": (200, LOT_TRACE, "the answer says no length"),
     "7": (302, b"", "status 302: : name the URL of a desk"),
 }
 SHORT, NO_LENGTH, NO_MESSAGES = "5", "6", "7"

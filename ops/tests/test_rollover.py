@@ -246,8 +246,8 @@ def test_message_on_its_way_is_answered(half: Line, shifted: Shifted) -> None:
 
 def test_sender_that_goes_on(half: Line, shifted: Shifted) -> None:
     """The desk isn't stopped; afterwards all that was sent is known to the new one."""
-    words = half.rollover_words("--drain-seconds", 8)
-    tool = started(words, env={"TRACEDESK_QUIET": "5"})
+    words = half.rollover_words("--drain-seconds", 12)
+    tool = started(words, env={"TRACEDESK_QUIET": "10"})
     names: list[str] = []
     while tool.poll() is None:
         names.append(f"B-{len(names)}")

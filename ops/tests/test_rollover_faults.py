@@ -137,6 +137,7 @@ def test_line_of_another_archive_in_the_catalogue_stays(half: Line) -> None:
     cut_after_the_plan(half)
     asked = argparse.Namespace(db=half.file, archive=half.archive, program=str(half.program))
     planned = unfinished.Rolling(asked).read_plan()
+    assert planned
     other = planned._replace(sha256="0" * 64, desk="L2")
     half.archive.mkdir()
     catalogue.add(half.catalogue, other)

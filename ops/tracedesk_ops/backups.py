@@ -8,6 +8,8 @@ none. Up to 0.3.0 they have no name: then the first command of the desk in them 
 
 A copy that can't be read is a fault, and never passed over: it may be the newest one.
 """
+from __future__ import annotations
+
 import contextlib
 import datetime
 import json
@@ -17,16 +19,19 @@ import re
 import socket
 import sqlite3
 import time
+from collections.abc import Container, Iterable
+from typing import Any
 
-from tracedesk_ops import catalogue, identity, plant, untraced
+from tracedesk_ops import catalogue, copies, identity, plant, untraced
 
 ARCHIVE, SUMS, ABOUT = "archive", "SHA256SUMS", "backup.json"
 INDEX = f"{ARCHIVE}/{catalogue.FILE_NAME}"  # none in a copy without archives
 NAME, NAMED = re.compile(r"\d{4}-\d\d-\d\dT\d{6}Z"), "%Y-%m-%dT%H%M%SZ"
+Command = tuple[str, str, int, str]  # UniqueID, source, own minute and text
 FUTURE = 300  # seconds that the clocks of two machines may differ
 
 
-def about(copy):
+def about(copy: pathlib.Path) -> dict[str, Any]:
     """What a copy says of itself; a Fault where that, its catalogue or its untraced work is not the file of its checksum."""
     try:
         text, sums = (copy / ABOUT).read_bytes(), sums_of(copy)
@@ -60,19 +65,19 @@ def about(copy):
         ) from fault
 
 
-def sums_of(copy):
+def sums_of(copy: pathlib.Path) -> dict[str, str]:
     """The checksums of a copy's files."""
     return {line[66:]: line[:64] for line in (copy / SUMS).read_text(encoding="utf-8").splitlines()}
 
 
-def number_of(copy):
-    return about(copy)["number"]
+def number_of(copy: pathlib.Path) -> int:
+    return int(about(copy)["number"])
 
 
 class Whose:
     """A desk whose copies are looked for: its name, and the first commands of it and of its archives. Neither is known if its file is lost."""
 
-    def __init__(self, db, archive=None):
+    def __init__(self, db: pathlib.Path, archive: pathlib.Path | None = None) -> None:
         self.db, path = (
             pathlib.Path(db),
             pathlib.Path(archive or pathlib.Path(db).parent / ARCHIVE) / catalogue.FILE_NAME,
@@ -86,13 +91,15 @@ class Whose:
         )
         self.firsts = firsts_of(db, path, chain)
 
-    def has(self, copy, told):
+    def has(self, copy: pathlib.Path, told: dict[str, Any]) -> bool:
         """Whether a copy is of this desk."""
         if told["name"] and self.name:
-            return told["name"] == self.name
+            return bool(told["name"] == self.name)
         return command(copy / "desk", 1) in self.firsts
 
-    def guessed(self, copies):
+    def guessed(
+        self, copies: list[tuple[pathlib.Path, dict[str, Any]]]
+    ) -> list[tuple[pathlib.Path, dict[str, Any]]]:
         """The copies of a desk whose file is lost: those of a file of this path and host, if they are of one desk; a Fault if they are of several, or there are others only."""
         here = [
             (it, told)
@@ -123,19 +130,21 @@ class Whose:
         return here
 
 
-def firsts_of(desk, path, archives):
+def firsts_of(
+    desk: pathlib.Path, path: pathlib.Path, archives: Iterable[catalogue.Archive]
+) -> set[Command | None]:
     return {command(it, 1) for it in (desk, *(catalogue.path_of(path, it) for it in archives))} - {
         None
     }
 
 
-def firsts_in(copy):
+def firsts_in(copy: pathlib.Path) -> set[Command | None]:
     """The first commands of the desk in a copy and of the archives of its catalogue."""
     path = copy / INDEX
     return firsts_of(copy / "desk", path, catalogue.survey(path).archives)
 
 
-def survey(to, whose=None):
+def survey(to: pathlib.Path, whose: Whose | None = None) -> tuple[list[pathlib.Path], list[str]]:
     """The copies in a folder, from the oldest to the newest, of one desk alone where it is named; and what is wrong with those that can't be read."""
     there, faults = [], []
     for it in sorted(it for it in to.iterdir() if NAME.fullmatch(it.name)) if to.is_dir() else ():
@@ -152,20 +161,22 @@ def survey(to, whose=None):
     return [it for it, _ in sorted(there, key=lambda it: (it[1]["number"], it[0].name))], faults
 
 
-def kept_in(to, db=None, archive=None):
+def kept_in(
+    to: pathlib.Path, db: pathlib.Path | None = None, archive: pathlib.Path | None = None
+) -> list[pathlib.Path]:
     """The same; a Fault where one of them can't be read."""
-    copies, faults = survey(to, db and Whose(db, archive))
+    copies, faults = survey(to, Whose(db, archive) if db else None)
     if faults:
         raise plant.Fault(faults[0])
     return copies
 
 
-def kept_by_path(to, db):
+def kept_by_path(to: pathlib.Path, db: pathlib.Path) -> list[pathlib.Path]:
     """The copies of a desk by the path that they have of it, for who may not open its file; a Fault where one can't be read."""
     return [it for it in kept_in(to) if about(it)["desk"] in ("", os.path.realpath(db))]
 
 
-def held_by(copy, whole=()):
+def held_by(copy: pathlib.Path, whole: Container[str] = ()) -> dict[str, pathlib.Path]:
     """The files of the archives that a copy has, by their checksums; those of `whole` only if the file is there, and has it."""
     missing, path = about(copy)["missing"], copy / INDEX
     return {
@@ -175,7 +186,7 @@ def held_by(copy, whole=()):
     }
 
 
-def taken(copy):
+def taken(copy: pathlib.Path) -> float:
     """When a copy was taken, by the clock of then; a Fault where that is still to come."""
     then = (
         datetime.datetime.strptime(copy.name, NAMED)
@@ -189,7 +200,7 @@ def taken(copy):
     return then
 
 
-def compare_sums(copy):
+def compare_sums(copy: pathlib.Path) -> None:
     """A Fault where a file of a copy is not that of its checksum, or has none."""
     try:
         sums = sums_of(copy)
@@ -208,7 +219,7 @@ def compare_sums(copy):
         )
 
 
-def is_whole(path, archive):
+def is_whole(path: pathlib.Path, archive: catalogue.Archive) -> bool:
     """Whether an archive of the catalogue in that file is there, as the file of its checksum."""
     with contextlib.suppress(catalogue.CatalogueError):
         catalogue.check(path, archive)
@@ -216,12 +227,12 @@ def is_whole(path, archive):
     return False
 
 
-def note_of(to, db):
+def note_of(to: pathlib.Path, db: pathlib.Path) -> pathlib.Path:
     """Where `tracedesk-backup --check` notes how it ended, for a desk by the path of its file."""
     return to / f"checked-{os.path.realpath(db).strip('/').replace('/', '-')}.json"
 
 
-def whole_archives(copy):
+def whole_archives(copy: pathlib.Path) -> tuple[list[catalogue.Archive], list[catalogue.Archive]]:
     """The archives that a copy has, and its catalogue's; a Fault where one of its files is not that of its checksum."""
     compare_sums(copy)
     path = copy / ARCHIVE / catalogue.FILE_NAME
@@ -232,34 +243,37 @@ def whole_archives(copy):
     return [it for it in archives if it.file not in missing], archives
 
 
-# --- Whose desk it is: each is known by its commands, and names by its first one the archive that it went on from
+# --- Whose desk it is: each is known by its commands, and its first one names its predecessor
 
 
-def command(file, number):
-    """The command of this number of a desk that stands whole, with all that its sender said; none where there is none, or the file is damaged."""
+def command(file: pathlib.Path, number: int) -> Command | None:
+    """The command of this number of a desk without a log, with all that its sender said; None if
+    there is none, or the file is damaged.
+    """
+    query = "SELECT uid, source, own, command FROM accepted WHERE number = ?"
     with contextlib.suppress(sqlite3.Error), catalogue.opened(file) as database:
-        return database.execute(
-            "SELECT uid, source, own, command FROM accepted WHERE number = ?", [number]
-        ).fetchone()
+        row: Command | None = database.execute(query, [number]).fetchone()
+        return row
+    return None
 
 
-def has(file, told):
+def has(file: pathlib.Path, told: Command) -> bool:
     """Whether a desk has accepted this command, with all that its sender said."""
+    query = "SELECT (uid, source, own, command) = (?, ?, ?, ?) FROM accepted WHERE uid = ?"
     with catalogue.opened(file) as database:
-        return database.execute(
-            "SELECT (uid, source, own, command) = (?, ?, ?, ?) FROM accepted WHERE uid = ?",
-            [*told, told[0]],
-        ).fetchone() == (1,)
+        return copies.rows(database, query, *told, told[0]) == [(1,)]
 
 
-def commands(file):
+def commands(file: pathlib.Path) -> int:
+    """How many commands a desk has accepted."""
     with catalogue.opened(file) as database:
-        return database.execute("SELECT count(*) FROM accepted").fetchone()[0]
+        return int(copies.rows(database, "SELECT count(*) FROM accepted")[0][0])
 
 
-def have_the_same(file, other):
-    """Whether one of two desks has all commands of the other: so it is where a roll-over was cut off."""
+def have_the_same(file: pathlib.Path, other: pathlib.Path) -> bool:
+    """Whether one of two desks has all commands of the other, as after a roll-over was cut off."""
     with contextlib.suppress(sqlite3.Error):
         least = min(commands(file), commands(other))
-        return (last := command(file, least)) is not None and last == command(other, least)
+        last = command(file, least)
+        return last is not None and last == command(other, least)
     return False

@@ -4,15 +4,20 @@ An exposure counts the minutes in which a reel was open. So a reel that lay open
 that was opened e minutes before the end, and is sealed at the end if it was sealed. A reel at level 6 that was baked is
 baked before that. An exposure above the floor life is told as the floor life: the reel is expired by either.
 """
+from __future__ import annotations
+
 import argparse
+import contextlib
 import copy
 import csv
-import collections
 import datetime
+import functools
 import io
+import pathlib
 import re
 import sqlite3
-from typing import NamedTuple
+from collections.abc import Callable, Container, Iterable, Iterator
+from typing import Any, NamedTuple
 
 from tracedesk_ops import catalogue, copies, identity, plant, stored
 
@@ -53,39 +58,54 @@ class Reel(NamedTuple):
     open_since: int
     baked: int
 
-    def is_open(self):
+    def is_open(self) -> bool:
         return self.open_since >= 0
 
-    def exposure(self, minute):
+    def exposure(self, minute: int) -> int:
         """How many minutes it was open until this one, at most its floor life."""
         counted = self.used + (minute - self.open_since if self.is_open() else 0)
         return min(counted, self.limit() or GREATEST_FLOOR_LIFE)
 
-    def limit(self):
+    def limit(self) -> int | None:
         """Its floor life in minutes, none where it has no limit."""
         return self.label if self.level == "6" else FLOOR_LIFE[self.level]
 
-    def waits_for_its_bake(self):
+    def waits_for_its_bake(self) -> bool:
         return self.level == "6" and not self.baked
 
-    def runs(self):
+    def runs(self) -> bool:
         """Whether its minutes out of the bag count for anything."""
         return not (self.level == "1" or self.waits_for_its_bake())
 
 
-# a sheet that is too long for a message: a setup file, and what its import is told
-Setup = collections.namedtuple("Setup", "uid source stamp product machine text")
+class Setup(NamedTuple):
+    """A sheet that is too long for a message: a setup file, and what its import is told."""
+
+    uid: str
+    source: str
+    stamp: str
+    product: str
+    machine: str
+    text: str
+
+
+Known = tuple[int, str, str, int]  # number, UniqueID, source and own minute of a command
+SheetRow = tuple[str, str, list[str]]  # slot, part, designators
+Mount = tuple[
+    int, str, str, Reel, bool
+]  # minutes before the end, machine, slot, reel, is it a splice
+Opener = Callable[[pathlib.Path], contextlib.AbstractContextManager[sqlite3.Connection]]
 
 
 class Archive:
     """What the tables of a desk's file say; the file is opened as `opened` does it."""
 
-    def __init__(self, path, opened=copies.opened):
+    def __init__(self, path: pathlib.Path, opened: Opener = copies.opened) -> None:
         with opened(path) as database:
             self.read(database)
 
-    def read(self, database):
-        rows = lambda query: database.execute(query).fetchall()
+    def read(self, database: sqlite3.Connection) -> None:
+        rows = functools.partial(copies.rows, database)
         try:
             ((number, self.greatest),) = rows("SELECT number, greatest FROM version")
         except (sqlite3.Error, ValueError):
@@ -98,7 +118,7 @@ class Archive:
         self.alternates = dict.fromkeys(
             rows("SELECT part, alternate FROM alternate ORDER BY part, alternate")
         )
-        self.sheets: dict = {}
+        self.sheets: dict[tuple[str, str], list[SheetRow]] = {}
         for product, machine, slot, part, designators in rows(
             "SELECT product, machine, slot, part, designators FROM sheet_row ORDER BY product, machine, place"
         ):
@@ -111,14 +131,15 @@ class Archive:
             for row in rows(f"SELECT {COLUMNS} FROM reel WHERE remaining > 0 ORDER BY reel")
         }
         self.spent = {reel for (reel,) in rows("SELECT reel FROM reel WHERE remaining = 0")}
-        self.tapes: dict = {}
+        self.tapes: dict[tuple[str, str], list[Reel]] = {}
         for machine, slot, reel in rows(
             "SELECT machine, slot, reel FROM mount ORDER BY machine, slot, since"
         ):
-            self.tapes.setdefault((machine, slot), []).append(self.reels.get(reel))
+            self.tapes.setdefault((machine, slot), []).append(self.reels[reel])
         self.in_work = rows("SELECT machine, board FROM board WHERE machine <> '' ORDER BY machine")
         self.identity = identity.read(database)
         self.known = known(database, self.identity)
+        self.unknown = 0  # older ones
         its = [
             name
             for name, *_ in rows(
@@ -127,7 +148,9 @@ class Archive:
         ]
         self.of_others = sorted(set(its) - {*TABLES, "version", "placement", "found"})
 
-    def of_one_reel(self, name, called, known_parts, minute):
+    def of_one_reel(
+        self, name: str, called: str, known_parts: Container[str], minute: int
+    ) -> Archive:
         """A desk that has nothing but this reel, as it is at that minute, under the name by which it is called there."""
         it = copy.copy(self)
         reel = self.reels[name]._replace(reel=called)
@@ -143,7 +166,7 @@ class Archive:
         return it
 
 
-def known(database, desk):
+def known(database: sqlite3.Connection, desk: identity.Identity) -> list[Known]:
     """The last UniqueIDs of each source, the newest first: their number, source and own minute. What the desk was begun with, and its
     name, are left out, but not the UniqueIDs of its own archive that it was told then: those are older than the rest, the newest first.
     """
@@ -161,7 +184,7 @@ def known(database, desk):
     ).fetchall()
 
 
-def judged(path, program):
+def judged(path: pathlib.Path, program: str) -> Archive:
     """What the tables of a desk's file say, once an audit has found its copy lawful: else a changed bit would go to another desk."""
     with copies.copied(path) as copy_of_it:
         archive = Archive(copy_of_it, copies.database)
@@ -172,16 +195,18 @@ def judged(path, program):
 class Messages:
     """The messages of a new desk, in the order in which they are sent, and the minute that they have led it to."""
 
-    def __init__(self, prefix, source):
-        self.prefix, self.source, self.lines, self.minute = prefix, source, [], None
+    def __init__(self, prefix: str, source: str) -> None:
+        self.prefix, self.source = prefix, source
+        self.lines: list[str | Setup] = []
+        self.minute: int | None = None
 
-    def say(self, minute, word, **body):
+    def say(self, minute: int, word: str, **body: Any) -> None:
         if self.minute is not None and minute > self.minute + FARTHEST_AHEAD and word != "ClockSet":
             self.say(minute, "ClockSet")
         self.add(f"{self.prefix}-{len(self.lines) + 1}", self.source, minute, word, body)
         self.minute = minute
 
-    def add(self, uid, source, minute, word, body):
+    def add(self, uid: str, source: str, minute: int, word: str, body: dict[str, Any]) -> None:
         line = stored.line(uid, source, minute, word, body)
         self.lines.append(
             line
@@ -189,11 +214,11 @@ class Messages:
             else setup(uid, source, catalogue.spelled(minute), body)
         )
 
-    def say_known(self, known):
+    def say_known(self, known: list[Known]) -> None:
         """Says the UniqueIDs of an archive, each as a ClockSet of its own minute, which changes nothing: so a message that is sent again
         is refused as IdReused. None has the number that it has in the archive: by a command of that number a file is known again.
         """
-        if not known:
+        if not known or self.minute is None:
             return
         while any(number == len(self.lines) + place for place, (number, *_) in enumerate(known, 1)):
             self.say(self.minute, "ClockSet")
@@ -201,7 +226,7 @@ class Messages:
             self.add(uid, source, min(own, self.minute), "ClockSet", {})
         self.say(self.minute, "ClockSet")  # the last command is the new desk's own
 
-    def say_sheet(self, minute, product, machine, rows):
+    def say_sheet(self, minute: int, product: str, machine: str, rows: Iterable[SheetRow]) -> None:
         self.say(
             minute,
             "SheetDefined",
@@ -217,7 +242,7 @@ class Messages:
 class Carrier:
     """Tells an archived desk to a new one whose last minute is `end`."""
 
-    def __init__(self, archive, messages, end, loads):
+    def __init__(self, archive: Archive, messages: Messages, end: int, loads: bool) -> None:
         self.archive, self.messages, self.end = archive, messages, end
         self.exposure = {
             name: reel.exposure(archive.minute) for name, reel in archive.reels.items()
@@ -225,7 +250,7 @@ class Carrier:
         self.mounts = self.mounts_in_turn() if loads else []
         self.mounted = {reel.reel: before for before, _, _, reel, _ in self.mounts}
 
-    def mounts_in_turn(self):
+    def mounts_in_turn(self) -> list[Mount]:
         """Each load and splice: how many minutes before the end, machine, slot, reel, and whether it is a splice. It is at the latest opening
         of the reels up to it on the tape: the reel before it is on the tape by then, and it had not expired, since it was put there in truth.
         """
@@ -237,7 +262,7 @@ class Carrier:
                 mounts.append((before, machine, slot, reel, place > 0))
         return mounts
 
-    def all(self):
+    def all(self) -> None:
         """Says everything, from the longest exposure on."""
         longest = max(self.exposure.values(), default=0)
         if longest > self.end:
@@ -248,7 +273,7 @@ class Carrier:
         if self.messages.minute != self.end:
             self.messages.say(self.end, "ClockSet")
 
-    def set_up(self, minute):
+    def set_up(self, minute: int) -> None:
         """What has no time of its own; receipts, and bakes of reels that may be opened only after one."""
         say, archive = self.messages.say, self.archive
         for part in archive.parts:
@@ -274,7 +299,7 @@ class Carrier:
             if reel.level == "6" and reel.baked:
                 say(minute, "ReelBaked", Reel=reel.reel)
 
-    def moves(self):
+    def moves(self) -> list[tuple[int, Callable[[int], None]]]:
         """Openings, mounts and seals in their order, each with how many minutes before the end it is."""
         told = []
         for name, reel in self.archive.reels.items():
@@ -300,7 +325,7 @@ class Carrier:
         told.sort(key=lambda move: (-move[0], move[1]))
         return [(before, say) for before, _, say in told]
 
-    def mount(self, minute, machine, slot, reel, is_splice):
+    def mount(self, minute: int, machine: str, slot: str, reel: Reel, is_splice: bool) -> None:
         """Puts a reel where it is, though the sheet may have changed since it was put there."""
         archive, product = self.archive, self.archive.selected[machine]
         sheet = archive.sheets[product, machine]
@@ -315,10 +340,10 @@ class Carrier:
         if not fits:
             self.messages.say_sheet(minute, product, machine, sheet)
 
-    def notes(self):
+    def notes(self) -> Iterator[str]:
         """What the new desk knows and what it doesn't, and where a reel has less than it had."""
         archive = self.archive
-        begins = spelled(self.messages.minute)
+        begins = spelled(self.messages.minute or self.end)
         yield f"{archive.commands} commands, until {spelled(archive.minute)}; the new desk begins at {begins}"
         carried = f"{len(archive.reels)} reels are carried over"
         yield f"{carried}, {len(archive.spent)} spent ones are not: the new desk takes a new reel of their names"
@@ -332,11 +357,13 @@ class Carrier:
         if not self.mounts:
             for (machine, slot), tape in archive.tapes.items():
                 for reel in tape:
-                    gone = reel.level != "1" and self.exposure[reel.reel] >= reel.limit()
+                    gone = reel.level != "1" and self.exposure[reel.reel] >= (reel.limit() or 0)
                     yield f"reel {reel.reel} is to be loaded on {machine}, slot {slot}{', after a bake' if gone else ''}"
 
 
-def begun(archive, checksum, at=None, loads=True, name=""):
+def begun(
+    archive: Archive, checksum: str, at: int | None = None, loads: bool = True, name: str = ""
+) -> tuple[list[str | Setup], Carrier]:
     """The messages of a new desk that begins where an archived one with this checksum ended, and who tells what is not in them. It has the archived desk's name, or else this one."""
     if archive.minute is None:
         raise NotCarried("it has accepted no command, so there is nothing to carry over")
@@ -361,7 +388,7 @@ def begun(archive, checksum, at=None, loads=True, name=""):
     return messages.lines, carrier
 
 
-def setup(uid, source, stamp, body):
+def setup(uid: str, source: str, stamp: str, body: dict[str, Any]) -> Setup:
     """A sheet as a setup file."""
     text = io.StringIO()
     rows = [[row["Slot"], row["PartNumber"], " ".join(row["Designators"])] for row in body["Rows"]]
@@ -371,11 +398,11 @@ def setup(uid, source, stamp, body):
     )
 
 
-def spelled(minute):
+def spelled(minute: int) -> str:
     return f"{catalogue.EPOCH + datetime.timedelta(minutes=minute):%Y-%m-%d %H:%M UTC}"
 
 
-def minute_of(text):
+def minute_of(text: str) -> int:
     """The minute of a time in UTC; an offset is taken off."""
     found = re.fullmatch(
         r"(\d{4}-\d\d-\d\d)[T ](\d\d:\d\d)(?::\d\d(?:\.\d+)?)?(Z|[+-]\d\d:\d\d)?", text
@@ -396,7 +423,7 @@ def minute_of(text):
     return minute
 
 
-def identifier(text):
+def identifier(text: str) -> str:
     """A name of the desk's."""
     if not re.fullmatch(r"[!-~]([ -~]{0,62}[!-~])?", text):
         raise argparse.ArgumentTypeError(

@@ -12,7 +12,8 @@ the desk's (identity.py), empty where it had none yet; up to 0.3.0 there was no 
 The catalogue is an index of the files: each file says itself from which one it was begun, and tracedesk-settle makes
 the catalogue anew from them.
 """
-import collections
+from __future__ import annotations
+
 import contextlib
 import csv
 import datetime
@@ -24,7 +25,8 @@ import pathlib
 import re
 import sqlite3
 import urllib.parse
-from typing import NamedTuple
+from collections.abc import Callable, Iterable, Iterator
+from typing import Any, BinaryIO, NamedTuple
 
 from tracedesk_ops import copies, files
 
@@ -75,25 +77,25 @@ class Archive(NamedTuple):
     name: str = ""
 
 
-def spelled(minute):
+def spelled(minute: int) -> str:
     """A minute as the program prints times, as 2026-03-02T06:00:00Z."""
     return (EPOCH + datetime.timedelta(minutes=minute)).isoformat() + "Z"
 
 
-def minute_of(text):
+def minute_of(text: str) -> int:
     """The minute of a time that is spelled so; a ValueError where it is not."""
     if not re.fullmatch(r"\d{4}-\d\d-\d\dT\d\d:\d\d:00Z", text, re.ASCII):
         raise ValueError(text)
     return (datetime.datetime.fromisoformat(text[:-1]) - EPOCH) // datetime.timedelta(minutes=1)
 
 
-def sha256_of(path):
+def sha256_of(path: str | os.PathLike[str]) -> str:
     """The checksum of a file, as sha256sum prints it."""
     with open(path, "rb") as file:
         return sha256_within(file)
 
 
-def sha256_within(file):
+def sha256_within(file: BinaryIO) -> str:
     """The checksum of what is left of an open file."""
     told = hashlib.sha256()
     while chunk := file.read(CHUNK):
@@ -104,11 +106,15 @@ def sha256_within(file):
 # --- Reading
 
 
-# a catalogue as it is read by those who ask the archives that it does name: its bytes, and what is wrong with it
-Survey = collections.namedtuple("Survey", "text archives faults")
+class Survey(NamedTuple):
+    """A catalogue as it is read by those who ask the archives that it does name."""
+
+    text: bytes
+    archives: list[Archive]
+    faults: list[str]
 
 
-def read(path):
+def read(path: pathlib.Path) -> list[Archive]:
     """The archives of the catalogue in that file, in its order; none where there is no file. A CatalogueError where something is wrong with it."""
     try:
         return whole(survey_text(path, pathlib.Path(path).read_bytes()))
@@ -118,7 +124,7 @@ def read(path):
         raise CatalogueError(f"{path}: it can't be read: {fault.strerror}") from fault
 
 
-def survey(path):
+def survey(path: pathlib.Path) -> Survey:
     """The archives of each line that can be read, and of each other line what is wrong with it."""
     try:
         return survey_text(path, pathlib.Path(path).read_bytes())
@@ -126,15 +132,15 @@ def survey(path):
         return Survey(b"", [], [f"{path}: it can't be read: {fault.strerror}"])
 
 
-def whole(surveyed):
+def whole(surveyed: Survey) -> list[Archive]:
     """The archives of a catalogue with which nothing is wrong."""
     if surveyed.faults:
         raise CatalogueError(surveyed.faults[0])
     return surveyed.archives
 
 
-def survey_text(path, text):
-    lines: dict = {}
+def survey_text(path: pathlib.Path, text: bytes) -> Survey:
+    lines: dict[str, tuple[int, Archive]] = {}
     faults = []
     try:
         rows = csv.reader(io.StringIO(text.decode(), newline=""), strict=True)
@@ -164,7 +170,7 @@ def survey_text(path, text):
     return Survey(text, [archive for _, archive in lines.values()], faults)
 
 
-def archive_of(row, header):
+def archive_of(row: list[str], header: list[str]) -> Archive:
     """The archive of a row; a ValueError says what is wrong with it."""
     if len(row) != len(header):
         raise ValueError(f"it has {len(row)} fields, and the header has {len(header)}")
@@ -197,27 +203,27 @@ def archive_of(row, header):
     )
 
 
-def read_field(said, name, reader, kind):
+def read_field(said: dict[str, str], name: str, reader: Callable[[str], int], kind: str) -> int:
     try:
         return reader(said[name])
     except ValueError as fault:
         raise ValueError(f"{name} is not {kind}: {said[name]!r}") from fault
 
 
-def number_of(text):
+def number_of(text: str) -> int:
     if not re.fullmatch(r"\d{1,18}", text, re.ASCII):
         raise ValueError(text)
     return int(text)
 
 
-def want_file_name(name, text):
+def want_file_name(name: str, text: str) -> None:
     """Stops at a name that leads out of the catalogue's folder, or that can't be shown."""
     path = pathlib.PurePosixPath(text)
     if path.is_absolute() or ".." in path.parts or not text.isprintable():
         raise ValueError(f"{name} is no file in the catalogue's folder: {text!r}")
 
 
-def want_chains(path, lines):
+def want_chains(path: pathlib.Path, lines: dict[str, tuple[int, Archive]]) -> None:
     """Stops where an archive goes on from or to one that doesn't say the same of it."""
     for number, it in lines.values():
         for name, other, back in (("from", it.went_on_from, 8), ("to", it.went_on_to, 7)):
@@ -232,7 +238,7 @@ def want_chains(path, lines):
 # --- What lies around a catalogue
 
 
-def has_no_archives(path):
+def has_no_archives(path: pathlib.Path) -> bool:
     """Whether a line has none yet: there is no catalogue, and nothing lies where it would be. Where all around is empty too, a disk may not be mounted."""
     folder = path.parent
     with contextlib.suppress(OSError):  # that is told where the catalogue is read
@@ -244,7 +250,9 @@ def has_no_archives(path):
     return False
 
 
-def unasked(path, archives, desks=()):
+def unasked(
+    path: pathlib.Path, archives: Iterable[Archive], desks: Iterable[pathlib.Path] = ()
+) -> Iterator[str]:
     """What may have commands that no archive of the catalogue has, or has them twice; each with what to do. The desks' files may be in another folder."""
     try:
         yield from lying_around(
@@ -254,7 +262,9 @@ def unasked(path, archives, desks=()):
         yield f"{fault.filename}: it can't be read, so it isn't known whether it has something of the line: {fault.strerror}"
 
 
-def lying_around(path, archives, around):
+def lying_around(
+    path: pathlib.Path, archives: Iterable[Archive], around: list[pathlib.Path]
+) -> Iterator[str]:
     named = {archive.file for archive in archives}
     for file in sorted(path.parent.iterdir()) if path.parent.exists() else ():
         if file.name not in named and is_database(file):
@@ -274,16 +284,16 @@ def lying_around(path, archives, around):
             yield f"{aside}: a restore put it aside, and nobody asks it: once its senders have sent again what it has, move it elsewhere"
 
 
-def lacks(entry):
+def lacks(entry: pathlib.Path) -> bool:
     """Whether what a restore put aside has something that the copy lacks, or nothing says that it hasn't."""
     try:
         told = json.loads(entry.read_text(encoding="utf-8"))
-        return told["archives"] != [] or told["commands"] != 0
+        return bool(told["archives"] != [] or told["commands"] != 0)
     except (FileNotFoundError, ValueError, KeyError, TypeError):
         return True
 
 
-def is_database(file):
+def is_database(file: pathlib.Path) -> bool:
     with contextlib.suppress(FileNotFoundError):  # a log goes once the run ends that has it
         if file.is_file():
             with open(file, "rb") as it:
@@ -294,12 +304,12 @@ def is_database(file):
 # --- The archives themselves
 
 
-def path_of(path, archive):
+def path_of(path: pathlib.Path, archive: Archive) -> pathlib.Path:
     """Where an archive of the catalogue in that file lies."""
     return pathlib.Path(path).parent / archive.file
 
 
-def check(path, archive):
+def check(path: pathlib.Path, archive: Archive) -> None:
     """Stops where an archive of the catalogue is not there, has a log, or is not the file that its line is of."""
     file = path_of(path, archive)
     if log := log_of(file):
@@ -318,7 +328,7 @@ def check(path, archive):
         )
 
 
-def opened(file):
+def opened(file: str | os.PathLike[str]) -> contextlib.AbstractContextManager[sqlite3.Connection]:
     """A file that stands whole, as a database. It is not written any more, so nothing is locked or made beside it."""
     return copies.database(
         f"file:{urllib.parse.quote(os.fsencode(file))}?mode=ro&immutable=1", uri=True
@@ -326,7 +336,9 @@ def opened(file):
 
 
 @contextlib.contextmanager
-def unchanged(path, archive, checked=True):
+def unchanged(
+    path: pathlib.Path, archive: Archive, checked: bool = True
+) -> Iterator[sqlite3.Connection]:
     """An archive of the catalogue in that file, as a database, once it has its checksum; it stops where the file changes meanwhile."""
     file = path_of(path, archive)
     try:
@@ -349,7 +361,7 @@ def unchanged(path, archive, checked=True):
         raise CatalogueError(f"{file}: it was changed while it was asked: ask again")
 
 
-def log_of(file):
+def log_of(file: str | os.PathLike[str]) -> pathlib.Path | None:
     """The log beside a file that may hold something of it, or none. A run leaves an empty one."""
     for tail in LOGS:
         with contextlib.suppress(FileNotFoundError):
@@ -358,22 +370,23 @@ def log_of(file):
     return None
 
 
-def in_turn(archives):
+def in_turn(archives: Iterable[Archive]) -> list[Archive]:
     """Archives in the order of their chains: each right behind the one that it went on from, whatever their minutes say."""
-    by_file, turn = {it.file: it for it in archives}, {}
-    for it in sorted(
-        archives, key=lambda it: it.went_on_from in by_file
-    ):  # first those that begin a chain
-        while it and it.file not in turn:
-            turn[it.file] = it
-            it = by_file.get(it.went_on_to)
+    by_file = {archive.file: archive for archive in archives}
+    turn: dict[str, Archive] = {}
+    # first those that begin a chain
+    for begin in sorted(archives, key=lambda archive: archive.went_on_from in by_file):
+        archive: Archive | None = begin
+        while archive and archive.file not in turn:
+            turn[archive.file] = archive
+            archive = by_file.get(archive.went_on_to)
     return list(turn.values())
 
 
 # --- Writing
 
 
-def add(path, archive):
+def add(path: pathlib.Path, archive: Archive) -> None:
     """Adds a line, if it isn't there. The archive that `from` names goes on to this one from now on."""
     with changed(path) as archives:
         if archive not in archives:
@@ -384,7 +397,7 @@ def add(path, archive):
             archives.append(archive)
 
 
-def take_out(path, archive):
+def take_out(path: pathlib.Path, archive: Archive) -> None:
     """Takes the line of an archive out that went on to none; the one before it goes on to the running desk again."""
     with changed(path) as archives:
         archives[:] = [
@@ -395,7 +408,7 @@ def take_out(path, archive):
 
 
 @contextlib.contextmanager
-def changed(path):
+def changed(path: pathlib.Path) -> Iterator[list[Archive]]:
     """The archives of a catalogue, which is written anew where they were changed."""
     with files.held(pathlib.Path(path).parent):
         before = read(path)
@@ -405,20 +418,20 @@ def changed(path):
             write(path, archives)
 
 
-def write(path, archives):
+def write(path: pathlib.Path, archives: Iterable[Archive]) -> None:
     """Puts a catalogue of these archives in the place of the one that is there."""
     text = csv_text([HEADER, *map(row_of, archives)])
     whole(survey_text(path, text.encode()))
     files.put(path, text)
 
 
-def csv_text(table):
+def csv_text(table: Iterable[Iterable[Any]]) -> str:
     text = io.StringIO()
     csv.writer(text, lineterminator="\n").writerows(table)
     return text.getvalue()
 
 
-def row_of(archive):
+def row_of(archive: Archive) -> list[Any]:
     row = archive._asdict() | {
         "first_minute": spelled(archive.first_minute),
         "last_minute": spelled(archive.last_minute),

@@ -8,9 +8,11 @@ It refuses a file that has several hard links. So what has those, is locked, or 
 Each desk names the file from which it was begun, by its checksum. After a roll-over with an option it doesn't carry that on
 as it was. Then the program is asked about the files before and behind this link, which is known by the checksum alone.
 """
-import collections
+from __future__ import annotations
+
 import contextlib
 import csv
+import dataclasses
 import io
 import os
 import pathlib
@@ -20,8 +22,10 @@ import subprocess
 import sys
 import tempfile
 import time
+from collections.abc import Iterable, Sequence
+from typing import Any
 
-from tracedesk_ops import copies, identity, plant
+from tracedesk_ops import catalogue, copies, identity, plant
 
 NO_CHAIN, REFUSED, BEGUN = (
     1,
@@ -41,40 +45,63 @@ CHECKED, PIECES = (
 )
 
 
+@dataclasses.dataclass(frozen=True)
+class End:
+    """What the program read of a file. `mark` is that of the file it was begun from, or empty."""
+
+    commands: int
+    minute: int
+    mark: str
+
+
+@dataclasses.dataclass(frozen=True)
+class Answer:
+    """What the program answered: the rows by their columns, `file` being the place of a row's file;
+    what it read of each file; what it printed; and links that are known by the checksum alone.
+    """
+
+    rows: list[dict[str, Any]]
+    ends: list[End]
+    text: str
+    options: list[str]
+
+
 class NoAnswer(Exception):
     """Why there is none, with the status of the program."""
 
-    def __init__(self, why, status=None, ends=()):
+    def __init__(self, why: str, status: int | None = None, ends: Sequence[End] = ()) -> None:
         super().__init__(why)
         self.status, self.ends = status, ends
 
 
-# what the program read of a file: how many commands it has, its last minute, and the checksum of the one it was begun from, or nothing
-End = collections.namedtuple("End", "commands minute mark")
-# the rows of an answer, each by its columns and with the file's place, and what the program read of each file; what it printed; and links that are known by the checksum alone
-Answer = collections.namedtuple("Answer", "rows ends text options")
+Files = Sequence[pathlib.Path]
+Archives = Sequence[catalogue.Archive]
 
 
 class Asker:
     """The program, and the words by which it is asked a question."""
 
-    def __init__(self, program, question):
+    def __init__(self, program: str, question: Iterable[str]) -> None:
         self.program, self.words = plant.chain_of(program), [*question, "--pieces"]
 
-    def ask(self, files, archives, about):
+    def ask(self, files: Files, archives: Archives, about: str) -> Answer:
         """What it answers about files, from the oldest on; a NoAnswer or a Fault where it has no answer."""
         if not self.program:
             raise NoAnswer("there is no tracedesk-chain next to tracedesk: CHAIN names it")
         return asked(self.program, self.words, files, archives, about)
 
 
-def asked(chain, words, files, archives, about=""):
+def asked(
+    chain: str, words: list[str], files: Files, archives: Archives, about: str = ""
+) -> Answer:
     """What the program answers to these words about files, from the oldest on, of which these are the lines of the catalogue; the last may
     have none. A NoAnswer where there is none, a Fault where a file changes meanwhile. Long runs are told about.
     """
-    parts, options, first, last = [], [], 0, len(files)
-    middle: list = []
-    links: list = []
+    parts: list[tuple[int, Answer]] = []
+    options: list[str] = []
+    middle: list[str] = []
+    first, last = 0, len(files)
+    links: list[str] = []
     while first < len(files):
         try:
             asks = [*words, *middle, *links]
@@ -113,7 +140,7 @@ def asked(chain, words, files, archives, about=""):
     )
 
 
-def asked_of(chain, words, files, about):
+def asked_of(chain: str, words: list[str], files: Files, about: str) -> Answer:
     """The same of files without such links. If one can't be opened where it is, as another call has it, copies of all are asked."""
     run = plant.Program(chain, files[0])
     try:
@@ -124,7 +151,9 @@ def asked_of(chain, words, files, about):
     return asked_once(run, words, files, about, [False] * len(files))
 
 
-def asked_once(run, words, files, about, here):
+def asked_once(
+    run: plant.Program, words: list[str], files: Files, about: str, here: list[bool]
+) -> Answer:
     before = [state_of(it) for it in files]
     with tempfile.TemporaryDirectory(prefix="tracedesk-") as room:
         plant.want_room(
@@ -147,10 +176,12 @@ def asked_once(run, words, files, about, here):
     return answer
 
 
-def said_of(run, words, files, about):
+def said_of(run: plant.Program, words: list[str], files: Files, about: str) -> Answer:
     """The answer, with the files' own names in its texts."""
     folders = re.compile("|".join(sorted({f"{re.escape(str(it.parent))}/" for it in files})))
-    ends, errors, due = [], [], time.monotonic() + SECONDS_BETWEEN_NOTES
+    ends: list[End] = []
+    errors: list[str] = []
+    due = time.monotonic() + SECONDS_BETWEEN_NOTES
     with tempfile.TemporaryFile("w+", newline="", **plant.TEXT) as out:
         with subprocess.Popen(
             [run.program, *words, *files],
@@ -193,7 +224,7 @@ def said_of(run, words, files, about):
     )
 
 
-def can_be_opened(run, file):
+def can_be_opened(run: plant.Program, file: pathlib.Path) -> bool:
     with contextlib.suppress(OSError), open(file, "r+b") as it:
         about = os.fstat(it.fileno())
         return (
@@ -206,7 +237,7 @@ def can_be_opened(run, file):
     return False
 
 
-def copied(run, file, folder):
+def copied(run: plant.Program, file: pathlib.Path, folder: pathlib.Path) -> pathlib.Path:
     folder.mkdir()
     to = folder / file.name
     shutil.copyfile(file, to)
@@ -215,6 +246,6 @@ def copied(run, file, folder):
     return to
 
 
-def state_of(file):
+def state_of(file: pathlib.Path) -> tuple[int, int, int, int]:
     it = os.stat(file)
     return it.st_dev, it.st_ino, it.st_size, it.st_mtime_ns

@@ -1,12 +1,14 @@
 """A copy of a desk's file with its log: for tools that read a desk's tables.
 
-The newest commands of a desk may stand in its log alone: so it is after SIGTERM, by which the service stops, and after
-a kill. Who reads the file without it leaves them out, and is told nothing. So what is read is a copy of both, in a
-folder of its own, and the desk's own file and log stay as they are. A file that a run has open is refused.
+The newest commands of a desk may be in its log alone: after SIGTERM, by which the service stops, and after a kill. Who
+reads the file without its log misses them, and gets no error. So tools read a copy of both, in a folder of its own, and
+the desk's own file and log stay as they are. A file that a run has open is refused.
 
     with copies.opened("/var/lib/tracedesk/archive/desk-1") as database:
         database.execute("SELECT count(*) FROM accepted")
 """
+from __future__ import annotations
+
 import contextlib
 import fcntl
 import os
@@ -15,39 +17,43 @@ import shutil
 import sqlite3
 import struct
 import tempfile
+from collections.abc import Iterator
+from typing import Any, BinaryIO
 
-LOGS = (
-    "-wal",
-    "-journal",
-)  # beside a desk's file, and part of it; the second only where its making was cut off
-LOCKED_FROM, LOCKED = 1 << 30, 512  # where SQLite's locks of a file lie
+# beside a desk's file, and part of it; the second only if its making was cut off
+LOGS = ("-wal", "-journal")
+LOCKED_FROM, LOCKED = 1 << 30, 512  # the bytes of a file that SQLite locks
 FLOCK = "hhqqi0q"  # Linux' struct flock of 64 bits: type, whence, start, length, process
 
 
 class InUse(Exception):
     """A run has the file open, so that a copy would be of no use."""
 
-    def __init__(self):
+    def __init__(self) -> None:
         super().__init__("a run has it open: stop that, or name a copy of the file and its log")
 
 
-def is_locked(file, kind=fcntl.F_RDLCK):
-    """Whether another process has a lock of SQLite's on an open file, by which it may write; of any kind where a lock to write is asked for."""
+def is_locked(file: BinaryIO, kind: int = fcntl.F_RDLCK) -> bool:
+    """Whether another process has one of SQLite's locks on an open file: one by which it may write,
+    or any if `kind` is a lock to write.
+    """
     asked = struct.pack(FLOCK, kind, os.SEEK_SET, LOCKED_FROM, LOCKED, 0)
-    return struct.unpack(FLOCK, fcntl.fcntl(file, fcntl.F_GETLK, asked))[0] != fcntl.F_UNLCK
+    answer = struct.unpack(FLOCK, fcntl.fcntl(file, fcntl.F_GETLK, asked))
+    return bool(answer[0] != fcntl.F_UNLCK)
 
 
-def copy(file, to):
-    """Copies a desk's file, and its log to the same name with the log's ending. No run can open the file meanwhile."""
+def copy(file: str | os.PathLike[str], to: pathlib.Path) -> None:
+    """Copies a desk's file and its log; the log's copy has the same ending. No run can open the file
+    meanwhile.
+    """
     file = os.path.realpath(file)  # a link has no log of its own
     with open(file, "rb") as source:
         try:
             fcntl.lockf(source, fcntl.LOCK_SH | fcntl.LOCK_NB, LOCKED, LOCKED_FROM)
         except BlockingIOError:
             raise InUse() from None
-        with open(
-            to, "xb"
-        ) as target:  # not by name: the lock ends with the first closing of the file in this process
+        # not by name: the lock ends with the first closing of the file in this process
+        with open(to, "xb") as target:
             shutil.copyfileobj(source, target)
         for log in LOGS:
             if os.path.exists(file + log):
@@ -55,8 +61,12 @@ def copy(file, to):
 
 
 @contextlib.contextmanager
-def copied(file, within=None):
-    """The path of a copy, with its log beside it, in that folder or else where temporary files lie; both are gone afterwards."""
+def copied(
+    file: str | os.PathLike[str], within: pathlib.Path | None = None
+) -> Iterator[pathlib.Path]:
+    """The path of a copy with its log, in a new folder below `within` or the temporary files' folder;
+    the folder is gone afterwards.
+    """
     with tempfile.TemporaryDirectory(prefix="tracedesk-", dir=within) as room:
         to = pathlib.Path(room, "copy")
         copy(file, to)
@@ -64,17 +74,24 @@ def copied(file, within=None):
 
 
 @contextlib.contextmanager
-def database(name, **how):
-    """A database. Damaged bytes in it are a fault of SQLite's, though what that says of them is no text."""
-    with contextlib.closing(sqlite3.connect(name, **how)) as it:
+def database(name: str | os.PathLike[str], **how: Any) -> Iterator[sqlite3.Connection]:
+    """A database. Damaged bytes in a text are a sqlite3.DatabaseError too."""
+    with contextlib.closing(sqlite3.connect(name, **how)) as connection:
         try:
-            yield it
+            yield connection
         except UnicodeDecodeError as fault:
             raise sqlite3.DatabaseError(f"it has damaged bytes: {fault}") from fault
 
 
 @contextlib.contextmanager
-def opened(file, within=None):
+def opened(
+    file: str | os.PathLike[str], within: pathlib.Path | None = None
+) -> Iterator[sqlite3.Connection]:
     """A copy, as a database."""
-    with copied(file, within) as copy_of_it, database(copy_of_it) as it:
-        yield it
+    with copied(file, within) as copy_of_file, database(copy_of_file) as connection:
+        yield connection
+
+
+def rows(database: sqlite3.Connection, query: str, *values: object) -> list[Any]:
+    """All rows of a query with these values."""
+    return database.execute(query, values).fetchall()

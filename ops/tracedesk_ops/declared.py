@@ -3,10 +3,14 @@
 The declarations are those of docs/definitions.md, "The tables of a desk's file", as the program writes them. A file
 of the older layout has two indexes on `placement` beside them, and a file of version 1 has no table `found`.
 """
+from __future__ import annotations
+
 import contextlib
+import functools
 import re
 import sqlite3
-from typing import NamedTuple
+from collections.abc import Callable, Iterable, Iterator
+from typing import Any, NamedTuple
 
 TABLES = """
 CREATE TABLE version (one INTEGER NOT NULL PRIMARY KEY, number INTEGER NOT NULL, greatest INTEGER NOT NULL) STRICT;
@@ -41,34 +45,34 @@ class Table(NamedTuple):
     """What a table declares: each column with its type and whether it is NOT NULL; the others are tuples of columns."""
 
     name: str
-    columns: dict
-    key: tuple
-    uniques: frozenset
-    checks: frozenset
-    references: frozenset  # of column and table
+    columns: dict[str, tuple[str, bool]]
+    key: tuple[str, ...]
+    uniques: frozenset[tuple[str, ...]]
+    checks: frozenset[str]
+    references: frozenset[tuple[str, str]]  # of column and table
     strict: bool
 
-    def by(self):
+    def by(self) -> tuple[str, ...]:
         """The columns by which a row is told."""
         return self.key or PLACED
 
-    def listed(self):
+    def listed(self) -> str:
         return ", ".join(map(quoted, self.columns))
 
 
-def quoted(name):
+def quoted(name: str) -> str:
     return '"' + name.replace('"', '""') + '"'
 
 
-def pragma(database, name, of):
+def pragma(database: sqlite3.Connection, name: str, of: str) -> list[Any]:
     return database.execute(f"PRAGMA {name}({quoted(of)})").fetchall()
 
 
-def table_of(database, name, text):
+def table_of(database: sqlite3.Connection, name: str, text: str) -> Table:
     """What the table of this name declares; text is that of its making."""
     info = pragma(database, "table_info", name)
     columns = {it[1]: (it[2].upper(), bool(it[3])) for it in info}
-    key = tuple(it[1] for it in sorted((it for it in info if it[5]), key=lambda it: it[5]))
+    key = tuple(name for _, name in sorted((column[5], column[1]) for column in info if column[5]))
     uniques = {
         tuple(it[2] for it in pragma(database, "index_info", index[1]))
         for index in pragma(database, "index_list", name)
@@ -84,7 +88,7 @@ def table_of(database, name, text):
     )
 
 
-def tables_in(database):
+def tables_in(database: sqlite3.Connection) -> dict[str, Table]:
     """Each table of a database that is no view and no virtual one, by its name."""
     query = "SELECT name, sql FROM sqlite_schema WHERE type = 'table' AND name NOT LIKE 'sqlite\\_%' ESCAPE '\\' AND sql NOT LIKE 'CREATE VIRTUAL%'"
     return {
@@ -92,7 +96,7 @@ def tables_in(database):
     }
 
 
-def expected(version=2):
+def expected(version: int = 2) -> dict[str, Table]:
     """The tables of a desk's file, by their names, in their order."""
     with contextlib.closing(sqlite3.connect(":memory:")) as database:
         database.executescript(TABLES)
@@ -102,7 +106,7 @@ def expected(version=2):
     return tables
 
 
-def orders():
+def orders() -> Iterator[list[Any]]:
     """The rows of sqlite_schema of a new file and of one of the older layout: rowid, type and name of each."""
     older = "".join(
         f"CREATE INDEX {name} ON placement ({', '.join(columns)});"
@@ -117,7 +121,7 @@ def orders():
             ).fetchall()
 
 
-def adds(database, name):
+def adds(database: sqlite3.Connection, name: str) -> bool:
     """Whether a table's columns have a default, a collation or a formula, as no desk's have."""
     (text,) = database.execute(
         "SELECT sql FROM sqlite_schema WHERE type = 'table' AND name = ?", [name]
@@ -131,7 +135,7 @@ def adds(database, name):
 # --- What a file declares, and what it should
 
 
-def missing(wanted, there):
+def missing(wanted: dict[str, Table], there: dict[str, Table]) -> Iterator[str]:
     """Which tables and columns are missing, in words."""
     for name, table in wanted.items():
         if name not in there:
@@ -140,7 +144,7 @@ def missing(wanted, there):
             yield f"the table {name} has no column {' and no column '.join(gone)}"
 
 
-def weaker(wanted, there):
+def weaker(wanted: dict[str, Table], there: dict[str, Table]) -> Iterator[str]:
     """What a file's tables don't declare that a desk's do, in words. The program lets that be."""
     for name, table in wanted.items():
         if name in there:
@@ -149,7 +153,7 @@ def weaker(wanted, there):
             )
 
 
-def lacks(table, there):
+def lacks(table: Table, there: Table) -> Iterator[str]:
     for column, (kind, not_null) in table.columns.items():
         if column in there.columns and there.columns[column] != (kind, not_null):
             yield f"{column} {kind}{' NOT NULL' if not_null else ''}"
@@ -167,55 +171,74 @@ def lacks(table, there):
 # --- Rows that break what a desk's tables declare
 
 
-def shown(value):
+def shown(value: object) -> str:
     if value is None:
         return "NULL"
     text = repr(value)
     return text if len(text) <= LONGEST else f"{text[:LONGEST]}.. ({len(text)} characters)"
 
 
-def of_row(table, row):
+def of_row(table: Table, row: sqlite3.Row) -> str:
     """How a row is told: by its table and the values of its key."""
     return f"{table.name}: the row of " + ", ".join(f"{it} {shown(row[it])}" for it in table.by())
 
 
-def values(row, columns):
+def values(row: sqlite3.Row, columns: Iterable[str]) -> str:
     return ", ".join(f"{it} {shown(row[it])}" for it in columns)
 
 
-def broken(database, table):
+def broken(
+    database: sqlite3.Connection, table: Table
+) -> Iterator[tuple[sqlite3.Cursor, Callable[[sqlite3.Row], str]]]:
     """Each rule that rows of a table break: how many, and the rows with the rule in words, as an iterator.
 
     No index is asked, since it may be the one that is damaged."""
     rows = f"SELECT rowid, {table.listed()} FROM {quoted(table.name)} NOT INDEXED"
     for column, (kind, _) in table.columns.items():
-        query = f"{rows} WHERE typeof({quoted(column)}) <> '{kind.lower()}' ORDER BY rowid"
-        yield database.execute(
-            query
-        ), lambda row, it=column, kind=kind: f"{of_row(table, row)} has {shown(row[it])} for {it}, which is {kind} NOT NULL"
+        wrong = f"typeof({quoted(column)}) <> '{kind.lower()}'"
+        words = functools.partial(of_another_kind, table, column, kind)
+        yield database.execute(f"{rows} WHERE {wrong} ORDER BY rowid"), words
     for check in sorted(table.checks):
-        named = [it for it in table.columns if re.search(rf"\b{it}\b", check)]
-        query = f"{rows} WHERE NOT ({check}) ORDER BY rowid"
-        yield database.execute(
-            query
-        ), lambda row, check=check, named=named: f"{of_row(table, row)} breaks CHECK ({check}): it has {values(row, named)}"
+        words = functools.partial(against_check, table, check)
+        yield database.execute(f"{rows} WHERE NOT ({check}) ORDER BY rowid"), words
     for columns in sorted(table.uniques | ({table.key} if table.key else set())):
-        listed = ", ".join(f"+{quoted(it)}" for it in columns)
-        query = f'SELECT count(*) AS "how many", {table.listed()} FROM {quoted(table.name)} NOT INDEXED GROUP BY {listed} HAVING count(*) > 1'
-        yield database.execute(
-            query
-        ), lambda row, columns=columns: f"{table.name}: {row['how many']} rows have {values(row, columns)}, which is UNIQUE"
+        listed = ", ".join(f"+{quoted(column)}" for column in columns)
+        query = (
+            f'SELECT count(*) AS "how many", {table.listed()} FROM {quoted(table.name)} NOT INDEXED'
+            f" GROUP BY {listed} HAVING count(*) > 1"
+        )
+        yield database.execute(query), functools.partial(not_unique, table, columns)
     for column, other in sorted(table.references):
-        query = f"{rows} WHERE {quoted(column)} NOT IN (SELECT +{quoted(column)} FROM {quoted(other)} NOT INDEXED) ORDER BY rowid"
-        yield database.execute(
-            query
-        ), lambda row, it=column, other=other: f"{of_row(table, row)} has {it} {shown(row[it])}, which {other} doesn't have (REFERENCES)"
+        there = f"SELECT +{quoted(column)} FROM {quoted(other)} NOT INDEXED"
+        query = f"{rows} WHERE {quoted(column)} NOT IN ({there}) ORDER BY rowid"
+        yield database.execute(query), functools.partial(without_its_row, table, column, other)
+
+
+def of_another_kind(table: Table, column: str, kind: str, row: sqlite3.Row) -> str:
+    has = f"{of_row(table, row)} has {shown(row[column])} for {column}"
+    return f"{has}, which is {kind} NOT NULL"
+
+
+def against_check(table: Table, check: str, row: sqlite3.Row) -> str:
+    named = [column for column in table.columns if re.search(rf"\b{column}\b", check)]
+    return f"{of_row(table, row)} breaks CHECK ({check}): it has {values(row, named)}"
+
+
+def not_unique(table: Table, columns: tuple[str, ...], row: sqlite3.Row) -> str:
+    return f"{table.name}: {row['how many']} rows have {values(row, columns)}, which is UNIQUE"
+
+
+def without_its_row(table: Table, column: str, other: str, row: sqlite3.Row) -> str:
+    has = f"{of_row(table, row)} has {column} {shown(row[column])}"
+    return f"{has}, which {other} doesn't have (REFERENCES)"
 
 
 # --- Rows that are others than the commands make
 
 
-def differences(database, table, other, most):
+def differences(
+    database: sqlite3.Connection, table: Table, other: str, most: int
+) -> tuple[int, list[str]]:
     """How many rows of a table differ in a file and another database, attached by this name; and the first of them in words.
 
     A row that differs is one of the file's, or one of the other's of whose key the file has none.
@@ -228,7 +251,10 @@ def differences(database, table, other, most):
     count = sum(
         database.execute(f"SELECT count(*) FROM ({it})").fetchone()[0] for it in (changed, gone)
     )
-    first = lambda query: database.execute(f"{query} ORDER BY {by} LIMIT {most}").fetchall()
+
+    def first(query: str) -> list[sqlite3.Row]:
+        return database.execute(f"{query} ORDER BY {by} LIMIT {most}").fetchall()
+
     words = []
     for row in first(changed):
         made = database.execute(
@@ -239,7 +265,7 @@ def differences(database, table, other, most):
     return count, words[:most]
 
 
-def unlike(table, row, made):
+def unlike(table: Table, row: sqlite3.Row, made: sqlite3.Row | None) -> str:
     """Of a row that differs, in which columns; made is the one that the commands make, or none."""
     if made is None:
         beside = [it for it in table.columns if it not in table.by()]

@@ -12,6 +12,8 @@ A desk attributes a piece to the reel that feeds its slot when the install is ac
 
 All files of a line are read as one story, in the order of their chain. What a desk was begun with is no story of its own.
 """
+from __future__ import annotations
+
 import bisect
 import contextlib
 import datetime
@@ -23,7 +25,8 @@ import re
 import shutil
 import sqlite3
 import tempfile
-from typing import NamedTuple
+from collections.abc import Callable, Iterable, Iterator, Sequence
+from typing import NamedTuple, Optional
 
 from tracedesk_ops import catalogue, copies, identity, places, plant, untraced
 
@@ -62,10 +65,21 @@ TAKEN_OFF = "taken off"  # what became of a refused reel from which nothing was 
 TRIES = 5  # of a copy of a running desk's file
 
 
+Turn = tuple[int, int]  # the place of a file in its line's chain, and the number of a command
+Slot = tuple[str, str]  # of a machine
+Count = tuple[str, int, int]  # machine, minute, and how many pieces
+Steps = dict[str, tuple[list[int], list[int]]]
+Install = tuple[Turn, int, int, str, int]  # own and effective minute, slot, and how many of a scrap
+# number, board, designator, machine, slot, reel, own minute; other reels, and records of refusals
+Placed = tuple[int, str, str, str, str, str, int, set[str], set[str]]
+Has = Callable[[str], Optional[bool]]  # whether a running desk has a UniqueID; None: no answer
+Running = tuple[Optional[pathlib.Path], Optional[Has]]
+
+
 class Handling(NamedTuple):
     """A load, splice or unload that a desk accepted; the reel is empty where it is an unload. `turn` is its place in the line's story."""
 
-    turn: tuple
+    turn: Turn
     own: int
     effective: int
     word: str
@@ -87,9 +101,9 @@ class Refusal(NamedTuple):
 class Tape(NamedTuple):
     """What was accepted of a slot from a load or unload on, and what was refused meanwhile. It ends before a turn."""
 
-    handled: list
-    refused: list
-    end: tuple
+    handled: list[Handling]
+    refused: list[Refusal]
+    end: Turn
 
 
 class Piece(NamedTuple):
@@ -102,12 +116,12 @@ class Piece(NamedTuple):
     minute: int
     reel: str
     lot: str
-    other_reels: tuple
-    other_lots: tuple
+    other_reels: tuple[str, ...]
+    other_lots: tuple[str, ...]
     why: str
     file: str
 
-    def row(self):
+    def row(self) -> list[str]:
         return [
             *self[:4],
             catalogue.spelled(self.minute),
@@ -133,22 +147,23 @@ class Work(NamedTuple):
 class Story:
     """The handling and the installs of a line, file by file in the order of their chain."""
 
-    def __init__(self, works=(), refused=()):
+    def __init__(self, works: Iterable[Work] = (), refused: Iterable[untraced.Record] = ()) -> None:
         """`works` are the line's untraced work, and `refused` the records of loads, splices and unloads that were refused."""
         self.works = [it for it in works if it.pieces]
-        self.slots, self.installs, self.late, self.lots, self.names, self.tables = (
-            {},
-            {},
-            {},
-            {},
-            [],
-            [],
-        )
-        self.machines, self.parts, self.scraps, self.refusals = {}, {}, {}, {}
+        self.slots: dict[Slot, list[Handling]] = {}
+        self.installs: dict[str, list[Install]] = {}
+        self.late: dict[Turn, dict[str, set[str]]] = {}  # by slot the other reels
+        self.lots: dict[str, str] = {}
+        self.parts: dict[str, str] = {}
+        self.names: list[str] = []
+        self.tables: list[tuple[int, list[Placed], dict[str, int]]] = []
+        self.machines: dict[str, set[str]] = {}  # by reel
+        self.scraps: dict[Turn, Count] = {}
+        self.refusals: dict[Slot, list[Refusal]] = {}
         for it in refused:
             self.refuse(it)
 
-    def refuse(self, record):
+    def refuse(self, record: untraced.Record) -> None:
         """Takes in handling that was refused. Its reel was on the machine in any case."""
         work, word, reel = (
             work_of(record),
@@ -164,9 +179,9 @@ class Story:
         )
 
     @functools.cached_property
-    def mixed(self):
+    def mixed(self) -> dict[Slot, list[Tape]]:
         """By machine and slot the tapes on which a refused reel may have been, once all files were read."""
-        found: dict = {}
+        found: dict[Slot, list[Tape]] = {}
         for on, refusals in self.refusals.items():
             tapes = tapes_of(self.slots.get(on, ()))
             for tape, following in zip(tapes, [*tapes[1:], None]):
@@ -187,7 +202,9 @@ class Story:
                     )
         return found
 
-    def unsure(self, turn, machine, slot, reel, own):
+    def unsure(
+        self, turn: Turn, machine: str, slot: str, reel: str | None, own: int
+    ) -> tuple[set[str], set[str]]:
         """The reels of which a piece may be since they were refused, and the first digits of those records."""
         tapes = self.mixed.get((machine, slot), [])
         at = bisect.bisect_right(tapes, turn, key=lambda it: it.handled[0].turn) - 1
@@ -207,13 +224,13 @@ class Story:
                 ids.add(it.id[:8])
         return reels, ids
 
-    def refused_on(self, machine, slot, first, last):
+    def refused_on(self, machine: str, slot: str, first: int, last: int) -> set[str]:
         """The reels that were refused on a slot from a minute to another."""
         return {
             it.reel for it in self.refusals.get((machine, slot), ()) if first <= it.own <= last
         } - {""}
 
-    def read(self, name, database):
+    def read(self, name: str, database: sqlite3.Connection) -> None:
         """Takes a file in: what is late in it is found on the way."""
         place = len(self.names)
         self.names.append(name)
@@ -239,11 +256,13 @@ class Story:
                     )
                 )
 
-    def place(self, place, database):
+    def place(self, place: int, database: sqlite3.Connection) -> None:
         """Takes the pieces of a file in, once all files were read: what is late in one may be told in the next."""
         self.tables.append((place, self.placed(place, database), self.left(database)))
 
-    def took(self, turn, own, effective, machine, slot, many):
+    def took(
+        self, turn: Turn, own: int, effective: int, machine: str, slot: str, many: int
+    ) -> None:
         """Takes in an install, or a scrap of pieces of one slot."""
         self.installs.setdefault(machine, []).append((turn, own, effective, slot, many))
         if (
@@ -258,7 +277,7 @@ class Story:
                     if it.own > own:
                         self.doubt(turn, own, many, it, self.tape_before(it, own))
 
-    def handled(self, it):
+    def handled(self, it: Handling) -> None:
         self.slots.setdefault((it.machine, it.slot), []).append(it)
         self.machines.setdefault(it.reel, set()).add(it.machine)
         if (
@@ -276,13 +295,15 @@ class Story:
                         {it.reel} - {""} | self.refused_on(it.machine, it.slot, it.own, own),
                     )
 
-    def doubt(self, turn, own, many, handling, reels):
+    def doubt(
+        self, turn: Turn, own: int, many: int, handling: Handling, reels: Iterable[str]
+    ) -> None:
         if many:
             self.scraps[turn] = handling.machine, own, many
         else:
             self.late.setdefault(turn, {}).setdefault(handling.slot, set()).update(reels)
 
-    def tape_before(self, handling, own):
+    def tape_before(self, handling: Handling, own: int) -> set[str]:
         """The reels that were on a slot before this handling, as far as they were put there by that minute."""
         found, begun = set(), -1
         for it in reversed(self.slots[handling.machine, handling.slot]):
@@ -293,7 +314,7 @@ class Story:
                     break
         return found | self.refused_on(handling.machine, handling.slot, begun, own)
 
-    def placed(self, place, database):
+    def placed(self, place: int, database: sqlite3.Connection) -> list[Placed]:
         """The pieces of each install that is in doubt by its order, and those of machines whose reels may have other pieces left than the desk has."""
         numbers = [[turn[1]] for turn in self.late if turn[0] == place]
         machines = (
@@ -315,18 +336,22 @@ class Story:
             """SELECT number, board, designator, placement.machine, slot, reel, own FROM placement JOIN accepted USING (number)
             WHERE number IN (SELECT number FROM temp.late) OR placement.machine IN (SELECT machine FROM temp.drifted) ORDER BY number, place"""
         )
-        return [(*row, *self.unsure((place, row[0]), *row[3:])) for row in rows]
+        found: list[Placed] = []
+        for number, board, designator, machine, slot, reel, own in rows:
+            others, records = self.unsure((place, number), machine, slot, reel, own)
+            found.append((number, board, designator, machine, slot, reel, own, others, records))
+        return found
 
-    def left(self, database):
+    def left(self, database: sqlite3.Connection) -> dict[str, int]:
         """How many pieces are left of each reel."""
         return dict(database.execute("SELECT reel, remaining FROM reel"))
 
-    def reels_between(self, machine, first, last):
+    def reels_between(self, machine: str, first: int, last: int) -> list[tuple[str, str]]:
         """The reels on a machine from a minute to another, by what the desk was told, then or later. Pairs of slot and reel."""
         found = []
         for (on, slot), handled in sorted(self.slots.items()):
-            tape: list = []
-            since: list = []
+            tape: list[str] = []
+            since: list[str] = []
             for it in handled if on == machine else ():
                 if (
                     it.effective < first
@@ -343,7 +368,7 @@ class Story:
             found += [(slot, reel) for reel in dict.fromkeys([*tape, *since])]
         return found
 
-    def concerns(self, piece, kind, name):
+    def concerns(self, piece: Piece, kind: str, name: str) -> bool:
         """Whether a recall of this lot, reel or board has to name a piece in doubt. It may be of any reel of its part: one that the desk
         refused may have been on the slot all the same."""
         if kind == "board":
@@ -358,7 +383,7 @@ class Story:
         )
 
     @functools.lru_cache(1)
-    def looked_for(self, kind, name):
+    def looked_for(self, kind: str, name: str) -> tuple[set[str], set[str]]:
         """The parts of a lot or reel. If the desk knows none of it, the machines on which such a reel was refused."""
         parts = {
             self.parts[it]
@@ -372,7 +397,7 @@ class Story:
         ]
         return parts, set() if parts else set().union(*refused)
 
-    def reels_of(self, work):
+    def reels_of(self, work: Work) -> str:
         """The reels that were on a machine while it did this work, as a text."""
         found = self.reels_between(work.machine, work.first, work.last)
         return (
@@ -382,38 +407,36 @@ class Story:
             or "none that the desk knew"
         )
 
-    def pieces(self):
+    def pieces(self) -> list[Piece]:
         """The pieces that may be of another reel, from the oldest on."""
-        moved, late = self.moved()
-        lacking, moved, found = (
-            steps((it.machine, it.first, it.pieces) for it in self.works),
-            steps(moved),
-            [],
-        )
+        took, late = self.moved()
+        lacking = steps((work.machine, work.first, work.pieces) for work in self.works)
+        moved, found = steps(took), []
         begun = {
             on: [(it.turn, it.own) for it in its if it.word != SPLICED]
             for on, its in self.slots.items()
         }
-        until = lambda counts, reel, minute: sum(
-            counts[it][1][bisect.bisect_right(counts[it][0], minute)]
-            for it in self.machines.get(reel, ())
-            if it in counts
-        )
-        following: dict = {}
+
+        def until(counts: Steps, reel: str, minute: int) -> int:
+            """The sum up to a minute over the machines that had the reel."""
+            steps_of = (counts[on] for on in self.machines.get(reel, ()) if on in counts)
+            return sum(sums[bisect.bisect_right(minutes, minute)] for minutes, sums in steps_of)
+
+        following: dict[str, set[str]] = {}
         before = self.spliced()
         for reel, its in before.items():
             for _, front in its:
                 following.setdefault(front, set()).add(reel)
         for place, placed, left in self.tables:
-            turns: dict = {}
+            turns: dict[str, list[Turn]] = {}
             after = dict(left)
             for piece in placed:
                 turns.setdefault(piece[5], []).append((place, piece[0]))
             for number, board, designator, machine, slot, reel, own, refused, ids in reversed(
                 placed
             ):
-                its, whys = self.late.get((place, number), {}), []
-                others = set(its.get(slot, ())) - {reel}
+                late_here, whys = self.late.get((place, number), {}), []
+                others = set(late_here.get(slot, ())) - {reel}
                 at = (
                     bisect.bisect_right(
                         begun.get((machine, slot), []), (place, number), key=lambda it: it[0]
@@ -421,7 +444,7 @@ class Story:
                     - 1
                 )
                 tape = begun[machine, slot][at] if at >= 0 else ((-1, 0), -1)
-                if slot in its and (others or not its[slot]):
+                if slot in late_here and (others or not late_here[slot]):
                     whys.append(LATE)
                 elif (
                     before_it := bisect.bisect_right(late.get((machine, slot), []), (place, number))
@@ -461,7 +484,7 @@ class Story:
                     )
         return sorted(found, key=lambda it: (it.minute, it.board, it.designator))
 
-    def contradicted(self, record):
+    def contradicted(self, record: untraced.Record) -> Iterator[Piece]:
         """The pieces of which a machine names another reel than the desk; the lot of one that the desk doesn't know is empty."""
         told, minute = record.told, minute_of(record.told["At"]) or 0
         desk, machine = told["DeskReel"], told["MachineReel"]
@@ -471,10 +494,10 @@ class Story:
             at = told["Board"], name, told["Machine"], "", minute, desk, lots[0]
             yield Piece(*at, (machine,), lots[1:], f"{why} ({record.id[:8]})", "")
 
-    def moved(self):
+    def moved(self) -> tuple[list[Count], dict[Slot, list[Turn]]]:
         """The machines on which pieces were taken off a reel that may be another one, when, and how many; and by machine and slot the turns of those that are late."""
-        late: dict = {}
-        moved = []
+        late: dict[Slot, list[Turn]] = {}
+        moved: list[Count] = []
         for place, placed, _ in self.tables:
             for number, _, _, machine, slot, _, own, _, ids in placed:
                 if is_late := slot in self.late.get((place, number), {}):
@@ -491,9 +514,9 @@ class Story:
                     self.scraps[turn] = machine, own, many
         return [*moved, *self.scraps.values()], late
 
-    def spliced(self):
+    def spliced(self) -> dict[str, list[tuple[Turn, str]]]:
         """Of each reel that was spliced to another one the turns of that, each with the other one."""
-        found: dict = {}
+        found: dict[str, list[tuple[Turn, str]]] = {}
         for its in self.slots.values():
             for tape in tapes_of(its):
                 for front, it in zip(tape, tape[1:]):
@@ -501,9 +524,9 @@ class Story:
         return {reel: sorted(its) for reel, its in found.items()}
 
 
-def steps(counts):
+def steps(counts: Iterable[Count]) -> Steps:
     """Of counts with their machines and minutes, by machine the minutes and the sum up to each of them."""
-    found: dict = {}
+    found: Steps = {}
     for machine, minute, many in sorted(counts):
         minutes, sums = found.setdefault(machine, ([], [0]))
         minutes.append(minute)
@@ -511,9 +534,9 @@ def steps(counts):
     return found
 
 
-def tapes_of(handled):
+def tapes_of(handled: Iterable[Handling]) -> list[list[Handling]]:
     """The handling of a slot tape by tape: each begins with a load or an unload."""
-    tapes: list = []
+    tapes: list[list[Handling]] = []
     for it in handled:
         if it.word == SPLICED and tapes:
             tapes[-1].append(it)
@@ -522,7 +545,7 @@ def tapes_of(handled):
     return tapes
 
 
-def is_overtaken(refusal, spliced):
+def is_overtaken(refusal: Refusal, spliced: Iterable[Handling]) -> bool:
     """Whether another reel was spliced to a tape since one was refused, and before that one was accepted, if ever it was."""
     accepted = next((it.turn for it in spliced if it.reel == refusal.reel), None)
     return any(
@@ -533,7 +556,7 @@ def is_overtaken(refusal, spliced):
     )
 
 
-def minute_of(text):
+def minute_of(text: str) -> int | None:
     """The minute of a time as a message has it, none where that can't be read."""
     try:
         then = datetime.datetime.fromisoformat(text)
@@ -544,7 +567,7 @@ def minute_of(text):
 
 
 @contextlib.contextmanager
-def copied(file):
+def copied(file: pathlib.Path) -> Iterator[sqlite3.Connection]:
     """A database of a running desk's file and log as they are now. They are copied, since nobody else may open them; a log is written to its
     end while the file stays, until that takes the log in: a copy during which the file changed, or the log began anew, is made again.
     """
@@ -570,7 +593,7 @@ def copied(file):
             raise catalogue.CatalogueError(f"{file}: {fault}") from fault
 
 
-def state_of(file, log):
+def state_of(file: pathlib.Path, log: pathlib.Path) -> tuple[int, int, int, bytes]:
     """What stays the same of a file and its log while a log is only added to."""
     its, head = file.stat(), b""
     with contextlib.suppress(FileNotFoundError), open(log, "rb") as it:
@@ -585,18 +608,23 @@ class Line(NamedTuple):
     """What is known of a line besides its traces: untraced work, each with its decision or none and the reels that were on its machine; pieces
     in doubt; what could not be looked at; and what a reader has to know."""
 
-    works: list
-    pieces: list
-    faults: list
-    notes: list
+    works: list[tuple[untraced.Record, untraced.Record | None, str]]
+    pieces: list[Piece]
+    faults: list[str]
+    notes: list[str]
     story: Story
 
 
-def look(path, archives, is_running=False, running=()):
+def look(
+    path: pathlib.Path,
+    archives: list[catalogue.Archive],
+    is_running: bool = False,
+    running: Sequence[Running] = (),
+) -> Line:
     """Looks at what is around a catalogue. The archives are in the order of their chain; the running desk's file is next to their folder, or
     named. `running` has for each desk that runs its file, or None, and a call that says whether it has a UniqueID, or None; in a copy of a line no desk runs.
     """
-    notes: list = []
+    notes: list[str] = []
     book, faults, pieces = untraced.read(path.parent), [], []
     refused, decided = untraced.refused(book.records), untraced.decisions(book.records)
     works = [it for it in refused if untraced.is_work(it)]
@@ -622,7 +650,7 @@ def look(path, archives, is_running=False, running=()):
                     faults.append(
                         f"{why}: whether pieces since the last archive may be of other reels isn't known"
                     )
-                else:
+                elif database:
                     files[f"{catalogue.RUNNING} {file.name}".removesuffix(" desk")] = database
             for name, database in files.items():
                 story.read(name, database)
@@ -645,9 +673,14 @@ def look(path, archives, is_running=False, running=()):
     )
 
 
-def running_files(around, archives, running, held):
+def running_files(
+    around: pathlib.Path,
+    archives: list[catalogue.Archive],
+    running: Sequence[Running],
+    held: contextlib.ExitStack,
+) -> Iterator[tuple[pathlib.Path, sqlite3.Connection | None, str]]:
     """Of each desk that runs its file and a copy of it, or why there is none. If nothing names its file, that is `desk`, or else another one in that folder."""
-    copied_of: dict = {}
+    copied_of: dict[pathlib.Path, sqlite3.Connection] = {}
     for db, has in running or [(around / "desk", None)]:
         whys = []
         for file in (
@@ -676,7 +709,12 @@ def running_files(around, archives, running, held):
             yield around, None, whys[0]
 
 
-def why_not(desk, database, archives, running):
+def why_not(
+    desk: pathlib.Path,
+    database: sqlite3.Connection,
+    archives: list[catalogue.Archive],
+    running: Sequence[Has],
+) -> str:
     """Why a file is not the running desk's as it is now, if so; `database` is a copy of it. It may be an older copy, or another desk's."""
     ends, mark = [it for it in archives if not it.went_on_to], identity.begun_from(database)
     if (
@@ -696,15 +734,12 @@ def why_not(desk, database, archives, running):
     return ""
 
 
-def work_of(record):
+def work_of(record: untraced.Record) -> Work:
     message, body = record.told["Message"], untraced.body_of(record)
-    count = (
-        len(body["Designators"])
-        if isinstance(body.get("Designators"), list)
-        else body.get("Quantity")
-        if type(body.get("Quantity")) is int
-        else 0
-    )
+    designators, quantity = body.get("Designators"), body.get("Quantity")
+    count = quantity if isinstance(quantity, int) and not isinstance(quantity, bool) else 0
+    if isinstance(designators, list):
+        count = len(designators)
     minutes = sorted(
         it
         for it in map(minute_of, (str(message.get("TimeStamp")), record.told["At"]))
@@ -713,13 +748,13 @@ def work_of(record):
     return Work(str(body.get("Machine")), str(body.get("Slot", "")), count, minutes[0], minutes[-1])
 
 
-def waiting(folder):
+def waiting(folder: pathlib.Path) -> Iterator[str]:
     """Senders that hold messages for more than a minute, by what they say of themselves."""
     for file in sorted(folder.glob("*.json")) if folder.is_dir() else ():
         with contextlib.suppress(OSError, ValueError, TypeError, AttributeError):
             told = json.loads(file.read_bytes())
-            if (
-                told.get("OldestWaiting")
-                and minute_of(told["At"]) - minute_of(told["OldestWaiting"]) > 1
-            ):
+            if not told.get("OldestWaiting"):
+                continue
+            since, now = minute_of(told["OldestWaiting"]), minute_of(told["At"])
+            if since is not None and now is not None and now - since > 1:
                 yield f"{file}: {told['Waiting']} messages wait at {told['Sender']} since {told['OldestWaiting']}, and the desk doesn't have them: ask again once they are sent"

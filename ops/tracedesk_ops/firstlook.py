@@ -1,8 +1,12 @@
 """A first look at an archive for ops/tracedesk-recall, by SQL: what tracedesk-chain doesn't print, and all of it by `--quick`."""
-import collections
-import sys
+from __future__ import annotations
 
-from tracedesk_ops import catalogue
+import pathlib
+import sqlite3
+import sys
+from typing import NamedTuple, Protocol
+
+from tracedesk_ops import catalogue, copies
 
 KNOWN_AS = {
     "lot": "SELECT 1 FROM reel WHERE lot = ?",
@@ -20,25 +24,86 @@ THOSE_OF = {
 LEFT = """SELECT reel, part, lot, remaining, iif(mount.reel IS NOT NULL, 'mounted', iif(open_since >= 0, 'open', 'sealed')),
     coalesce(machine, ''), coalesce(slot, '') FROM reel LEFT JOIN mount USING (reel) WHERE {} = ? AND remaining > 0 ORDER BY reel"""
 
-# minute is none where the desk that has the piece doesn't tell it
-Piece = collections.namedtuple(
-    "Piece", "board designator part lot reel machine slot overdue minute line file"
-)
-# what is left as of a minute, none being now; machine and slot are empty where it is on none that is known
-Reel = collections.namedtuple("Reel", "reel part lot remaining state machine slot line minute")
-Told = collections.namedtuple("Told", "known pieces")  # by a desk or an archive
+
+class Question(Protocol):
+    """What is asked: `kind` is lot, reel or board."""
+
+    @property
+    def kind(self) -> str:
+        ...
+
+    @property
+    def name(self) -> str:
+        ...
 
 
-def at(line, archive, question, wants_pieces=True):
+class Line(Protocol):
+    """The line whose archives are asked."""
+
+    @property
+    def name(self) -> str:
+        ...
+
+    @property
+    def catalogue(self) -> pathlib.Path:
+        ...
+
+
+class Piece(NamedTuple):
+    """A placed piece; `minute` is None if the desk that has it doesn't report it."""
+
+    board: str
+    designator: str
+    part: str
+    lot: str
+    reel: str
+    machine: str
+    slot: str
+    overdue: str
+    minute: int | None
+    line: str
+    file: str
+
+
+class Reel(NamedTuple):
+    """What is left of a reel as of a minute, None being now; machine and slot may be empty."""
+
+    reel: str
+    part: str
+    lot: str
+    remaining: int
+    state: str
+    machine: str
+    slot: str
+    line: str
+    minute: int | None
+
+
+class Told(NamedTuple):
+    """What a desk or an archive knows: whether the name, and its pieces."""
+
+    known: bool
+    pieces: list[Piece]
+
+
+def at(
+    line: Line, archive: catalogue.Archive, question: Question, wants_pieces: bool = True
+) -> Told:
     """Whether an archive of a line knows the name, once its checksum is that of its catalogue; and its pieces."""
     with catalogue.unchanged(line.catalogue, archive) as database:
         return told_by(database, line, archive, question, wants_pieces)
 
 
-def told_by(database, line, archive, question, wants_pieces):
-    rows = lambda query: database.execute(query, [question.name])
-    known = rows(KNOWN_AS[question.kind]).fetchone() is not None
-    placed = rows(PIECES.format(THOSE_OF[question.kind])) if known and wants_pieces else ()
+def told_by(
+    database: sqlite3.Connection,
+    line: Line,
+    archive: catalogue.Archive,
+    question: Question,
+    wants_pieces: bool,
+) -> Told:
+    known = bool(copies.rows(database, KNOWN_AS[question.kind], question.name))
+    query = PIECES.format(THOSE_OF[question.kind])
+    placed = database.execute(query, [question.name]) if known and wants_pieces else ()
     return Told(
         known,
         [
@@ -56,7 +121,9 @@ def told_by(database, line, archive, question, wants_pieces):
     )
 
 
-def left_in(database, line, question, minute=None):
+def left_in(
+    database: sqlite3.Connection, line: Line, question: Question, minute: int | None = None
+) -> tuple[list[Reel], set[str]]:
     """What is left of the lot or reel by the tables of a desk, as of a minute, none being now; and the machines of its sheets."""
     left = (
         database.execute(LEFT.format(question.kind), [question.name]).fetchall()

@@ -8,17 +8,21 @@ numbered so, the last one too, with the UniqueIDs that are carried over between 
 
     identity.of("/var/lib/tracedesk/archive/L1-20260302T0600Z-20260601T1412Z-41873").mark
 """
+from __future__ import annotations
+
 import contextlib
 import csv
+import functools
 import io
 import json
 import pathlib
 import re
 import secrets
 import sqlite3
+from collections.abc import Iterable
 from typing import NamedTuple
 
-from tracedesk_ops import catalogue, stored
+from tracedesk_ops import catalogue, copies, stored
 
 SOURCE, BEGUN = "tracedesk", "desk-begun"
 NAME = re.compile("desk-[0-9a-f]{32}")
@@ -39,12 +43,12 @@ class Identity(NamedTuple):
     commands: int
     taken: int
     minute: int
-    rows: list
+    rows: list[tuple[int, str, str, int]]
 
 
-def read(database):
+def read(database: sqlite3.Connection) -> Identity:
     """Who the desk with these tables is."""
-    rows = lambda query, *values: database.execute(query, values).fetchall()
+    rows = functools.partial(copies.rows, database)
     ((commands, minute),) = rows("SELECT count(*), coalesce(max(effective), 0) FROM accepted")
     mark, begun = begun_from(database), 0
     if mark:
@@ -65,26 +69,26 @@ def read(database):
     )
 
 
-def begun_from(database):
+def begun_from(database: sqlite3.Connection) -> str:
     """The mark of the archive from which the desk with these tables was begun; empty if there is none."""
     first = database.execute("SELECT uid, source FROM accepted WHERE number = 1").fetchone()
     found = MARK.fullmatch(first[0]) if first else None
     return found[1] if found and ("-" not in found[1] or first[1] == "begin") else ""
 
 
-def mark_of(file):
+def mark_of(file: pathlib.Path) -> str:
     """The same of a file that stands whole."""
     with catalogue.opened(file) as database:
         return begun_from(database)
 
 
-def of(file):
+def of(file: pathlib.Path) -> Identity:
     """Who the desk in a file is that stands whole; of a running desk as of its file without the log. Its beginning doesn't change."""
     with catalogue.opened(file) as database:
         return read(database)
 
 
-def of_running(db):
+def of_running(db: pathlib.Path) -> Identity | None:
     """Who the desk in a file is, or none where the file is gone or can't be read. The running desk may be writing it."""
     for _ in range(3):
         try:
@@ -94,11 +98,11 @@ def of_running(db):
     return None
 
 
-def new_name():
+def new_name() -> str:
     return f"desk-{secrets.token_hex(16)}"
 
 
-def naming(desk, name=""):
+def naming(desk: Identity, name: str = "") -> list[str]:
     """The messages that a desk lacks to have a name, this one or a new one, and to say that it was begun from an archive."""
     uids = ([] if desk.name else [name or new_name()]) + (
         [BEGUN] if desk.mark and BEGUN not in {it[1] for it in desk.rows} else []
@@ -109,7 +113,7 @@ def naming(desk, name=""):
 # --- What the files say of each other
 
 
-def follows(mark, archive):
+def follows(mark: str, archive: catalogue.Archive) -> bool:
     """Whether a desk with this mark was begun from this archive of a catalogue."""
     return bool(mark) and mark in (
         archive.sha256[:CHECKSUM],
@@ -117,7 +121,7 @@ def follows(mark, archive):
     )
 
 
-def first_uids(archive):
+def first_uids(archive: catalogue.Archive) -> tuple[str, str]:
     """The first UniqueIDs, one of which the desk has that was begun from an archive."""
     return (
         f"begin-{archive.sha256[:CHECKSUM]}-1",
@@ -125,9 +129,11 @@ def first_uids(archive):
     )
 
 
-def chain(path, archives, mark):
+def chain(
+    path: pathlib.Path, archives: Iterable[catalogue.Archive], mark: str
+) -> tuple[list[catalogue.Archive], list[str]]:
     """The archives behind a desk with this mark, from the newest to the oldest, by what their files say; and what is wrong."""
-    found: list = []
+    found: list[catalogue.Archive] = []
     while mark:
         it = next((it for it in archives if follows(mark, it)), None)
         if it is None or it in found:
@@ -144,7 +150,9 @@ def chain(path, archives, mark):
     return found, []
 
 
-def gaps(path, archives, marks=()):
+def gaps(
+    path: pathlib.Path, archives: Iterable[catalogue.Archive], marks: Iterable[str] = ()
+) -> list[str]:
     """Which archives of a catalogue, and desks with these marks, were begun from one that is not in it. An archive that can't be read says nothing here."""
     there = {
         it
@@ -165,7 +173,7 @@ def gaps(path, archives, marks=()):
 # --- A running desk
 
 
-def question(uid):
+def question(uid: str) -> bytes:
     """A message that every desk refuses, and which tells whether the desk has accepted the UniqueID: it unloads a slot that no sheet names."""
     return stored.line(
         uid,
@@ -176,7 +184,7 @@ def question(uid):
     ).encode()
 
 
-def has_it(status, body):
+def has_it(status: int, body: str) -> bool:
     """Whether a desk has the UniqueID of a question, by its answer; a ValueError where that says neither."""
     answer = json.loads(body) if status == 409 else None
     if not isinstance(answer, dict) or answer.get("Answer") != "Refused":
@@ -184,7 +192,7 @@ def has_it(status, body):
     return answer.get("Refusal") == "IdReused"
 
 
-def rows_of(columns, status, body):
+def rows_of(columns: str, status: int, body: str) -> list[dict[str, str]] | None:
     """The rows of a report, each by its columns, or none where the desk doesn't know what is asked; a ValueError where it is another answer."""
     with contextlib.suppress(ValueError, AttributeError):
         if (

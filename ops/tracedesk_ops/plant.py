@@ -1,9 +1,12 @@
 """What ops/tracedesk-rollover, ops/tracedesk-backup, ops/tracedesk-check and ops/tracedesk-plant-load share: the program, the service of a desk, the proxy in front of it, and its copies."""
+from __future__ import annotations
+
 import argparse
 import contextlib
 import ctypes
 import fcntl
 import http.client
+import io
 import os
 import pathlib
 import re
@@ -14,6 +17,8 @@ import sqlite3
 import subprocess
 import sys
 import time
+from collections.abc import Callable, Iterator
+from typing import Any
 
 from tracedesk_ops import catalogue, copies, identity, places
 
@@ -33,7 +38,7 @@ LONGEST_OTHER = 3600  # seconds that another roll-over or backup may take
 PLAN = "plan.json"  # of a roll-over
 PATIENCE = 120  # seconds that a start may take beside what the pieces ask for
 LIBC, PR_SET_PDEATHSIG = ctypes.CDLL(None), 1
-TEXT: dict = {
+TEXT: dict[str, Any] = {
     "encoding": sys.getfilesystemencoding(),
     "errors": "surrogateescape",
 }  # of what a program prints: it may name files
@@ -47,7 +52,7 @@ class Fault(Exception):
 FAULTS = (Fault, catalogue.CatalogueError, copies.InUse, OSError, sqlite3.Error, KeyboardInterrupt)
 
 
-def tell(text):
+def tell(text: str) -> None:
     """Says something on standard error. Where nobody reads that any more the work goes on, so that its end is the same."""
     try:
         if sys.stderr:
@@ -56,12 +61,13 @@ def tell(text):
         os.dup2(os.open(os.devnull, os.O_WRONLY), 2)
 
 
-def write_out(text):
+def write_out(text: str) -> None:
     """Prints what was asked for; where that fails, the end of the tool doesn't try it again."""
     if not sys.stdout:
         raise Fault("standard output is closed")
     try:
-        sys.stdout.reconfigure(errors="backslashreplace")  # type: ignore[attr-defined]
+        if isinstance(sys.stdout, io.TextIOWrapper):
+            sys.stdout.reconfigure(errors="backslashreplace")
         sys.stdout.write(text)
         sys.stdout.flush()
     except OSError as fault:
@@ -69,13 +75,13 @@ def write_out(text):
         raise Fault(f"standard output: {fault.strerror}") from fault
 
 
-def reached(step):
+def reached(step: str) -> None:
     """A step of a tool is done: its test kills it there."""
     if os.environ.get(KILL_AFTER) == step:
         os.kill(os.getpid(), signal.SIGKILL)
 
 
-def want_room(folder, size, what):
+def want_room(folder: str | pathlib.Path, size: float, what: str) -> None:
     """Stops where a disk can't hold what is to be made, before anything is stopped for it."""
     free = shutil.disk_usage(folder).free
     if free < size:
@@ -84,7 +90,7 @@ def want_room(folder, size, what):
         )
 
 
-def offer_program(reader):
+def offer_program(reader: argparse.ArgumentParser) -> None:
     reader.add_argument(
         "--program",
         default=os.environ.get("PROGRAM", "tracedesk"),
@@ -93,7 +99,7 @@ def offer_program(reader):
     )
 
 
-def find_program(reader, asked):
+def find_program(reader: argparse.ArgumentParser, asked: argparse.Namespace) -> argparse.Namespace:
     """Makes the program's name a path, in the words that it returns; the tool ends where there is none."""
     asked.program = shutil.which(asked.program)
     if asked.program is None:
@@ -101,7 +107,7 @@ def find_program(reader, asked):
     return asked
 
 
-def chain_of(program):
+def chain_of(program: str) -> str | None:
     """tracedesk-chain, or none: CHAIN in the environment, else the one next to this program, installed or built."""
     at = pathlib.Path(shutil.which(program) or program).resolve().parent
     beside = [f"{at}/tracedesk-chain", f"{at.parent.parent}/tracedesk_chain/out/tracedesk_chain"]
@@ -109,7 +115,7 @@ def chain_of(program):
     return next(filter(None, map(shutil.which, [named] if named else beside)), None)
 
 
-def set_ups():
+def set_ups() -> list[dict[str, str]]:
     """The lines that are set up on this machine: of each the words of its file LINE.conf, and what it doesn't name."""
     try:
         return [its.words() for its in places.lines()]
@@ -117,7 +123,7 @@ def set_ups():
         raise Fault(str(fault)) from fault
 
 
-def set_up(reader, **names):
+def set_up(reader: argparse.ArgumentParser, **names: str) -> None:
     """Takes the words of a tool from the line's set-up file, as far as the command line doesn't say them. `names` are those of words that the tool calls otherwise."""
     if not any(action.dest == "line" for action in reader._actions):
         reader.add_argument(
@@ -153,7 +159,7 @@ def set_up(reader, **names):
     )
 
 
-def offer(reader):
+def offer(reader: argparse.ArgumentParser) -> None:
     """Adds the words of both tools."""
     reader.add_argument(
         "--db", type=pathlib.Path, default=DESK, metavar="FILE", help=f"the desk's file ({DESK})"
@@ -198,13 +204,13 @@ def offer(reader):
     set_up(reader, copies="to")
 
 
-def line_name(text):
+def line_name(text: str) -> str:
     if not re.fullmatch(r"[A-Za-z0-9][A-Za-z0-9._-]{0,63}", text):
         raise argparse.ArgumentTypeError("a line's name has letters, digits, '.', '_' and '-'")
     return text
 
 
-def understood(reader, wants_desk=True):
+def understood(reader: argparse.ArgumentParser, wants_desk: bool = True) -> argparse.Namespace:
     """The words of the command line, with whole paths; it ends where they can't be followed."""
     asked = reader.parse_args()
     asked.archive = (asked.archive or asked.db.absolute().parent / "archive").absolute()
@@ -222,18 +228,18 @@ def understood(reader, wants_desk=True):
     return asked
 
 
-def tell_fault(fault, *kinds):
+def tell_fault(fault: BaseException, *kinds: type[BaseException]) -> None:
     """Tells a fault, and before it the one in whose handling it came."""
     for it in (fault.__context__, fault):
         if isinstance(it, (*FAULTS, *kinds)):
             tell(str(it) or "it was interrupted")
 
 
-def ends_by_exception():
+def ends_by_exception() -> None:
     """Lets SIGTERM and SIGHUP end the tool as a fault does, so that all is put back."""
     numbers = signal.SIGTERM, signal.SIGHUP
 
-    def end(number, _):
+    def end(number: int, _: object) -> None:
         for it in numbers:
             signal.signal(
                 it, lambda *_: None
@@ -245,14 +251,14 @@ def ends_by_exception():
 
 
 @contextlib.contextmanager
-def alone(db):
+def alone(db: pathlib.Path) -> Iterator[None]:
     """Holds the desk's folder, once no other tool has it that changes a desk, its archive or its copies."""
     with folder_lock(db) as take:
         wait_for_lock(take, LONGEST_OTHER, f"another roll-over or backup of {db} is running")
         yield
 
 
-def want_settled(db):
+def want_settled(db: pathlib.Path) -> None:
     """Stops where a roll-over or a restore was cut off: commands may be in two files; or the desk is gone, or it has a second name, and no run opens such a file."""
     if (plan := rolled_in(db) / PLAN).exists():
         raise Fault(
@@ -265,7 +271,7 @@ def want_settled(db):
 
 
 @contextlib.contextmanager
-def folder_lock(db):
+def folder_lock(db: pathlib.Path) -> Iterator[Callable[[], None]]:
     """What takes the one lock of a desk's folder, or raises a BlockingIOError."""
     folder = os.open(db.parent, os.O_RDONLY | os.O_DIRECTORY)
     try:
@@ -274,13 +280,13 @@ def folder_lock(db):
         os.close(folder)
 
 
-def rolled_in(db):
+def rolled_in(db: pathlib.Path) -> pathlib.Path:
     """The folder in which a desk is rolled over."""
     return db.with_name(f"rollover-{db.name}")
 
 
 @contextlib.contextmanager
-def as_owner(db):
+def as_owner(db: pathlib.Path) -> Iterator[None]:
     """Works as the owner of the desk's folder, where the caller is root: so a link in it leads to nothing that is not the owner's."""
     about = db.parent.stat()
     if about.st_uid == 0 and db.exists():  # in a folder of root's
@@ -301,7 +307,7 @@ def as_owner(db):
 
 
 @contextlib.contextmanager
-def as_caller():
+def as_caller() -> Iterator[None]:
     """Within `as_owner`, what is the caller's to do."""
     user, group = os.geteuid(), os.getegid()
     os.seteuid(os.getuid())
@@ -313,7 +319,7 @@ def as_caller():
         os.seteuid(user)
 
 
-def is_open(db):
+def is_open(db: pathlib.Path) -> bool:
     """Whether a run has a file open. This takes no lock: a run that starts at this moment would end for it."""
     try:
         with open(db, "rb") as file:
@@ -326,7 +332,7 @@ class Held:
     """A file that no run can open until it is let go: this tool has the range of bytes that SQLite locks. Nothing else in this
     process may open the file meanwhile: the lock ends with the first closing of it."""
 
-    def __init__(self, db):
+    def __init__(self, db: pathlib.Path) -> None:
         self.file = open(db, "r+b")
         take = lambda: fcntl.lockf(
             self.file, fcntl.LOCK_EX | fcntl.LOCK_NB, copies.LOCKED, copies.LOCKED_FROM
@@ -337,30 +343,30 @@ class Held:
             self.file.close()
             raise
 
-    def sha256(self):
+    def sha256(self) -> str:
         self.file.seek(0)
         return catalogue.sha256_within(self.file)
 
-    def spoil(self):
+    def spoil(self) -> None:
         """Makes the file that has lost its name no database any more: so nothing serves it that had opened it before."""
         if os.fstat(self.file.fileno()).st_nlink == 0:
             os.pwrite(self.file.fileno(), bytes(100), 0)
 
-    def let_go(self):
+    def let_go(self) -> None:
         self.file.close()
 
 
-def wait_until_closed(db, seconds):
+def wait_until_closed(db: pathlib.Path, seconds: float) -> None:
     """Waits until no run has a file open: a service that is still ending, or an audit whose caller was killed."""
 
-    def take():
+    def take() -> None:
         if is_open(db):
             raise BlockingIOError
 
     wait_for_lock(take, seconds, f"a run has {db} open")
 
 
-def wait_for_lock(take, seconds, held):
+def wait_for_lock(take: Callable[[], object], seconds: float, held: str) -> None:
     end, is_told = time.monotonic() + seconds, False
     while True:
         try:
@@ -375,12 +381,12 @@ def wait_for_lock(take, seconds, held):
         time.sleep(0.1)
 
 
-def start_seconds(pieces):
+def start_seconds(pieces: int) -> int:
     """How long a start takes of a desk with so many placed pieces."""
     return round(pieces * SECONDS_A_MILLION / 1_000_000)
 
 
-def without_log(file):
+def without_log(file: pathlib.Path) -> None:
     """Takes the empty log away that a run left beside a file."""
     if log := catalogue.log_of(file):
         raise Fault(f"{log} holds something after a run that ended well")
@@ -393,22 +399,22 @@ class Program:
     also where that is killed: else it would have a file open that the next call of the tool wants.
     """
 
-    def __init__(self, program, db):
+    def __init__(self, program: str, db: pathlib.Path) -> None:
         self.program, owner = program, (db if db.exists() else db.parent).stat()
         self.uid, self.gid = owner.st_uid, owner.st_gid
-        self.how = (
+        self.how: dict[str, Any] = (
             {}
             if os.geteuid() or not self.uid
             else {"user": self.uid, "group": self.gid, "extra_groups": []}
         )
         self.parent = os.getpid()
 
-    def give(self, path):
+    def give(self, path: str | pathlib.Path) -> None:
         """Makes a file or a folder the owner's."""
         if self.how:
             os.chown(path, self.uid, self.gid, follow_symlinks=False)
 
-    def end_with_the_tool(self):
+    def end_with_the_tool(self) -> None:
         """What a run does before it is the program: within `as_owner` it is the owner for good."""
         os.setresgid(*[os.getegid()] * 3)
         os.setresuid(*[os.geteuid()] * 3)
@@ -416,12 +422,12 @@ class Program:
         if os.getppid() != self.parent:
             os._exit(1)
 
-    def run(self, *words, **how):
+    def run(self, *words: object, **how: Any) -> subprocess.CompletedProcess[str]:
         return subprocess.run(
             [self.program, *map(str, words)], preexec_fn=self.end_with_the_tool, **self.how, **how
         )
 
-    def audit(self, file):
+    def audit(self, file: pathlib.Path) -> int:
         """How many commands a lawful desk has; a Fault says what else the audit found."""
         done = self.run(
             "audit", "--db", file, stdin=subprocess.DEVNULL, capture_output=True, **TEXT
@@ -434,7 +440,7 @@ class Program:
             )
         return int(lawful[1])
 
-    def named(self, db, desk, name=""):
+    def named(self, db: pathlib.Path, desk: identity.Identity, name: str = "") -> bool:
         """Gives a desk that no run has open a name, where it has none; whether it got one."""
         if not desk.commands or not (
             lines := identity.naming(desk, name)
@@ -460,7 +466,9 @@ class Service:
     or if that file is there.
     """
 
-    def __init__(self, asked, always=True, cut_off=False):
+    def __init__(
+        self, asked: argparse.Namespace, always: bool = True, cut_off: bool = False
+    ) -> None:
         self.commands = {"stop": asked.stop, "start": asked.start}
         self.db, self.port, self.drained, self.drain_seconds = (
             asked.db,
@@ -471,9 +479,9 @@ class Service:
         self.proxy_port = asked.proxy_port
         self.cut_off = cut_off or asked.drained.exists()
         self.starts = always or self.cut_off or is_open(asked.db)
-        self.stopped = None  # since when
+        self.stopped: float | None = None  # since when
 
-    def drain(self, gives_up=False):
+    def drain(self, gives_up: bool = False) -> None:
         """Sends new senders away, and waits until those that are in have their answers. Where somebody stays it goes on, or gives up."""
         opened, taken = self.db.exists() and is_open(self.db), self.is_taken()
         if self.db.exists() and not opened and taken:
@@ -514,13 +522,13 @@ class Service:
                 return
             time.sleep(0.05)
 
-    def requests(self):
+    def requests(self) -> int:
         """How many requests the proxy has that it may still hand to the desk: it tells those that it has, and this one."""
         told = get(self.proxy_port, "/requests") or ""
         found = re.search(r"Writing: (\d+)", told)
         return int(found[1]) - 1 if found else 0
 
-    def stop(self):
+    def stop(self) -> None:
         self.stopped = time.monotonic()
         self.call("stop")
         if self.db.exists():  # after a loss of the disk, or of the file, it is not
@@ -533,7 +541,7 @@ class Service:
                 f"the service is stopped, and something answers on port {self.port}: say by --port where this desk answers"
             )
 
-    def start(self, pieces=0):
+    def start(self, pieces: int = 0) -> float:
         """Starts the service where it doesn't run, lets senders in once it answers, and returns how many seconds it was not there."""
         try:
             if not self.starts:
@@ -547,17 +555,17 @@ class Service:
             self.let_in()
         return time.monotonic() - self.stopped if self.stopped else 0.0
 
-    def let_in(self):
+    def let_in(self) -> None:
         with as_caller():
             self.drained.unlink(missing_ok=True)
 
-    def call(self, word):
+    def call(self, word: str) -> None:
         with as_caller():
             done = subprocess.run(self.commands[word], shell=True, stdin=subprocess.DEVNULL)
         if done.returncode:
             raise Fault(f"{self.commands[word]!r} ended with status {done.returncode}")
 
-    def wait(self, seconds):
+    def wait(self, seconds: float) -> None:
         """Waits until a run has the desk's file open and the port answers: one without the other is not this desk."""
         end = time.monotonic() + seconds
         while not (is_open(self.db) and self.answers()):
@@ -572,16 +580,16 @@ class Service:
                 )
             time.sleep(0.1)
 
-    def is_taken(self):
+    def is_taken(self) -> bool:
         """Whether something listens on the port."""
         with socket.socket() as it:
             return it.connect_ex(("127.0.0.1", self.port)) == 0
 
-    def answers(self):
+    def answers(self) -> bool:
         return get(self.port, "/reel?reel=-") is not None
 
 
-def get(port, target):
+def get(port: int, target: str) -> str | None:
     """What is answered on a port of this machine, or none."""
     link = http.client.HTTPConnection("127.0.0.1", port, timeout=20)
     try:
@@ -593,7 +601,7 @@ def get(port, target):
         link.close()
 
 
-def connections(port):
+def connections(port: int) -> tuple[int, set[frozenset[str]]]:
     """How many connections there are to a port of this machine, the waiting ones too; and all that were there in the last minute."""
     lines = pathlib.Path("/proc/net/tcp").read_text(encoding="ascii").splitlines()[1:]
     ends = f":{port:04X}"

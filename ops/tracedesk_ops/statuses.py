@@ -1,14 +1,18 @@
-"""How a tool of the plant ends: an unexpected failure has a status of its own, never one that answers a question."""
+"""How a tool ends: an unexpected failure has a status of its own, never one that answers a question."""
+from __future__ import annotations
+
 import contextlib
 import sys
 import traceback
+from collections.abc import Callable
+from typing import NoReturn
 
 from tracedesk_ops import plant
 
 INTERRUPTED, UNEXPECTED = 130, 9  # one digit: manual pages list such statuses
 
 
-def end(main):
+def end(main: Callable[[], int | None]) -> NoReturn:
     """Ends the tool with the status that `main` returns."""
     try:
         sys.exit(main())

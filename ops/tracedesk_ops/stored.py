@@ -1,17 +1,25 @@
-"""Messages to a desk, and the accepted commands of one as messages again: for ops/tracedesk-check, which gives them to a new desk.
+"""Messages to a desk, and the accepted commands of one as messages again.
 
 The table `accepted` keeps each command as one text: its word and its members, with a tab between each two
-(crates/desk_types/specs/StoredText.antt). A list is its length and then its elements.
+(crates/desk_types/specs/StoredText.antt). A list is its length and then its elements. Which members a message has, and
+in which order, the message classes of the package tracedesk say.
 
-    stored.message("u1", "S", 0, "PartDefined\tP")
+    stored.message("u1", "S", 0, "PartDefined\\tP")
     '{"MessageName":"TraceDesk.PartDefined","UniqueID":"u1","Source":"S","TimeStamp":"1970-01-01T00:00:00","MessageBody":{"PartNumber":"P"}}'
 """
+from __future__ import annotations
+
 import json
 import re
+from typing import Any
+
+from tracedesk import forms, words
 
 from tracedesk_ops import catalogue
 
+Body = dict[str, Any]  # of a message
 NUMBER = re.compile(r"0|[1-9][0-9]{0,17}")
+BODIES = {kind.WORD: kind for kind in words.MESSAGES}
 
 
 class NotACommand(Exception):
@@ -21,95 +29,60 @@ class NotACommand(Exception):
 class Fields:
     """The fields of a stored text behind its word, taken one by one."""
 
-    def __init__(self, fields):
+    def __init__(self, fields: list[str]) -> None:
         self.fields = iter(fields)
 
-    def name(self):
+    def text(self) -> str:
         try:
             return next(self.fields)
         except StopIteration:
             raise NotACommand("it ends too early") from None
 
-    def number(self):
-        field = self.name()
+    def number(self) -> int:
+        field = self.text()
         if not NUMBER.fullmatch(field):
             raise NotACommand(f"{field!r} stands where a number has to")
         return int(field)
 
-    def list(self, element):
-        return [element() for _ in range(self.number())]
+    def value(self, form: forms.Form) -> Any:
+        """A member of this form."""
+        if isinstance(form, forms.ListOf):
+            return [self.value(form.form) for _ in range(self.number())]
+        if isinstance(form, forms.Row):
+            return self.members(form.kind)
+        if isinstance(form, forms.Where):
+            return self.value(form.form)
+        return self.number() if isinstance(form, forms.Whole) else self.text()
 
-    def end(self):
+    def members(self, kind: type[forms.Part]) -> Body:
+        """The members of a body or of a row in it."""
+        said, by_attribute = {}, {}
+        for name, attribute, form in kind.MEMBERS:
+            by_attribute[attribute] = value = self.value(form)
+            if not isinstance(form, forms.Where) or by_attribute[form.other] == form.value:
+                said[name] = value
+        return said
+
+    def end(self) -> None:
         for field in self.fields:
             raise NotACommand(f"{field!r} stands behind its end")
 
 
-def named(*members):
-    return lambda it: {member: it.name() for member in members}
-
-
-def sheet(it):
-    row = lambda: {"Slot": it.name(), "PartNumber": it.name(), "Designators": it.list(it.name)}
-    return {"Product": it.name(), "Machine": it.name(), "Rows": it.list(row)}
-
-
-def receipt(it):
-    body = {
-        "Reel": it.name(),
-        "PartNumber": it.name(),
-        "Lot": it.name(),
-        "Level": it.name(),
-        "Quantity": it.number(),
-    }
-    label = it.number()
-    return body | ({"LabelMinutes": label} if body["Level"] == "6" else {})
-
-
-BODIES = {  # what stands behind each word
-    "PartDefined": named("PartNumber"),
-    "AlternateAllowed": named("PartNumber", "Alternate"),
-    "SheetDefined": sheet,
-    "ProductSelected": named("Machine", "Product"),
-    "ReelReceived": receipt,
-    "ReelOpened": named("Reel"),
-    "ReelSealed": named("Reel"),
-    "ReelBaked": named("Reel"),
-    "MaterialsLoaded": named("Machine", "Slot", "Reel"),
-    "MaterialsSpliced": named("Machine", "Slot", "Reel"),
-    "MaterialsUnloaded": named("Machine", "Slot"),
-    "WorkStarted": named("Machine", "Board"),
-    "WorkCompleted": named("Machine", "Board"),
-    "MaterialsInstalled": lambda it: {
-        "Machine": it.name(),
-        "Board": it.name(),
-        "Designators": it.list(it.name),
-    },
-    "MaterialsScrapped": lambda it: {
-        "Machine": it.name(),
-        "Slot": it.name(),
-        "Quantity": it.number(),
-    },
-    "CountsTaken": lambda it: {
-        "Counts": it.list(lambda: {"Reel": it.name(), "Quantity": it.number()})
-    },
-    "ClockSet": named(),
-}
-
-
-def body(text):
+def body(text: str) -> tuple[str, Body]:
     """The word of a stored text and the body of its message."""
     word, *fields = text.split("\t")
     if word not in BODIES:
         raise NotACommand(f"{word!r} is none of the {len(BODIES)} words")
-    it = Fields(fields)
-    said = BODIES[word](it)
-    it.end()
+    rest = Fields(fields)
+    said = rest.members(BODIES[word])
+    rest.end()
     return word, said
 
 
-def message(uid, source, own, text):
+def message(uid: Any, source: Any, own: Any, text: Any) -> str:
     """The line that says a command again, under its UniqueID, its source and its own minute."""
-    if not all(isinstance(it, str) for it in (uid, source, text)) or not isinstance(own, int):
+    texts = isinstance(uid, str) and isinstance(source, str) and isinstance(text, str)
+    if not texts or not isinstance(own, int):
         raise NotACommand("it has a value that is no text or no number")
     word, said = body(text)
     try:
@@ -118,7 +91,7 @@ def message(uid, source, own, text):
         raise NotACommand(f"its minute {own} is in no year to 9999") from None
 
 
-def line(uid, source, minute, word, said):
+def line(uid: str, source: str, minute: int, word: str, said: Body) -> str:
     """A message as a line. Its time has no offset, which is UTC to a desk: so the last day of the year 9999 is read too."""
     envelope = {
         "MessageName": "TraceDesk." + word,

@@ -1,4 +1,7 @@
 """What a roll-over or a restore leaves that was cut off, and how it is finished or put back: for ops/tracedesk-settle, ops/tracedesk-rollover and ops/tracedesk-backup."""
+from __future__ import annotations
+
+import argparse
 import contextlib
 import errno
 import hashlib
@@ -7,6 +10,7 @@ import os
 import pathlib
 import shutil
 import time
+from typing import Any
 
 from tracedesk_ops import backups, catalogue, files, identity, plant
 
@@ -20,7 +24,7 @@ class Rolling:
     renamed to the desk's file once the archive has its line: so where the plan is without it, the new desk is in place.
     """
 
-    def __init__(self, asked):
+    def __init__(self, asked: argparse.Namespace) -> None:
         self.asked, self.db, self.archives = asked, asked.db, asked.archive
         self.catalogue = asked.archive / catalogue.FILE_NAME
         self.room = plant.rolled_in(asked.db)
@@ -28,9 +32,10 @@ class Rolling:
             self.room / name for name in ("archive", "desk", plant.PLAN)
         )
         self.program = plant.Program(asked.program, asked.db)
-        self.may_put_back, self.held, self.sealed = False, None, ""
+        self.may_put_back, self.sealed = False, ""
+        self.held: plant.Held | None = None
 
-    def is_left_to_start(self):
+    def is_left_to_start(self) -> bool:
         """Whether the new desk is in place, and may not be started yet."""
         if not self.plan.exists() or self.new.exists():
             return False
@@ -39,12 +44,12 @@ class Rolling:
             not desk or not archive or identity.follows(desk.mark, archive)
         )  # else the new desk was lost in its folder
 
-    def tidy(self):
+    def tidy(self) -> None:
         """Takes the folder away where the new desk is in place and runs, so that nothing else is left to do."""
         if self.is_left_to_start() and plant.is_open(self.db):
             self.clear()
 
-    def goes_on(self, may_be_damaged=False):
+    def goes_on(self, may_be_damaged: bool = False) -> bool:
         """Finishes what a run left that was cut off before that, or puts everything back; whether a roll-over is done by that."""
         if not self.plan.exists():
             self.clear()
@@ -91,7 +96,7 @@ class Rolling:
         self.put_back()
         return False
 
-    def is_whole(self, archive):
+    def is_whole(self, archive: catalogue.Archive) -> bool:
         """Whether the archive, the new desk and the plan are still as they were written."""
         with contextlib.suppress(OSError, plant.Fault):
             if catalogue.sha256_of(self.copy) == archive.sha256 and (
@@ -103,23 +108,23 @@ class Rolling:
         )
         return False
 
-    def seal(self, archive):
+    def seal(self, archive: catalogue.Archive) -> str:
         """The checksum of a plan and of the new desk."""
         return hashlib.sha256(
             f"{json.dumps(archive)}{catalogue.sha256_of(self.new)}".encode()
         ).hexdigest()
 
-    def hold(self):
+    def hold(self) -> str:
         """Keeps each run from the desk's file from now on; the checksum that it has then."""
-        self.held = plant.Held(self.db)
-        return self.held.sha256()
+        self.held = held = plant.Held(self.db)
+        return held.sha256()
 
-    def let_go(self):
+    def let_go(self) -> None:
         if self.held:
             self.held.let_go()
         self.held = None
 
-    def read_plan(self):
+    def read_plan(self) -> catalogue.Archive | None:
         """The archive that is to be; if the plan is damaged, by the catalogue's line of the copy, and none if it has no line yet."""
         with contextlib.suppress(ValueError, TypeError):
             told = dict(json.loads(self.plan.read_text(encoding="utf-8")))
@@ -130,11 +135,11 @@ class Rolling:
             None,
         )
 
-    def is_filed(self, file):
+    def is_filed(self, file: pathlib.Path) -> bool:
         """Whether a file of the archive's folder is the copy."""
         return file.exists() and self.copy.exists() and file.samefile(self.copy)
 
-    def put_back(self):
+    def put_back(self) -> None:
         """Leaves the old desk, the archive and the catalogue as they were before."""
         if self.plan.exists():
             archive = self.read_plan()
@@ -147,13 +152,12 @@ class Rolling:
                     and (it.file, it.sha256) == (archive.file, archive.sha256)
                 ):
                     catalogue.take_out(self.catalogue, it)
-            for it in filter(
-                self.is_filed, list(self.archives.iterdir()) if self.archives.exists() else []
-            ):
-                it.unlink()
+            filed = list(self.archives.iterdir()) if self.archives.exists() else []
+            for file in filter(self.is_filed, filed):
+                file.unlink()
         self.clear()
 
-    def clear(self):
+    def clear(self) -> None:
         """Takes the work's folder away, the plan first: without it there is nothing to go on with."""
         self.plan.unlink(missing_ok=True)
         end = time.monotonic() + plant.PATIENCE
@@ -168,7 +172,7 @@ class Rolling:
                     raise
                 time.sleep(0.05)
 
-    def salvage(self, archive, fault):
+    def salvage(self, archive: catalogue.Archive, fault: Exception) -> None:
         """Finishes it without the desk's file, which is gone or damaged, by the copy of it that was to be the archive. What the file had more is not known, and an entry says so."""
         if not self.is_whole(archive):
             raise plant.Fault(
@@ -197,9 +201,12 @@ class Rolling:
         )
         self.put_in_place()
 
-    def put_in_place(self):
+    def put_in_place(self) -> None:
         """The archive, its line, and the new desk, in this order: every command is always in one of them."""
-        archive, filed = self.read_plan(), self.archives / self.read_plan().file
+        archive = self.read_plan()
+        if not archive:
+            raise plant.Fault(f"{self.plan} is damaged")
+        filed = self.archives / archive.file
         if not self.archives.exists():
             self.archives.mkdir(mode=0o700)
         if not self.is_filed(filed):
@@ -222,16 +229,18 @@ class Rolling:
 class Restoring:
     """A restore's work beside the desk's file: the copy that is to take its place, and a folder of `aside` for what gives way."""
 
-    def __init__(self, asked):
+    def __init__(self, asked: argparse.Namespace) -> None:
         self.asked = asked
         self.desk = asked.db.with_name(f".{asked.db.name}{RESTORED}")
         self.archive = asked.archive.with_name(
             f".{asked.archive.name}-{asked.db.name}{RESTORED}"
         )  # other desks may have the same archive
         self.within = asked.db.parent / catalogue.ASIDE
-        self.untold = []  # folders of `aside` of runs that were killed when the copy was in place
+        self.untold: list[
+            pathlib.Path
+        ] = []  # folders of `aside` of runs that were killed when the copy was in place
 
-    def files(self):
+    def files(self) -> list[pathlib.Path]:
         """The desk's file and its log, as far as they are there."""
         return [
             it
@@ -242,7 +251,7 @@ class Restoring:
             if it.exists()
         ]
 
-    def clear(self):
+    def clear(self) -> None:
         """Takes away what a run that was killed left of its copy."""
         for it in list(self.desk.parent.iterdir()):
             if it.name.startswith(self.desk.name):
@@ -250,7 +259,7 @@ class Restoring:
         if self.archive.exists():
             shutil.rmtree(self.archive)
 
-    def settle(self):
+    def settle(self) -> None:
         """Puts everything back that a run had moved which was killed or failed, so that the next one names what the copy lacks."""
         for aside in sorted(self.within.iterdir(), reverse=True) if self.within.is_dir() else ():
             both = [
@@ -274,7 +283,7 @@ class Restoring:
                 self.asked.db.unlink(missing_ok=True)
                 self.put_back(aside)
 
-    def put_all_back(self):
+    def put_all_back(self) -> None:
         """The same for a tool that restores nothing; a Fault where the desk is gone all the same."""
         self.settle()
         self.clear()
@@ -287,7 +296,7 @@ class Restoring:
                 f"{self.asked.db} is gone: restore a copy, by tracedesk-backup --restore"
             )
 
-    def put_back(self, aside):
+    def put_back(self, aside: pathlib.Path) -> None:
         """Everything that lies aside has its place again: the desk at last, since with it a service could start."""
         if (aside / backups.ARCHIVE).exists():
             if self.asked.archive.exists():
@@ -300,7 +309,7 @@ class Restoring:
                 os.rename(it, f"{self.asked.db}{tail}")
         self.empty(aside, [])
 
-    def empty(self, aside, files):
+    def empty(self, aside: pathlib.Path, files: Any) -> None:
         """Takes the second names of files that are in their place away, and a folder that has nothing else."""
         for it in (*files, pathlib.Path(catalogue.LACKS)):
             (aside / it.name).unlink(missing_ok=True)
@@ -308,7 +317,7 @@ class Restoring:
             aside.rmdir()
 
 
-def said_of(aside):
+def said_of(aside: pathlib.Path) -> dict[str, Any]:
     """What a restore has written down of what it put aside; nothing where that can't be read."""
     with contextlib.suppress(OSError, ValueError):
         if isinstance(
@@ -318,13 +327,15 @@ def said_of(aside):
     return {}
 
 
-def is_untold(aside, db):
+def is_untold(aside: pathlib.Path, db: pathlib.Path) -> bool:
     """Whether a run of this desk was killed before it knew what the copy lacks that lies there."""
     told = said_of(aside)
     return told.get("archives", "") is None and told.get("desk", str(db)) == str(db)
 
 
-def settled(asked, service, may_be_damaged=False):
+def settled(
+    asked: argparse.Namespace, service: plant.Service, may_be_damaged: bool = False
+) -> bool:
     """Finishes or puts back what a roll-over or a restore left that was cut off, where the service is stopped. Whether a roll-over is done by that."""
     Restoring(asked).put_all_back()
     rolling, is_done = Rolling(asked), False

@@ -10,6 +10,8 @@ Senders put records into the line's inbox (places.py). `collect` appends each of
 readers. `chain` is the SHA-256 of the row's record and of the chain of the row before it. A row is never changed. How many rows there
 are, and the last chain, are also in the inbox (`collected.json`): so a file that was cut, replaced by an older one, or is gone is noticed.
 """
+from __future__ import annotations
+
 import contextlib
 import csv
 import datetime
@@ -19,7 +21,8 @@ import json
 import os
 import pathlib
 import re
-from typing import NamedTuple
+from collections.abc import Callable, Iterable, Iterator
+from typing import Any, BinaryIO, NamedTuple
 
 from tracedesk_ops import files, places, plant
 
@@ -60,18 +63,18 @@ class Record(NamedTuple):
     """A record by its id; `told` is what it says, and `text` its bytes without the line feed."""
 
     id: str
-    told: dict
+    told: dict[str, Any]
     text: str
 
 
 class Book(NamedTuple):
     """What a line's file and inbox say: records in the order in which they came, and what is wrong."""
 
-    records: list
-    faults: list
+    records: list[Record]
+    faults: list[str]
 
 
-def record_of(text):
+def record_of(text: bytes) -> Record:
     """The record of these bytes; a ValueError says why they are none."""
     told = json.loads(text)
     is_refused = (
@@ -92,23 +95,23 @@ def record_of(text):
     return Record(hashlib.sha256(text).hexdigest()[:32], told, text[:-1].decode("ascii"))
 
 
-def has_texts(told, kind, *names):
+def has_texts(told: Any, kind: str, *names: str) -> bool:
     """Whether it is a record of this kind, with a text of each name."""
     is_kind = isinstance(told, dict) and told.get("Kind") == kind
     return is_kind and all(isinstance(told.get(it), str) for it in names)
 
 
-def inbox_of(archive):
+def inbox_of(archive: pathlib.Path) -> pathlib.Path:
     """The inbox of the line whose archives, and catalogue, are in that folder."""
     return places.of_archive(pathlib.Path(archive)).inbox
 
 
-def said(record):
+def said(record: Record) -> list[str]:
     """What a record says to a reader: the columns of its row up to `reason`, of which half a letter is spelled."""
     return [it.encode("utf-8", "backslashreplace").decode() for it in columns(record)]
 
 
-def columns(record):
+def columns(record: Record) -> list[str]:
     told = record.told
     if told["Kind"] == "differs":
         what = f"{' '.join(map(str, told['Designators']))} by the desk of reel {told['DeskReel']}"
@@ -131,7 +134,8 @@ def columns(record):
             told["Reason"],
         ]
     message, answer, body = told["Message"], told["Answer"], body_of(record)
-    names = body.get("Designators") if isinstance(body.get("Designators"), list) else []
+    designators = body.get("Designators")
+    names = designators if isinstance(designators, list) else []
     of_slot = f"slot {body.get('Slot')}, " + (
         f"{body.get('Quantity')} pieces" if is_work(record) else f"reel {body.get('Reel', 'none')}"
     )
@@ -153,30 +157,30 @@ def columns(record):
     ]
 
 
-def body_of(record):
+def body_of(record: Record) -> dict[str, Any]:
     body = record.told.get("Message", {}).get("MessageBody")
     return body if isinstance(body, dict) else {}
 
 
-def word_of(record):
+def word_of(record: Record) -> str:
     if record.told["Kind"] == "differs":
         return "MaterialsInstalled"
     return str(record.told["Message"].get("MessageName", "")).removeprefix("TraceDesk.")
 
 
-def is_work(record):
+def is_work(record: Record) -> bool:
     """Whether a record of a refusal is about work, and not about a load, splice or unload."""
     return word_of(record) not in HANDLING
 
 
-def chained(before, record):
+def chained(before: str, record: Record) -> str:
     return hashlib.sha256(f"{before}\n{record.text}\n".encode()).hexdigest()
 
 
 # --- Reading
 
 
-def read(archive):
+def read(archive: pathlib.Path) -> Book:
     """The records of a line, those of its inbox last, and what is wrong with its files. Nothing is written."""
     rows, faults = rows_of(archive)
     inbox, known = inbox_of(archive), {it.id for it in rows}
@@ -189,7 +193,7 @@ def read(archive):
     return Book(rows + [it for it in waiting if it.id not in known], faults + wrong)
 
 
-def rows_of(archive):
+def rows_of(archive: pathlib.Path) -> tuple[list[Record], list[str]]:
     """The records of the line's file, and what is wrong with it."""
     path, inbox = pathlib.Path(archive) / FILE_NAME, inbox_of(archive)
     try:
@@ -220,7 +224,7 @@ def rows_of(archive):
     return records, []
 
 
-def collected_in(inbox):
+def collected_in(inbox: pathlib.Path) -> tuple[int, str]:
     """How many rows were collected from the inbox, and the chain of the last one."""
     try:
         told = json.loads((inbox / COLLECTED).read_text(encoding="ascii"))
@@ -231,10 +235,10 @@ def collected_in(inbox):
         raise ValueError(f"it is damaged: {fault!r}") from fault
 
 
-def parsed(path, text):
+def parsed(path: pathlib.Path, text: bytes) -> tuple[list[Record], list[str], str]:
     """The records of a file's whole lines and their chains, and what is wrong; a last line without its end was cut off, and is none yet."""
-    records: list = []
-    chains: list = []
+    records: list[Record] = []
+    chains: list[str] = []
     before = BEGIN
     lines = text[: text.rfind(b"\n") + 1].decode("utf-8", "replace")
     rows = csv.reader(io.StringIO(lines, newline=""), strict=True)
@@ -266,7 +270,7 @@ def parsed(path, text):
     return records, chains, ""
 
 
-def waiting_in(inbox):
+def waiting_in(inbox: pathlib.Path) -> tuple[list[Record], list[str]]:
     """The records in an inbox, and in the folder of decisions beside it, and what is wrong there. A decision in the inbox is none: who
     may send may put it there."""
     records, faults = [], []
@@ -286,7 +290,7 @@ def waiting_in(inbox):
     return records, faults
 
 
-def files_in(inbox):
+def files_in(inbox: pathlib.Path) -> Iterator[pathlib.Path]:
     """The files of records that wait, and of decisions."""
     for folder in (inbox, inbox.parent / DECIDED):
         for file in sorted(folder.iterdir()) if folder.is_dir() else ():
@@ -294,21 +298,21 @@ def files_in(inbox):
                 yield file
 
 
-def decisions(records):
+def decisions(records: Iterable[Record]) -> dict[str, Record]:
     """The newest decision about each record that was decided, by its id."""
     return {it.told["Of"]: it for it in records if it.told["Kind"] == "decided"}
 
 
-def refused(records):
+def refused(records: Iterable[Record]) -> list[Record]:
     return [it for it in records if it.told["Kind"] == "refused"]
 
 
-def differing(records):
+def differing(records: Iterable[Record]) -> list[Record]:
     """The boards of which a machine names other reels than the desk."""
     return [it for it in records if it.told["Kind"] == "differs"]
 
 
-def undecided(records):
+def undecided(records: list[Record]) -> list[Record]:
     """The reports of work, and the boards whose reels differ, about which nobody decided."""
     decided, its = decisions(records), [*refused(records), *differing(records)]
     return [it for it in its if is_work(it) and it.id not in decided]
@@ -317,7 +321,7 @@ def undecided(records):
 # --- Writing
 
 
-def collect(archive):
+def collect(archive: pathlib.Path) -> tuple[list[Record], int, list[str]]:
     """Appends what is in the inbox to the line's file. Returns its records, how many are new, and what is wrong in the inbox; a Fault where the file is damaged."""
     archive = pathlib.Path(archive)
     with files.held(archive):
@@ -341,13 +345,13 @@ def collect(archive):
     return records, len(new), wrong
 
 
-def place_of(inbox, record):
+def place_of(inbox: pathlib.Path, record: Record) -> pathlib.Path:
     """Where a record waits."""
     folder = inbox.parent / DECIDED if record.told["Kind"] == "decided" else inbox
     return folder / f"{record.id}.json"
 
 
-def limit(inbox):
+def limit(inbox: pathlib.Path) -> None:
     """Has nginx take no more where too much waits, and no record can be made of it."""
     with contextlib.suppress(FileNotFoundError):
         waiting = sum(it.stat().st_size for it in files_in(inbox))
@@ -357,7 +361,7 @@ def limit(inbox):
             (inbox / FULL).unlink(missing_ok=True)
 
 
-def append(path, records, new):
+def append(path: pathlib.Path, records: list[Record], new: list[Record]) -> None:
     """Writes the rows of new records behind those that are there, and waits until they are on disk. What a killed call left of a row goes."""
     before = BEGIN
     for it in records:
@@ -381,18 +385,18 @@ def append(path, records, new):
     files.keep(path.parent)
 
 
-def note(inbox, records):
+def note(inbox: pathlib.Path, records: list[Record]) -> None:
     chain = BEGIN
     for it in records:
         chain = chained(chain, it)
     files.put(inbox / COLLECTED, json.dumps({"Rows": len(records), "Chain": chain}) + "\n", 0o644)
 
 
-def now():
+def now() -> str:
     return f"{datetime.datetime.now(datetime.timezone.utc):%Y-%m-%dT%H:%M:%SZ}"
 
 
-def decide(archive, of, by, became, reason):
+def decide(archive: pathlib.Path, of: str, by: str, became: str, reason: str) -> Record:
     """Puts a decision into the inbox and collects it. Returns its record; a Fault where there is no such report of work."""
     records, _, _ = collect(archive)
     if of not in {it.id for it in [*refused(records), *differing(records)]}:
@@ -414,7 +418,7 @@ def decide(archive, of, by, became, reason):
     return record
 
 
-def write_status(folder, records):
+def write_status(folder: pathlib.Path, records: list[Record]) -> None:
     """Writes what the station's screens read: what is undecided, and the ids of what was decided last."""
     names = ("Id", "At", "Machine", "Board", "MessageName", "Refusal", "Place")
     open_ones = [
@@ -431,7 +435,11 @@ def write_status(folder, records):
     files.put(pathlib.Path(folder) / STATUS, json.dumps(told) + "\n", 0o644)
 
 
-def copy(archive, to, opened):
+def copy(
+    archive: pathlib.Path,
+    to: pathlib.Path,
+    opened: Callable[[pathlib.Path], contextlib.AbstractContextManager[BinaryIO]],
+) -> list[str]:
     """Copies the inbox and the file into a copy of the line, the archives of which are in its folder of that name; what is wrong with them.
 
     The inbox goes first: a record that leaves it meanwhile is in the file by then."""
@@ -456,7 +464,7 @@ def copy(archive, to, opened):
     return read(archive).faults
 
 
-def records_of(folder, name="archive"):
+def records_of(folder: pathlib.Path, name: str = "archive") -> list[Record]:
     """The records of a copy of the line, or of what a restore put aside, as far as they can be read."""
     path = folder / name / FILE_NAME
     return [
@@ -465,7 +473,7 @@ def records_of(folder, name="archive"):
     ]
 
 
-def take_back(archive, records):
+def take_back(archive: pathlib.Path, records: Iterable[Record]) -> None:
     """Puts those of these records into the inbox that the line doesn't have: so a restore loses none."""
     inbox, known = inbox_of(archive), {it.id for it in read(archive).records}
     for it in records:

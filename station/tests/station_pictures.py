@@ -73,16 +73,12 @@ def screens(it: Operator, into: pathlib.Path) -> None:
 
 
 def in_languages(it: Operator, into: pathlib.Path) -> None:
-    """A refusal and the screen Line in each language but English."""
+    """The screen Line in each language but English."""
     view(it, *SIZES["machines"])
     for language in LANGUAGES:
         it.load(f"&lang={language}")
         it.ready()
         taken(it, into, f"line-{language}")
-        it.does("S/M2/3", "K-13", kind="refused")
-        wait_for("the free reels", lambda: "K-12" in it.text("verdict"))
-        taken(it, into, f"refused-{language}")
-        it.seen()
 
 
 def logged_out(it: Operator, into: pathlib.Path) -> None:

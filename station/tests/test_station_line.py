@@ -19,7 +19,7 @@ from station_line import (
 )
 from station_looks import SIZES
 from station_operator import Operator
-from station_plant import MACHINES, SECONDS, SLOTS, all_states, long_line
+from station_plant import machines_say, MACHINES, SECONDS, SLOTS, all_states, long_line
 from station_site import SETUP, Site, wait_for
 from tracedesk_dev.trial import Difference
 
@@ -112,6 +112,10 @@ def on_the_screen(it: Operator, what: str, size: tuple[int, int], least: Any = 0
     return len(found)
 
 
+MACHINE_LINES = "return [...document.querySelectorAll('#machines li')].map((it) => parseFloat(getComputedStyle(it).fontSize))"
+IS_WHOLE = "const main = document.getElementById('main'); return main.scrollHeight <= main.clientHeight + 1;"
+
+
 def test_a_real_line_is_on_one_screen(site: Site) -> None:
     """The 40 and 38 slots of a shift: at 1080 lines all are on the screen, those that need a person in letters for two metres; on a tablet these come first."""
     told = real_line(site)
@@ -128,6 +132,16 @@ def test_a_real_line_is_on_one_screen(site: Site) -> None:
         ]
         if not few or shown != [3 * few, 78 * 9]:
             raise Difference(f"{few} need a person; on the screen are {shown}")
+        stop = {"State": "stop", "Cause": "expired", "Slot": "3", "Reel": "L1-R0031"}
+        said: dict[str, Any] = {first: stop, second: {"State": "go", "Board": "SN-2041"}}
+        machines_say(site, **said)
+        wait_for("both machines", lambda: len(it.script(MACHINE_LINES)) == 2)
+        wait_for("all slots above them", lambda: it.script(IS_WHOLE))
+        if min(it.script(MACHINE_LINES)) < TWO_METRES:
+            raise Difference(f"letters of the machines: {it.script(MACHINE_LINES)}")
+        (site.room / "line/status/m1.json").unlink()
+        it.load()
+        it.ready()
         it.scan(f"S/{first}/17")
         wait_for("the slot is held", lambda: f"{first} slot 17" in it.text("held"))
         on_the_screen(it, "#held b", SCREEN, TWO_METRES)

@@ -434,7 +434,8 @@ READERS: Dict[Any, Callable[[str], Any]] = {
 
 def rows_of(kind: Any, body: bytes) -> List[Any]:
     """The rows of a report as tuples with names. Another header than the report's is told, since columns are read by their place."""
-    lines = csv.reader(io.StringIO(body.decode(), newline=""), strict=True)
+    text = body.decode()
+    lines = csv.reader(io.StringIO(text, newline=""), strict=True)
     header: List[str] = next(lines, [])
     if header != list(kind._fields):
         raise NotTaken(
@@ -448,7 +449,10 @@ def rows_of(kind: Any, body: bytes) -> List[Any]:
         ]
         for name in kind._fields
     ]
-    return [kind(*(read(it) for read, it in zip(readers, line))) for line in lines]
+    rows = list(lines)
+    if not text.endswith("\n") or any(len(row) != len(header) for row in rows):
+        raise NotTaken(f"a report came that is cut off: its end is {text[-100:]!r}. Ask again")
+    return [kind(*(read(value) for read, value in zip(readers, row))) for row in rows]
 
 
 def trust_of(

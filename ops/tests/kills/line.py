@@ -239,7 +239,7 @@ class KilledLine(Line):
 
     def pieces_of_files(self) -> set[tuple[str, str]]:
         """The pieces of each desk's file that lies in the plant but for the running one's."""
-        found = set()
+        found: set[tuple[str, str]] = set()
         for path in self.folder.rglob("*"):
             if path.parent != self.folder and catalogue.is_database(path):
                 with contextlib.suppress(sqlite3.Error, copies.InUse):

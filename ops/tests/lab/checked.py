@@ -10,6 +10,10 @@ from lab.here import call_here
 from lab.tools import Ended, Word, run, tool
 
 MESSAGES = ROOT / "cases/tables_that_were_altered/messages.jsonl"  # each table has a row
+# Things next to the tables that no tool minds.
+LET_BE = """CREATE TABLE note (reel TEXT REFERENCES reel, words TEXT DEFAULT '');
+    INSERT INTO note VALUES ('K1', 'seen'); CREATE VIEW boards AS SELECT board FROM board;
+    CREATE INDEX by_lot ON reel (lot); ALTER TABLE board ADD COLUMN more TEXT;"""
 WHAT_TO_DO = "\nwhat to do ("
 
 

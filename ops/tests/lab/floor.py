@@ -42,6 +42,17 @@ def texts(messages: Iterable[Message]) -> list[bytes]:
     return [json.dumps(message).encode() for message in messages]
 
 
+def say(word: str, uid: str, minute: int, **body: Any) -> Message:
+    """A message of its own, next to those of a floor."""
+    return {
+        "MessageName": f"TraceDesk.{word}",
+        "UniqueID": uid,
+        "Source": "T",
+        "TimeStamp": spelled(minute),
+        "MessageBody": body,
+    }
+
+
 class Floor:
     """A floor goes on with each message. `reels` are those that a message may name."""
 

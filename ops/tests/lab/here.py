@@ -31,7 +31,8 @@ def status_of(end: SystemExit) -> int:
 def call_here(name: str, *words: Word) -> Ended:
     """Calls a tool, and puts back what it changes of the process."""
     module = module_of(name)
-    out, err = (io.TextIOWrapper(io.BytesIO(), "utf-8", write_through=True) for _ in range(2))
+    said = [io.BytesIO(), io.BytesIO()]
+    out, err = (io.TextIOWrapper(its, "utf-8", write_through=True) for its in said)
     before, mask = sys.argv, os.umask(0o022)
     signals = {number: signal.getsignal(number) for number in (signal.SIGTERM, signal.SIGHUP)}
     sys.argv = strings([tool(name), *words])
@@ -49,5 +50,4 @@ def call_here(name: str, *words: Word) -> Ended:
         os.umask(mask)
         for number, handler in signals.items():
             signal.signal(number, handler)
-    texts = [text.buffer.getvalue().decode() for text in (out, err)]  # type: ignore[attr-defined]
-    return Ended(tuple(called), status, texts[0], texts[1])
+    return Ended(tuple(called), status, *(its.getvalue().decode() for its in said))

@@ -15,7 +15,9 @@ from lab.line import table
 from lab.tools import Ended, Word, run, run_tool
 from lab.world import RUNNING, World
 from tracedesk_ops import catalogue, chains
-from tracedesk_ops.cmd import recall as tool
+from tracedesk_ops.recalls.desk import Desk, Line, Question
+from tracedesk_ops.recalls.recall import Recall
+from tracedesk_ops.recalls.tables import tables_of
 
 TRACE = ("board", "designator", "part", "reel", "machine", "slot", "overdue")
 BOARD_TRACE = ("designator", "part", "lot", "reel", "machine", "slot", "overdue")
@@ -104,7 +106,7 @@ class Asking:
 
     def __init__(self, lines: Sequence[Asked], room: pathlib.Path) -> None:
         self.lines, self.room, self.program = lines, room, lines[0].program
-        self.asked = [tool.Line(line.name, line.url, line.catalogue) for line in lines]
+        self.asked = [Line(line.name, line.url, line.catalogue) for line in lines]
         self.files = [
             (line.name, name, file) for line in lines for name, file in line.named_files().items()
         ]
@@ -119,14 +121,14 @@ class Asking:
 
     def begun(self, kind: str, name: str, lines: int, meanwhile: Callable[[], Any]) -> Any:
         """A recall over the first so many lines, during which something happens."""
-        question = tool.Question(kind, name)
+        question = Question(kind, name)
 
         def desk_of(line: Any) -> Any:
             meanwhile()
-            return tool.Desk(line, None, None)
+            return Desk(line, None, None)
 
         asker = chains.Asker(str(self.program), question)
-        its = tool.Recall(question, self.asked[:lines], desk_of, asker)
+        its = Recall(question, self.asked[:lines], desk_of, asker)
         its.ask()
         return its
 
@@ -134,7 +136,7 @@ class Asking:
         """What the tool prints, as rows of its tables."""
         its = self.begun(kind, name, len(self.lines), lambda: None)
         assert not its.faults + its.breaks + its.doubts, f"{kind} {name}"
-        found = tool.tables_of(its, None).items()
+        found = tables_of(its, None).items()
         return {name: table(catalogue.csv_text(rows)) for name, rows in found}
 
     def report(self, file: pathlib.Path, path: str, **query: Any) -> Rows:

@@ -184,7 +184,8 @@ class Watched:
 
 @contextlib.contextmanager
 def watched(program: pathlib.Path) -> Iterator[Watched]:
-    with Site(str(program)) as site:
+    site = Site(str(program))
+    with site:
         make_line(site)
         yield Watched(site)
 

@@ -12,7 +12,9 @@ from unittest import mock
 from lab.tools import Ended, run_tool
 from tracedesk import desk as desks
 from tracedesk_ops import catalogue, chains, doubtful, firstlook, untraced
-from tracedesk_ops.cmd import recall
+from tracedesk_ops.firstlook import Reel
+from tracedesk_ops.recalls.desk import Desk, Line, Question
+from tracedesk_ops.recalls.recall import Recall
 from truth.run import ROUNDS, SETTLE, SLOTS, Run
 from truth.world import BEGIN, Clock, Killed, Killer, Place
 
@@ -23,11 +25,11 @@ COMMANDS_OF = """SELECT number, own, effective, command FROM accepted
     WHERE command LIKE ? AND command NOT LIKE 'SheetDefined%'"""
 
 
-class Asking(recall.Desk):
+class Asking(Desk):
     """A running desk, which isn't asked what is left."""
 
-    def stock(self, *_: object) -> list[object]:
-        return []
+    def stock(self, *_: object) -> Iterator[Reel]:
+        return iter(())
 
 
 def wrong(run: Run, answer_of: Callable[[str], Any]) -> Iterator[str]:
@@ -178,41 +180,35 @@ class Batch:
         """Asks for each lot of each run. The desk stands still by now, so what is the same for all
         of them is looked at once."""
         path = self.place.catalogue
-        self.line = recall.Line(LINE, self.place.url, path)
+        self.line = Line(LINE, self.place.url, path)
         self.chain = AskedOnce(str(self.place.program))
-        at = firstlook.at
+        looked = LookedOnce()
         with contextlib.ExitStack() as held:
-            patched = lambda owner, name, its: held.enter_context(
-                mock.patch.object(owner, name, its)
-            )
-            # The pieces of each lot are those of SQL.
-            patched(firstlook, "at", lambda *words: at(*words[:3]))
-            archives = catalogue.in_turn(catalogue.read(path)) if path.exists() else []
             database = held.enter_context(doubtful.copied(self.place.file))
-            patched(doubtful, "copied", lambda _: contextlib.nullcontext(database))
-            its = doubtful.look(path, archives, self.place.url)
-            works = by_machine(its.works, lambda work: untraced.body_of(work[0]).get("Machine"))
-            pieces = by_machine(its.pieces, lambda piece: piece.machine)
+            for owner, name, its in (
+                (firstlook, "at", told_by_sql(firstlook.at)),
+                (doubtful, "copied", lambda _: contextlib.nullcontext(database)),
+                (doubtful, "look", looked),
+            ):
+                held.enter_context(mock.patch.object(owner, name, its))
             for number, run in enumerate(self.runs):
-                own = its._replace(works=works[run.name], pieces=pieces[run.name])
-                with mock.patch.object(doubtful, "look", lambda *_: own):
-                    if number == 0:
-                        self.ask_the_tool(run)
-                    faults = [*run.faults, *wrong(run, self.answer_of)]
+                looked.machine = run.name
+                if number == 0:
+                    self.ask_the_tool(run)
+                faults = [*run.faults, *wrong(run, self.answer_of)]
                 if faults:
-                    self.show(run, its)
+                    self.show(run, looked.told)
                 self.faults += [f"run {number}: {fault}" for fault in faults]
                 self.count(run)
-        self.counts["untraced reports"] += len(its.works)
-        self.counts["decided"] += sum(1 for _, by, _ in its.works if by)
-        self.counts["doubtful pieces"] += len(its.pieces)
+        works = looked.told.works
+        self.counts["untraced reports"] += len(works)
+        self.counts["decided"] += sum(1 for work in works if work[1])
+        self.counts["doubtful pieces"] += len(looked.told.pieces)
 
     def answer_of(self, lot: str) -> Any:
         """What tracedesk-recall says of a lot, in this process."""
-        question = recall.Question("lot", lot)
-        told = recall.Recall(
-            question, [self.line], lambda line: Asking(line, None, None), self.chain
-        )
+        question = Question("lot", lot)
+        told = Recall(question, [self.line], lambda line: Asking(line, None, None), self.chain)
         told.ask()
         faults = told.faults + told.breaks + told.doubts
         assert not faults, f"a recall of {lot}: {faults}"
@@ -280,11 +276,35 @@ class Batch:
             print("really", *happened)
 
 
+def told_by_sql(at: Callable[..., Any]) -> Callable[..., Any]:
+    """Of an archive the pieces of each lot are those of SQL."""
+    return lambda *words: at(*words[:3])
+
+
+class LookedOnce:
+    """What is around the catalogue: it is looked at once, and each run is told what is of its
+    machine."""
+
+    def __init__(self) -> None:
+        self.look, self.machine = doubtful.look, ""
+        self.told: Any = None
+
+    def __call__(self, *words: Any) -> Any:
+        if self.told is None:
+            self.told = self.look(*words)
+            self.works = by_machine(
+                self.told.works, lambda work: untraced.body_of(work[0]).get("Machine")
+            )
+            self.pieces = by_machine(self.told.pieces, lambda piece: piece.machine)
+        works, pieces = self.works[self.machine], self.pieces[self.machine]
+        return self.told._replace(works=works, pieces=pieces)
+
+
 class AskedOnce(chains.Asker):
     """tracedesk-chain, whose answer is the same for all lots."""
 
     def __init__(self, program: str) -> None:
-        super().__init__(program, recall.Question("lot", "no lot"))
+        super().__init__(program, Question("lot", "no lot"))
         self.told: Any = None
 
     def ask(self, *words: Any) -> Any:

@@ -30,6 +30,9 @@ have, or is no chain; 9 an unexpected failure. Of --age: 0 not older than --hour
 Of --check: 0 whole, lawful and a chain; 1 not whole or lawful, or there is no copy; 4 whole, and without an archive that it should
 have, or no chain.
 """
+from __future__ import annotations
+
+import argparse
 import contextlib
 import datetime
 import itertools
@@ -42,6 +45,8 @@ import socket
 import sqlite3
 import stat
 import time
+from collections.abc import Iterable, Iterator
+from typing import Any, BinaryIO
 
 from tracedesk_ops import (
     backups,
@@ -63,7 +68,7 @@ ARCHIVE = backups.ARCHIVE
 DONE, NOT_DONE, NOT_SERVED, LACKS = 0, 1, 3, 4  # statuses
 
 
-def now():
+def now() -> datetime.datetime:
     return datetime.datetime.now(datetime.timezone.utc).replace(microsecond=0)
 
 
@@ -73,23 +78,20 @@ def now():
 class Backup:
     """One copy, made in a folder of its own that gets its name at the end."""
 
-    def __init__(self, asked):
+    def __init__(self, asked: argparse.Namespace) -> None:
         self.asked, self.to, self.room = asked, asked.to, asked.to / PART
         self.path, self.program = asked.archive / catalogue.FILE_NAME, plant.Program(
             asked.program, asked.db
         )
         self.before, unread = backups.survey(asked.to)
         self.own, self.faults = backups.survey(asked.to, backups.Whose(asked.db, asked.archive))
-        self.set_back, self.missing, self.number = (
-            set(),
-            [],
-            max(
-                int(time.time()),
-                1 + len(unread) + max(map(backups.number_of, self.before), default=0),
-            ),
-        )  # one of those may be the newest; copies that are elsewhere now may come back
+        self.set_back: set[pathlib.Path] = set()
+        self.missing: list[str] = []
+        # one of those may be the newest; copies that are elsewhere now may come back
+        greatest = max(map(backups.number_of, self.before), default=0)
+        self.number = max(int(time.time()), 1 + len(unread) + greatest)
 
-    def whole(self):
+    def whole(self) -> None:
         for it in (self.room, *self.to.glob(f"{GONE}-*")):
             shutil.rmtree(it, ignore_errors=True)
         self.want_room()
@@ -118,7 +120,7 @@ class Backup:
         for it in self.faults:
             plant.tell(it)
 
-    def want_room(self):
+    def want_room(self) -> None:
         """Stops where the disk can't hold the copy of the desk, before anything is stopped for it."""
         archives = [
             catalogue.path_of(self.path, it)
@@ -132,7 +134,7 @@ class Backup:
         )
         plant.want_room(self.to, ROOM * size, "a copy")
 
-    def copy_archives(self):
+    def copy_archives(self) -> None:
         """The archives of the catalogue and the catalogue itself, each file by its checksum."""
         (self.room / ARCHIVE).mkdir(mode=0o700)
         if not self.path.exists():
@@ -147,12 +149,12 @@ class Backup:
                 to.unlink(missing_ok=True)
                 self.missing.append(it.file)
 
-    def opened(self, file):
+    def opened(self, file: pathlib.Path) -> BinaryIO:
         """A file of the desk's folder, opened as its owner: a link there leads to nothing that the owner can't read."""
         with plant.as_owner(self.asked.db):
             return open(file, "rb")
 
-    def linked(self, archive, to):
+    def linked(self, archive: catalogue.Archive, to: pathlib.Path) -> bool:
         """Takes an archive from the newest copy that has it whole; one that is gone from the line's own archive is named."""
         for copy in reversed(self.before):
             if not (had := backups.held_by(copy).get(archive.sha256)):
@@ -171,7 +173,7 @@ class Backup:
             self.faults.append(f"{had}: {why}. Look at the disk of the copies")
         return False
 
-    def is_whole(self, archive, others, may_be_link=False):
+    def is_whole(self, archive: catalogue.Archive, others: str, may_be_link: bool = False) -> bool:
         """Whether a line's own archive is there, as the file of its checksum; where not, others may have it."""
         live, why = catalogue.path_of(self.path, archive), "it is not the file of its checksum"
         try:
@@ -187,7 +189,7 @@ class Backup:
         )
         return False
 
-    def copied(self, archive, to):
+    def copied(self, archive: catalogue.Archive, to: pathlib.Path) -> bool:
         """Copies an archive from the line's own ones, where it is whole."""
         if not self.is_whole(archive, "another machine's copy", may_be_link=True):
             return False
@@ -197,7 +199,7 @@ class Backup:
             raise plant.Fault(f"{to} is not what was copied: look at the disks")
         return True
 
-    def copy_desk(self):
+    def copy_desk(self) -> float:
         """Copies file and log while the service is stopped; how many seconds it was not there."""
         service = plant.Service(self.asked, always=False)
         try:
@@ -214,7 +216,7 @@ class Backup:
             gone = service.start()
         return gone
 
-    def write_down(self, commands, gone):
+    def write_down(self, commands: int, gone: float) -> None:
         """What the copy says of itself, and the checksums of all of it; all of it on disk."""
         its, desk = self.room / ARCHIVE / catalogue.FILE_NAME, identity.of(self.room / "desk")
         there = [it for it in catalogue.read(its) if it.file not in self.missing]
@@ -250,7 +252,7 @@ class Backup:
         for it in (*self.room.rglob("*"), self.room):
             files.keep(it)
 
-    def want_newest(self, path, chain):
+    def want_newest(self, path: pathlib.Path, chain: list[catalogue.Archive]) -> None:
         """Tells where the last command of the newest copy is neither in this desk nor in an archive of it, and no restore says so: somebody put an older file in its place."""
         for copy in () if any(self.path.parent.glob(catalogue.ENTRIES)) else self.own[-1:]:
             last = backups.command(copy / "desk", backups.about(copy)["commands"])
@@ -267,7 +269,7 @@ class Backup:
                     f"{copy} has commands that {self.asked.db} and its archives lack: the desk was set back to before it. Its senders send them again, or restore that copy"
                 )
 
-    def forget(self):
+    def forget(self) -> None:
         """Takes away the desk's copies that are neither of the last days nor of the last months, and whose archives others have."""
         new = next(it for it in backups.survey(self.to)[0] if backups.number_of(it) == self.number)
         there = [
@@ -280,18 +282,15 @@ class Backup:
         ]
         keep = self.set_back | {it for it in there if it.name[:DAY] == there[0].name[:DAY]}
         for letters, number in ((DAY, self.asked.days), (MONTH, self.asked.months)):
-            newest = {}
+            newest: dict[str, pathlib.Path] = {}
             for it in there:
                 newest.setdefault(it.name[:letters], it)
             keep.update(list(newest.values())[:number])
         for it in there:
-            if (
-                only := backups.held_by(it).keys() - backups.held_by(new) if it not in keep else ()
-            ):  # archives that the line has no more
-                claimed, whole = (
-                    set().union(*(backups.held_by(copy, those) for copy in keep))
-                    for those in ((), only)
-                )
+            # archives that the line has no more
+            if it not in keep and (only := backups.held_by(it).keys() - backups.held_by(new)):
+                claimed = {sha256 for copy in keep for sha256 in backups.held_by(copy)}
+                whole = {sha256 for copy in keep for sha256 in backups.held_by(copy, only)}
                 if not only <= claimed or not only & backups.held_by(it, only).keys() <= whole:
                     keep.add(it)
         for it in there[::-1]:
@@ -301,7 +300,9 @@ class Backup:
                 print(f"{it}: gone")
 
 
-def twice(desk, path, archives):
+def twice(
+    desk: pathlib.Path, path: pathlib.Path, archives: Iterable[catalogue.Archive]
+) -> Iterator[str]:
     """Where a desk and an archive have the same commands, as in a copy that an older version took amid a roll-over."""
     for it in archives:
         if backups.have_the_same(desk, catalogue.path_of(path, it)):
@@ -311,7 +312,7 @@ def twice(desk, path, archives):
 # --- The last copy
 
 
-def age(asked):
+def age(asked: argparse.Namespace) -> int:
     """Tells how old the last good copy is; whether it is not too old."""
     for copy in reversed(backups.kept_in(asked.to, asked.db, asked.archive)):
         told = backups.about(copy)
@@ -325,7 +326,7 @@ def age(asked):
     return NOT_DONE
 
 
-def check(asked):
+def check(asked: argparse.Namespace) -> int:
     """Compares the checksums of the newest copy, and audits a copy of it."""
     copy = chosen(asked, "")
     archives, _ = backups.whole_archives(copy)
@@ -335,7 +336,7 @@ def check(asked):
     return lacking(asked, copy, archives)
 
 
-def noted(asked):
+def noted(asked: argparse.Namespace) -> int:
     """Checks the newest copy, and notes how that ended, also where it ends with a fault."""
     status = NOT_DONE
     try:
@@ -348,7 +349,9 @@ def noted(asked):
             )
 
 
-def broken(asked, copy, archives):
+def broken(
+    asked: argparse.Namespace, copy: pathlib.Path, archives: list[catalogue.Archive]
+) -> Iterator[str]:
     """Why the archives of a copy and its desk are no chain, by tracedesk-chain. It reads the line's own archives where they are the same files."""
     path, live = copy / ARCHIVE / catalogue.FILE_NAME, asked.archive / catalogue.FILE_NAME
     chain, program = identity.chain(path, archives, identity.of(copy / "desk").mark)[
@@ -371,7 +374,9 @@ def broken(asked, copy, archives):
         yield f"{copy}: whether its archives and its desk are a chain: {fault}"
 
 
-def lacking(asked, copy, archives):
+def lacking(
+    asked: argparse.Namespace, copy: pathlib.Path, archives: list[catalogue.Archive]
+) -> int:
     """Tells what a whole copy is without, what it has twice, and where its files are no chain; the status that says so."""
     missing = backups.about(copy)["missing"]
     told = [
@@ -385,7 +390,7 @@ def lacking(asked, copy, archives):
     return LACKS if told else DONE
 
 
-def chosen(asked, named):
+def chosen(asked: argparse.Namespace, named: str) -> pathlib.Path:
     """The copy of this name or path; the newest one of the desk where none is named."""
     if not named:
         there = backups.kept_in(asked.to, asked.db, asked.archive)
@@ -397,7 +402,7 @@ def chosen(asked, named):
                 * bool(others)
             )
         return there[-1]
-    copy = (asked.to / named).absolute()  # a path that is whole stays
+    copy: pathlib.Path = (asked.to / named).absolute()  # a path that is whole stays
     if not copy.is_dir():
         raise plant.Fault(
             f"{copy} is no copy. There are: {', '.join(it.name for it in backups.survey(asked.to)[0]) or 'none'}"
@@ -410,7 +415,7 @@ def chosen(asked, named):
     return copy
 
 
-def want_commands(copy, commands):
+def want_commands(copy: pathlib.Path, commands: int) -> None:
     if commands != backups.about(copy)["commands"]:
         raise plant.Fault(
             f"{copy} has {commands} commands, and {backups.about(copy)['commands']} when it was taken"
@@ -423,7 +428,7 @@ def want_commands(copy, commands):
 class Restore(unfinished.Restoring):
     """A copy that is put in the place of the desk and its archive, by the owner of the desk's folder; the copy is read as the caller."""
 
-    def __init__(self, asked):
+    def __init__(self, asked: argparse.Namespace) -> None:
         super().__init__(asked)
         self.owner = plant.Program(
             asked.program, asked.db.parent
@@ -431,7 +436,7 @@ class Restore(unfinished.Restoring):
         self.live = asked.archive / catalogue.FILE_NAME
         self.entry = f"lacks-{now().strftime(backups.NAMED)}-{secrets.token_hex(2)}.json"
 
-    def whole(self):
+    def whole(self) -> int:
         self.settle()
         self.clear()
         with plant.as_caller():
@@ -483,11 +488,13 @@ class Restore(unfinished.Restoring):
         with plant.as_caller():
             return lacking(self.asked, self.copy, archives) or status
 
-    def judge(self, archives, listed):
+    def judge(
+        self, archives: list[catalogue.Archive], listed: list[catalogue.Archive]
+    ) -> identity.Identity | None:
         """Whose the archives are that are there: those of the desk give way, by its name and by what the files say, and others stay. Returns who the desk is that is there."""
         surveyed, live = catalogue.survey(self.live), identity.of_running(self.asked.db)
-        for it in surveyed.faults if self.live.exists() else ():
-            plant.tell(f"{it}; it goes aside as it is")
+        for fault in surveyed.faults if self.live.exists() else ():
+            plant.tell(f"{fault}; it goes aside as it is")
         with plant.as_caller():
             desk = identity.of(self.copy / "desk")
             last = backups.command(self.copy / "desk", desk.commands)
@@ -524,7 +531,7 @@ class Restore(unfinished.Restoring):
         self.listed = [it for it in its_own if it.desk not in others] + self.kept
         return live
 
-    def beside(self, archives):
+    def beside(self, archives: list[catalogue.Archive]) -> None:
         """Puts the copy beside the desk, with the archives of other lines that stay, and all of it on the disk."""
         with plant.as_caller():
             if log := catalogue.log_of(self.copy / "desk"):
@@ -543,20 +550,20 @@ class Restore(unfinished.Restoring):
                 self.put(self.copy / ARCHIVE / it.file, to)
         if self.listed:
             catalogue.write(self.archive / catalogue.FILE_NAME, self.listed)
-        for it in itertools.chain.from_iterable(map(self.live.parent.glob, catalogue.STAY)):
-            os.link(it, self.archive / it.name)
+        for path in itertools.chain.from_iterable(map(self.live.parent.glob, catalogue.STAY)):
+            os.link(path, self.archive / path.name)
         files.put(self.archive / self.entry, self.said(None, None, None))
-        for it in (self.archive, *self.archive.rglob("*")):
-            files.keep(it)
+        for path in (self.archive, *self.archive.rglob("*")):
+            files.keep(path)
 
-    def put(self, source, to):
+    def put(self, source: pathlib.Path, to: pathlib.Path) -> None:
         """A file of the copy, as the owner's; no file is overwritten, and no link followed."""
         with plant.as_caller():
             it = open(source, "rb")
         with it, open(to, "xb") as target:
             shutil.copyfileobj(it, target)
 
-    def exchanged(self):
+    def exchanged(self) -> tuple[pathlib.Path, float, plant.Fault | None]:
         """Stops the service, lets the copy take the place of what is there, and starts it; until then no run can open the desk that gives way. Returns where that is now, the seconds, and why it doesn't answer."""
         service = plant.Service(self.asked)
         with contextlib.ExitStack() as held:
@@ -578,16 +585,19 @@ class Restore(unfinished.Restoring):
                         f"it was interrupted when {self.asked.db} was that of {self.copy}: call it again to learn what the copy lacks"
                     ) from None
                 raise
+            fault: plant.Fault | None = None
+            gone = 0.0
             try:
-                return aside, service.start(), None
-            except plant.Fault as fault:
-                return aside, 0.0, fault
+                gone = service.start()
+            except plant.Fault as why:
+                fault = why
+        return aside, gone, fault
 
-    def new_aside(self):
+    def new_aside(self) -> pathlib.Path:
         """A new folder, of this second, for what gives way."""
         self.within.mkdir(mode=0o700, exist_ok=True)
         name = now().strftime(backups.NAMED)
-        aside = next(
+        aside: pathlib.Path = next(
             it
             for number in itertools.count(1)
             if not (it := self.within / (name + f"-{number}" * (number > 1))).exists()
@@ -595,19 +605,19 @@ class Restore(unfinished.Restoring):
         aside.mkdir(mode=0o700)
         return aside
 
-    def put_aside(self, aside):
+    def put_aside(self, aside: pathlib.Path) -> None:
         """The file and its log are there together, with what is said of them, before either leaves its place."""
-        files = self.files()
-        for it in files:
+        moved = self.files()
+        for it in moved:
             os.link(it, aside / it.name)
         self.say_of(aside, None, None)
-        for it in files:
+        for it in moved:
             it.unlink()
         if self.asked.archive.exists():
             os.rename(self.asked.archive, aside / ARCHIVE)
         plant.reached("aside")
 
-    def put_in_place(self):
+    def put_in_place(self) -> None:
         """No run opens the desk while it has a second name. Once the archive is in place, nothing is put back any more."""
         os.link(self.desk, self.asked.db)  # this fails where a file is there after all
         os.rename(self.archive, self.asked.archive)
@@ -615,7 +625,13 @@ class Restore(unfinished.Restoring):
         files.keep(self.asked.db.parent)
         plant.reached("in place")
 
-    def said(self, aside, archives, commands, entry=""):
+    def said(
+        self,
+        aside: pathlib.Path | None,
+        archives: list[str] | None,
+        commands: int | None,
+        entry: str = "",
+    ) -> str:
         return (
             json.dumps(
                 {
@@ -630,7 +646,7 @@ class Restore(unfinished.Restoring):
             + "\n"
         )
 
-    def say_of(self, aside, archives, commands):
+    def say_of(self, aside: pathlib.Path, archives: list[str] | None, commands: int | None) -> None:
         """Writes down which archives and how many commands lie aside and nowhere else; none of either until that is known: so each recall takes it that some do.
 
         The entry in the archive's folder stays where what lies aside is moved away, and is gone where the copy lacks nothing.
@@ -647,7 +663,7 @@ class Restore(unfinished.Restoring):
             else:
                 there.unlink()
 
-    def told_aside(self, aside, archives):
+    def told_aside(self, aside: pathlib.Path, archives: list[catalogue.Archive]) -> int:
         """Tells which archives and commands lie aside and nowhere else; the status that says so."""
         room, listed, lost, commands, desk = (
             aside / ARCHIVE,
@@ -699,7 +715,7 @@ class Restore(unfinished.Restoring):
 TAKEN = "SELECT uid, source, own, command, effective FROM accepted WHERE number > ? AND source <> ? AND command <> 'ClockSet'"  # what a sender said
 
 
-def taken_of(database):
+def taken_of(database: sqlite3.Connection) -> dict[tuple[Any, ...], int]:
     """What a desk has from its senders, all that they said, each with its minute."""
     return {
         tuple(said): minute
@@ -709,12 +725,12 @@ def taken_of(database):
     }
 
 
-def taken_by(file):
+def taken_by(file: pathlib.Path) -> dict[tuple[Any, ...], int]:
     with catalogue.opened(file) as database:
         return taken_of(database)
 
 
-def rolled_over(asked):
+def rolled_over(asked: argparse.Namespace) -> bool:
     """Settles a roll-over that was cut off; whether its own copy of the desk was put in place, where the desk's file is gone or damaged: it is newer than each copy here."""
     if not (plant.rolled_in(asked.db) / plant.PLAN).exists():
         return False
@@ -737,7 +753,7 @@ class NotServed(Exception):
     """It is done, and the service does not answer."""
 
 
-def words():
+def words() -> argparse.Namespace:
     reader = reader_of(__doc__)
     which = reader.add_mutually_exclusive_group()
     which.add_argument("--age", action="store_true", help="say how old the last good copy is")
@@ -795,7 +811,7 @@ def words():
     return asked
 
 
-def main():
+def main() -> int:
     asked = words()
     plant.ends_by_exception()
     os.umask(0o077)
@@ -825,7 +841,7 @@ def main():
 
 
 @contextlib.contextmanager
-def alone_in(to):
+def alone_in(to: pathlib.Path) -> Iterator[None]:
     """Holds the folder of the copies too: another desk may have its own there."""
     if not to.is_dir():
         raise plant.Fault(f"there is no copy in {to}")

@@ -24,13 +24,16 @@ run on to it. UniqueIDs begin with `begin-` and the checksum of FILE, so that th
 Exit status: 0 done; 1 the file is no desk's or can't be carried over, or the messages can't be written; 2 bad command line;
 9 an unexpected failure.
 """
+from __future__ import annotations
+
+import argparse
 import pathlib
 import sys
 
 from tracedesk_ops import carry, catalogue, plant, reader_of
 
 
-def words(given=None):
+def words(given: list[str] | None = None) -> argparse.Namespace:
     parser = reader_of(__doc__)
     parser.add_argument("file", type=pathlib.Path, metavar="FILE", help="the archived desk")
     parser.add_argument(
@@ -48,7 +51,7 @@ def words(given=None):
     return plant.find_program(parser, parser.parse_args(given))
 
 
-def begun(asked):
+def begun(asked: argparse.Namespace) -> tuple[list[str], carry.Carrier]:
     """The messages, and who tells what is not in them."""
     lines, carrier = carry.begun(
         carry.judged(asked.file, asked.program),
@@ -56,15 +59,16 @@ def begun(asked):
         asked.at,
         not asked.no_loads,
     )
-    for it in lines:
-        if isinstance(it, carry.Setup):
+    for line in lines:
+        if isinstance(line, carry.Setup):
             raise carry.NotCarried(
-                f"the sheet of {it.product} on {it.machine} is too long for a message; tracedesk-rollover imports it as a setup file"
+                f"the sheet of {line.product} on {line.machine} is too long for a message;"
+                " tracedesk-rollover imports it as a setup file"
             )
-    return lines, carrier
+    return [line for line in lines if isinstance(line, str)], carrier
 
 
-def main():
+def main() -> None:
     asked = words()
     if not asked.file.is_file():
         sys.exit(f"{plant.NAME}: there is no file {asked.file}")

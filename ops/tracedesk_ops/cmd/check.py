@@ -21,7 +21,9 @@ The new desk is made in memory (/dev/shm) where there is room for it; the copies
 Exit status: 0 sound; 1 faults were found; 2 bad command line, or there is no program; 3 it can't be judged: another
 process has the file open, it can't be read, or there is no room for the copies; 9 an unexpected failure.
 """
-import collections
+from __future__ import annotations
+
+import argparse
 import contextlib
 import errno
 import fcntl
@@ -34,7 +36,8 @@ import sqlite3
 import stat
 import subprocess
 import tempfile
-from typing import NamedTuple
+from collections.abc import Iterable, Iterator
+from typing import Any, NamedTuple, Optional
 
 from tracedesk_ops import (
     catalogue,
@@ -108,13 +111,22 @@ ADVICE = {  # what to do, by the cause
     UNKNOWN: "Try again once memory is free. If it stays so, send what is printed here, with a copy of the file, to those who look after tracedesk.",
 }
 
-Finding = collections.namedtuple("Finding", "cause words")
+
+class Finding(NamedTuple):
+    """What is wrong with a file: the cause, which has its advice, and words of its own."""
+
+    cause: str
+    words: str
+
+
+# what the audit says, what was found, and whether what is proved of tables is said of the file
+Judged = tuple[str, list[Finding], Optional[str]]
 
 
 # --- What keeps the program from a file
 
 
-def holder(file):
+def holder(file: str) -> str | None:
     """Who holds a lock that keeps the program from a file, in words; none where there is no such lock."""
     with open(file, "rb") as it:
         if not copies.is_locked(it, fcntl.F_WRLCK):
@@ -125,7 +137,7 @@ def holder(file):
     )
 
 
-def openers(file):
+def openers(file: str) -> list[str]:
     """The other processes that have a file open, in words. A lock of the program's names no process, so all are looked at."""
     wanted, found = os.stat(file), set()
     for it in pathlib.Path("/proc").glob("[0-9]*/fd/*"):
@@ -136,21 +148,16 @@ def openers(file):
     return sorted(found)
 
 
-def may(user, *tests):
+def may(user: pwd.struct_passwd | None, *tests: str) -> bool:
     """Whether a user has these rights, as `test` knows them."""
-    how = (
-        {}
-        if user is None
-        else {
-            "user": user.pw_uid,
-            "group": user.pw_gid,
-            "extra_groups": os.getgrouplist(user.pw_name, user.pw_gid),
-        }
-    )
+    how: dict[str, Any] = {}
+    if user:
+        groups = os.getgrouplist(user.pw_name, user.pw_gid)
+        how = {"user": user.pw_uid, "group": user.pw_gid, "extra_groups": groups}
     return subprocess.run(["test", *tests], **how).returncode == 0
 
 
-def user_of(file):
+def user_of(file: str) -> pwd.struct_passwd | None:
     """Who has to be able to open a file: of root's calls the owner of its folder, else that of the file; none if it is who calls."""
     for it in (os.path.dirname(file), file) if os.geteuid() == 0 else ():
         with contextlib.suppress(KeyError):
@@ -159,7 +166,7 @@ def user_of(file):
     return None
 
 
-def rights(file, user):
+def rights(file: str, user: pwd.struct_passwd | None) -> Iterator[str]:
     """What a user may not do that an opening does, in words."""
     who, log = user.pw_name if user else pwd.getpwuid(os.geteuid()).pw_name, f"{file}-wal"
     for it in [file] + ([log] if os.path.lexists(log) else []):
@@ -172,14 +179,14 @@ def rights(file, user):
         yield f"{who} may not make the log in {folder}"
 
 
-def name_of(number):
+def name_of(number: int) -> str:
     try:
         return pwd.getpwuid(number).pw_name
     except KeyError:
         return str(number)
 
 
-def names(file):
+def names(file: str) -> Iterator[str]:
     """Other names of a file, and what stands at the name of its log and is none; the program takes neither."""
     if os.stat(file).st_nlink > 1:
         yield f"{file} has {os.stat(file).st_nlink} names (hard links), and the program opens a file of one name alone: find {os.path.dirname(file)} -samefile {file}"
@@ -189,13 +196,13 @@ def names(file):
         yield f"{file}-wal is a link or no file, and the log is a file"
 
 
-def journal(file):
+def journal(file: str) -> Iterator[str]:
     """Whether another program was cut off while it wrote the file, in words. The log of tracedesk's is another one."""
     if os.path.exists(f"{file}-journal") and os.stat(f"{file}-journal").st_size:
         yield f"{file}-journal holds what another program, as sqlite3, was about to change when it was cut off"
 
 
-def room(file):
+def room(file: str) -> Iterator[str]:
     """What an opening lacks on the disk, in words."""
     disk = os.statvfs(file)
     if disk.f_flag & os.ST_RDONLY:
@@ -204,7 +211,7 @@ def room(file):
         yield f"the disk of {file} has {disk.f_bavail * disk.f_frsize:,} bytes and {disk.f_favail:,} files free"
 
 
-def outside(file):
+def outside(file: str) -> Iterator[Finding]:
     """What is found without reading the file's tables."""
     for cause, found in (
         (NO_ROOM, room(file)),
@@ -216,7 +223,7 @@ def outside(file):
         yield from (Finding(RIGHTS, it) for it in rights(file, user_of(file)))
 
 
-def no_database(file):
+def no_database(file: str) -> Finding | None:
     """Why a file can't be a database, or none."""
     size, log = os.stat(file).st_size, catalogue.log_of(file)
     with open(file, "rb") as it:
@@ -243,12 +250,12 @@ def no_database(file):
     )
 
 
-def begins(head):
+def begins(head: bytes) -> str:
     """The first letters of a database's, or what stands there."""
     return head[: len(catalogue.MAGIC) - 1].decode("ascii", "backslashreplace")
 
 
-def cut(file):
+def cut(file: str | pathlib.Path) -> str | None:
     """How a file is shorter than its head says, in words, or none. Where the log has pages only its head can tell."""
     with open(file, "rb") as it:
         head = it.read(HEAD)
@@ -263,7 +270,7 @@ def cut(file):
     return None
 
 
-def head_faults(file):
+def head_faults(file: pathlib.Path) -> Iterator[str]:
     """What the head of a database says that the program doesn't read."""
     with open(file, "rb") as it:
         head = it.read(HEAD)
@@ -276,7 +283,7 @@ def head_faults(file):
 # --- The program's word
 
 
-def told_by(program, *words, **how):
+def told_by(program: str, *words: object, **how: Any) -> str:
     """What a run of the program printed, on one line."""
     done = subprocess.run(
         [program, *map(str, words)],
@@ -289,7 +296,7 @@ def told_by(program, *words, **how):
     return said if done.returncode >= 0 else f"nothing: it was ended by signal {-done.returncode}"
 
 
-def again(file, to):
+def again(file: pathlib.Path, to: pathlib.Path) -> pathlib.Path:
     """A copy of a copy, which has no log."""
     shutil.copyfile(file, to)
     return to
@@ -301,7 +308,7 @@ def again(file, to):
 class Copy:
     """A copy of the file alone, its log taken in, as stock SQLite reads it."""
 
-    def __init__(self, file, most):
+    def __init__(self, file: pathlib.Path, most: int) -> None:
         self.file, self.most = file, most
         self.database = sqlite3.connect(file, isolation_level=None)
         self.database.row_factory = sqlite3.Row
@@ -313,14 +320,14 @@ class Copy:
         self.wanted = declared.expected(self.number)
         self.gone = list(declared.missing(self.wanted, self.there))
 
-    def version(self):
-        """The version that it says, 2 where it says none."""
+    def version(self) -> Any:
+        """The version that it says, which may be any value; 2 if it says none."""
         with contextlib.suppress(sqlite3.Error):
-            rows = self.database.execute("SELECT number FROM version").fetchall()
+            rows = copies.rows(self.database, "SELECT number FROM version")
             return rows[0][0] if rows else 2
         return 2
 
-    def layout(self):
+    def layout(self) -> Iterator[Finding]:
         """Missing tables and columns, a row of version that is none, and declarations that say less."""
         yield from (Finding(NO_DESK, it) for it in self.gone)
         if not any("version" in it for it in self.gone):
@@ -340,14 +347,14 @@ class Copy:
                 )
         yield from (Finding(WEAKER, it) for it in declared.weaker(self.wanted, self.there))
 
-    def broken(self):
+    def broken(self) -> Iterator[Finding]:
         """Rows of the desk's tables that break what these declare."""
         for name, table in self.wanted.items():
             if name in self.there and not set(table.columns) - set(self.there[name].columns):
                 for rows, words in declared.broken(self.database, table):
                     yield from self.first(ROW, map(words, rows))
 
-    def first(self, cause, words):
+    def first(self, cause: str, words: Iterable[str]) -> Iterator[Finding]:
         """The first few, and how many more there are."""
         more = 0
         for number, it in enumerate(words):
@@ -358,7 +365,7 @@ class Copy:
         if more:
             yield Finding(cause, f"and {more:,} more such")
 
-    def pages(self):
+    def pages(self) -> Iterator[Finding]:
         """What stock SQLite finds, but for rows that `broken` tells."""
         lines = [
             " ".join(line.split())
@@ -382,7 +389,7 @@ class Copy:
             ),
         )
 
-    def references(self):
+    def references(self) -> Iterator[Finding]:
         """Rows of other tables that refer to none."""
         rows = (
             it
@@ -397,14 +404,14 @@ class Copy:
             ),
         )
 
-    def accepted(self):
+    def accepted(self) -> sqlite3.Cursor:
         """The accepted commands in their order."""
         return self.database.execute(
             "SELECT number, uid, source, own, effective, command, detail FROM accepted NOT INDEXED ORDER BY number"
         )
 
 
-def looked_at(copy):
+def looked_at(copy: Copy) -> Iterator[Finding]:
     """All that is found in a copy by stock SQLite; where a page stops it, what it says of that, once."""
     stopped = {}
     for part in (copy.layout, copy.broken, copy.references, copy.pages):
@@ -416,7 +423,7 @@ def looked_at(copy):
     yield from stopped.values()
 
 
-def want_room(fault):
+def want_room(fault: Exception) -> None:
     """Goes on with a fault of SQLite's that is none of the file's: there was no room for its work."""
     if "full" in str(fault):
         raise fault
@@ -433,11 +440,11 @@ class Other(NamedTuple):
     on: str
     out: str
 
-    def told(self):
+    def told(self) -> str:
         return f"{self.kind} {self.name}" + (f" on {self.on}" if self.on != self.name else "")
 
 
-def others(copy):
+def others(copy: Copy) -> list[Other]:
     """What is in a file that no desk has."""
     shadows = {
         it["name"] for it in copy.database.execute("PRAGMA table_list") if it["type"] == "shadow"
@@ -482,7 +489,7 @@ def others(copy):
     )  # what stands on another goes first
 
 
-def unproved(copy):
+def unproved(copy: Copy) -> str:
     """Why what is proved of tables is not said of a file, in words, or nothing."""
     rows = [
         tuple(it)
@@ -502,7 +509,7 @@ def unproved(copy):
     return ""
 
 
-def without(copy, things, room):
+def without(copy: Copy, things: Iterable[Other], room: str) -> pathlib.Path | None:
     """Another copy without these things, or none where they can't be taken out."""
     to = again(copy.file, pathlib.Path(room, "tried"))
     try:
@@ -515,7 +522,7 @@ def without(copy, things, room):
         return None
 
 
-def tried(copy, program, said, room):
+def tried(copy: Copy, program: str, said: str, room: str) -> Iterator[Finding]:
     """Which things of others the program doesn't take: each is tried alone, where the audit says another thing without all."""
     things = others(copy)
     if not things:
@@ -532,7 +539,7 @@ def tried(copy, program, said, room):
             )
 
 
-def audited(program, file):
+def audited(program: str, file: pathlib.Path | None) -> str:
     """What the audit says of a copy, which goes then."""
     if file is None:
         return "nothing"
@@ -545,18 +552,18 @@ def audited(program, file):
 # --- What the commands make
 
 
-def sizes(file):
+def sizes(file: str) -> int:
     return sum(
         os.stat(f"{file}{tail}").st_size for tail in ("", "-wal") if os.path.exists(f"{file}{tail}")
     )
 
 
-def free_memory():
+def free_memory() -> int:
     found = re.search(r"MemAvailable:\s+(\d+) kB", pathlib.Path("/proc/meminfo").read_text())
-    return int(found[1]) * 1024
+    return int(found[1]) * 1024 if found else 0
 
 
-def place_of_new(size):
+def place_of_new(size: int) -> tempfile.TemporaryDirectory[str]:
     """A folder of memory where a new desk and the messages fit into it, since each command is synced; else a temporary one."""
     fits = (
         MEMORY.is_dir()
@@ -570,14 +577,15 @@ def place_of_new(size):
 class Replay:
     """A new desk that is given the accepted commands of a copy once more."""
 
-    def __init__(self, copy, program, folder):
+    def __init__(self, copy: Copy, program: str, folder: str) -> None:
         self.copy, self.program = copy, program
         self.desk, self.said, self.answers = (
             pathlib.Path(folder, it) for it in ("new", "messages", "answers")
         )
-        self.count, self.fault = 0, None
+        self.count = 0
+        self.fault: Finding | None = None
 
-    def spell(self):
+    def spell(self) -> None:
         """Writes the messages, up to a row that is none."""
         with open(self.said, "w", encoding="utf-8") as to:
             try:
@@ -602,7 +610,7 @@ class Replay:
                     PAGE, f"of the commands the first {self.count:,} can be read: {fault}"
                 )
 
-    def feed(self):
+    def feed(self) -> None:
         """Gives them to a new desk; a Fault where the program fails."""
         greatest = []
         with contextlib.suppress(sqlite3.Error):
@@ -625,7 +633,7 @@ class Replay:
                 f"a new desk in {self.desk.parent} doesn't take the commands: {done.stderr.strip() or f'status {done.returncode}'}"
             )
 
-    def list_fault(self):
+    def list_fault(self) -> str | None:
         """The first command that is another one when it is judged again, in words, or none."""
         made = self.copy.database.execute("SELECT * FROM new.accepted ORDER BY number")
         with open(self.answers, encoding="utf-8", errors="surrogateescape") as answers:
@@ -640,7 +648,7 @@ class Replay:
                     return declared.unlike(self.copy.wanted["accepted"], row, again)
         return None
 
-    def findings(self):
+    def findings(self) -> Iterator[Finding]:
         self.spell()
         self.feed()
         with contextlib.closing(sqlite3.connect(self.desk)) as made:
@@ -656,7 +664,7 @@ class Replay:
         finally:
             self.copy.database.execute("DETACH new")
 
-    def unlike_tables(self):
+    def unlike_tables(self) -> Iterator[Finding]:
         for name, table in self.copy.wanted.items():
             if name not in ("version", "accepted"):
                 count, words = declared.differences(
@@ -667,7 +675,7 @@ class Replay:
                     yield Finding(TABLE, f"{name}: {count - len(words):,} more rows differ")
 
 
-def remade(copy, program):
+def remade(copy: Copy, program: str) -> Iterator[Finding]:
     """What the commands say of the file, where its tables can be read."""
     if copy.gone:
         return
@@ -684,7 +692,7 @@ def remade(copy, program):
 # --- All together
 
 
-def memory(copy):
+def memory(copy: Copy) -> Iterator[Finding]:
     """Whether the program lacks memory for such a file, in words."""
     (pieces,) = copy.database.execute("SELECT count(*) FROM placement").fetchone()
     need = pieces * MEMORY_OF_A_MILLION // 1_000_000
@@ -695,7 +703,7 @@ def memory(copy):
         )
 
 
-def judged(asked, file, room):
+def judged(asked: argparse.Namespace, file: str, room: str) -> Judged:
     """What the audit says of a copy, all findings in it, and of a lawful one whether what is proved is said of it."""
     first = pathlib.Path(room, "copy")
     copies.copy(file, first)
@@ -727,7 +735,7 @@ def judged(asked, file, room):
     )
 
 
-def deeper(asked, copy, said, room):
+def deeper(asked: argparse.Namespace, copy: Copy, said: str, room: str) -> Iterator[Finding]:
     """What is looked for only where the audit finds a fault."""
     if said.startswith("OtherVersion"):
         yield Finding(
@@ -745,7 +753,9 @@ def deeper(asked, copy, said, room):
         yield from memory(copy)
 
 
-def text_of(file, said, findings, proved):
+def text_of(
+    file: pathlib.Path, said: str | None, findings: list[Finding], proved: str | None
+) -> str:
     lines = [f"the program's audit says of a copy: {said}"] if said else []
     lines += [proved] if proved else []
     lines += [f"{it.cause}: {it.words}" for it in findings]
@@ -757,7 +767,7 @@ def text_of(file, said, findings, proved):
     return "\n".join([*lines, f"{file}: {'faults were found' if findings else 'sound'}"]) + "\n"
 
 
-def no_file(file):
+def no_file(file: str) -> Finding | None:
     """What stands at the name in the place of a file, or none."""
     try:
         mode = os.stat(file).st_mode
@@ -775,7 +785,7 @@ def no_file(file):
     )
 
 
-def checked(asked):
+def checked(asked: argparse.Namespace) -> tuple[str | None, list[Finding], str | None]:
     """What the audit says, what is found, and whether what is proved is said of the file; none of the first and the last where it wasn't audited."""
     file = os.path.realpath(asked.file)
     if it := no_file(file):
@@ -809,7 +819,7 @@ def checked(asked):
     return said, found + more, proved
 
 
-def copied_and_judged(asked, file):
+def copied_and_judged(asked: argparse.Namespace, file: str) -> Judged:
     size, folder = sizes(file), tempfile.gettempdir()
     if (free := shutil.disk_usage(folder).free) < COPIES * size + ROOM_OF_AN_OPENING:
         raise OSError(
@@ -822,7 +832,7 @@ def copied_and_judged(asked, file):
         return judged(asked, file, room)
 
 
-def words():
+def words() -> argparse.Namespace:
     reader = reader_of(__doc__)
     reader.add_argument(
         "file",
@@ -855,7 +865,7 @@ def words():
     return asked
 
 
-def main():
+def main() -> int:
     asked = words()
     plant.ends_by_exception()
     os.umask(0o077)

@@ -15,6 +15,9 @@ when senders must come again, nothing is sent.
 Exit status: 0 accepted, or senders must come again; 1 not accepted, or there was no answer; 2 bad command line;
 3 nothing was sent, since this machine's clock is not in sync; 9 an unexpected failure.
 """
+from __future__ import annotations
+
+import argparse
 import pathlib
 import shutil
 import subprocess
@@ -30,7 +33,7 @@ ANSWER = pathlib.Path("/run/tracedesk-clock/answer.json")
 SECONDS_FOR_SYNCED = 20
 
 
-def is_synced(command):
+def is_synced(command: str) -> bool:
     """Whether this machine's clock is kept by the network; why not, is told."""
     try:
         done = subprocess.run(
@@ -53,13 +56,13 @@ def is_synced(command):
     return False
 
 
-def message():
+def message() -> str:
     """A ClockSet of this minute."""
     minute = int(time.time()) // 60
     return stored.line(f"clock-{catalogue.spelled(minute)[:-4]}Z", "clock", minute, "ClockSet", {})
 
 
-def sent(asked, line):
+def sent(asked: argparse.Namespace, line: str) -> str | None:
     """The desk's answer to a message; none where tracedesk-send says why there is none."""
     with tempfile.TemporaryDirectory(prefix="tracedesk-") as room:
         messages, answers = pathlib.Path(room, "messages"), pathlib.Path(room, "answers")
@@ -85,7 +88,7 @@ def sent(asked, line):
         return answers.read_text(encoding="utf-8")
 
 
-def words():
+def words() -> argparse.Namespace:
     reader = reader_of(__doc__)
     reader.add_argument("--url", default=URL, help=f"the desk ({URL})")
     reader.add_argument(
@@ -123,7 +126,7 @@ def words():
     return asked
 
 
-def main():
+def main() -> int:
     asked = words()
     if asked.drained.exists():
         plant.tell("senders are told to come again: nothing is sent")

@@ -27,17 +27,21 @@ A refusal is on standard error, with the remedy:
 
 Exit status: 0 done; 1 it can't be moved so, and nothing is printed; 2 bad command line; 9 an unexpected failure.
 """
+from __future__ import annotations
+
+import argparse
 import csv
 import hashlib
 import io
 import pathlib
 import sqlite3
 import sys
+from collections.abc import Iterable, Iterator
 
 from tracedesk_ops import carry, catalogue, copies, plant, reader_of
 
 SOURCE = "move"
-KINDS = {
+KINDS: dict[type[Exception], str] = {
     carry.NotCarried: "NotADesk",
     plant.Fault: "NotLawful",
     copies.InUse: "InUse",
@@ -51,7 +55,7 @@ class NotMoved(Exception):
     """Why a reel can't be moved so; the text begins with a name, and says what to do."""
 
 
-def desk(path, program):
+def desk(path: pathlib.Path, program: str) -> carry.Archive:
     """What a desk's file says."""
     if not path.is_file():
         raise NotMoved(f"Unreadable: there is no file {path}")
@@ -63,7 +67,7 @@ def desk(path, program):
         ) from None
 
 
-def want_at_rest(old, name):
+def want_at_rest(old: carry.Archive, name: str) -> None:
     """Stops where the old desk has no such reel with pieces left and on no slot."""
     if name in old.spent:
         raise NotMoved(
@@ -82,7 +86,7 @@ def want_at_rest(old, name):
             )
 
 
-def want_new(new, name):
+def want_new(new: carry.Archive, name: str) -> None:
     """Stops where the new desk has had a reel of this name."""
     if name in new.reels or name in new.spent:
         left = (
@@ -95,18 +99,18 @@ def want_new(new, name):
         )
 
 
-def end_of(asked, old, new):
+def end_of(asked: argparse.Namespace, old: carry.Archive, new: carry.Archive) -> int:
     """The minute at which the move is done: the later one of the desks' last minutes, or that of --at."""
-    last = max(old.minute, -1 if new.minute is None else new.minute)
+    last: int = max(old.minute, -1 if new.minute is None else new.minute)
     if asked.at is not None and asked.at < last:
         whose = "old" if old.minute == last else "new"
         raise NotMoved(
             f"TimePast: --at is {catalogue.spelled(asked.at)}, and the {whose} desk is at {catalogue.spelled(last)}: name the present time"
         )
-    return last if asked.at is None else asked.at
+    return last if asked.at is None else int(asked.at)
 
 
-def want_time(new, reel, end):
+def want_time(new: carry.Archive, reel: carry.Reel, end: int) -> None:
     """Stops where the reel would have to begin at a minute that the new desk has passed."""
     exposure = reel.exposure(end)
     if new.minute is None or end - exposure >= new.minute:
@@ -122,7 +126,9 @@ def want_time(new, reel, end):
     )
 
 
-def arrival(asked, old, new, messages):
+def arrival(
+    asked: argparse.Namespace, old: carry.Archive, new: carry.Archive, messages: carry.Messages
+) -> carry.Reel:
     """Says what the new desk is told, and returns the reel as it is then."""
     called, end = asked.called or asked.reel, end_of(asked, old, new)
     alone = old.of_one_reel(asked.reel, called, new.parts, end)
@@ -137,45 +143,32 @@ def arrival(asked, old, new, messages):
     return reel
 
 
-def notes(reel, new, end):
+def notes(reel: carry.Reel, new: carry.Archive, end: int) -> Iterator[str]:
     """What to look at once the new desk was told."""
     if new.minute is not None and new.minute < end:
         yield f"the new desk's clock goes from {carry.spelled(new.minute)} on to {carry.spelled(end)}"
-    life = (
-        "unlimited"
-        if reel.level == "1"
-        else "unbaked"
-        if reel.waits_for_its_bake()
-        else max(0, reel.limit() - reel.exposure(end))
-    )
+    limit, left = reel.limit(), reel.remaining
+    life = "unlimited" if limit is None else str(max(0, limit - reel.exposure(end)))
+    if reel.waits_for_its_bake():
+        life = "unbaked"
+    state = "open" if reel.is_open() else "sealed"
     card = io.StringIO()
     csv.writer(card, lineterminator="").writerow(
-        [
-            reel.reel,
-            reel.part,
-            reel.lot,
-            reel.level,
-            reel.remaining,
-            0,
-            0,
-            reel.remaining,
-            life,
-            "open" if reel.is_open() else "sealed",
-        ]
+        [reel.reel, reel.part, reel.lot, reel.level, left, 0, 0, left, life, state]
     )
     yield f"the new desk's card of it has to be: {card.getvalue()}"
     if reel.runs():
         yield "more minutes left there mean that its clock had gone on since the copy: then bake the reel, and tell that desk so"
 
 
-def prefix(asked, old):
+def prefix(asked: argparse.Namespace, old: carry.Archive) -> str:
     called = asked.called or asked.reel
     if len(called) > LONGEST_IN_ID:
         called = hashlib.sha256(called.encode()).hexdigest()[:LONGEST_IN_ID]
     return f"move-{called}-{old.minute}-{old.commands}"
 
 
-def moved(asked):
+def moved(asked: argparse.Namespace) -> tuple[list[str | carry.Setup], Iterable[str]]:
     """The lines to print, and what to tell besides."""
     old, new = desk(asked.old, asked.program), desk(asked.new, asked.program)
     want_at_rest(old, asked.reel)
@@ -183,7 +176,7 @@ def moved(asked):
     arrives = carry.Messages(prefix(asked, old), SOURCE)
     reel = arrival(asked, old, new, arrives)
     if not asked.leaving:
-        return arrives.lines, notes(reel, new, arrives.minute)
+        return arrives.lines, notes(reel, new, end_of(asked, old, new))
     leaves = carry.Messages(f"{prefix(asked, old)}-left", SOURCE)
     leaves.say(old.minute, "CountsTaken", Counts=[{"Reel": asked.reel, "Quantity": 0}])
     return leaves.lines, [
@@ -191,7 +184,7 @@ def moved(asked):
     ]
 
 
-def words(given=None):
+def words(given: list[str] | None = None) -> argparse.Namespace:
     """What the command line asks for; it ends where it can't be followed."""
     reader = reader_of(__doc__)
     reader.add_argument("reel", metavar="REEL", help="its name at the old desk")
@@ -236,7 +229,7 @@ def words(given=None):
     return asked
 
 
-def main():
+def main() -> None:
     try:
         lines, told = moved(words())
         plant.write_out("".join(f"{line}\n" for line in lines))

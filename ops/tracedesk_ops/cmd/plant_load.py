@@ -24,10 +24,16 @@ It needs Debian's packages python3-psycopg and python3, not the program.
 Exit status: 0 all of it is loaded; 1 something was refused or is missing, or PostgreSQL failed; 2 bad command line, or
 no psycopg; 9 an unexpected failure.
 """
+from __future__ import annotations
+
+import contextlib
 import hashlib
+import functools
 import itertools
 import pathlib
-from typing import NamedTuple
+import sqlite3
+from collections.abc import Callable, Iterable
+from typing import Any, NamedTuple, Optional, Union
 
 from tracedesk_ops import (
     backups,
@@ -43,9 +49,9 @@ try:
     import psycopg
     from psycopg.rows import namedtuple_row
 
-    ERRORS = (psycopg.Error,)
+    ERRORS: tuple[type[Exception], ...] = (psycopg.Error,)
 except ImportError:  # the help is printed without it
-    psycopg, ERRORS = None, ()
+    ERRORS = ()
 
 RUNNING = catalogue.RUNNING
 ROWS_AT_A_TIME = 10_000
@@ -61,8 +67,12 @@ PLACES = "MaterialsInstalled\t"  # how the commands begin that place pieces
 LOOK = (
     "untraced work and doubtful pieces"  # what is missing of a line in which nobody looked for them
 )
-FAULTS = (*plant.FAULTS[:-1], *ERRORS)  # an interruption ends it
+FAULTS: tuple[type[Exception], ...] = (*plant.FAULTS[:-1], *ERRORS)  # an interruption ends it
+DATABASES: tuple[type[Exception], ...] = (plant.Fault, *ERRORS)  # faults of the database itself
 AGAIN = "its load has begun: call tracedesk-plant-load again"
+
+
+DeskKey = Union[str, tuple[str, Optional[backups.Command]]]
 
 
 class LoadedBefore(Exception):
@@ -84,7 +94,7 @@ class Seen(NamedTuple):
 # --- The database
 
 
-def fields(*values):
+def fields(*values: object) -> str:
     """A line of COPY's text form."""
     return "\t".join(str(it).replace("\\", "\\\\") for it in values) + "\n"
 
@@ -92,7 +102,7 @@ def fields(*values):
 class Tables:
     """The plant's tables, over one connection; one call at a time has them."""
 
-    def __init__(self):
+    def __init__(self) -> None:
         self.link = psycopg.connect(
             autocommit=True, client_encoding="utf8", row_factory=namedtuple_row
         )
@@ -109,20 +119,20 @@ class Tables:
                 f"{old[0].line} {old[0].name} was loaded up to 0.2.0: make the database anew"
             )
 
-    def do(self, text, *values):
+    def do(self, text: str, *values: object) -> Any:
         return self.link.execute(text, values or None)
 
-    def rows(self, text, *values):
-        return self.do(text, *values).fetchall()
+    def rows(self, text: str, *values: object) -> list[Any]:
+        return list(self.do(text, *values).fetchall())
 
-    def files(self, which, *values):
+    def files(self, which: str, *values: object) -> list[Any]:
         """The files that a condition names: there may be ten thousand, so each question is asked of the database."""
         return self.rows(
             f"SELECT id, line, name, sha256, pieces, taken, dropped, copy_number AS number, said, desk FROM file WHERE {which} ORDER BY id",
             *values,
         )
 
-    def copy(self, target, lines):
+    def copy(self, target: str, lines: Iterable[str]) -> int:
         """Copies lines of COPY's text form into a table; how many."""
         count, lines = 0, iter(lines)
         with self.link.cursor() as cursor, cursor.copy(f"COPY {target}") as to:
@@ -132,7 +142,7 @@ class Tables:
                 plant.reached(f"rows of {target.split()[0].partition('_')[0]}")
         return count
 
-    def miss(self, line, name, why):
+    def miss(self, line: str, name: str, why: str) -> None:
         self.do(
             "INSERT INTO lacking VALUES (%s, %s, %s) ON CONFLICT (line, name) DO UPDATE SET why = excluded.why, taken_out = ''",
             line,
@@ -140,11 +150,11 @@ class Tables:
             why,
         )
 
-    def has(self, line, name):
+    def has(self, line: str, name: str) -> None:
         """Takes back that something is missing."""
         self.do("DELETE FROM lacking WHERE line = %s AND name = %s AND taken_out = ''", line, name)
 
-    def load(self, seen, database, desk):
+    def load(self, seen: Seen, database: sqlite3.Connection, desk: str) -> tuple[int, list[Any]]:
         """Makes a file a part, in the place of the files that it replaces. How many pieces it has, and the copies of which it lacks commands."""
         self.do("TRUNCATE its")
         said = self.copy(
@@ -216,7 +226,7 @@ class Tables:
         plant.reached("committed")
         return pieces, cut
 
-    def give_way(self, seen, replaced, cut):
+    def give_way(self, seen: Seen, replaced: list[Any], cut: list[Any]) -> None:
         """Takes out the older copies of the same desk. One of another desk stays, under a name of its own, until its archive comes."""
         for it in (*replaced, *cut):
             self.do(f"DROP TABLE placement_{it.id}")
@@ -236,7 +246,7 @@ class Tables:
                 "known that they were sent again, or won't be, take this line away: drop.sql",
             )
 
-    def gives_way(self, seen, said, desk):
+    def gives_way(self, seen: Seen, said: int, desk: str) -> tuple[list[Any], list[Any]]:
         """The files that give way to this one: those whose commands it has; and older ones that have more, as a desk that went back.
 
         A Fault where its commands would count twice, or are another line's.
@@ -294,14 +304,15 @@ class Tables:
 class Loading:
     """All that is loaded in one call: `loaded` counts the files, and `refused` what is not."""
 
-    def __init__(self, line):
-        self.line, self.loaded, self.refused, self.named, self.tables = line, 0, 0, {}, Tables()
+    def __init__(self, line: str | None) -> None:
+        self.line, self.loaded, self.refused, self.tables = line, 0, 0, Tables()
+        self.named: dict[str, DeskKey] = {}  # the desks of lines that the command line named
 
-    def refuse(self, fault):
+    def refuse(self, fault: Exception | str) -> None:
         self.refused += 1
         plant.tell(f"REFUSED: {text_of(fault)}")
 
-    def miss(self, path, fault, line=""):
+    def miss(self, path: str | pathlib.Path, fault: Exception | str, line: str = "") -> None:
         self.refuse(fault)
         remedy = (
             f". Where nothing is loaded from there any more: drop.sql with line={line} and name={path}"
@@ -310,14 +321,14 @@ class Loading:
         )
         self.tables.miss(line, str(path), text_of(fault) + remedy)
 
-    def new(self, files):
+    def new(self, files: list[Seen]) -> list[Seen]:
         known = {
             (it.line, it.name, it.sha256)
             for it in self.tables.files("sha256 = ANY (%s)", [it.sha256 for it in files])
         }
         return [it for it in files if it[1:4] not in known]
 
-    def begin(self, names):
+    def begin(self, names: Iterable[tuple[str, str]]) -> None:
         """Makes files missing until they are loaded, so that no recall takes some of them for all, also where this call is killed."""
         for line, name in names:
             self.tables.do(
@@ -325,13 +336,18 @@ class Loading:
             )
         plant.reached("begun")
 
-    def is_there(self, line, name):
+    def is_there(self, line: str, name: str) -> None:
         """Takes back what `begin` said, where nothing is to be loaded."""
         self.tables.do(
             "DELETE FROM lacking WHERE line = %s AND name = %s AND why = %s", line, name, AGAIN
         )
 
-    def one(self, seen, opened, name):
+    def one(
+        self,
+        seen: Seen,
+        opened: Callable[[], contextlib.AbstractContextManager[sqlite3.Connection]],
+        name: str,
+    ) -> None:
         """Loads a file and says so; one that is refused is missing from then on. `opened` opens it once it has its checksum, `name` is its desk's by the catalogue."""
         try:
             for it in self.tables.files("line = %s AND name = %s", seen.line, seen.name):
@@ -359,17 +375,18 @@ class Loading:
         except FAULTS as fault:
             self.miss(seen.name, fault, seen.line)
 
-    def archives(self, path, archives, line="", copy=None):
+    def archives(
+        self,
+        path: pathlib.Path,
+        archives: list[catalogue.Archive],
+        line: str = "",
+        copy: pathlib.Path | None = None,
+    ) -> None:
         """Loads the archives of a catalogue, then the running desk of the copy in which it lies, and then what is untraced or doubtful."""
-        desk = copy and Seen(
-            copy / "desk",
-            line,
-            RUNNING,
-            backups.sums_of(copy).get("desk", ""),
-            copy.name,
-            None,
-            backups.number_of(copy),
-        )
+        desk: Seen | None = None
+        if copy:
+            sha256, number = backups.sums_of(copy).get("desk", ""), backups.number_of(copy)
+            desk = Seen(copy / "desk", line, RUNNING, sha256, copy.name, None, number)
         unasked = list(catalogue.unasked(path, archives))
         lines = sorted({it.desk for it in archives} | ({line} - {""}))
         for its in lines or [self.line or ""]:
@@ -385,8 +402,8 @@ class Loading:
         new = self.new([*seen, desk] if desk else seen)
         is_new, loaded = around.is_new(self.tables), self.loaded
         self.begin([*(it[1:3] for it in new), *([(around.line, LOOK)] if is_new else [])])
-        for it, archive in zip(seen, archives):
-            self.one(it, lambda archive=archive: catalogue.unchanged(path, archive), archive.name)
+        for file, archive in zip(seen, archives):
+            self.one(file, functools.partial(catalogue.unchanged, path, archive), archive.name)
         for its in lines:  # what was taken out, and is not expected any more
             self.tables.do(
                 "DELETE FROM lacking WHERE line = %s AND taken_out <> '' AND name <> %s AND name NOT LIKE 'desk of %%' AND NOT taken_out = ANY (%s)",
@@ -395,7 +412,7 @@ class Loading:
                 [it.sha256 for it in archives],
             )
         if desk:
-            self.one(desk, lambda: opened_desk(desk), "")
+            self.one(desk, functools.partial(opened_desk, desk), "")
         if is_new and self.loaded == loaded and around.unseen(self.tables):
             self.is_there(
                 around.line, LOOK
@@ -407,7 +424,7 @@ class Loading:
                     self.refuse(fault)
                 self.tables.miss(around.line, LOOK, fault)
 
-    def copy(self, copy):
+    def copy(self, copy: pathlib.Path) -> None:
         """Loads the archives of a copy, and its running desk."""
         path, told = copy / backups.ARCHIVE / catalogue.FILE_NAME, backups.about(copy)
         archives = catalogue.read(path)
@@ -433,11 +450,13 @@ class Loading:
         self.archives(path, archives, line, copy)
         self.want_chains(path, archives, [desk.mark] if desk else [])
 
-    def want_chains(self, path, archives, marks=()):
+    def want_chains(
+        self, path: pathlib.Path, archives: list[catalogue.Archive], marks: Iterable[str] = ()
+    ) -> None:
         if gaps := identity.gaps(path, archives, marks):
             raise plant.Fault(gaps[0])
 
-    def path(self, path):
+    def path(self, path: pathlib.Path) -> None:
         """Loads a catalogue, a copy, or the newest copy of each desk in a folder. What is refused of it as a whole is missing until all of it is loaded."""
         refused = self.refused
         try:
@@ -453,7 +472,7 @@ class Loading:
         if self.refused == refused:
             self.tables.has("", str(path))
 
-    def folder(self, path):
+    def folder(self, path: pathlib.Path) -> None:
         kept, faults = backups.survey(path)
         if not kept and not faults and not (path / "desk").is_file():
             raise plant.Fault(f"{path}: there is no copy in it, as tracedesk-backup makes them")
@@ -475,7 +494,13 @@ class Loading:
 class Around:
     """What is around the archives of a catalogue, and the running desk of their copy: untraced work, and pieces that may be of another reel."""
 
-    def __init__(self, path, archives, desk, lines):
+    def __init__(
+        self,
+        path: pathlib.Path,
+        archives: list[catalogue.Archive],
+        desk: Seen | None,
+        lines: list[str],
+    ) -> None:
         self.path, self.archives, self.desk, self.line, self.lines = (
             path,
             catalogue.in_turn(archives),
@@ -495,12 +520,12 @@ class Around:
             ).encode()
         ).hexdigest()
 
-    def is_new(self, tables):
+    def is_new(self, tables: Tables) -> bool:
         return not tables.rows(
             "SELECT FROM looked WHERE line = %s AND at = %s", self.line, self.checksum
         )
 
-    def load(self, tables, is_whole):
+    def load(self, tables: Tables, is_whole: bool) -> list[str]:
         """Looks for it in all files, and puts it into the tables. Why it isn't known what is in doubt."""
         its = doubtful.look(
             self.path, self.archives if is_whole else [], is_whole and bool(self.desk)
@@ -559,7 +584,7 @@ class Around:
                 )
         return faults
 
-    def unseen(self, tables):
+    def unseen(self, tables: Tables) -> list[str]:
         """Files of the line that are loaded, and newer than these or of another catalogue: then these alone don't say what is in doubt."""
         here = {it.sha256 for it in self.archives}
         return [
@@ -573,7 +598,7 @@ class Around:
         ][:1]
 
 
-def opened_desk(seen):
+def opened_desk(seen: Seen) -> contextlib.AbstractContextManager[sqlite3.Connection]:
     """The running desk of a copy, once it has its checksum."""
     if (
         not seen.sha256
@@ -586,7 +611,7 @@ def opened_desk(seen):
     return catalogue.opened(seen.file)
 
 
-def newest_of(copies):
+def newest_of(copies: list[pathlib.Path]) -> dict[DeskKey, pathlib.Path]:
     """The newest copy of each desk. One without a name is older than that of a desk which began as it did, itself or an archive of it."""
     newest = {desk_of(it): it for it in copies}
     firsts = {key: backups.firsts_in(it) for key, it in newest.items()}
@@ -598,17 +623,17 @@ def newest_of(copies):
     }
 
 
-def desk_of(copy):
+def desk_of(copy: pathlib.Path) -> DeskKey:
     """What tells the desk of a copy from others: its name, else its file and its first command."""
     told = backups.about(copy)
     return told["name"] or (told["desk"], backups.command(copy / "desk", 1))
 
 
-def text_of(fault):
+def text_of(fault: Exception | str) -> str:
     return f"PostgreSQL: {fault}".strip() if isinstance(fault, ERRORS) else str(fault)
 
 
-def main():
+def main() -> int:
     reader = reader_of(__doc__)
     reader.add_argument(
         "--line",
@@ -624,7 +649,7 @@ def main():
         help="a catalogue, a copy, or a folder of copies",
     )
     words = reader.parse_args()
-    if psycopg is None:
+    if not ERRORS:
         plant.tell(
             "there is no psycopg: apt-get install python3-psycopg, and let /usr/bin/python3 run this"
         )
@@ -650,7 +675,7 @@ def main():
             "DELETE FROM lacking USING file WHERE taken_out = file.sha256 AND NOT dropped"
         )
         loading.tables.do("INSERT INTO state DEFAULT VALUES")
-    except (plant.Fault, *ERRORS) as fault:  # the database itself
+    except DATABASES as fault:
         plant.tell(f"REFUSED: {text_of(fault)}")
         return 1
     return 1 if loading.refused else 0

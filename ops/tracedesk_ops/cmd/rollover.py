@@ -23,14 +23,20 @@ cut off is put back first.
 Exit status: 0 done, or --if-due and not due; 1 not done, and the old desk runs; 2 bad command line;
 3 done, and the service does not answer; 9 an unexpected failure. Of --due: 0 not due; 1 due; 2 bad command line; 3 the file can't be read.
 """
+from __future__ import annotations
+
+import argparse
 import collections
+import functools
 import itertools
 import json
 import os
+import pathlib
 import re
 import sqlite3
 import subprocess
 import time
+from collections.abc import Iterable
 
 from tracedesk_ops import carry, catalogue, copies, files, identity, plant, reader_of, unfinished
 
@@ -42,10 +48,10 @@ COPIES = 2.2  # the archive, and a new desk as large
 Seen = collections.namedtuple("Seen", "commands greatest first_minute last_minute pieces in_work")
 
 
-def seen(file):
+def seen(file: pathlib.Path) -> Seen:
     """What a file says without its log: all of it where it stands whole, else as of some minutes ago."""
     with catalogue.opened(file) as database:
-        rows = lambda query: database.execute(query).fetchall()
+        rows = functools.partial(copies.rows, database)
         ((commands, first, last),) = rows(
             "SELECT count(*), min(effective), max(effective) FROM accepted"
         )
@@ -64,7 +70,7 @@ def seen(file):
 # --- Whether one is due
 
 
-def due(asked):
+def due(asked: argparse.Namespace) -> tuple[bool, str]:
     """Whether it is time, and a line that says so."""
     for tries_left in (2, 1, 0):
         try:
@@ -91,12 +97,12 @@ def due(asked):
 class RollOver(unfinished.Rolling):
     """One roll-over."""
 
-    def __init__(self, asked):
+    def __init__(self, asked: argparse.Namespace) -> None:
         super().__init__(asked)
         self.chain, self.pieces = plant.Program(asked.chain, asked.db) if asked.chain else None, 0
         self.service = plant.Service(asked, not asked.if_due, self.room.exists())
 
-    def whole(self):
+    def whole(self) -> None:
         """All of it: with the service stopped, and started again whatever happens."""
         if self.is_left_to_start():
             plant.tell("an earlier run had put the new desk in place; it is started")
@@ -109,7 +115,7 @@ class RollOver(unfinished.Rolling):
         finally:
             self.start()
 
-    def work(self):
+    def work(self) -> None:
         """All of it that wants no service."""
         try:
             if not self.goes_on():
@@ -122,7 +128,7 @@ class RollOver(unfinished.Rolling):
         finally:
             self.let_go()
 
-    def start(self):
+    def start(self) -> None:
         """Starts the service; then nothing is left to go on with where the new desk is in place."""
         is_new = self.is_left_to_start()
         gone = self.service.start(0 if is_new else self.pieces)
@@ -131,7 +137,7 @@ class RollOver(unfinished.Rolling):
         if gone:
             plant.tell(f"the desk was not there for {gone:.0f} seconds")
 
-    def prepare(self):
+    def prepare(self) -> None:
         """Makes the archive and the new desk, has them compared, and writes the plan."""
         self.may_put_back = True
         self.room.mkdir(mode=0o700)
@@ -149,7 +155,7 @@ class RollOver(unfinished.Rolling):
         self.planned(archive)
         plant.reached("plan")
 
-    def copied(self):
+    def copied(self) -> Seen:
         """The desk's file and its log as one file, and what it says; a board in work is refused."""
         copies.copy(self.db, self.copy)
         with copies.database(self.copy) as database:
@@ -169,7 +175,7 @@ class RollOver(unfinished.Rolling):
             )
         return it
 
-    def audited(self, old):
+    def audited(self, old: Seen) -> str:
         """Both audits, and the checksum that both files have; from here on no run can open the desk's."""
         for file in (self.db, self.copy):
             if (commands := self.program.audit(file)) != old.commands:
@@ -184,15 +190,18 @@ class RollOver(unfinished.Rolling):
             )
         return sha256
 
-    def named(self, old, sha256):
+    def named(self, old: Seen, sha256: str) -> catalogue.Archive:
         """The archive's line."""
         archives = catalogue.read(self.catalogue)
         chain, faults = identity.chain(self.catalogue, archives, self.desk.mark)
         if faults:
             raise plant.Fault(f"{faults[0]}. Then call tracedesk-settle --catalogue")
         line = self.asked.line or line_of(chain or archives)
-        stamp = lambda minute: re.sub("[-:]", "", catalogue.spelled(minute))[:13] + "Z"
-        name = f"{line}-{stamp(old.first_minute)}-{stamp(old.last_minute)}-{old.commands}"
+        first, last = (
+            re.sub("[-:]", "", catalogue.spelled(minute))[:13] + "Z"
+            for minute in (old.first_minute, old.last_minute)
+        )
+        name = f"{line}-{first}-{last}-{old.commands}"
         if chain and chain[0].desk != line:
             raise plant.Fault(
                 f"{self.db} went on from {chain[0].file}, which is of the line {chain[0].desk}, and not of {line}: say that by --line"
@@ -223,32 +232,29 @@ class RollOver(unfinished.Rolling):
             name=self.name,
         )
 
-    def begun(self, carried, at, sha256):
+    def begun(self, carried: carry.Archive, at: int | None, sha256: str) -> carry.Carrier:
         """Makes the new desk, each of whose commands was Accepted; who tells what it doesn't know."""
         self.new.unlink(missing_ok=True)
         lines, carrier = carry.begun(carried, sha256, at, not self.asked.no_loads, self.name)
-        numbers = iter(range(len(lines)))
+        answered = 0
         for is_setup, those in itertools.groupby(lines, lambda it: isinstance(it, carry.Setup)):
-            those = list(those)
-            for line, answer in zip(
-                those,
-                self.imported(*those)
-                if is_setup
-                else self.fed(self.new, those, "--greatest", carried.greatest),
-            ):
+            part = list(those)
+            if is_setup:
+                answers = [self.imported(it) for it in part if isinstance(it, carry.Setup)]
+            else:
+                answers = self.fed(self.new, part, "--greatest", carried.greatest)
+            for line, answer in zip(part, answers):
                 if json.loads(answer)["Answer"] != "Accepted":
                     raise plant.Fault(f"the new desk answers {answer} to {str(line)[:300]}")
-                next(numbers)
-        if (answered := next(numbers, len(lines))) != len(lines) or self.program.audit(
-            self.new
-        ) != len(lines):
+                answered += 1
+        if answered != len(lines) or self.program.audit(self.new) != len(lines):
             raise plant.Fault(
                 f"the new desk answered {answered} of {len(lines)} messages: is the disk full?"
             )
         plant.without_log(self.new)
         return carrier
 
-    def fed(self, file, lines, *words):
+    def fed(self, file: pathlib.Path, lines: Iterable[object], *words: object) -> list[str]:
         """A desk's answers to some messages."""
         given, answers = self.room / "messages", self.room / "answers"
         given.write_text("".join(f"{line}\n" for line in lines), encoding="ascii")
@@ -256,38 +262,22 @@ class RollOver(unfinished.Rolling):
             self.program.run("feed", "--db", file, *words, stdin=messages, stdout=out)
         return answers.read_text(encoding="ascii").splitlines()
 
-    def imported(self, *setups):
-        """The new desk's answers to sheets that are too long for a message."""
-        for it in setups:
-            file = self.room / "setup"
-            file.write_text(it.text, encoding="ascii")
-            words = [
-                "--id",
-                it.uid,
-                "--source",
-                it.source,
-                "--time",
-                it.stamp,
-                "--product",
-                it.product,
-                "--machine",
-                it.machine,
-                "--file",
-                file,
-            ]
-            yield self.program.run(
-                "import-setup",
-                "--db",
-                self.new,
-                *words,
-                stdin=subprocess.DEVNULL,
-                stdout=subprocess.PIPE,
-                **plant.TEXT,
-            ).stdout or "{}"
+    def imported(self, setup: carry.Setup) -> str:
+        """The new desk's answer to a sheet that is too long for a message."""
+        file = self.room / "setup"
+        file.write_text(setup.text, encoding="ascii")
+        words = [
+            *("--id", setup.uid, "--source", setup.source, "--time", setup.stamp),
+            *("--product", setup.product, "--machine", setup.machine, "--file", file),
+        ]
+        how = {"stdin": subprocess.DEVNULL, "stdout": subprocess.PIPE, **plant.TEXT}
+        return self.program.run("import-setup", "--db", self.new, *words, **how).stdout or "{}"
 
-    def compared(self, carried, sha256):
+    def compared(self, carried: carry.Archive, sha256: str) -> str:
         """What tracedesk-chain says of both desks, which has to be that they are alike."""
         old = self.with_what_was_asked(carried, sha256)
+        if not self.chain:
+            raise plant.Fault("there is no tracedesk-chain")
         done = self.chain.run(
             "alike", old, self.new, stdin=subprocess.DEVNULL, capture_output=True, **plant.TEXT
         )
@@ -300,7 +290,7 @@ class RollOver(unfinished.Rolling):
             plant.without_log(file)
         return done.stdout.strip()
 
-    def with_what_was_asked(self, carried, sha256):
+    def with_what_was_asked(self, carried: carry.Archive, sha256: str) -> pathlib.Path:
         """The old desk that the new one is compared with: the copy, or one more of it that has taken the commands for which the options stand."""
         messages, at = (
             carry.Messages(f"asked-{sha256[:identity.CHECKSUM]}", "asked"),
@@ -319,7 +309,7 @@ class RollOver(unfinished.Rolling):
         self.fed(old, messages.lines)
         return old
 
-    def planned(self, archive):
+    def planned(self, archive: catalogue.Archive) -> None:
         """Writes down what is to be put in place, once all of it is on disk."""
         for it in (self.copy, self.new):
             files.keep(it)
@@ -328,7 +318,7 @@ class RollOver(unfinished.Rolling):
         files.put(self.plan, json.dumps({**archive._asdict(), "seal": self.seal(archive)}))
 
 
-def line_of(archives):
+def line_of(archives: Iterable[catalogue.Archive]) -> str:
     """The name of the line, where no word says it."""
     names = {it.desk for it in archives}
     if len(names) != 1:
@@ -338,7 +328,7 @@ def line_of(archives):
     return names.pop()
 
 
-def want_room(asked):
+def want_room(asked: argparse.Namespace) -> None:
     """Stops where the disk can't hold the copies, before anything is stopped for it."""
     size = sum(os.stat(it).st_size for it in (asked.db, f"{asked.db}-wal") if os.path.exists(it))
     is_changed = asked.no_loads or asked.with_board_in_work or asked.at is not None
@@ -349,7 +339,7 @@ def want_room(asked):
         )
 
 
-def words():
+def words() -> argparse.Namespace:
     reader = reader_of(__doc__)
     reader.add_argument("--due", action="store_true", help="say whether it is time, and do nothing")
     reader.add_argument(
@@ -394,7 +384,7 @@ def words():
     return asked
 
 
-def main():
+def main() -> int:
     asked = words()
     plant.ends_by_exception()
     os.umask(0o077)
@@ -402,7 +392,7 @@ def main():
         return rolled_over(asked)
 
 
-def rolled_over(asked):
+def rolled_over(asked: argparse.Namespace) -> int:
     if asked.due:
         try:
             is_due, told = due(asked)

@@ -19,15 +19,21 @@ it says so and writes nothing. The old catalogue is kept next to the new one. Li
 Exit status: 0 done, or there was nothing to do; 1 not done, as standard error says; 2 bad command line; 9 an unexpected
 failure.
 """
+from __future__ import annotations
+
+import argparse
 import contextlib
 import os
+import pathlib
 import sqlite3
 import time
 
 from tracedesk_ops import catalogue, identity, plant, reader_of, unfinished
 
 
-def read(folder, file, before, line):
+def read(
+    folder: pathlib.Path, file: pathlib.Path, before: dict[str, catalogue.Archive], line: str
+) -> tuple[catalogue.Archive, str]:
     """The row of an archive in a folder, and the mark of the one from which it was begun."""
     if log := catalogue.log_of(file):
         raise plant.Fault(
@@ -58,7 +64,7 @@ def read(folder, file, before, line):
     )
 
 
-def rows_of(asked):
+def rows_of(asked: argparse.Namespace) -> list[catalogue.Archive]:
     """The rows of a catalogue, by what the files say; a Fault where one is missing."""
     path = asked.archive / catalogue.FILE_NAME
     before = {it.sha256: it for it in catalogue.survey(path).archives}
@@ -70,13 +76,9 @@ def rows_of(asked):
     rows = {it.file: it for it, _ in found}
     live = identity.of_running(asked.db)
     begun = [*((it.file, mark) for it, mark in found), (str(asked.db), live.mark if live else "")]
-    for what, of in (
-        ("are the same file", [(it.file, it.sha256) for it in rows.values()]),
-        (
-            "were both begun from one archive, so one is a copy of the other, from another moment",
-            begun,
-        ),
-    ):
+    sums = [(it.file, it.sha256) for it in rows.values()]
+    copied = "were both begun from one archive, so one is a copy of the other, from another moment"
+    for what, of in (("are the same file", sums), (copied, begun)):
         if twice := next(
             (
                 [file for file, its in of if its == it]
@@ -113,7 +115,7 @@ def rows_of(asked):
     return catalogue.in_turn(list(rows.values()))
 
 
-def made_anew(asked):
+def made_anew(asked: argparse.Namespace) -> None:
     """Puts a catalogue of the archives that are there in the place of the one that is there, which stays beside it."""
     path = asked.archive / catalogue.FILE_NAME
     if not asked.archive.is_dir():
@@ -134,7 +136,7 @@ def made_anew(asked):
     print(f"{path}: {len(rows)} archives")
 
 
-def words():
+def words() -> argparse.Namespace:
     reader = reader_of(__doc__)
     reader.add_argument(
         "--damaged",
@@ -157,7 +159,7 @@ def words():
     return asked
 
 
-def main():
+def main() -> int:
     asked = words()
     plant.ends_by_exception()
     os.umask(0o077)

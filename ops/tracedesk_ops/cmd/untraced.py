@@ -24,6 +24,8 @@ decision. If a recall names pieces as doubtful because of it, and nothing was pl
 Exit status: 0 done, and of list: nothing is undecided; 1 something is undecided; 2 bad command line; 3 a file is damaged or
 gone, and standard error says which; 9 an unexpected failure.
 """
+from __future__ import annotations
+
 import argparse
 import csv
 import io
@@ -33,7 +35,7 @@ import time
 from tracedesk_ops import places, plant, reader_of, untraced
 
 
-def collect(asked):
+def collect(asked: argparse.Namespace) -> int:
     """Collects once, or for ever; then a fault is said, and what comes later is still taken."""
     while True:
         status = 0
@@ -54,13 +56,13 @@ def collect(asked):
         time.sleep(asked.every)
 
 
-def tell_station(asked, records):
+def tell_station(asked: argparse.Namespace, records: list[untraced.Record]) -> None:
     folder = asked.status or places.of_archive(asked.archive).status
     if asked.status or folder.is_dir():
         untraced.write_status(folder, records)
 
 
-def show(asked):
+def show(asked: argparse.Namespace) -> int:
     book = untraced.read(asked.archive)
     decided, rows = untraced.decisions(book.records), []
     for it in book.records:
@@ -105,7 +107,7 @@ def show(asked):
     return 3 if book.faults else 1 if untraced.undecided(book.records) else 0
 
 
-def decide(asked):
+def decide(asked: argparse.Namespace) -> int:
     try:
         records, _, _ = untraced.collect(asked.archive)
         known = [*untraced.refused(records), *untraced.differing(records)]
@@ -122,13 +124,13 @@ def decide(asked):
         return 3
 
 
-def words_of(text):
+def words_of(text: str) -> str:
     if not text.strip() or not text.isprintable() or len(text) > 500:
         raise argparse.ArgumentTypeError("it is a text of one line, of 1 to 500 letters")
     return text.strip()
 
 
-def main():
+def main() -> int:
     reader = reader_of(__doc__)
     verbs = reader.add_subparsers(dest="verb", required=True)
     for verb, call in (("collect", collect), ("list", show), ("decide", decide)):
@@ -156,4 +158,4 @@ def main():
     asked = reader.parse_args()
     asked.archive = asked.archive.absolute()
     with plant.as_owner(asked.archive.parent / plant.DESK.name):
-        return asked.call(asked)
+        return int(asked.call(asked))

@@ -97,6 +97,19 @@ test("two witnesses that differ are named with both reels, each board once", () 
     ["M1", "K-77", "K-99", false]);
 });
 
+test("the collector's entry of two witnesses takes no reel away", () => {
+  const entry = { Id: "d", At: AT, Machine: "M1", Board: "SN-8", Refusal: "Differs", Place: "K-99",
+    MessageName: "TraceDesk.MaterialsInstalled" };
+  const collected = file({ Undecided: [entry], Decided: [] }, "untraced.json");
+  const [alone] = readMachines([collected], NOW).open;
+  assert.deepEqual([alone.kind, alone.took, alone.desk], ["differs", "K-99", null]);
+  const sender = of({ Differs: [{ Id: "d", At: AT, Board: "SN-8", Desk: "K-77", Machine: "K-99" }] });
+  for (const files of [[collected, sender], [sender, collected]]) {
+    const { open } = readMachines(files, NOW);
+    assert.deepEqual(open.map((it) => [it.desk, it.took]), [["K-77", "K-99"]]);
+  }
+});
+
 const ODD = [null, undefined, 7, "text", true, [], [null], {}, { a: 1 }, NaN, Infinity, -1, "",
   "9".repeat(5_000), "<img src=x onerror=alert(1)>", { Id: {} }, [[]], "2026-13-77T99:99:99Z"];
 const MEMBERS = ["At", "Period", "Machines", "Undecided", "Decided"];

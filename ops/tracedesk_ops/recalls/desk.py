@@ -1,0 +1,126 @@
+"""The lines that a recall asks, and how it asks a running desk."""
+from __future__ import annotations
+import base64
+import netrc
+import pathlib
+import ssl
+from collections.abc import Iterator
+from typing import NamedTuple
+from tracedesk import words as reports
+from tracedesk_ops import asking, catalogue, identity, plant
+from tracedesk_ops.firstlook import Piece, Reel, Told
+
+RUNNING = catalogue.RUNNING
+
+
+SECONDS_FOR_A_REPORT = 120  # as the proxy waits; a trace of very many pieces takes its time
+
+
+class Line(NamedTuple):
+    """A line of the plant; `url` is empty if no desk runs, `machines` are those that somebody named,
+    and `desk` is its file if that is known.
+    """
+
+    name: str
+    url: str
+    catalogue: pathlib.Path
+    machines: tuple[str, ...] = ()
+    desk: pathlib.Path | None = None
+
+
+class Question(NamedTuple):
+    """What is asked: `kind` is lot, board or reel."""
+
+    kind: str
+    name: str
+
+
+class Desk(asking.Once):
+    """A running desk. `notes` say where nobody looked for reels."""
+
+    def __init__(self, line: Line, trust: ssl.SSLContext | None, users: netrc.netrc | None) -> None:
+        super().__init__(line.url, SECONDS_FOR_A_REPORT, trust)
+        self.line = line
+        self.notes: list[str] = []
+        if user := users.authenticators(self.url.hostname or "") if users else None:
+            log_in = base64.b64encode(f"{user[0]}:{user[2]}".encode()).decode()
+            self.headers["Authorization"] = f"Basic {log_in}"
+
+    def want_line(self, newest: catalogue.Archive | None) -> list[str]:
+        """Stops where this is not the desk that went on from the newest archive of its line. What is
+        wrong if it went on from one and there is none.
+        """
+        if newest and not any(self.has(uid) for uid in identity.first_uids(newest)):
+            raise plant.Fault(
+                f"{self.name}: this desk did not go on from {newest.file}, the line's newest archive:"
+                " it is another line's, or a newer archive is not in the catalogue"
+            )
+        if not newest and self.has(identity.BEGUN):
+            return [
+                f"{self.line.name}: {self.name}: this desk was begun from an archive, and the line has"
+                " none: name its catalogue, or mount its disk"
+            ]
+        return []
+
+    def pieces_of(self, question: Question) -> Told:
+        """The pieces of a lot, a board or a reel, and whether it is known."""
+        if question.kind == "board":
+            of_board: list[reports.BoardPiece] | None = self.rows(
+                "/trace/board", 4, board=question.name
+            )
+            there = [self.piece(row, question.name, row.lot) for row in of_board or []]
+            return Told(of_board is not None, there)
+        lot = question.name
+        if question.kind == "reel":
+            card = self.card(question.name)
+            if card is None:
+                return Told(False, [])
+            lot = card.lot
+        of_lot: list[reports.LotPiece] | None = self.rows("/trace/lot", 4, lot=lot)
+        wanted = [
+            row for row in of_lot or [] if question.kind == "lot" or row.reel == question.name
+        ]
+        return Told(of_lot is not None, [self.piece(row, row.board, lot) for row in wanted])
+
+    def card(self, reel: str) -> reports.ReelCard | None:
+        """A reel's card; None if the desk doesn't know the reel."""
+        cards = self.rows("/reel", reel=reel)
+        return cards[0] if cards else None
+
+    def piece(self, row: reports.BoardPiece | reports.LotPiece, board: str, lot: str) -> Piece:
+        overdue = "yes" if row.overdue else "no"
+        where = row.machine, row.slot, overdue, None, self.line.name, RUNNING
+        return Piece(board, row.designator, row.part, lot, row.reel, *where)
+
+    def stock(
+        self, question: Question, told: Told, held: dict[str, Reel], machines: set[str]
+    ) -> Iterator[Reel]:
+        """What is left now of the reels that the newest archive, the trace and the machines' slot
+        lists name. One that the desk doesn't know is reported as it was held.
+        """
+        pieces_on = {piece.machine for piece in told.pieces}
+        looked_at = sorted(machines | pieces_on | set(self.line.machines))
+        mounted: dict[str, tuple[str, reports.SlotRow]] = {
+            row.reel: (machine, row)
+            for machine in looked_at
+            for row in self.rows("/slots", machine=machine) or []
+        }
+        named = {question.name}
+        if question.kind == "lot":
+            named = {name for name, (_, row) in mounted.items() if row.lot == question.name}
+        for name in sorted({*named, *held, *(piece.reel for piece in told.pieces)}):
+            card = self.card(name)
+            if card is None and name in held:
+                yield held[name]
+            elif card and getattr(card, question.kind) == question.name and card.remaining:
+                machine, slot = "", ""
+                if name in mounted:
+                    machine, slot = mounted[name][0], mounted[name][1].slot
+                left = card.part, card.lot, card.remaining, card.state
+                yield Reel(name, *left, machine, slot, self.line.name, None)
+        if question.kind == "lot":
+            self.notes.append(
+                f"{self.line.name}: reels of the lot that came in after the last archive are known by"
+                f" the slots of {', '.join(looked_at) or 'no machine'} alone: look in the stock, and at"
+                " each other machine"
+            )

@@ -1,0 +1,404 @@
+"""A recall: a lot, reel or board is asked of the running desks and of all archives."""
+from __future__ import annotations
+import concurrent.futures
+import contextlib
+import datetime
+import functools
+import os
+import pathlib
+import sqlite3
+from collections.abc import Callable
+from typing import NamedTuple
+from tracedesk_ops import catalogue, chains, doubtful, firstlook, identity, plant, untraced
+from tracedesk_ops.firstlook import Piece, Reel, Told
+from tracedesk_ops.recalls.desk import RUNNING, Desk, Line, Question
+
+
+class About(NamedTuple):
+    """A desk or an archive that is asked."""
+
+    line: str
+    file: str
+    sha256: str = ""
+    first_minute: str = ""
+    last_minute: str = ""
+
+
+class Asked(NamedTuple):
+    """What came of asking a desk or an archive; `why` is empty if it was asked."""
+
+    line: str
+    file: str
+    sha256: str
+    first_minute: str
+    last_minute: str
+    asked: str
+    known: str
+    pieces: int
+    why: str
+
+
+Wait = tuple[catalogue.Archive, "concurrent.futures.Future[Told]"]
+
+
+class Recall:
+    """A question with what all told: `faults` are why some were not asked, `breaks` which archives are no chain, `doubts` what is told twice,
+    `notes` what a reader has to know besides. Without a `chain` it is a first look."""
+
+    def __init__(
+        self,
+        question: Question,
+        lines: list[Line],
+        desk_of: Callable[[Line], Desk],
+        chain: chains.Asker | None,
+        archives_only: bool = False,
+    ) -> None:
+        self.question, self.lines, self.desk_of, self.chain = question, lines, desk_of, chain
+        self.archives_only = archives_only
+        self.minute = datetime.datetime.now(datetime.timezone.utc)
+        self.known = False
+        self.pieces: list[Piece] = []
+        self.reels: list[Reel] = []
+        self.asked: list[Asked] = []
+        self.faults: list[str] = []
+        self.breaks: list[str] = []
+        self.doubts: list[str] = []
+        self.notes: list[str] = []
+        self.catalogues: dict[pathlib.Path, catalogue.Survey] = {}
+        self.around: dict[pathlib.Path, list[str]] = {}
+        self.desks: dict[str, Desk] = {}  # by line
+        self.proofs: dict[str, chains.Answer] = {}  # by line
+        self.untraced: list[list[str]] = []
+        self.doubtful: list[list[str]] = []
+
+    def ask(self) -> None:
+        with concurrent.futures.ThreadPoolExecutor(os.cpu_count()) as threads:
+            waits = {line: self.begin(line, threads) for line in self.lines}
+            proofs = {
+                line: threads.submit(
+                    self.chain.ask,
+                    [catalogue.path_of(line.catalogue, it) for it, _ in its],
+                    [it for it, _ in its],
+                    f"{line.name}: ",
+                )
+                for line, its in waits.items()
+                if self.chain and its and not any(future.exception() for _, future in its)
+            }
+        for line in self.lines:
+            self.running(line, self.archives(line, waits[line], proofs.get(line)))
+        for path, survey in self.catalogues.items():
+            if (
+                catalogue.survey(path).text != survey.text
+                or self.lying_around(path) != self.around[path]
+            ):
+                self.faults.append(
+                    f"{path}: it was changed meanwhile, or what lies around it, as by a roll-over or a restore: ask again"
+                )
+        for path in self.catalogues:
+            self.look_for_untraced(path)
+        self.pieces.sort(key=lambda it: (it.board, it.line, it.designator))
+        self.reels.sort()
+        self.doubt()
+        self.note()
+
+    def begin(self, line: Line, threads: concurrent.futures.ThreadPoolExecutor) -> list[Wait]:
+        """Asks the archives of a line: pairs of the archive and what will be told, in the order of their chain."""
+        if line.catalogue not in self.catalogues:
+            self.survey(line.catalogue)
+        own = catalogue.in_turn(
+            [it for it in self.catalogues[line.catalogue].archives if it.desk == line.name]
+        )
+        if not own and not line.url:
+            self.faults.append(
+                f"{line.name}: it has no running desk, and {line.catalogue} has no archive of it"
+            )
+        if not line.url and not self.archives_only:
+            self.faults.append(
+                f"{line.name}: its running desk is not asked, since its URL is `-`: say --archives-only where none runs"
+            )
+        return [
+            (archive, threads.submit(firstlook.at, line, archive, self.question, not self.chain))
+            for archive in own
+        ]
+
+    def survey(self, path: pathlib.Path) -> None:
+        """Reads a catalogue; what it names and nobody asks for, and what it doesn't name, is told."""
+        lines = {line.name for line in self.lines if line.catalogue == path}
+        self.catalogues[path] = catalogue.survey(path)
+        if catalogue.has_no_archives(path):
+            self.notes.append(
+                f"{', '.join(sorted(lines))}: no archives yet: there is no {path}, and nothing else where it would be"
+            )
+            self.catalogues[path] = catalogue.Survey(b"", [], [])
+        self.faults += self.catalogues[path].faults
+        for desk in sorted({it.desk for it in self.catalogues[path].archives} - lines):
+            self.faults.append(
+                f"{path}: archives of the line {desk} are not asked: no --line has that name with this catalogue"
+            )
+        self.around[path] = self.lying_around(path)
+        self.faults += self.around[path]
+
+    def lying_around(self, path: pathlib.Path) -> list[str]:
+        return list(
+            catalogue.unasked(
+                path,
+                self.catalogues[path].archives,
+                [it.desk for it in self.lines if it.catalogue == path and it.desk],
+            )
+        )
+
+    def archives(
+        self, line: Line, waits: list[Wait], proof: concurrent.futures.Future[chains.Answer] | None
+    ) -> list[catalogue.Archive]:
+        """Takes what the archives of a line told; returns those that were asked, from the oldest on."""
+        told: dict[catalogue.Archive, Told] = {}
+        ends: list[chains.End] = []
+        for archive, future in waits:
+            try:
+                told[archive] = future.result()
+            except catalogue.CatalogueError as fault:
+                self.miss(self.about(line, archive), fault)
+        if proof:
+            try:
+                ends = self.proved(line, told, proof.result())
+            except (chains.NoAnswer, plant.Fault, OSError) as fault:
+                self.refused(line, list(told), fault)
+        if not ends and self.chain:  # the others are asked all the same, where one is missing
+            told = {it: firstlook.at(line, it, self.question) for it in told}
+        for archive, its in told.items():
+            self.take(self.about(line, archive), its)
+        return [
+            it._replace(commands=end.commands, last_minute=end.minute)
+            for it, end in zip(told, ends)
+        ] or list(told)
+
+    @staticmethod
+    def about(line: Line, archive: catalogue.Archive) -> About:
+        """The archive of a line as it is told of."""
+        return About(
+            line.name,
+            archive.file,
+            archive.sha256,
+            catalogue.spelled(archive.first_minute),
+            catalogue.spelled(archive.last_minute),
+        )
+
+    def proved(
+        self, line: Line, told: dict[catalogue.Archive, Told], answer: chains.Answer
+    ) -> list[chains.End]:
+        """Takes the pieces of a line's chain. Returns what was read of each file."""
+        archives = list(told)
+        self.notes += [
+            f"{line.name}: {it}: as by a roll-over with an option. Its checksum alone shows that it went on from the one before it"
+            for it in answer.options
+        ]
+        for row in answer.rows:
+            archive = archives[row.pop("file")]
+            minute = int(row.pop("minute"))
+            piece = Piece(**row, minute=minute, line=line.name, file=archive.file)
+            told[archive].pieces.append(piece)
+        self.faults += [
+            f"{line.catalogue}: of {it.file} it doesn't say {end.commands} commands until {catalogue.spelled(end.minute)}, as the file does: tracedesk-settle --catalogue makes it anew"
+            for it, end in zip(archives, answer.ends)
+            if (it.commands, it.last_minute) != (end.commands, end.minute)
+        ]
+        self.proofs[line.name] = answer
+        return answer.ends
+
+    def refused(self, line: Line, archives: list[catalogue.Archive], fault: Exception) -> None:
+        """Takes why there is no answer about a line's chain: what is printed of its archives is a first look."""
+        status = getattr(fault, "status", None)
+        if status == chains.NO_CHAIN:
+            self.breaks.append(
+                f"{line.name}: {fault}: {line.catalogue} lacks an archive, or has them in another order, or an old copy of one. Look at their first and last minutes, and at the backups"
+            )
+        elif status == chains.BEGUN:
+            self.faults.append(
+                f"{line.name}: {fault}, and {line.catalogue} doesn't have that archive: take it from a backup"
+            )
+        else:
+            self.faults.append(
+                f"{line.name}: its {len(archives)} archives were looked at by SQL alone, since tracedesk-chain gives no answer: {fault}"
+            )
+
+    def running(self, line: Line, archives: list[catalogue.Archive]) -> None:
+        """Asks the running desk of a line, and what is left of the lot or reel; without it that is as the newest archive says."""
+        held: list[Reel] = []
+        machines: set[str] = set()
+        try:
+            for it in archives[-1:]:
+                with catalogue.opened(catalogue.path_of(line.catalogue, it)) as database:
+                    held, machines = firstlook.left_in(
+                        database, line, self.question, it.last_minute
+                    )
+        except sqlite3.Error as fault:
+            self.faults.append(f"{line.name}: {it.file}: {fault}")
+        left = (
+            self.ask_desk(line, archives, {it.reel: it for it in held}, machines)
+            if line.url
+            else None
+        )
+        if not line.url and (
+            desk := identity.of_running(line.desk or line.catalogue.parent.parent / "desk")
+        ):  # it may name an archive that is missing
+            self.faults += identity.chain(
+                line.catalogue, self.catalogues[line.catalogue].archives, desk.mark
+            )[1]
+        self.reels += held if left is None else left
+
+    def ask_desk(
+        self,
+        line: Line,
+        archives: list[catalogue.Archive],
+        held: dict[str, Reel],
+        machines: set[str],
+    ) -> list[Reel] | None:
+        """Asks a running desk; what is left of the reels, none where it doesn't tell. Its file, where it is at hand, has all of them."""
+        about = About(line.name, RUNNING)
+        desk = self.desks.setdefault(line.name, self.desk_of(line))
+        newest = next(
+            (
+                it
+                for it in reversed(self.catalogues[line.catalogue].archives)
+                if it.desk == line.name and not it.went_on_to
+            ),
+            None,
+        )
+        try:
+            self.faults += desk.want_line(
+                next((it for it in archives if newest and it.file == newest.file), newest)
+            )
+            told = self.take(about, desk.pieces_of(self.question))
+        except plant.Fault as fault:
+            self.miss(about, fault)
+            return None
+        if not told.known or self.question.kind == "board":
+            return None
+        try:
+            file = line.desk or line.catalogue.parent.parent / "desk"
+            with contextlib.suppress(OSError), doubtful.copied(file) as database:
+                if not doubtful.why_not(file, database, [newest] if newest else [], [desk.has]):
+                    return firstlook.left_in(database, line, self.question)[0]
+            left = list(desk.stock(self.question, told, held, machines))
+            self.notes += desk.notes
+            return left
+        except (plant.Fault, catalogue.CatalogueError) as fault:
+            self.faults.append(
+                f"{line.name}: what is left of it is told as of the last archive: {fault}"
+            )
+            return None
+
+    def look_for_untraced(self, path: pathlib.Path) -> None:
+        """What is around a catalogue: work that a desk refused, what was decided about it, and the pieces of the question that may be of another reel."""
+        lines = [it for it in self.lines if it.catalogue == path]
+        name, asked = "; ".join(it.name for it in lines), [it.name for it in lines]
+        running = [(it.desk, functools.partial(self.has, it)) for it in lines if it.url]
+        its = doubtful.look(
+            path,
+            catalogue.in_turn([it for it in self.catalogues[path].archives if it.desk in asked]),
+            bool(running),
+            running,
+        )
+        self.faults += its.faults
+        self.notes += its.notes
+        for it, by, reels in its.works:
+            self.untraced.append(
+                [
+                    name,
+                    *untraced.said(it)[2:9],
+                    it.id,
+                    reels,
+                    *(
+                        [by.told["Became"], by.told["By"], by.told["Reason"]]
+                        if by
+                        else ["", "", ""]
+                    ),
+                ]
+            )
+        self.doubtful += [
+            [name, *it.row()] for it in its.pieces if its.story.concerns(it, *self.question)
+        ]
+
+    def has(self, line: Line, uid: str) -> bool | None:
+        """Whether the running desk of a line has a UniqueID; None if it gives no answer, which is a fault by then."""
+        with contextlib.suppress(plant.Fault):
+            return self.desks[line.name].has(uid)
+        return None
+
+    def undecided(self) -> list[list[str]]:
+        return [row for row in self.untraced if not row[-2]]
+
+    def take(self, about: About, told: Told) -> Told:
+        self.pieces += told.pieces
+        self.known |= told.known
+        self.asked.append(Asked(*about, "yes", "yes" if told.known else "no", len(told.pieces), ""))
+        return told
+
+    def miss(self, about: About, fault: Exception) -> None:
+        self.faults.append(f"{about[0]}: {fault}")
+        self.asked.append(Asked(*about, "no", "", 0, str(fault)))
+
+    def doubt(self) -> None:
+        """No desk places a piece twice: where a line has a board and a designator twice, two of its files overlap, or a board's name came again."""
+        twice = [
+            (it, other)
+            for it, other in zip(self.pieces, self.pieces[1:])
+            if (it.board, it.line, it.designator) == (other.board, other.line, other.designator)
+        ]
+        for it, other in twice[:1]:
+            self.doubts.append(
+                f"{it.line}: {len(twice)} pieces are there twice, as {it.designator} of {it.board} in {it.file} and in {other.file}: "
+                "these files have the same commands, or a board's name came again"
+            )
+        there = [(it.sha256, it) for survey in self.catalogues.values() for it in survey.archives]
+        for sha256, archive in there:
+            same = [other for its, other in there if its == sha256 and other != archive]
+            if same:
+                names = ", ".join(f"{other.desk} {other.file}" for other in same)
+                self.doubts.append(
+                    f"{archive.desk} {archive.file} has the same checksum as {names}:"
+                    " it is one file, on two lines"
+                )
+        lines: dict[tuple[str, str, str], set[str]] = {}
+        for it in self.pieces:
+            if it.file == RUNNING:
+                lines.setdefault((it.board, it.designator, it.reel), set()).add(it.line)
+        if both := next((sorted(those) for those in lines.values() if len(those) > 1), None):
+            self.doubts.append(
+                f"the running desks of {' and '.join(both)} have the same pieces: both URLs lead to one desk"
+            )
+
+    def note(self) -> None:
+        kind, name = self.question
+        if not self.known and not self.faults:
+            self.notes.append(
+                f"nobody knows the {kind} {name}: look at its spelling; names are told apart to the letter"
+            )
+        elif self.known and not self.pieces:
+            self.notes.append(
+                f"the {kind} {name} is known, and no piece "
+                + ("is placed on it" if kind == "board" else "of it is placed")
+            )
+        if any(it.minute is None for it in self.pieces):
+            self.notes.append(
+                "a piece that lies in a running desk has no minute here: it was placed after the line's last archive"
+            )
+        if not self.chain:
+            self.faults.append(
+                "this is a first look, by --quick: nothing was proved of the archives. Ask without it too"
+            )
+        if self.archives_only and (without := [it.name for it in self.lines if not it.url]):
+            self.notes.append(
+                f"no running desk was asked of {', '.join(without)}, by --archives-only"
+            )
+
+    def status(self) -> int:
+        return (
+            3
+            if self.faults or self.breaks or self.doubts or self.undecided()
+            else 5
+            if self.doubtful
+            else 0
+            if self.known
+            else 1
+        )
