@@ -3,25 +3,30 @@
 At the end of a batch, of each lot: every board that holds a piece of it is listed by
 tracedesk-recall, or named as untraced or doubtful with a status that is not 0; and no piece is
 listed that isn't of the lot, unless it is named so too. A machine that obeys the interlock places
-nothing while the desk refuses.
+nothing while the desk refuses, or a scan of a slot was refused and nothing accepted of it since.
+Reels are changed without a scan too: where the machine names its reels, a recall of either lot
+names each board.
 
-    /usr/bin/python3 -m pytest ops/tests/test_truth.py -m whole -n 4 --seed 41 /usr/bin/python3 -m
-    pytest ops/tests/test_truth.py -k "batch_of_runs and [7]"      one batch again
+    /usr/bin/python3 -m pytest ops/tests/test_truth.py -m whole -n 4 --seed 41
+    /usr/bin/python3 -m pytest ops/tests/test_truth.py -k "batch_of_runs and [7]"      one batch
 
 A batch that fails prints the files of each failed run, its refusals, and what really happened.
 """
 import os
 import pathlib
 import tempfile
-from typing import Iterator
+from typing import Any, Iterator
+from unittest import mock
 
 import pytest
+from tracedesk import asking, interlock, witness
 
 from truth.batch import Batch
 from truth.world import simulated
 
 MEMORY = "/dev/shm" if os.access("/dev/shm", os.W_OK) else None  # a disk would keep each write
 BATCHES, RUNS = 100, 100  # of the whole test
+RUNS_PLANTED = 30  # until a fault of the rules at the line is found
 
 
 @pytest.fixture
@@ -45,6 +50,32 @@ def test_recalls_say_what_happened(program: pathlib.Path, room: pathlib.Path, se
 def test_planted_fault_is_found(program: pathlib.Path, room: pathlib.Path, seed: int) -> None:
     """Refused reports of work are sent again unchanged."""
     assert faults_of(Batch(program, room, seed, 0, runs=10, planted=True))
+
+
+def mends_all(states: interlock.Interlock, it: interlock.Machine, *_: object) -> None:
+    """An accepted scan of one slot closes the faults of all."""
+    it.slots.clear()
+
+
+def is_accepted(*_: object) -> bool:
+    """A start that was accepted is in work: an answer that comes again is taken for a new one."""
+    return True
+
+
+PLANTED: dict[str, tuple[Any, str, Any]] = {
+    "any slot mends": (interlock.Interlock, "mend", mends_all),
+    "nothing is compared": (witness, "differences", lambda *_: {}),
+    "a repeat is new": (asking, "is_in_work", is_accepted),
+}
+
+
+@pytest.mark.parametrize("name", PLANTED)
+def test_planted_fault_of_the_line_is_found(
+    program: pathlib.Path, room: pathlib.Path, seed: int, name: str
+) -> None:
+    owner, rule, instead = PLANTED[name]
+    with mock.patch.object(owner, rule, instead):
+        assert faults_of(Batch(program, room, seed, 0, runs=RUNS_PLANTED))
 
 
 @pytest.mark.whole

@@ -40,7 +40,9 @@ def wrong(run: Run, answer_of: Callable[[str], Any]) -> Iterator[str]:
         truth = {(board, name) for board, name, reel in run.truth if run.reels[reel][0] == lot}
         listed = {(piece.board, piece.designator) for piece in told.pieces}
         undecided = {row[3] for row in told.undecided()}
-        named = {row[3] for row in told.untraced} | {board for board, _ in listed}
+        named = {row[3] for row in told.untraced}
+        if not run.names_reels:  # else each piece has two witnesses
+            named |= {board for board, _ in listed}
         in_doubt = {(row[1], row[2]) for row in told.doubtful}
         status = told.status()
         if (undecided and status != 3) or (in_doubt and status not in (3, 5)):
@@ -218,6 +220,7 @@ class Batch:
         self.counts["pieces"] += len(run.truth)
         self.counts["traced pieces"] += run.traced
         self.counts["messages"] += run.numbers
+        self.counts["unscanned swaps"] += run.swaps
 
     def ask_the_tool(self, run: Run) -> None:
         """The tool itself, as a process of its own, says the same of a run's first lot."""
@@ -267,7 +270,7 @@ class Batch:
         for work, by, _ in its.works:
             said = untraced.said(work)
             if said[3] == run.name:
-                time_of = work.told["Message"]["TimeStamp"]
+                time_of = work.told["At"]
                 print("refused", time_of, said[2:8], "decided" if by else "")
         for happened in run.told:
             print("really", *happened)

@@ -27,11 +27,19 @@ class Run:
         # The reels on each slot, the one in front first.
         self.slots: dict[str, list[str]] = {slot: [] for slot in SLOTS}
         self.obeys = self.random.random() < 0.5
+        self.names_reels = self.random.random() < 0.5  # the machine, in its installs
+        self.open: set[
+            str
+        ] = set()  # slots with a scan that was refused, and nothing accepted since
+        self.swaps = 0
+        self.completed: Optional[tuple[str, bytes]] = None  # the last board, and its start
+        scans = place.spools / f"{name}-scans"
+        scans.mkdir()
         self.inbox = places.Place(str(place.untraced), lambda _: desk)
         inbox = None if planted else self.inbox
         machines: dict[str, list[str]] = {"machine": [name], "tablet": []}
         self.sources = {
-            its: Source(place.spools / f"{name}-{its}", f"{name}-{its}", desk, inbox, those)
+            its: Source(place.spools / f"{name}-{its}", f"{name}-{its}", desk, inbox, those, scans)
             for its, those in machines.items()
         }
         self.is_out = {its: False for its in self.sources}
@@ -94,6 +102,8 @@ class Run:
             self.sources[source].end()
         kill_after = self.random.randint(0, 60) if self.random.random() < 0.03 else None
         self.sources[source].send(kill_after)
+        if source == "tablet":
+            self.open = self.sources[source].open_slots(self.open)
 
     def in_any_order(self) -> list[str]:
         return sorted(self.sources, key=lambda _: self.random.random())
@@ -112,6 +122,8 @@ class Run:
             self.handle("MaterialsSpliced", self.any_slot())
         elif deed < 0.40:
             self.scrap(self.any_slot())
+        elif deed < 0.50 and self.names_reels and not is_quiet:
+            self.swap(self.any_slot())
         elif deed < 0.95:
             self.board()
         if self.random.random() < 0.05:
@@ -119,6 +131,13 @@ class Run:
 
     def any_slot(self) -> str:
         return self.random.choice(tuple(SLOTS))
+
+    def swap(self, slot: str) -> None:
+        """A reel is changed, and nobody scans anything. Only a machine that names its reels can tell."""
+        if free := self.free():
+            self.slots[slot] = [self.random.choice(free)]
+            self.swaps += 1
+            self.told.append((Clock.minute - BEGIN, "swapped", slot, *self.slots.items()))
 
     def free(self) -> list[str]:
         mounted = {reel for reels in self.slots.values() for reel in reels}
@@ -144,7 +163,8 @@ class Run:
         refused = kept.why(kept.set_aside()[-1])[2]["Id"]
         more = {"Became": doubtful.TAKEN_OFF, "Of": refused, "Reason": "saw it"}
         name, text = records.record("decided", "A. Person", Clock.text(), **more)
-        self.inbox.put(f"{name}.json", text)
+        if self.inbox.beside:
+            self.inbox.beside.put(f"{name}.json", text)
 
     def change(self, slot: str) -> None:
         """A reel is taken off a slot, and another one put there. Some forget to scan what they take
@@ -168,7 +188,10 @@ class Run:
         self.boards += 1
         board, machine = f"{self.name}-B{self.boards}", self.sources["machine"]
         at = {"Machine": self.name, "Board": board}
-        self.say("machine", self.message("WorkStarted", **at))
+        self.begin_anew()
+        start = self.message("WorkStarted", **at)
+        self.say("machine", start)
+        begun = machine.last
         half = self.random.randint(0, len(DESIGNATORS))
         for names in (tuple(DESIGNATORS)[:half], tuple(DESIGNATORS)[half:]):
             if self.obeys and not machine.permits(self.name):
@@ -176,11 +199,36 @@ class Run:
                     break
                 return
             placed = [name for name in names if self.place_one(board, name)]
-            if placed and self.obeys and not self.planted and machine.is_refused(board):
-                self.faults.append(f"the machine obeys, and placed pieces of the refused {board}")
+            if placed and self.obeys and not self.planted:
+                self.look_at_obedience(board, begun)
             if placed:
-                self.say("machine", self.message("MaterialsInstalled", **at, Designators=placed))
+                body: dict[str, Any] = {**at, "Designators": placed}
+                if self.names_reels:
+                    body["MachineReels"] = [reel for _, _, reel in self.truth[-len(placed) :]]
+                self.say("machine", self.message("MaterialsInstalled", **body))
+            if self.random.random() < 0.1:  # the machine was switched off, and says where it was
+                self.say("machine", start)
         self.say("machine", self.message("WorkCompleted", **at))
+        is_done = not self.is_out["machine"] and machine.accepted()
+        self.completed = (board, start) if is_done else None
+
+    def begin_anew(self) -> None:
+        """A machine that was switched off says its last start again, though the board is completed: the desk repeats its answer."""
+        if self.completed and not self.is_out["machine"] and self.random.random() < 0.1:
+            board, start = self.completed
+            self.say("machine", start)
+            if self.obeys and not self.planted and self.sources["machine"].permits(self.name):
+                self.faults.append(
+                    f"the machine obeys, and may work on {board}, which is completed"
+                )
+
+    def look_at_obedience(self, board: str, begun: str) -> None:
+        """Pieces were placed: nothing may have been refused, neither of this board nor of a slot."""
+        is_known = not any(self.is_out.values())
+        if self.sources["machine"].is_refused(board, begun):
+            self.faults.append(f"the machine obeys, and placed pieces of the refused {board}")
+        if self.open and is_known:
+            self.faults.append(f"the machine obeys, and placed pieces with {self.open} refused")
 
     def place_one(self, board: str, designator: str) -> Optional[str]:
         reel = self.take(DESIGNATORS[designator])

@@ -2,10 +2,10 @@
 import contextlib
 import json
 import pathlib
-from typing import Optional
+from typing import Any, Optional
 
 from tracedesk import desk as desks
-from tracedesk import interlock, sender, spool
+from tracedesk import interlock, scans, sender, spool
 from tracedesk import untraced as places
 from truth.world import Killed, Killer
 
@@ -13,6 +13,23 @@ from truth.world import Killed, Killer
 def board_of(folder: pathlib.Path, name: str) -> tuple[str, Optional[str]]:
     told = json.loads((folder / f"{name}.json").read_bytes())
     return told["MessageName"], told["MessageBody"].get("Board")
+
+
+STATUS = {"Accepted": 200, "Refused": 409, "Faulty": 422}
+DAY = "2026-03-02.jsonl"
+
+
+class Scanning(sender.Sender):
+    """A tablet's sender. The proxy writes each of its scans into a list, with the status of the answer."""
+
+    scans = pathlib.Path()
+
+    def answer_to(self, name: str) -> Any:
+        answer, told = super().answer_to(name)
+        line = {"Message": json.dumps(told), "Status": str(STATUS[type(answer).__name__])}
+        with (self.scans / DAY).open("a") as file:
+            print(json.dumps(line), file=file)
+        return answer, told
 
 
 class Source:
@@ -26,7 +43,10 @@ class Source:
         desk: desks.Desk,
         inbox: Optional[places.Place],
         machines: list[str],
+        scans: pathlib.Path,
     ) -> None:
+        self.looked_at = ""  # the last message of which the slot was looked at
+        self.scans = scans  # the list of what the tablet scanned
         self.folder, self.name, self.desk, self.inbox = folder, name, desk, inbox
         self.machines = machines  # that go by this sender's interlock
         self.held = contextlib.ExitStack()
@@ -56,7 +76,11 @@ class Source:
         if self.sender is None:
             self.held.enter_context(self.spool.sending())
             states = interlock.Interlock(self.spool, self.machines, every=0.0, is_used=True)
-            self.sender = sender.Sender(self.spool, self.desk, inbox=self.inbox, interlock=states)
+            kind = sender.Sender if self.machines else Scanning
+            self.sender = kind(self.spool, self.desk, inbox=self.inbox, interlock=states)
+            self.looks = scans.Scans(states, str(self.scans), lambda _: self.desk, True, print)
+            if isinstance(self.sender, Scanning):
+                self.sender.scans = self.scans
         while self.sender.send_waiting():
             pass
         self.sender.line.look()
@@ -67,6 +91,7 @@ class Source:
         if self.sender is None:
             return False
         self.sender.interlock.look_ahead(self.spool.names())
+        self.looks.look()
         self.sender.asker.ask()
         return self.sender.interlock.state(machine).word == "go"
 
@@ -77,10 +102,22 @@ class Source:
         names = reversed(spool.names_in(sent))
         return next((name for name in names if board_of(sent, name) == wanted), "")
 
-    def is_refused(self, board: str) -> bool:
-        """Whether the desk has accepted no start of a board, or refused something since."""
-        start = self.start_of(board)
-        return not start or any(name > start for name in spool.names_in(self.spool.aside))
+    def open_slots(self, slots: set[str]) -> set[str]:
+        """The slots of which the last scan was refused, from what they were before the last one that was looked at."""
+        answered = {name: self.spool.sent for name in spool.names_in(self.spool.sent)}
+        answered.update({name: self.spool.aside for name in spool.names_in(self.spool.aside)})
+        for name in sorted(name for name in answered if name > self.looked_at):
+            told = json.loads((answered[name] / f"{name}.json").read_bytes())["MessageBody"]
+            slots = slots | {told["Slot"]}
+            if answered[name] == self.spool.sent:
+                slots = slots - {told["Slot"]}
+            self.looked_at = name
+        return slots
+
+    def is_refused(self, board: str, since: str) -> bool:
+        """Whether the desk has accepted no start of a board, or refused something since that message."""
+        aside = spool.names_in(self.spool.aside)
+        return not self.start_of(board) or any(name > since for name in aside)
 
     def end(self) -> None:
         """Ends the sender: what is called for its spool needs that."""
