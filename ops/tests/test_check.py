@@ -21,6 +21,7 @@ from lab.desk import Desk
 from lab.tools import Word, run, started, tool
 from lab.waits import PATIENCE, wait_for
 from tracedesk_ops import copies, declared
+from tracedesk_ops.checks import findings
 from tracedesk_ops.cmd import check
 
 OTHER_LAYOUT = """DROP INDEX IF EXISTS placement_reel; DROP INDEX IF EXISTS placement_overdue;
@@ -265,7 +266,7 @@ WITH_DISK = 'mount -t tmpfs -o size={}k disk "$0"; cp "$1" "$0/desk"; {}; shift;
     ],
 )
 def test_disk_of_a_file(checked: Checked, done: str, status: int, text: str) -> None:
-    size = len(checked.whole) * 5 // 2 + check.ROOM_OF_AN_OPENING
+    size = len(checked.whole) * 5 // 2 + findings.ROOM_OF_AN_OPENING
     at, whole = checked.file.parent, checked.folder / "whole"
     words: list[Word] = ["unshare", "--mount", "sh", "-ec", WITH_DISK.format(size // 1024, done)]
     words += [at, whole, tool("check"), at / "desk", "--program", checked.program]
@@ -278,7 +279,7 @@ def test_disk_that_fails(checked: Checked) -> None:
     fault = OSError(errno.EIO, "Input/output error")
     with mock.patch.object(copies, "copy", side_effect=fault):
         said, found, _ = check.checked(asked)
-    assert said is None and [it.cause for it in found] == [check.PAGE, check.UNREAD]
+    assert said is None and [it.cause for it in found] == [findings.PAGE, findings.UNREAD]
 
 
 @pytest.mark.parametrize(

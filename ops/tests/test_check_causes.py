@@ -11,7 +11,7 @@ from lab.checked import LET_BE, Checked
 from lab.desk import Desk
 from lab.floor import OLD_BOARDS, Floor, texts
 from tracedesk_ops import declared, stored
-from tracedesk_ops.cmd import check
+from tracedesk_ops.checks import findings, inside, replay
 
 UNCHECKED = "PRAGMA ignore_check_constraints = ON; "
 DECLARATION = """PRAGMA writable_schema = ON;
@@ -290,9 +290,9 @@ def test_commands_are_spelled_as_they_were_said(
 ) -> None:
     """A new desk that is given the commands of a random desk is the same."""
     desk = random_desk(program, folder, number)
-    copy = check.Copy(desk.file, 3)
-    with contextlib.closing(copy.database), check.place_of_new(0) as room:
-        assert not list(check.Replay(copy, str(desk.program), room).findings())
+    copy = inside.Copy(desk.file, 3)
+    with contextlib.closing(copy.database), replay.place_of_new(0) as room:
+        assert not list(replay.Replay(copy, str(desk.program), room).findings())
 
 
 def test_those_commands_are_of_all_kinds(program: pathlib.Path, folder: pathlib.Path) -> None:
@@ -374,5 +374,5 @@ def test_damaged_file_that_is_refused_has_a_cause(checked: Checked, number: int)
     checked.new(kinds[number % len(kinds)])
     done = checked.check()
     assert done.status in (0, 1), done.said
-    assert check.UNKNOWN not in done.out
+    assert findings.UNKNOWN not in done.out
     assert (done.status == 0) == ("copy: lawful" in done.out), done.out

@@ -1,18 +1,18 @@
 """The lines that a recall asks, and how it asks a running desk."""
 from __future__ import annotations
+
 import base64
 import netrc
 import pathlib
 import ssl
 from collections.abc import Iterator
 from typing import NamedTuple
+
 from tracedesk import words as reports
 from tracedesk_ops import asking, catalogue, identity, plant
 from tracedesk_ops.firstlook import Piece, Reel, Told
 
 RUNNING = catalogue.RUNNING
-
-
 SECONDS_FOR_A_REPORT = 120  # as the proxy waits; a trace of very many pieces takes its time
 
 

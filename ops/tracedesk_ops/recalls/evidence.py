@@ -1,5 +1,6 @@
 """What a recall writes: a page, or a folder of evidence, whole or not at all."""
 from __future__ import annotations
+
 import argparse
 import contextlib
 import functools
@@ -12,6 +13,7 @@ import subprocess
 import tempfile
 from collections.abc import Iterator
 from typing import Any
+
 from tracedesk_ops import catalogue, files, plant
 from tracedesk_ops.recalls.recall import Recall
 from tracedesk_ops.recalls.tables import Table

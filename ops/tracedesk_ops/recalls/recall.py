@@ -1,5 +1,6 @@
 """A recall: a lot, reel or board is asked of the running desks and of all archives."""
 from __future__ import annotations
+
 import concurrent.futures
 import contextlib
 import datetime
@@ -9,6 +10,7 @@ import pathlib
 import sqlite3
 from collections.abc import Callable
 from typing import NamedTuple
+
 from tracedesk_ops import catalogue, chains, doubtful, firstlook, identity, plant, untraced
 from tracedesk_ops.firstlook import Piece, Reel, Told
 from tracedesk_ops.recalls.desk import RUNNING, Desk, Line, Question

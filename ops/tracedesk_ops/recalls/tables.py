@@ -1,16 +1,16 @@
 """The tables that a recall prints, and the page of them."""
 from __future__ import annotations
+
 import functools
 import html
 from collections.abc import Iterable, Sequence
 from typing import Any
+
 from tracedesk_ops import catalogue, doubtful
 from tracedesk_ops.firstlook import Piece, Reel
 from tracedesk_ops.recalls.recall import Asked, Recall
 
 Table = list[Sequence[Any]]  # the first row is the header
-
-
 Shipped = dict[str, list[list[str]]]  # by board the customers and dates
 
 

@@ -1,0 +1,200 @@
+"""What keeps the program from a file, as far as that is seen without its tables."""
+from __future__ import annotations
+
+import contextlib
+import fcntl
+import os
+import pathlib
+import pwd
+import stat
+import subprocess
+from collections.abc import Iterator
+from typing import Any
+
+from tracedesk_ops import catalogue, copies
+from tracedesk_ops.checks.findings import (
+    CUT,
+    FOLDER,
+    Finding,
+    HEAD,
+    JOURNAL,
+    NO_DATABASE,
+    NO_FILE,
+    NO_ROOM,
+    OTHER_NAME,
+    RIGHTS,
+    ROOM_OF_AN_OPENING,
+    SMALLEST,
+)
+
+
+def holder(file: str) -> str | None:
+    """Who holds a lock that keeps the program from a file, in words; none where there is no such lock."""
+    with open(file, "rb") as it:
+        if not copies.is_locked(it, fcntl.F_WRLCK):
+            return None
+    return (
+        ", ".join(openers(file))
+        or "one that isn't seen from here, of another user or another machine"
+    )
+
+
+def openers(file: str) -> list[str]:
+    """The other processes that have a file open, in words. A lock of the program's names no process, so all are looked at."""
+    wanted, found = os.stat(file), set()
+    for it in pathlib.Path("/proc").glob("[0-9]*/fd/*"):
+        with contextlib.suppress(OSError):
+            process = it.parent.parent
+            if os.path.samestat(it.stat(), wanted) and process.name != str(os.getpid()):
+                found.add(f"process {process.name} ({(process / 'comm').read_text().strip()})")
+    return sorted(found)
+
+
+def may(user: pwd.struct_passwd | None, *tests: str) -> bool:
+    """Whether a user has these rights, as `test` knows them."""
+    how: dict[str, Any] = {}
+    if user:
+        groups = os.getgrouplist(user.pw_name, user.pw_gid)
+        how = {"user": user.pw_uid, "group": user.pw_gid, "extra_groups": groups}
+    return subprocess.run(["test", *tests], **how).returncode == 0
+
+
+def user_of(file: str) -> pwd.struct_passwd | None:
+    """Who has to be able to open a file: of root's calls the owner of its folder, else that of the file; none if it is who calls."""
+    for it in (os.path.dirname(file), file) if os.geteuid() == 0 else ():
+        with contextlib.suppress(KeyError):
+            if owner := os.stat(it).st_uid:
+                return pwd.getpwuid(owner)
+    return None
+
+
+def rights(file: str, user: pwd.struct_passwd | None) -> Iterator[str]:
+    """What a user may not do that an opening does, in words."""
+    who, log = user.pw_name if user else pwd.getpwuid(os.geteuid()).pw_name, f"{file}-wal"
+    for it in [file] + ([log] if os.path.lexists(log) else []):
+        for right, word in (("-r", "read"), ("-w", "write")):
+            if not may(user, right, it):
+                about = os.stat(it)
+                yield f"{who} may not {word} {it}, which belongs to user {name_of(about.st_uid)} and has mode {stat.S_IMODE(about.st_mode):o}"
+    folder = os.path.dirname(file)
+    if not os.path.lexists(log) and not may(user, "-w", folder, "-a", "-x", folder):
+        yield f"{who} may not make the log in {folder}"
+
+
+def name_of(number: int) -> str:
+    try:
+        return pwd.getpwuid(number).pw_name
+    except KeyError:
+        return str(number)
+
+
+def names(file: str) -> Iterator[str]:
+    """Other names of a file, and what stands at the name of its log and is none; the program takes neither."""
+    if os.stat(file).st_nlink > 1:
+        yield f"{file} has {os.stat(file).st_nlink} names (hard links), and the program opens a file of one name alone: find {os.path.dirname(file)} -samefile {file}"
+    if os.path.lexists(f"{file}-wal") and (
+        os.path.islink(f"{file}-wal") or not os.path.isfile(f"{file}-wal")
+    ):
+        yield f"{file}-wal is a link or no file, and the log is a file"
+
+
+def journal(file: str) -> Iterator[str]:
+    """Whether another program was cut off while it wrote the file, in words. The log of tracedesk's is another one."""
+    if os.path.exists(f"{file}-journal") and os.stat(f"{file}-journal").st_size:
+        yield f"{file}-journal holds what another program, as sqlite3, was about to change when it was cut off"
+
+
+def room(file: str) -> Iterator[str]:
+    """What an opening lacks on the disk, in words."""
+    disk = os.statvfs(file)
+    if disk.f_flag & os.ST_RDONLY:
+        yield f"the disk of {file} is mounted read only"
+    elif disk.f_bavail * disk.f_frsize < ROOM_OF_AN_OPENING or disk.f_files and not disk.f_favail:
+        yield f"the disk of {file} has {disk.f_bavail * disk.f_frsize:,} bytes and {disk.f_favail:,} files free"
+
+
+def outside(file: str) -> Iterator[Finding]:
+    """What is found without reading the file's tables."""
+    for cause, found in (
+        (NO_ROOM, room(file)),
+        (OTHER_NAME, names(file)),
+        (JOURNAL, journal(file)),
+    ):
+        yield from (Finding(cause, it) for it in found)
+    if not any(room(file)):  # a disk that is read only refuses everybody
+        yield from (Finding(RIGHTS, it) for it in rights(file, user_of(file)))
+
+
+def no_database(file: str) -> Finding | None:
+    """Why a file can't be a database, or none."""
+    size, log = os.stat(file).st_size, catalogue.log_of(file)
+    with open(file, "rb") as it:
+        head = it.read(HEAD)
+    if not size and log:
+        return Finding(
+            CUT,
+            f"it has no bytes, and {log.name} has {os.stat(log).st_size:,}: copy the log before anything else, since an opening empties it",
+        )
+    if not size:
+        return Finding(
+            NO_FILE,
+            "it has no bytes: feed and serve make a new desk of it, all others say NotADesk",
+        )
+    if not catalogue.MAGIC.startswith(head[: len(catalogue.MAGIC)]):
+        return Finding(
+            NO_DATABASE,
+            f"it begins with {begins(head)!r}, and a database with {begins(catalogue.MAGIC)!r}",
+        )
+    return (
+        Finding(CUT, f"it has {size:,} bytes, which is less than a page")
+        if size < SMALLEST
+        else None
+    )
+
+
+def begins(head: bytes) -> str:
+    """The first letters of a database's, or what stands there."""
+    return head[: len(catalogue.MAGIC) - 1].decode("ascii", "backslashreplace")
+
+
+def cut(file: str | pathlib.Path) -> str | None:
+    """How a file is shorter than its head says, in words, or none. Where the log has pages only its head can tell."""
+    with open(file, "rb") as it:
+        head = it.read(HEAD)
+    page, pages, size = (
+        int.from_bytes(head[16:18], "big"),
+        int.from_bytes(head[28:32], "big"),
+        os.stat(file).st_size,
+    )
+    page = 65_536 if page == 1 else page
+    if page >= SMALLEST and size < page * pages:
+        return f"it has {size:,} bytes, and by its head {pages:,} pages of {page:,}, which are {page * pages:,}"
+    return None
+
+
+def head_faults(file: pathlib.Path) -> Iterator[str]:
+    """What the head of a database says that the program doesn't read."""
+    with open(file, "rb") as it:
+        head = it.read(HEAD)
+    if any(head[52:56]):
+        yield "the database vacuums itself: PRAGMA auto_vacuum = 0; VACUUM"
+    if head[56:60] not in (b"\0\0\0\0", b"\0\0\0\1"):
+        yield "its texts are in UTF-16: a desk's are in UTF-8, and nothing but a new file changes that"
+
+
+def no_file(file: str) -> Finding | None:
+    """What stands at the name in the place of a file, or none."""
+    try:
+        mode = os.stat(file).st_mode
+    except FileNotFoundError:
+        return Finding(
+            NO_FILE,
+            f"there is no {file}: feed and serve make a new desk there, all others say NotADesk",
+        )
+    if stat.S_ISDIR(mode):
+        return Finding(FOLDER, "it is a folder")
+    return (
+        None
+        if stat.S_ISREG(mode)
+        else Finding(NO_DATABASE, "it is no file, but a pipe, a socket or a device")
+    )

@@ -1,0 +1,119 @@
+"""Untraced work and doubtful pieces of the files that are loaded."""
+from __future__ import annotations
+
+import hashlib
+import pathlib
+
+from tracedesk_ops import catalogue, doubtful, untraced
+from tracedesk_ops.loads.tables import Seen, Tables
+
+LOOK = (
+    "untraced work and doubtful pieces"  # what is missing of a line in which nobody looked for them
+)
+
+
+class Around:
+    """What is around the archives of a catalogue, and the running desk of their copy: untraced work, and pieces that may be of another reel."""
+
+    def __init__(
+        self,
+        path: pathlib.Path,
+        archives: list[catalogue.Archive],
+        desk: Seen | None,
+        lines: list[str],
+    ) -> None:
+        self.path, self.archives, self.desk, self.line, self.lines = (
+            path,
+            catalogue.in_turn(archives),
+            desk,
+            "; ".join(lines),
+            lines,
+        )
+        book = untraced.read(path.parent)
+        self.checksum = hashlib.sha256(
+            repr(
+                (
+                    [it.sha256 for it in archives],
+                    desk and desk.sha256,
+                    [it.id for it in book.records],
+                    book.faults,
+                )
+            ).encode()
+        ).hexdigest()
+
+    def is_new(self, tables: Tables) -> bool:
+        return not tables.rows(
+            "SELECT FROM looked WHERE line = %s AND at = %s", self.line, self.checksum
+        )
+
+    def load(self, tables: Tables, is_whole: bool) -> list[str]:
+        """Looks for it in all files, and puts it into the tables. Why it isn't known what is in doubt."""
+        its = doubtful.look(
+            self.path, self.archives if is_whole else [], is_whole and bool(self.desk)
+        )
+        with tables.link.transaction():
+            for it, by, reels in its.works:
+                told = (
+                    [by.told[key] for key in ("At", "Became", "By", "Reason")] if by else [""] * 4
+                )
+                tables.do(
+                    "INSERT INTO untraced VALUES (%s, %s, %s, %s, %s, %s, %s, %s, %s, %s, %s, %s, %s, %s) ON CONFLICT (line, id) DO UPDATE SET decided = excluded.decided, "
+                    "became = excluded.became, decided_by = excluded.decided_by, reason = excluded.reason WHERE excluded.decided >= untraced.decided",
+                    self.line,
+                    it.id,
+                    *untraced.said(it)[2:9],
+                    reels,
+                    *told,
+                )
+            if not (
+                faults := [
+                    *its.faults,
+                    *(
+                        self.unseen(tables)
+                        if is_whole
+                        else [
+                            f"{self.path}: {LOOK} were not looked for, since not all of it is loaded"
+                        ]
+                    ),
+                ]
+            ):
+                tables.do("DELETE FROM doubtful WHERE line = %s", self.line)
+                tables.do("DELETE FROM refused WHERE line = %s", self.line)
+                for reel, machine in (
+                    (reel, it)
+                    for reel, machines in its.story.machines.items()
+                    if reel and reel not in its.story.parts
+                    for it in machines
+                ):
+                    tables.do("INSERT INTO refused VALUES (%s, %s, %s)", self.line, reel, machine)
+                for piece in its.pieces:
+                    tables.do(
+                        "INSERT INTO doubtful VALUES (%s, %s, %s, %s, %s, %s, %s, %s, %s, %s, %s, %s, %s)",
+                        self.line,
+                        *piece[:7],
+                        list(piece.other_reels),
+                        list(piece.other_lots),
+                        piece.why,
+                        piece.file,
+                        its.story.parts.get(piece.reel, ""),
+                    )
+                tables.has(self.line, LOOK)
+                tables.do(
+                    "INSERT INTO looked VALUES (%s, %s) ON CONFLICT (line) DO UPDATE SET at = excluded.at",
+                    self.line,
+                    self.checksum,
+                )
+        return faults
+
+    def unseen(self, tables: Tables) -> list[str]:
+        """Files of the line that are loaded, and newer than these or of another catalogue: then these alone don't say what is in doubt."""
+        here = {it.sha256 for it in self.archives}
+        return [
+            f"{self.path}: whether pieces may be of other reels isn't known, since {it.line} {it.name} is loaded and not in it: load the newest copy of the line"
+            for it in tables.files("line = ANY (%s) AND NOT dropped", self.lines)
+            if (
+                it.sha256 not in here
+                if not it.taken
+                else not self.desk or it.number > self.desk.number
+            )
+        ][:1]

@@ -1,0 +1,251 @@
+"""The plant's tables in PostgreSQL, as far as a load changes them."""
+from __future__ import annotations
+
+import hashlib
+import itertools
+import pathlib
+import sqlite3
+from collections.abc import Iterable
+from typing import Any, NamedTuple
+
+from tracedesk_ops import catalogue, plant
+
+try:
+    import psycopg
+    from psycopg.rows import namedtuple_row
+
+    ERRORS: tuple[type[Exception], ...] = (psycopg.Error,)
+except ImportError:  # the help is printed without it
+    ERRORS = ()
+
+RUNNING = catalogue.RUNNING
+ROWS_AT_A_TIME = 10_000
+# a placement as a line of COPY's text form, in which a backslash stands twice; names have neither tabs nor line ends
+PLACEMENTS = """SELECT replace(?1 || char(9) || number || char(9) || place || char(9) || board || char(9) || designator || char(9) || placement.machine
+    || char(9) || slot || char(9) || reel || char(9) || overdue || char(9) || effective, '\\', '\\\\') || char(10)
+    FROM placement CROSS JOIN accepted USING (number) ORDER BY reel, number, place"""  # a reel's pieces lie on few pages
+REELS = "SELECT ?1, reel, part, lot, level FROM reel"
+STARTS = "SELECT ?1, number, command, effective FROM accepted WHERE command LIKE 'WorkStarted%'"
+SEEN = "SELECT count(*), min(effective), max(effective) FROM accepted"
+SAID = "SELECT uid, source, own, command FROM accepted WHERE command <> 'ClockSet'"
+PLACES = "MaterialsInstalled\t"  # how the commands begin that place pieces
+
+
+class LoadedBefore(Exception):
+    """Why a file has nothing that is not loaded."""
+
+
+class Seen(NamedTuple):
+    """A file that is to be loaded; `taken` and `number` are those of the copy of a running desk, `pieces` is none where nothing says how many it has."""
+
+    file: pathlib.Path
+    line: str
+    name: str
+    sha256: str
+    taken: str
+    pieces: int | None
+    number: int = 0
+
+
+def fields(*values: object) -> str:
+    """A line of COPY's text form."""
+    return "\t".join(str(it).replace("\\", "\\\\") for it in values) + "\n"
+
+
+class Tables:
+    """The plant's tables, over one connection; one call at a time has them."""
+
+    def __init__(self) -> None:
+        self.link = psycopg.connect(
+            autocommit=True, client_encoding="utf8", row_factory=namedtuple_row
+        )
+        if not self.rows(
+            "SELECT pg_try_advisory_lock(hashtext('tracedesk-plant-load')) AS is_taken"
+        )[0].is_taken:
+            plant.tell("another call is loading; it is waited for")
+            self.do("SELECT pg_advisory_lock(hashtext('tracedesk-plant-load'))")
+        self.do(
+            "SET search_path TO plant; CREATE TEMPORARY TABLE its (identity uuid, places boolean)"
+        )  # the commands of the file that is to be loaded
+        if old := self.files("pieces > 0 AND said = 0 AND NOT dropped"):
+            raise plant.Fault(
+                f"{old[0].line} {old[0].name} was loaded up to 0.2.0: make the database anew"
+            )
+
+    def do(self, text: str, *values: object) -> Any:
+        return self.link.execute(text, values or None)
+
+    def rows(self, text: str, *values: object) -> list[Any]:
+        return list(self.do(text, *values).fetchall())
+
+    def files(self, which: str, *values: object) -> list[Any]:
+        """The files that a condition names: there may be ten thousand, so each question is asked of the database."""
+        return self.rows(
+            f"SELECT id, line, name, sha256, pieces, taken, dropped, copy_number AS number, said, desk FROM file WHERE {which} ORDER BY id",
+            *values,
+        )
+
+    def copy(self, target: str, lines: Iterable[str]) -> int:
+        """Copies lines of COPY's text form into a table; how many."""
+        count, lines = 0, iter(lines)
+        with self.link.cursor() as cursor, cursor.copy(f"COPY {target}") as to:
+            while some := list(itertools.islice(lines, ROWS_AT_A_TIME)):
+                to.write("".join(some))
+                count += len(some)
+                plant.reached(f"rows of {target.split()[0].partition('_')[0]}")
+        return count
+
+    def miss(self, line: str, name: str, why: str) -> None:
+        self.do(
+            "INSERT INTO lacking VALUES (%s, %s, %s) ON CONFLICT (line, name) DO UPDATE SET why = excluded.why, taken_out = ''",
+            line,
+            name,
+            why,
+        )
+
+    def has(self, line: str, name: str) -> None:
+        """Takes back that something is missing."""
+        self.do("DELETE FROM lacking WHERE line = %s AND name = %s AND taken_out = ''", line, name)
+
+    def load(self, seen: Seen, database: sqlite3.Connection, desk: str) -> tuple[int, list[Any]]:
+        """Makes a file a part, in the place of the files that it replaces. How many pieces it has, and the copies of which it lacks commands."""
+        self.do("TRUNCATE its")
+        said = self.copy(
+            "its FROM STDIN",
+            (
+                fields(
+                    hashlib.md5(
+                        "\n".join(map(str, row)).encode(), usedforsecurity=False
+                    ).hexdigest(),
+                    row[3].startswith(PLACES),
+                )
+                for row in database.execute(SAID)
+            ),
+        )
+        replaced, cut = self.gives_way(seen, said, desk)
+        ((commands, first, last),) = database.execute(SEEN)
+        ((uid,),) = database.execute(
+            "SELECT uid FROM accepted WHERE number = ?", [commands]
+        ).fetchall() or [("",)]
+        with self.link.transaction():
+            number = self.rows("SELECT nextval('file_id') AS it")[0].it
+            part = f"placement_{number}"
+            self.do(
+                f"CREATE TABLE {part} (LIKE placement, CONSTRAINT part CHECK (file = {number}))"
+            )
+            plant.reached("created")
+            pieces = self.copy(
+                f"{part} FROM STDIN WITH (FREEZE)",
+                (line for (line,) in database.execute(PLACEMENTS, [number])),
+            )
+            if seen.pieces not in (None, pieces):
+                raise plant.Fault(
+                    f"{seen.name}: it has {pieces:,} pieces, and in the catalogue {seen.pieces:,}"
+                )
+            self.do(
+                f"CREATE INDEX ON {part} (reel); CREATE INDEX ON {part} (board); ANALYZE {part}"
+            )
+            plant.reached("indexed")
+            self.give_way(seen, replaced, cut)
+            self.do(
+                "INSERT INTO file VALUES (%s, %s, %s, %s, %s, %s, %s, %s, %s, %s, false, %s, %s, %s)",
+                number,
+                seen.line,
+                seen.name,
+                seen.sha256,
+                first,
+                last,
+                commands,
+                uid,
+                pieces,
+                seen.taken,
+                seen.number,
+                said,
+                desk,
+            )
+            self.do("INSERT INTO command SELECT %s, identity, places FROM its", number)
+            self.copy(
+                "reel FROM STDIN", (fields(*row) for row in database.execute(REELS, [number]))
+            )
+            self.copy(
+                "start FROM STDIN",
+                (
+                    fields(*row[:2], *row[2].split("\t")[1:], row[3])
+                    for row in database.execute(STARTS, [number])
+                ),
+            )
+            self.do(f"ALTER TABLE placement ATTACH PARTITION {part} FOR VALUES IN ({number})")
+            plant.reached("attached")
+        plant.reached("committed")
+        return pieces, cut
+
+    def give_way(self, seen: Seen, replaced: list[Any], cut: list[Any]) -> None:
+        """Takes out the older copies of the same desk. One of another desk stays, under a name of its own, until its archive comes."""
+        for it in (*replaced, *cut):
+            self.do(f"DROP TABLE placement_{it.id}")
+            self.do("DELETE FROM file WHERE id = %s", it.id)
+        if seen.name == RUNNING:
+            self.do(
+                "UPDATE file SET name = 'desk of ' || taken WHERE line = %s AND name = %s",
+                seen.line,
+                RUNNING,
+            )
+        self.do("DELETE FROM lacking WHERE line = %s AND name = %s", seen.line, seen.name)
+        for it in cut:
+            self.miss(
+                it.line,
+                f"desk of {it.taken}",
+                f"{seen.name} takes its place, and lacks some of its commands: the desk was restored from an older copy. Once it is "
+                "known that they were sent again, or won't be, take this line away: drop.sql",
+            )
+
+    def gives_way(self, seen: Seen, said: int, desk: str) -> tuple[list[Any], list[Any]]:
+        """The files that give way to this one: those whose commands it has; and older ones that have more, as a desk that went back.
+
+        A Fault where its commands would count twice, or are another line's.
+        """
+        counts = {
+            it.file: it
+            for it in self.rows(
+                "SELECT file, count(*) AS both, count(*) FILTER (WHERE its.places) AS placing FROM its JOIN command USING (identity) GROUP BY file"
+            )
+        }
+        replaced, cut = self.files("line = %s AND taken <> '' AND said = 0", seen.line), []
+        for it in self.files("id = ANY (%s) OR desk = %s AND desk <> ''", list(counts), desk):
+            both, placing = (
+                (counts[it.id].both, counts[it.id].placing) if it.id in counts else (0, 0)
+            )
+            if (
+                it.line != seen.line
+                and not it.dropped
+                and (desk == it.desk if desk and it.desk else placing and both in (said, it.said))
+            ):
+                raise plant.Fault(
+                    f"{seen.file}: it is the desk of the line {it.line}, whose {it.name} is loaded, and not of {seen.line}. Where that name was wrong, drop that file: drop.sql"
+                )
+            if it.line != seen.line or not both:
+                continue
+            if not it.taken and both == said and placing and seen.taken:
+                raise LoadedBefore(
+                    f"loaded before: all of its commands are in the archive {it.name}"
+                )
+            if (
+                not it.taken and placing
+            ):  # else a sender set the same up again: no piece is there twice
+                raise plant.Fault(
+                    f"{seen.file}: {both:,} of its {said:,} commands are in {it.name} too, which is loaded, and would count twice. Where a restore has put that archive "
+                    "aside, drop it: drop.sql; then call again"
+                )
+            if not it.taken:
+                continue
+            if both == it.said and (both < said or seen.number >= it.number or not seen.taken):
+                replaced.append(it)
+            elif not seen.taken or seen.number > it.number:
+                cut.append(it)
+            elif both == said:
+                raise LoadedBefore(f"loaded before, as of {it.taken}")
+            else:
+                raise plant.Fault(
+                    f"{seen.file}: {said - both:,} of its commands are not in the copy of {it.taken}, which is loaded and newer: the desk was restored to before them"
+                )
+        return replaced, cut
