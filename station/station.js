@@ -59,6 +59,7 @@ export class Station {
     this.setup = read;
     this.name = name;
     this.maySend = null; // null where nothing said so yet
+    this.wasOut = false; // whether nobody was logged in a second ago
     this.badge = { name: null, at: 0 }; // and when it was used last, by the tablet's own clock
     this.ahead = 0; // how far the server's clock was ahead of the tablet's when somebody knew
     this.seconds = 0;
@@ -159,9 +160,12 @@ export class Station {
     if (this.seconds % ANEW === 0) {
       this.showUnseen().catch(() => {});
     }
-    if (this.seconds % (this.maySend === null ? ANEW : RIGHT_ANEW) === 0 && this.maySend !== true) {
+    const isOut = this.head.isLoggedOut();
+    const isDue = this.seconds % (this.maySend === null ? ANEW : RIGHT_ANEW) === 0;
+    if (this.maySend !== true && (isDue || (this.wasOut && !isOut))) {
       this.askMaySend();
     }
+    this.wasOut = isOut;
     this.takenOff.tick();
     this.machines.update();
     this.head.update();

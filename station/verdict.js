@@ -303,8 +303,8 @@ export class Verdict {
   red(scan, title, more) {
     return [
       el("h2", null, title),
-      this.takenOff.parts(scan),
       lineOrNot("todo", this.todoOf(scan)),
+      this.takenOff.parts(scan),
       line("where", whereOf(scan)),
       more,
       line("facts", whatOf(scan)),
