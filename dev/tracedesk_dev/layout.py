@@ -12,6 +12,7 @@ import pathlib
 import re
 import shutil
 import subprocess
+from typing import Any, NoReturn
 
 ROOT = pathlib.Path(__file__).resolve().parents[2]
 OURS = re.compile(
@@ -27,7 +28,7 @@ class NotWhole(Exception):
     """Something that the package has to have is not there."""
 
 
-def tools():
+def tools() -> list[pathlib.Path]:
     """The tools that a plant calls: what starts each."""
     return sorted((ROOT / "ops").glob("tracedesk-*"))
 
@@ -38,10 +39,10 @@ def packages() -> list[str]:
     return sorted({str(path.parent.relative_to(top)) for path in top.glob("tracedesk_ops/**/*.py")})
 
 
-def files():
+def files() -> list[tuple[str, list[pathlib.Path]]]:
     """Of each folder below the prefix: what goes there. What can be run here can be run there."""
 
-    def these(*patterns):
+    def these(*patterns: str) -> list[pathlib.Path]:
         found = [it for pattern in patterns for it in sorted(ROOT.glob(pattern)) if it.is_file()]
         return found or stop(f"there is no {patterns[0]}")
 
@@ -63,17 +64,17 @@ def files():
     ]
 
 
-def stop(why):
+def stop(why: str) -> NoReturn:
     raise NotWhole(why)
 
 
-def put(source, path, can_run=False):
+def put(source: pathlib.Path, path: pathlib.Path, can_run: bool = False) -> None:
     path.parent.mkdir(parents=True, exist_ok=True)
     shutil.copyfile(source, path)
     path.chmod(0o755 if can_run else 0o644)
 
 
-def lay(base, programs, date, version):
+def lay(base: pathlib.Path, programs: Any, date: str, version: str) -> None:
     """All of it, with what stands below the prefix in base/prefix and the rest in base/etc."""
     below = base / "prefix"
     for name, it in programs.items():
@@ -103,7 +104,7 @@ def lay(base, programs, date, version):
     manual(below, date, version)
 
 
-def manual(below, date, version):
+def manual(below: pathlib.Path, date: str, version: str) -> None:
     """Man pages and completions, made by the commands' own help."""
     subprocess.run(
         [
@@ -122,7 +123,7 @@ def manual(below, date, version):
         it.unlink()
 
 
-def documents(folder):
+def documents(folder: pathlib.Path) -> None:
     """The pages as HTML, in one folder; a link that leads out of it is left as its text."""
     pages = [ROOT / it for it in ("README.md", "CONTRIBUTING.md", "CHANGELOG.md")] + sorted(
         (ROOT / "docs").glob("*.md")
@@ -138,7 +139,7 @@ def documents(folder):
                 stop(f"{page.relative_to(ROOT)} links to {link}, which is not in the package")
 
 
-def html(page):
+def html(page: pathlib.Path) -> str:
     title = next(
         line[2:] for line in page.read_text(encoding="utf-8").splitlines() if line.startswith("# ")
     )
@@ -158,14 +159,16 @@ def html(page):
         ROOT / "packaging/style.html",
         page,
     ]
-    made = subprocess.run(words, check=True, stdout=subprocess.PIPE, text=True).stdout
+    made = subprocess.run(
+        [str(word) for word in words], check=True, stdout=subprocess.PIPE, text=True
+    ).stdout
     return LINK.sub(
         r"\1",
         re.sub(r'href="(?:\.\./)?(?:docs/)?([A-Za-z-]+)\.md(#[^"]*)?"', r'href="\1.html\2"', made),
     )
 
 
-def place(base, tree, prefix):
+def place(base: pathlib.Path, tree: pathlib.Path, prefix: str) -> None:
     """What was laid, below another folder and as it is installed with this prefix."""
     shutil.copytree(base / "prefix", tree / prefix.lstrip("/"), symlinks=True, dirs_exist_ok=True)
     shutil.copytree(base / "etc", tree / "etc", symlinks=True, dirs_exist_ok=True)

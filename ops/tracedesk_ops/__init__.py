@@ -5,10 +5,12 @@ import argparse
 import pathlib
 import sys
 
-# In the repository the package of clients has a folder of its own; installed, it is on Python's path.
-CLIENTS = pathlib.Path(__file__).resolve().parents[2] / "clients/python"
-if CLIENTS.is_dir():
-    sys.path.append(str(CLIENTS))
+# In the repository the package of clients has a folder of its own; in a package it lies in tracedesk-send.
+HERE = pathlib.Path(__file__).resolve()
+for clients in (HERE.parents[2] / "clients/python", HERE.parents[3] / "bin/tracedesk-send"):
+    if clients.exists():
+        sys.path.append(str(clients))
+        break
 
 __version__ = "0.3.0"
 
