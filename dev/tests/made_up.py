@@ -166,7 +166,8 @@ def made_up(table: Table) -> Iterator[Any]:
                 for it in (None, 0, "x")
             )
     for name in ("UniqueID", "Source", "TimeStamp", "MessageBody"):
-        yield {key: value for key, value in whole.items() if key != name}
+        yield {key: it for key, it in whole.items() if key != name}
+        value: Any
         for value in (
             None,
             7,
