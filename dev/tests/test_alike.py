@@ -18,7 +18,7 @@ def make(program: pathlib.Path, file: pathlib.Path, lines: list[str]) -> None:
     for number, line in enumerate(lines):
         minute, text = line.replace(" ", "\t").split("\t", 1)
         messages.append(stored.message(f"u{number}", "S", int(minute), text) + "\n")
-    words = [program, "feed", "--db", file]
+    words = [str(program), "feed", "--db", str(file)]
     subprocess.run(words, input="".join(messages), capture_output=True, text=True, check=True)
 
 

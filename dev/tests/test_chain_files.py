@@ -75,7 +75,7 @@ class Files:
         shutil.copy(self.folder / old, self.folder / new)
 
     def feed(self, name: str, text: str) -> None:
-        words = [self.program, "feed", "--db", self.folder / name]
+        words = [str(self.program), "feed", "--db", str(self.folder / name)]
         subprocess.run(words, input=text, capture_output=True, text=True, check=True)
 
     def say(self, name: str, prefix: str, lines: list[str]) -> None:

@@ -141,16 +141,16 @@ def test_each_unit_and_tool_is_there(packages: Packages) -> None:
                 raise Difference(f"there is no {at.format(name)}")
     for name, its in (
         ("tracedesk", packages.program),
-        ("tracedesk-chain", plant.chain_of(packages.program)),
+        ("tracedesk-chain", str(plant.chain_of(packages.program))),
     ):
         if (packages.deb / "usr/bin" / name).read_bytes() != pathlib.Path(its).read_bytes():
             raise Difference(f"{name} is another")
     names = [it.name for it in packages.commands()]
     for it in packages.commands():
-        usage = helps.read([it], it.name).usage[0]
+        usage = helps.read([str(it)], it.name).usage[0]
         if usage.split()[0] != it.name:
             raise Difference(f"{it.name} --help says that it is used as {usage!r}")
-        if it.name != "tracedesk" and not helps.read([it], it.name).examples:
+        if it.name != "tracedesk" and not helps.read([str(it)], it.name).examples:
             raise Difference(f"{it.name} --help has no examples")
     if not {
         "tracedesk",
@@ -279,7 +279,7 @@ def test_each_command_has_a_man_page_with_its_options(packages: Packages) -> Non
         )
         if done.returncode or done.stderr:
             raise Difference(f"{page.name}: {done.stderr}")
-        text, told = done.stdout.replace("\b", ""), helps.read([it], it.name)
+        text, told = done.stdout.replace("\b", ""), helps.read([str(it)], it.name)
         lacking = [
             name
             for help_ in (told, *told.below)
@@ -333,27 +333,25 @@ def test_bash_completes_commands_options_and_files(packages: Packages) -> None:
     """Bash is asked: for the program's commands, each command's options, words of a choice, files and folders."""
     (packages.room / "some folder").mkdir()
     (packages.room / "some-file").touch()
-    count = 0
     for it in packages.commands():
-        told = helps.read([it], it.name)
-        for words, page in (
-            [(it.name,), told],
-            *(((it.name, below.name.split()[1]), below) for below in told.below),
-        ):
-            wanted = sorted(
+        told = helps.read([str(it)], it.name)
+        pages: list[tuple[tuple[str, ...], helps.Help]] = [((it.name,), told)]
+        pages += [((it.name, below.name.split()[1]), below) for below in told.below]
+        for words, page in pages:
+            options = sorted(
                 name for entry in page.options for name in entry.names if name.startswith("--")
             )
-            if (got := completed(packages, *words, "--")) != wanted:
-                raise Difference(f"{' '.join(words)} --: wanted {wanted}, got {got}")
-            count += len(wanted)
-    for words, wanted in (
+            if (found := completed(packages, *words, "--")) != options:
+                raise Difference(f"{' '.join(words)} --: wanted {options}, got {found}")
+    asked: list[tuple[tuple[str, ...], set[str]]] = [
         (("tracedesk", ""), {"feed", "serve", "audit"}),
         (("tracedesk", "import-"), {"import-setup", "import-counts"}),
         (("tracedesk", "audit", "--db", "some"), {"some", "folder", "some-file"}),
         (("tracedesk-recall", "lot", "L", "--show", "p"), {"pieces"}),
         (("tracedesk-backup", "--to", "some"), {"some", "folder"}),
         (("tracedesk-backup", "--days", ""), set()),
-    ):
+    ]
+    for words, wanted in asked:
         if not wanted <= (got := set(completed(packages, *words))) or (
             len(words) > 2 and got != wanted
         ):
@@ -391,12 +389,12 @@ def test_zsh_completes_options(packages: Packages) -> None:
 def test_the_container_stops_without_a_desk(packages: Packages) -> None:
     """The container runs the program with the unit's words, and stops where the desk's file is missing, as the unit does."""
     text = (ROOT / "packaging/Containerfile").read_text(encoding="utf-8")
-    words = json.loads(re.search(r"^CMD (\[.*\])$", text, re.M)[1])
-    unit = re.search(
+    words = json.loads(re.findall(r"^CMD (\[.*\])$", text, re.M)[0])
+    unit = re.findall(
         r"^ExecStart=/usr/bin/(.*)$",
         (packages.deb / "lib/systemd/system/tracedesk.service").read_text(),
         re.M,
-    )[1]
+    )[0]
     if not words[-1].endswith(f"exec {unit}"):
         raise Difference(f"the unit runs {unit!r}, and the container {words[-1]!r}")
     done = run("sh", "-c", words[-1].replace("/var/lib/tracedesk", str(packages.room)))
@@ -407,19 +405,20 @@ def test_the_container_stops_without_a_desk(packages: Packages) -> None:
 def test_a_fault_leaves_nothing(packages: Packages) -> None:
     """Bad words, a program that isn't one, and a machine without pandoc are told, and nothing is left."""
     to = packages.room / "none"
-    for words, status, told, changed in (
+    faults: list[tuple[list[str], int, str, dict[str, str]]] = [
         (["--nowhere"], 2, "--nowhere", {}),
         (["--program", "/bin/true"], 2, "no tracedesk-chain", {}),
         (["--program", "/bin/true", "--chain", "/bin/true"], 1, "names no version", {}),
         (["--program", packages.program], 2, "apt-get install", {"PATH": "/nowhere"}),
-    ):
+    ]
+    for words, status, told, changed in faults:
         done = run(
             sys.executable,
             ROOT / "dev/dist",
             "--to",
             to,
             *words,
-            env={**os.environ, "CHAIN": "", **changed},
+            env=dict(os.environ, CHAIN="") | changed,
         )
         if (
             done.returncode != status

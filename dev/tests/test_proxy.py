@@ -17,7 +17,7 @@ import ssl
 import subprocess
 import sys
 import time
-from typing import Iterator
+from typing import Any, Iterator
 
 import pytest
 from tracedesk_dev import ROOT
@@ -153,7 +153,7 @@ def test_nobody_logs_in_as_the_tools(site: Site) -> None:
         file = site.room / "etc" / name
         file.write_text(
             file.read_text()
-            + re.search("^op(:.*\n)", file.read_text(), re.M)[0].replace("op:", "tracedesk:", 1)
+            + re.findall("^op:.*\n", file.read_text(), re.M)[0].replace("op:", "tracedesk:", 1)
         )
     site.sign("tools", "tracedesk", "clients")
     password = "Basic " + base64.b64encode(b"tracedesk:op").decode()
@@ -172,7 +172,7 @@ def test_untraced_work_is_put_once(site: Site) -> None:
     name = hashlib.sha256(record.encode()).hexdigest()[:32]
     path, file = f"/line/untraced/{name}.json", site.room / f"line/untraced/{name}.json"
     other = {"Origin": "https://elsewhere.example", "Sec_Fetch_Site": "cross-site"}
-    worked = [
+    worked: list[tuple[str, str, Any, Any, dict[str, str], int]] = [
         ("PUT", path, None, record, {}, 401),
         ("PUT", path, "office", record, {}, 401),
         ("PUT", path, "op", record, other, 403),
@@ -257,15 +257,14 @@ def test_status_is_put_by_senders_and_read(site: Site) -> None:
 def rules_of_the_firewall() -> str:
     """The rules of docs/operations.md."""
     text = (ROOT / "docs/operations.md").read_text(encoding="utf-8")
-    return re.search(r"^table inet tracedesk \{\n.*?^\}\n", text, re.M | re.S)[0]
+    return str(re.findall(r"^table inet tracedesk \{\n.*?^\}\n", text, re.M | re.S)[0])
 
 
 @pytest.mark.needs("fail2ban-regex")
 def test_guesses_can_be_counted(site: Site) -> None:
     """fail2ban finds a wrong password in the log by the expression of docs/operations.md, and no reader who asks whether to send."""
-    rule = re.search(
-        r"^failregex = (.*)$", (ROOT / "docs/operations.md").read_text(encoding="utf-8"), re.M
-    )[1]
+    page = (ROOT / "docs/operations.md").read_text(encoding="utf-8")
+    rule = re.findall(r"^failregex = (.*)$", page, re.M)[0]
     for user, password in (
         ("op", "op"),
         ("op", "guess"),
