@@ -233,7 +233,7 @@ def test_a_first_look_says_that_it_is_one(world: World) -> None:
 def test_a_newest_archive_that_is_gone_with_its_line_is_named(
     world: World, folder: pathlib.Path
 ) -> None:
-    table = copied(world.first, folder / "archive")[-1]
+    table = pathlib.Path(str(copied(world.first, folder / "archive")[-1]))
     link_desk(world.first, folder)
     newest = catalogue.read(table)[-1]
     catalogue.take_out(table, newest)
