@@ -238,7 +238,7 @@ def test_a_newest_archive_that_is_gone_with_its_line_is_named(
     newest = catalogue.read(table)[-1]
     catalogue.take_out(table, newest)
     (folder / "archive" / newest.file).unlink()
-    words = ["lot", lot_of(world), "--line", "L1", "-", table, "--archives-only"]
+    words = ["lot", lot_of(world), "--line", "L1", "-", str(table), "--archives-only"]
     recall(*words).expect(3, "from which the desk was begun")
 
 
