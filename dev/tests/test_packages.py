@@ -238,7 +238,7 @@ def test_it_is_installed_and_purged_in_a_root_that_goes_away(packages: Packages)
         "\nchanged\n",
         "tracedesk: /var/lib/tracedesk is kept",
         "tracedesk: /etc/tracedesk is kept",
-        "\nleft /etc/tracedesk /var/lib/tracedesk /var/lib/tracedesk/decided /var/lib/tracedesk/desk /var/lib/tracedesk/desk-wal /var/lib/tracedesk/scans\n",
+        "\nleft /etc/tracedesk /var/lib/tracedesk /var/lib/tracedesk/desk /var/lib/tracedesk/desk-wal\n",
         "\nlawful 0\n",
     ):
         if done.returncode or wanted not in done.stdout:
