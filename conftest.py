@@ -76,7 +76,7 @@ def program() -> pathlib.Path:
 @pytest.fixture(scope="session")
 def chain(program: pathlib.Path) -> pathlib.Path:
     """tracedesk-chain."""
-    return pathlib.Path(plant.chain_of(str(program)))
+    return pathlib.Path(plant.chain_of(str(program)) or pytest.skip(NO_CHAIN.format(program)))
 
 
 @pytest.fixture(scope="session")
