@@ -6,6 +6,7 @@ import pathlib
 import re
 import shutil
 import sqlite3
+import time
 from typing import Callable
 
 import pytest
@@ -13,6 +14,7 @@ import pytest
 from lab import programs
 from lab.line import Line, NewLine
 from lab.tools import run, run_tool
+from lab.waits import wait_for
 from tracedesk_ops import backups, catalogue
 
 UNREADABLE = "/proc/self/mem"  # reading its first bytes fails with EIO
@@ -71,6 +73,8 @@ def test_copies_that_come_back_are_as_old_as_they_are(line: Line, folder: pathli
     for _ in range(3):
         line.backup().expect()
     elsewhere = line.copies.rename(folder / "elsewhere")
+    newest = max(copy.name for copy in elsewhere.glob("2*"))
+    wait_for("a later second", lambda: time.strftime(backups.NAMED, time.gmtime()) > newest)
     line.more("A")
     line.backup().expect()
     last = line.newest()
