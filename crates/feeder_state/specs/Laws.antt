@@ -13,10 +13,12 @@ use Rattle.feeder_state.specs.State.{IsState, Represents}
 use Rattle.feeder_state.specs.Tape.{tape_at}
 use Rattle.feeder_state.specs.declared.desk.StateDesk.{StateDesk}
 
-all_kept : (p : Name → Bool) (reels : List Name) → ((r : Name) → has reels r ≡ true → p r ≡ true) → filter p reels ≡ reels
+all_kept : (p : Name → Bool) (reels : List Name) → ((r : Name) → has reels r ≡ true → p r ≡ true)
+    → filter p reels ≡ reels
 all_kept p [] passes = refl
 all_kept p (x ∷ xs) passes =
-    ap (λ b. cond b (x ∷ filter p xs) (filter p xs)) (passes x (ap (λ b. b || has xs x) (same-refl x)))
+    ap (λ b. cond b (x ∷ filter p xs) (filter p xs))
+    (passes x (ap (λ b. b || has xs x) (same-refl x)))
     ∙ ap (λ l. x ∷ l) (all_kept p xs (λ r there. passes r (later (same r x) (has xs r) there)))
   where
     later : (a b : Bool) → b ≡ true → (a || b) ≡ true
@@ -27,10 +29,13 @@ pub state_judged : (desk : StateDesk) (H : History) → IsState H desk → IsJud
 state_judged desk H state = judged-by-two desk.rules H state.judged
 
 pub state_tells_live : (desk : StateDesk) (H : History) (machine slot : Name) → IsState H desk
-    → filter (λ reel. nat_lt 0 (left_of H reel)) (tape_at desk.floor.tapes machine slot) ≡ live_on H machine slot
+    → filter (λ reel. nat_lt 0 (left_of H reel)) (tape_at desk.floor.tapes machine slot)
+    ≡ live_on H machine slot
 state_tells_live desk H machine slot state =
     ap (filter (λ reel. nat_lt 0 (left_of H reel))) (state.floor.tapes machine slot)
-    ∙ all_kept (λ reel. nat_lt 0 (left_of H reel)) (live_on H machine slot) (live-pieces H machine slot)
+    ∙ all_kept (λ reel. nat_lt 0 (left_of H reel)) (live_on H machine slot)
+    (live-pieces H machine slot)
 
-pub represented_judged : (desk : StateDesk) (B : Basis) → Represents desk B → IsJudged B.rules B.history
+pub represented_judged : (desk : StateDesk) (B : Basis) → Represents desk B
+    → IsJudged B.rules B.history
 represented_judged desk B is = subst (λ rules. IsJudged rules B.history) is.rules is.state.judged
