@@ -92,7 +92,7 @@ def send(port: int, certificate: str, user: str, count: int) -> list[float]:
 
 
 def processor_seconds(site: Site) -> float:
-    """What nginx and its workers have used."""
+    """What the workers of nginx have used."""
     workers = subprocess.run(
         ["pgrep", "-P", str(site.nginx.pid)], capture_output=True, text=True, check=True
     ).stdout.split()
