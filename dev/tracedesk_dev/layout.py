@@ -91,6 +91,9 @@ def lay(base: pathlib.Path, programs: Any, date: str, version: str) -> None:
         check=True,
         stdout=subprocess.DEVNULL,
     )
+    day = subprocess.run([ROOT / "dev/day"], check=True, stdout=subprocess.PIPE).stdout
+    at = below / "share/doc/tracedesk/examples/day.jsonl.gz"
+    at.write_bytes(gzip.compress(day, 9, mtime=0))
     for kind in ("sysusers", "tmpfiles"):
         for it in sorted((ROOT / "packaging").glob(f"*.{kind}")):
             put(it, below / f"lib/{kind}.d/{it.stem}.conf")
