@@ -57,21 +57,14 @@ def hung(plant: interlocked.Plant, script: str) -> None:
 
 
 def test_a_signal_ends_a_sender_in_a_call_that_hangs(plant: interlocked.Plant) -> None:
-    hung(plant, "[ $2 = go ] && exec sleep 600")
+    called = plant.room / "called"
+    hung(plant, f"[ $2 = go ] && {{ touch {called}; exec sleep 600; }}")
     plant.start()
     plant.begin_board()
-    plant.wait_for(lambda: "go" in told(plant.sender.pid))
+    plant.wait_for(called.exists)
     plant.sender.send_signal(signal.SIGTERM)
     assert plant.sender.wait(60) == -signal.SIGTERM
     assert list(plant.calls())[-1][1:] == ("stop", "the sender was ended")
-
-
-def told(pid: int) -> str:
-    """The command lines of the children of a process."""
-    found = subprocess.run(
-        ["ps", "-o", "args=", "--ppid", str(pid)], capture_output=True, text=True
-    )
-    return found.stdout
 
 
 def test_a_signal_ends_a_sender_while_the_desk_hangs(plant: interlocked.Plant) -> None:
