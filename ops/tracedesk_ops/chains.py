@@ -182,6 +182,7 @@ def said_of(run: plant.Program, words: list[str], files: Files, about: str) -> A
     ends: list[End] = []
     errors: list[str] = []
     due = time.monotonic() + SECONDS_BETWEEN_NOTES
+    is_shown = sys.stderr.isatty() or bool(os.environ.get("TRACEDESK_PROGRESS"))
     with tempfile.TemporaryFile("w+", newline="", **plant.TEXT) as out:
         with subprocess.Popen(
             [run.program, *words, *files],
@@ -199,7 +200,7 @@ def said_of(run: plant.Program, words: list[str], files: Files, about: str) -> A
                 ends.append(
                     End(int(found[2]), int(found[3]) if found[3] != "none" else 0, found[4] or "")
                 )
-                if sys.stderr.isatty() and time.monotonic() >= due:
+                if is_shown and time.monotonic() >= due:
                     plant.tell(f"{about}{len(ends)} of {len(files)} files were read")
                     due = time.monotonic() + SECONDS_BETWEEN_NOTES
         out.seek(0)
