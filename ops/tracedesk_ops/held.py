@@ -192,7 +192,9 @@ def watchdog() -> Iterator["Said"]:
     with own:
         with other:
             # what stops the tool in a terminal doesn't stop the watchdog
-            child = subprocess.Popen(words, stdin=other.fileno(), start_new_session=True)
+            child = subprocess.Popen(
+                words, stdin=other.fileno(), stderr=subprocess.DEVNULL, start_new_session=True
+            )
         try:
             if own.recv(1) != b"r":
                 raise NoCopy("the watchdog of a copy can't be started")
