@@ -17,13 +17,15 @@ LOT = ["lot", "L1", "--pieces"]
 
 def board(number: int) -> list[bytes]:
     """A board that gets a piece of lot L1."""
-    words: list[tuple[str, dict[str, Any]]] = [
-        ("WorkStarted", {}),
-        ("MaterialsInstalled", {"Designators": ["R1"]}),
-    ]
+    name = f"B,{number}"
+    bodies: dict[str, dict[str, Any]] = {
+        "WorkStarted": {},
+        "MaterialsInstalled": {"Designators": ["R1"]},
+        "WorkCompleted": {},
+    }
     return [
-        messages.message(word, f"{word}-{number}", Machine="M", Board=f"B,{number}", **more)
-        for word, more in (*words, ("WorkCompleted", {}))
+        messages.message(word, f"{word}-{number}", Machine="M", Board=name, **body)
+        for word, body in bodies.items()
     ]
 
 
