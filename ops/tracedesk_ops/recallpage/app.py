@@ -44,7 +44,7 @@ POLICY = "default-src 'none'; " + "; ".join(
         "frame-ancestors 'none'",
     )
 )
-PROGRESS = re.compile(r"(.*\d+ of \d+ files were read)")
+PROGRESS = re.compile(r"(.*\d+ of \d+ files were read.*)")
 
 
 class NotTaken(Exception):

@@ -10,14 +10,13 @@ import sys
 import time
 from collections.abc import Mapping, Sequence
 
-from tracedesk_ops import plant
+from tracedesk_ops import parts, plant
 from tracedesk_ops.recallpage import papers
 from tracedesk_ops.recallpage.jobs import Job, Queue
 
 NICE = 15
 SECONDS_BETWEEN_LOOKS = 1.0
 LEAST_FREE = 1 << 30  # bytes, without which no recall begins
-PROGRESS = "TRACEDESK_PROGRESS"  # has tracedesk-chain's progress said where no terminal is
 LEFT_OVER = ".evidence-*"  # evidence that a kill cut off
 
 
@@ -56,7 +55,7 @@ class Worker:
                 stdin=subprocess.DEVNULL,
                 stdout=subprocess.DEVNULL,
                 stderr=said,
-                env={**os.environ, **self.environment, PROGRESS: "1"},
+                env={**os.environ, **self.environment, parts.SHOWN: "1"},
                 preexec_fn=low,
             )
         plant.reached("recalled")
