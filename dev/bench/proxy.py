@@ -42,7 +42,7 @@ TICKS = os.sysconf("SC_CLK_TCK")
 
 
 def salted(password: str) -> str:
-    """A password as docs/operations.md writes it into the file of the proxy: one round of SHA-1 with a salt."""
+    """A password as docs/operations-access.md writes it into the file of the proxy: one round of SHA-1 with a salt."""
     salt = secrets.token_bytes(8)
     digest = hashlib.sha1(password.encode() + salt).digest()
     return "{SSHA}" + base64.b64encode(digest + salt).decode()
