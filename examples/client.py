@@ -33,7 +33,7 @@ from tracedesk import (
 from tracedesk.console import ended, tell  # noqa: E402
 
 
-def main():
+def main() -> int:
     reader = argparse.ArgumentParser(
         description=__doc__,
         formatter_class=argparse.RawDescriptionHelpFormatter,
