@@ -60,7 +60,7 @@ def files() -> list[tuple[str, list[pathlib.Path]]]:
         ("share/tracedesk/station", these("station/*")),
         ("share/doc/tracedesk/api", these("docs/api/*.json")),
         ("share/doc/tracedesk/examples", these("examples/client.py", "packaging/Containerfile")),
-        ("lib/tracedesk/bridge", [it for it in these("examples/bridge/*") if it.name != "test"]),
+        ("lib/tracedesk/bridge", these("examples/bridge/*")),
     ]
 
 
