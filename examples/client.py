@@ -19,10 +19,7 @@ import pathlib
 import sys
 
 HERE = pathlib.Path(__file__).resolve().parent
-sys.path[1:1] = [
-    str(HERE.parent / "clients/python"),
-    "/usr/bin/tracedesk-send",
-]  # the package lies in the repository, or in that file
+sys.path.insert(1, str(HERE.parent / "clients/python"))  # the package, if it isn't installed
 from tracedesk import (
     Desk,
     NotTaken,

@@ -18,7 +18,8 @@ the newest day, and the last one that has an archive. Copies of another desk are
 look at its disk, and move it elsewhere.
 
 --check also asks tracedesk-chain whether the archives and the desk of the copy are a chain, and writes how that ended next to
-the copies, for tracedesk-watch. The program is the one next to tracedesk, or that of CHAIN in the environment.
+the copies, for tracedesk-watch. The program is the one next to tracedesk, or that of CHAIN in the environment. It reads a file
+again only if the file's checksum is another, or the program is: which files it has judged is kept next to the copies too.
 
 --restore compares all checksums, and audits a copy of the copy while the desk runs on. Then the desk, its log and its archive go
 into a new folder of `aside`. The commands that the copy lacks are printed, and written to an entry lacks-*.json in the archive's
@@ -55,6 +56,7 @@ from tracedesk_ops import (
     copies,
     files,
     identity,
+    judged,
     plant,
     reader_of,
     unfinished,
@@ -361,14 +363,14 @@ def broken(
     try:
         if not program:
             raise plant.Fault("there is no tracedesk-chain next to tracedesk: CHAIN names it")
-        chains.asked(
+        judged.check(
             program,
-            ["check"],
             [
                 *(catalogue.path_of(live if it in own else path, it) for it in chain[::-1]),
                 copy / "desk",
             ],
             chain[::-1],
+            judged.record_of(backups.note_of(asked.to, asked.db)),
         )
     except (chains.NoAnswer, plant.Fault) as fault:
         yield f"{copy}: whether its archives and its desk are a chain: {fault}"
