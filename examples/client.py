@@ -33,7 +33,7 @@ from tracedesk import (
 from tracedesk.console import ended, tell  # noqa: E402
 
 
-def main():
+def main() -> int:
     reader = argparse.ArgumentParser(
         description=__doc__,
         formatter_class=argparse.RawDescriptionHelpFormatter,
@@ -60,6 +60,5 @@ def main():
 
 
 if __name__ == "__main__":
-    sys.exit(
-        ended(main, {NotTaken: 2, SpoolError: 2, ValueError: 2, OSError: 2})
-    )  # OutOfRange is a ValueError
+    # OutOfRange is a ValueError
+    sys.exit(ended(main, {NotTaken: 2, SpoolError: 2, ValueError: 2, OSError: 2}))
