@@ -32,6 +32,7 @@ import time
 from collections.abc import Iterator
 
 from bench import copies, proxy
+from station_site import wait_for
 from tracedesk_dev import program
 from tracedesk_dev.trial import ROOT
 from tracedesk_ops import plant
@@ -47,7 +48,7 @@ class Served:
     """A desk whose service is started and stopped by commands, as by a unit."""
 
     def __init__(self, site: proxy.Site, binary: str) -> None:
-        self.file, self.port, self.binary = site.room / "desk", site.desk_port, binary
+        self.site, self.file, self.port = site, site.room / "desk", site.desk_port
         self.pid, self.start = site.room / "desk-pid", site.room / "start"
         self.start.write_text(START.format(binary, self.file, self.port), encoding="utf-8")
         self.start.chmod(0o755)
@@ -57,8 +58,7 @@ class Served:
 
     def serve(self) -> None:
         subprocess.run([self.start], check=True)
-        while plant.get(self.port, "/reel?reel=-") is None:
-            time.sleep(0.1)
+        wait_for("the desk answers", lambda: self.site.get("/overdue"))
 
     def end(self) -> None:
         with contextlib.suppress(OSError, ValueError):
