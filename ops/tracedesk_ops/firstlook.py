@@ -98,7 +98,9 @@ def told_by(
 ) -> Told:
     where, values = question.sql()
     is_board = question.kind == "board"
-    known = bool(copies.rows(database, KNOWN.format("board" if is_board else "reel", where), *values))
+    known = bool(
+        copies.rows(database, KNOWN.format("board" if is_board else "reel", where), *values)
+    )
     query = PIECES.format(where if is_board else THOSE_OF.format(where))
     placed = database.execute(query, values) if known and wants_pieces else ()
     return Told(

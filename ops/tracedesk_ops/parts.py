@@ -16,6 +16,7 @@ from collections.abc import Sequence
 
 from tracedesk_ops import plant
 
+SHOWN = "TRACEDESK_PROGRESS"  # in the environment: progress is said where no terminal is
 LOW = ("nice", "-n", "10", "ionice", "-t", "-c", "3")
 SECONDS_A_MB = 0.075  # docs/figures.md: 9 s of the processor for a million pieces in 120 MB
 MEMORY = 6  # times the largest file: tracedesk-chain has two neighbours in memory
@@ -62,7 +63,8 @@ class Progress:
         self.began = time.monotonic()
         self.due = self.began + SECONDS_BETWEEN_NOTES
         seconds = self.total / MB * SECONDS_A_MB / count
-        if sys.stderr.isatty() and seconds >= SECONDS_BETWEEN_NOTES:
+        self.is_shown = sys.stderr.isatty() or bool(os.environ.get(SHOWN))
+        if self.is_shown and seconds >= SECONDS_BETWEEN_NOTES:
             plant.tell(
                 f"{about}{len(sizes)} files, {self.total // MB:,} MB, are read, {count} at a time:"
                 f" some {seconds:.0f} seconds"
@@ -73,7 +75,7 @@ class Progress:
         with self.lock:
             self.read, self.done, now = self.read + size, self.done + 1, time.monotonic()
             left = (now - self.began) * max(0, self.total - self.read) / (self.read or 1)
-            if sys.stderr.isatty() and now >= self.due:
+            if self.is_shown and now >= self.due:
                 plant.tell(
                     f"{self.about}{self.done} of {self.files} files were read;"
                     f" some {left:.0f} seconds are left"
