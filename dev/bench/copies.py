@@ -1,7 +1,7 @@
 """Copies a desk again and again while senders send, and compares each copy with what was sent.
 
-usage: dev/bench/run copies [--pieces N] [--copies N] [--senders N] [--proxy] [--faults] [--planted]
-                            [--pause SECONDS] [--seed N] [--program FILE] [FOLDER]
+usage: dev/bench/run copies [--pieces N] [--desk FILE] [--copies N] [--senders N] [--proxy] [--faults] [--planted] [--holds]
+                            [--pause SECONDS] [--minutes N] [--seed N] [--program FILE] [FOLDER]
 
 examples:
   dev/bench/run copies --pieces 1000000 --copies 300             one sender at full rate
@@ -18,9 +18,12 @@ found just the commands until its marker. A kept copy is wrong if its list is no
 not end in its marker, or lacks a command that was acknowledged before the copy was begun. The desk's last list must have
 each answer that a sender got. This comparison is the tool's own: it reads the lists by SQL, and asks no audit.
 
+--desk     a file that this tool or `starts` made with so many pieces, without a log: it is copied
 --pause    of each sender between two messages, if the machine is to have time for the copies (0)
+--minutes  after which no more copies are made (1,000)
 --faults   every other copy is disturbed: its tool is killed or stopped, at any moment or while it holds the connection, its
            disk is full (root alone can mount one), or slow
+--holds    the copies are made, and neither audited nor kept: what senders wait for is measured alone
 --planted  the copies are made without holding the connection, and by any lawful audit: one has to be found wrong
 
 Printed is a row for FIGURES: the copies that were kept, the tries of each, how long the connection was held, and the longest
@@ -56,12 +59,13 @@ from typing import Any, NamedTuple
 from bench import proxy, starts
 from tracedesk_dev import program
 from tracedesk_dev.bench_line import Line
-from tracedesk_ops import held, plant, stored
+from tracedesk_ops import held, plant
 
 SLOW = 1.0  # seconds for a block on a slow disk
 SMALL = "400k"  # a disk that is full
 LIST = "SELECT number, uid, source, own, command FROM accepted ORDER BY number"
 FORK = multiprocessing.get_context("fork")
+HOLD = "hold alone"
 FAULTS = ("killed", "stopped", "killed, holding", "stopped, holding", "full disk", "slow disk")
 
 
@@ -206,14 +210,18 @@ class Tool(NamedTuple):
             delay(SLOW if self.how == "slow disk" else 60, said)
         tries: list[str] = []
 
-        def marker() -> bytes:
-            tries.append(f"{self.name}-{len(tries)}")
-            return stored.line(tries[-1], "tracedesk", 0, "ClockSet", {}).encode()
+        def marker() -> str:
+            tries.append(f"copy-{self.name}-{len(tries)}")
+            return tries[-1]
 
         audit, to = plant.Program(self.binary, self.desk).audit, self.room / "desk"
+        if self.how == HOLD:
+            made = held.copy(self.desk, self.port, held.message(marker()), to)
+            said.send((tries[-1], made.number, made.seconds, len(tries)))
+            return
         if self.how == "planted":
             hold_nothing()
-            made = held.copy(self.desk, self.port, marker(), to)
+            made = held.copy(self.desk, self.port, held.message(marker()), to)
             audit(to)
         else:
             try:
@@ -302,7 +310,7 @@ class Copies:
         to = self.folder / "kept"
         self.made += 1
         with room_for(self.folder, how) as room:
-            words = (how, self.desk, self.port, f"copy-{self.made}", room, to, self.binary)
+            words = (how, self.desk, self.port, str(self.made), room, to, self.binary)
             said, out = FORK.Pipe(duplex=False)
             tool = FORK.Process(target=Tool(*words).run, args=[out])
             began = time.monotonic()
@@ -313,27 +321,26 @@ class Copies:
             tool.join()
         self.times[how].append((began, time.monotonic()))
         self.ended[f"{how or 'undisturbed'}: {'kept' if to.exists() else 'not kept'}"] += 1
-        if to.exists():
-            self.take(to / "desk", acknowledged, said)
-        elif not how:
-            raise SystemExit("dev/bench/run copies: a copy that nothing disturbed was not kept")
-        shutil.rmtree(to, ignore_errors=True)
-
-    def take(self, file: pathlib.Path, acknowledged: int, said: connection.Connection) -> None:
         told: Any = None
         with contextlib.suppress(EOFError):
             while not isinstance(told, tuple):
                 told = said.recv()
-        marker, number = told[:2] if told else ("", 0)
-        kept = read(file, marker, number, acknowledged)
-        if not told:  # it was killed after it had kept the copy
-            kept = kept._replace(marker=kept.last, number=kept.commands)
-            if not kept.last.startswith(f"copy-{self.made}-"):
-                kept = kept._replace(marker=f"copy-{self.made}-")
-        else:
+        if told:
             self.held.append(told[2])
             self.tries.append(told[3])
-        self.kept.append(kept)
+        if to.exists():
+            self.kept.append(self.taken(to / "desk", acknowledged, told))
+        elif not how:
+            raise SystemExit("dev/bench/run copies: a copy that nothing disturbed was not kept")
+        shutil.rmtree(to, ignore_errors=True)
+
+    def taken(self, file: pathlib.Path, acknowledged: int, told: Any) -> Kept:
+        """A copy that was kept, with what its tool said; or that was killed before it said that."""
+        marker, number = told[:2] if told else ("", 0)
+        kept = read(file, marker, number, acknowledged)
+        if not told and kept.last.startswith(f"copy-{self.made}-"):
+            kept = kept._replace(marker=kept.last, number=kept.commands)
+        return kept
 
 
 def longest(
@@ -360,17 +367,26 @@ def copied(asked: argparse.Namespace, folder: pathlib.Path) -> int:
         desk, work = site.room / "desk", Line().messages()
         for file in site.room.glob("desk*"):
             file.unlink()
-        starts.grown(asked, desk, work, collections.Counter(), asked.pieces)
+        if asked.desk:
+            shutil.copyfile(asked.desk, desk)
+            placed = 0
+            while placed < asked.pieces:
+                placed += next(work)[1]
+        else:
+            starts.grown(asked, desk, work, collections.Counter(), asked.pieces)
         site.start_desk()
         trust = str(site.room / "etc/server.crt") if asked.proxy else ""
         places = [Place(site.port if trust else site.desk_port, trust, user) for user in users]
         copies = Copies(desk, site.desk_port, folder, asked.program)
         with Senders(places, (text for text, _ in work), asked.pause, folder) as senders:
             anew, head, ticks = 0, b"", program.Ticks()
+            until = time.monotonic() + 60 * asked.minutes
             for number in range(asked.copies):
+                if time.monotonic() > until:
+                    break
                 ticks.tell(f"{number} of {asked.copies} copies")
                 how = faults[number // 2 % len(faults)] if asked.faults and number % 2 else ""
-                how = "planted" if asked.planted else how
+                how = "planted" if asked.planted else HOLD if asked.holds else how
                 copies.make(how, senders.greatest.value, chance)
                 with open(f"{desk}-wal", "rb") as log:
                     before, head = head, log.read(24)
@@ -417,11 +433,13 @@ def row(
 def words(reader: argparse.ArgumentParser) -> None:
     program.offer(reader)
     reader.add_argument("--pieces", type=int, default=200_000, help=argparse.SUPPRESS)
+    reader.add_argument("--desk", type=pathlib.Path, help=argparse.SUPPRESS)
     reader.add_argument("--copies", type=int, default=300, help=argparse.SUPPRESS)
     reader.add_argument("--senders", type=int, default=1, help=argparse.SUPPRESS)
     reader.add_argument("--seed", type=int, default=1, help=argparse.SUPPRESS)
+    reader.add_argument("--minutes", type=float, default=1000, help=argparse.SUPPRESS)
     reader.add_argument("--pause", type=float, default=0, help=argparse.SUPPRESS)
-    for option in ("proxy", "faults", "planted"):
+    for option in ("proxy", "faults", "planted", "holds"):
         reader.add_argument(f"--{option}", action="store_true", help=argparse.SUPPRESS)
     reader.add_argument("folder", nargs="?", help=argparse.SUPPRESS)
 

@@ -148,9 +148,9 @@ def test_a_copy_is_good_if_it_has_just_the_commands_until_its_marker(
         return program.audit(file) - (next(audits) < good)
 
     numbers = itertools.count()
-    words = (served.file, served.port, lambda: marker(next(numbers)), to, audit)
+    words = (served.file, served.port, lambda: f"copy-{next(numbers)}", to, audit)
     if good > held.TRIES:
-        with pytest.raises(held.NoCopy, match="its marker is"):
+        with pytest.raises(held.NoCopy, match="not just those until copy-2"):
             held.lawful(*words)
         assert not list(folder.glob("copy*"))
     else:

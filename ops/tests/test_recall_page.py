@@ -17,6 +17,7 @@ from lab.tools import KILL_AFTER, KILLED, Word, run, tool
 from tracedesk_ops.recallpage import jobs, papers, view
 from tracedesk_ops.recallpage.jobs import Queue
 from tracedesk_ops.recallpage.worker import Worker
+from tracedesk_ops.recalls.wording import readable
 
 pytestmark = [
     pytest.mark.needs("python:flask", "python:waitress", "ssh-keygen"),
@@ -249,4 +250,4 @@ def test_half_a_question_is_none(site: Site) -> None:
     ],
 )
 def test_a_message_has_no_path_of_the_server(text: str, wanted: str) -> None:
-    assert view.readable(text) == wanted
+    assert readable(text) == wanted

@@ -240,7 +240,7 @@ def said_of(run: plant.Program, words: list[str], files: Files, progress: parts.
     errors: list[str] = []
     with tempfile.TemporaryFile("w+", newline="", **plant.TEXT) as out:
         with subprocess.Popen(
-            [*parts.LOW, run.program, *words, *files],
+            [*plant.LOW, run.program, *words, *files],
             stdin=subprocess.DEVNULL,
             stdout=out,
             stderr=subprocess.PIPE,

@@ -5,7 +5,7 @@ can come between. It posts a marker, whose answer has the number of the copy's l
 until file and log are copied. The caller then has the proved audit judge the copy: it is good if that finds just so many
 commands. A copy that fails is never kept.
 
-    copied = held.lawful(desk, 8080, new_marker, folder / "desk", program.audit)
+    copied = held.lawful(desk, 8080, held.new_marker, folder / "desk", program.audit)
 
 The line waits while the connection is held. So a copy that takes too long, as on a slow disk, is given up. A watchdog, a process
 in a session of its own, ends the connection of a tool that hangs, or that somebody stopped, and kills the tool. A tool that is
@@ -19,11 +19,15 @@ import http.client
 import json
 import os
 import pathlib
+import secrets
 import socket
+import sqlite3
 import subprocess
 import sys
 import time
 from collections.abc import Callable, Iterator
+
+from tracedesk_ops import catalogue, model, plant, stored
 
 LONGEST = 5.0  # seconds that the connection may be held by a tool that hangs
 SLOW = 2.5  # seconds after which a copy is given up
@@ -32,6 +36,7 @@ ANSWER = 30.0  # seconds for the desk to answer the marker: it may be at a long 
 HEAD = 32  # bytes at the beginning of a log: they change when it begins anew
 BLOCK = 1 << 20
 LOG = "-wal"
+UID = "SELECT uid FROM accepted WHERE number = ?"
 # A letter says how long the next one may take, in seconds: else it kills who started it. From the
 # answer to the marker on the desk waits. A tool that is stuck in the kernel, as at a disk that is
 # gone, dies later: so the connection, which comes with a letter, is ended before.
@@ -69,21 +74,25 @@ class Copied:
 def lawful(
     desk: pathlib.Path,
     port: int,
-    marker: Callable[[], bytes],
+    marker: Callable[[], str],
     to: pathlib.Path,
     audit: Callable[[pathlib.Path], int],
 ) -> Copied:
     """A copy that the proved audit found lawful, with just the commands until its marker, after some
-    tries; each has a marker of its own. A copy that fails goes away. `audit` is called when nothing
-    waits for it: a ValueError of it says what is wrong with the copy.
+    tries; each has a marker of its own, by its UniqueID. A copy that fails goes away. `audit` is
+    called when nothing waits for it.
     """
     for left in reversed(range(TRIES)):
         try:
-            copied = copy(desk, port, marker(), to)
-            if (commands := audit(to)) != copied.number:
-                raise NoCopy(f"{to} has {commands} commands, and its marker is {copied.number}")
+            uid = marker()
+            copied = copy(desk, port, message(uid), to)
+            if (commands := audit(to)) != copied.number or last_of(to, commands) != uid:
+                raise NoCopy(
+                    f"{to} has {commands} commands, and not just those until {uid}, the"
+                    f" {copied.number}th on port {port}: does another desk answer there?"
+                )
             return copied
-        except (NoCopy, OSError, ValueError) as fault:
+        except (NoCopy, plant.Fault, OSError, sqlite3.Error) as fault:
             remove(to)
             if not left:
                 raise NoCopy(str(fault)) from fault
@@ -91,6 +100,22 @@ def lawful(
             remove(to)
             raise
     raise AssertionError("there is a last try")
+
+
+def new_marker() -> str:
+    """The UniqueID of a marker."""
+    return f"copy-{secrets.token_hex(16)}"
+
+
+def message(uid: str) -> bytes:
+    """A marker: it never moves the desk's minute."""
+    return stored.line(uid, model.SOURCE, 0, "ClockSet", {}).encode()
+
+
+def last_of(file: pathlib.Path, number: int) -> str:
+    """The UniqueID of a command of an audited file."""
+    with catalogue.opened(file) as database:
+        return str(database.execute(UID, [number]).fetchone()[0])
 
 
 def remove(copied: pathlib.Path) -> None:

@@ -17,7 +17,6 @@ from collections.abc import Sequence
 from tracedesk_ops import plant
 
 SHOWN = "TRACEDESK_PROGRESS"  # in the environment: progress is said where no terminal is
-LOW = ("nice", "-n", "10", "ionice", "-t", "-c", "3")
 SECONDS_A_MB = 0.075  # docs/figures.md: 9 s of the processor for a million pieces in 120 MB
 MEMORY = 6  # times the largest file: tracedesk-chain has two neighbours in memory
 LEAST = 4  # files of a part: it reads one more than it would alone

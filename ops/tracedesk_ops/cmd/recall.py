@@ -5,7 +5,7 @@ usage: tracedesk-recall lot NAME.. [--part PART] [OPTION]..
        tracedesk-recall reel NAME.. [OPTION]..
        tracedesk-recall where ATTRIBUTE=VALUE.. [OPTION]..
 options:                [--line LINE URL CATALOGUE].. [--lines FILE]
-                        [--show TABLE] [--shipped FILE] [--html FILE] [--evidence FOLDER] [--key FILE | --unsigned]
+                        [--show TABLE] [--shipped FILE] [--customer NAME] [--html FILE] [--evidence FOLDER] [--key FILE | --unsigned]
                         [--cacert FILE] [--netrc FILE] [--archives-only] [--quick]
 
 examples:
@@ -40,6 +40,8 @@ twice, a reel has one of the values. A reel whose attributes nobody gave may be 
   untraced      work that the desks refused, on any reel: its pieces are in no trace; with the decisions about it
   doubtful      pieces of the lot, reel or board that may be of another reel: a load, splice or unload came late or was refused
 --shipped FILE  a CSV file with the columns board,customer,date, which the boards have then
+--customer NAME  with --shipped and --evidence: the evidence has the serials of this customer alone, also those that hold no
+                piece, and nothing of other boards; a serial that no line knows makes it incomplete
 --html FILE     one page to print, with all of it
 --evidence FOLDER  all of it as CSV and HTML, the desks' answers, the catalogues, a certificate, checksums and a signature:
                 tracedesk-verify verifies it
@@ -76,7 +78,7 @@ from typing import Any, NoReturn
 
 from tracedesk.desk import checked_url
 from tracedesk_ops import carry, catalogue, chains, plant, reader_of
-from tracedesk_ops.recalls import sets, signing
+from tracedesk_ops.recalls import customers, sets, signing
 from tracedesk_ops.recalls.certificate import bytes_of, programs
 from tracedesk_ops.recalls.desk import Desk, Line, Question
 from tracedesk_ops.recalls.evidence import (
@@ -260,6 +262,7 @@ def parse() -> argparse.Namespace:
         parser.add_argument(f"--{option}", type=pathlib.Path, metavar=metavar)
     for option in ("archives-only", "quick", "unsigned"):
         parser.add_argument(f"--{option}", action="store_true")
+    parser.add_argument("--customer", metavar="NAME")
     parser.add_argument(
         "--program",
         default=os.environ.get("PROGRAM", "tracedesk"),
@@ -275,6 +278,10 @@ def parse() -> argparse.Namespace:
             sets.terms_of(words.names)
         except ValueError as fault:
             stop(str(fault))
+    if words.customer and not (words.shipped and words.evidence and not words.html):
+        stop(
+            "--customer wants --shipped and --evidence, and has no --html: the evidence has a page"
+        )
     if words.key and words.unsigned:
         stop("--key signs the evidence, and --unsigned doesn't: say one of them")
     for path in (words.html, words.evidence):
@@ -352,6 +359,12 @@ def answer(words: argparse.Namespace, room: pathlib.Path) -> int:
             f"by the files of {plant.SET_UP} the lines are {', '.join(it.name for it in lines)}: one without a file there was not asked"
         )
     recall.ask()
+    own = None
+    if words.customer:
+        own = customers.narrow(recall, shipped or {}, words.customer)
+        if len(own["serials"]) == 1:
+            stop(f"{words.shipped}: it has no board of the customer {words.customer}")
+        plant.tell(customers.sentence(own["serials"]))
     tables = tables_of(recall, shipped)
     if any(
         str(it)[:1] in ("=", "+", "-", "@")
@@ -385,6 +398,8 @@ def answer(words: argparse.Namespace, room: pathlib.Path) -> int:
             signed_by = signing.fingerprint(key) if key else ""
             paper = page(recall, tables, shipped, used[0].version)
             its = evidence(recall, tables, words.shipped, paper, used, signed_by)
+            if own:
+                its = customers.contents(recall, own, used, signed_by)
         if words.html:
             write_beside(words.html, bytes_of(paper))
         if words.evidence:

@@ -13,6 +13,7 @@ from tracedesk_ops import carry
 from tracedesk_ops.recallpage import pages, papers, view
 from tracedesk_ops.recallpage.jobs import KINDS, MOST_SHOWN, Asked, Full, Job, Queue
 from tracedesk_ops.recalls import sets
+from tracedesk_ops.recalls.wording import readable
 
 READER = "X-Reader"  # the header in which the proxy names the reader
 KIND_TEXTS = (
@@ -155,7 +156,7 @@ def make(folder: pathlib.Path) -> flask.Flask:
     def waiting(job: Job, title: str) -> str:
         before = queue.place(job)
         read = [its[1] for its in map(PROGRESS.fullmatch, job.said.splitlines()) if its]
-        progress = view.readable(read[-1].partition(": ")[2]) if read else ""
+        progress = readable(read[-1].partition(": ")[2]) if read else ""
         state = "The archives are being read." if job.is_running else f"Waits behind {before}."
         its = {"state": state, "progress": progress}
         return pages.page(pages.WAIT, title, its, SECONDS_UNTIL_AGAIN)

@@ -9,6 +9,7 @@ import re
 from typing import Any
 
 from tracedesk_ops.recalls.certificate import FILE_NAME
+from tracedesk_ops.recalls.wording import readable
 
 TITLES = {
     "board": "Board",
@@ -54,8 +55,6 @@ LEFT_OUT = {  # on a page, and not in the spreadsheet
     "doubtful": {"file"},
 }
 MINUTE = re.compile(r"(\d{4}-\d\d-\d\d)T(\d\d:\d\d)(:00)?Z")
-URL = re.compile(r"https?://[^\s,;:]+(?::\d+)?(?:/[^\s:,;]*)?")
-PATH = re.compile(r"(?<![\w/.-])/(?:[^\s/:,;]+/)*([^\s/:,;]+)/?")
 MOST_ROWS = 2_000  # of a table on a page
 NOT_SHIPPED = "not shipped, or not on the list"
 REFUSED = 2  # statuses of tracedesk-recall
@@ -92,11 +91,6 @@ class Answer:
     tables: list[Table]
     facts: list[tuple[str, str]]
     limits: list[str]
-
-
-def readable(text: str) -> str:
-    """A message without the paths and addresses of the desk's machine."""
-    return PATH.sub(r"\1", URL.sub("the running desk", text))
 
 
 def spelled(value: str) -> str:

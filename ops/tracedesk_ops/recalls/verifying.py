@@ -99,6 +99,13 @@ def want_pieces(contents: Contents, told: dict[str, Any]) -> None:
     boards = {row["board"] for row in pieces}
     if "boards.csv" in contents and {row["board"] for row in rows_of(contents, "boards")} != boards:
         raise Refused("boards.csv has not the boards of pieces.csv")
+    if "serials.csv" in contents and holding(contents) != boards:
+        raise Refused("serials.csv has not the boards of pieces.csv")
+
+
+def holding(contents: Contents) -> set[str]:
+    """The serials of a customer that hold a piece."""
+    return {row["board"] for row in rows_of(contents, "serials") if row["holds"] == "yes"}
 
 
 def again(
@@ -129,6 +136,10 @@ def again(
         sha256 = hashlib.sha256(bytes_of(answer.text)).hexdigest()
         if sha256 != line["chain"]["sha256"]:
             raise Refused(f"{line['line']}: tracedesk-chain answers otherwise about these archives")
+        if "serials.csv" in contents:
+            serials = {row["board"] for row in rows_of(contents, "serials")}
+            if not {row["board"] for row in answer.rows} & serials <= holding(contents):
+                raise Refused(f"{line['line']}: serials.csv lacks a board with a piece")
         yield f"{line['line']}: the answer comes again from its {len(files)} archives"
 
 
