@@ -45,12 +45,10 @@ faults:        ## fails each call of the program, refuses its memory, cuts the p
 	@dev/faults/run damage
 send-test:     ## the senders: 10,000 messages while tracedesk-send, nginx and `serve` are killed 200 times; a proxy that fails; TLS | 6 min | nginx openssl
 	$(say)
-	@clients/python/tests/send-test
 	@/usr/bin/python3 -m pytest -q clients/python/tests
 bridge-test:   ## the bridge: its table, its sources, kills, and kills of RabbitMQ under it | 3 min | rabbitmq-server python3-qpid-proton
 	$(say)
-	@examples/bridge/test
-	@examples/bridge/test broker
+	@/usr/bin/python3 -m pytest -q examples/bridge/tests
 station-test:  ## the station in headless Chromium behind nginx: each flow, kills, looks: docs/station.md | 15 min | chromium chromium-driver python3-selenium nginx zbar-tools poppler-utils openssl
 	$(say)
 	@station/tests/station-test

@@ -60,6 +60,5 @@ def main() -> int:
 
 
 if __name__ == "__main__":
-    sys.exit(
-        ended(main, {NotTaken: 2, SpoolError: 2, ValueError: 2, OSError: 2})
-    )  # OutOfRange is a ValueError
+    # OutOfRange is a ValueError
+    sys.exit(ended(main, {NotTaken: 2, SpoolError: 2, ValueError: 2, OSError: 2}))

@@ -85,7 +85,7 @@ def files() -> list[tuple[str, list[pathlib.Path]]]:
         ("share/doc/tracedesk/api", these("docs/api/*.json")),
         ("share/doc/tracedesk/examples", these("packaging/Containerfile")),
         ("share/doc/tracedesk-send/examples", these("examples/client.py")),
-        ("lib/tracedesk/bridge", [it for it in these("examples/bridge/*") if it.name != "test"]),
+        ("lib/tracedesk/bridge", these("examples/bridge/*")),
     ]
 
 

@@ -213,7 +213,7 @@ def test_a_reel_that_moved_is_followed_under_its_other_name(
     lines = [new_line(folder / name, name, said=[]) for name in ("L1", "L2")]
     for line in lines:
         line.accept(*small.set_up(), *small.board("K-3", f"{line.name}-1"))
-    moved("K-3b", *lines, folder)
+    moved("K-3b", lines[0], lines[1], folder)
     lines[1].accept(*small.board("K-3b", "L2-2", "CAP"))
     words: list[Word] = [word for line in lines for word in line.recall_words()]
     env = small.chain_of_sets(lines[0].program)

@@ -127,7 +127,7 @@ class Asking:
             meanwhile()
             return Desk(line, None, None)
 
-        asker = chains.Asker(str(self.program), question)
+        asker = chains.Asker(str(self.program), question.words(self.room))
         its = Recall(question, self.asked[:lines], desk_of, asker)
         its.ask()
         return its

@@ -88,7 +88,11 @@ def state_of(queue: Queue, job: Job) -> str:
     ended = job.ended
     if ended is not None:
         return STATES.get(int(ended["status"]), "no answer")
-    return "runs" if job.is_running else f"waits behind {queue.place(job)}"
+    return "runs" if job.is_running else waits(queue.place(job)).lower()
+
+
+def waits(before: int) -> str:
+    return f"Waits behind {view.count(before, 'other')}" if before else "Is next"
 
 
 def make(folder: pathlib.Path) -> flask.Flask:
@@ -157,7 +161,7 @@ def make(folder: pathlib.Path) -> flask.Flask:
         before = queue.place(job)
         read = [its[1] for its in map(PROGRESS.fullmatch, job.said.splitlines()) if its]
         progress = readable(read[-1].partition(": ")[2]) if read else ""
-        state = "The archives are being read." if job.is_running else f"Waits behind {before}."
+        state = "The archives are being read." if job.is_running else f"{waits(before)}."
         its = {"state": state, "progress": progress}
         return pages.page(pages.WAIT, title, its, SECONDS_UNTIL_AGAIN)
 

@@ -1,18 +1,23 @@
 """The pages of recalls as texts. What comes from elsewhere is always escaped."""
 from __future__ import annotations
 
+import re
 from collections.abc import Mapping
 
 import jinja2
 
 from tracedesk_ops.recallpage.view import Answer
 
-CSS = """
-:root {
-  color-scheme: light;
-  --ink: #1b2430; --grey: #55606e; --line: #c6ccd4;
-  --blue: #0b57a4; --green: #1b7a3d; --red: #b71c1c;
+COLOURS = {
+    "ink": "#1b2430",
+    "grey": "#55606e",
+    "line": "#c6ccd4",
+    "blue": "#0b57a4",
+    "green": "#1b7a3d",
+    "red": "#b71c1c",
 }
+BY_NAME = """
+:root { color-scheme: light }
 * { box-sizing: border-box }
 body {
   font: 17px/1.45 "DejaVu Sans", Verdana, sans-serif; color: var(--ink);
@@ -50,6 +55,8 @@ button {
 }
 .refused { color: var(--red); font-weight: bold }
 """
+# WeasyPrint knows no var(--NAME) in the short form of a border.
+CSS = re.sub(r"var\(--(\w+)\)", lambda found: COLOURS[found[1]], BY_NAME)
 PAPER = """
 @page {
   size: A4; margin: 14mm 12mm 16mm;

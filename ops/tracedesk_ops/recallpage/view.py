@@ -56,7 +56,7 @@ LEFT_OUT = {  # on a page, and not in the spreadsheet
 }
 MINUTE = re.compile(r"(\d{4}-\d\d-\d\d)T(\d\d:\d\d)(:00)?Z")
 MOST_ROWS = 2_000  # of a table on a page
-NOT_SHIPPED = "not shipped, or not on the list"
+NOT_SHIPPED = "Not shipped, or not on the list"
 REFUSED = 2  # statuses of tracedesk-recall
 MEANINGS = {
     4: "The answer could not be written.",
@@ -184,7 +184,7 @@ def answer_of(evidence: pathlib.Path) -> Answer:
     tables = [table_of(evidence, name, f"{text}: {rows:,}") for name, text, rows in its if rows]
     lines = ", ".join(line["line"] for line in told["lines"])
     facts = [("Asked", spelled(told["asked_at"])), ("Lines", lines)]
-    facts += [(its["name"], its["version"]) for its in told["programs"][:2]]
+    facts.append(("Programs", ", ".join(its["version"] for its in told["programs"][:2])))
     facts.append(("Signed by", told["signed_by"]))
     return Answer(
         title=title,

@@ -1,52 +1,52 @@
-"""Where the messages of a bridge come from: a stream of lines, a file that may grow, or a broker."""
+"""Takes the lines of a stream, or of a file that grows and is moved away."""
+from __future__ import annotations
+
 import bz2
-import collections
 import contextlib
 import errno
 import fnmatch
 import gzip
-import hashlib
 import json
 import lzma
 import os
+import pathlib
 import re
 import shutil
 import stat
 import tempfile
 import time
 import zlib
+from typing import IO, Any, BinaryIO, Callable, Dict, Optional
 
-from tracedesk import SpoolError, console, spool as spools
+from bridge import Bridge
+from keeping import digest
+from tracedesk import Spool, SpoolError, console, disk
 
 LOOK = 0.2  # seconds between two looks at what is followed
 PIECE = 1 << 16  # bytes that are read at a time, and more where a line is longer
 BEFORE = 4096  # bytes at the beginning of a file, and before a position, by which it is known again
-STAYS = (
-    600.0  # seconds without a line more, after which nobody writes to a file that was moved away
-)
-PACKED = {
+# Seconds without a line more, after which nobody writes to a file that was moved away.
+STAYS = 600.0
+# Endings of files that are no lines any more, and what unpacks them.
+PACKED: dict[str, Optional[Callable[..., Any]]] = {
     ".gz": gzip.open,
     ".bz2": bz2.open,
     ".xz": lzma.open,
     ".zst": None,
-}  # endings of files that are no lines any more
+}
 NOT_UNPACKED = OSError, EOFError, lzma.LZMAError, zlib.error
 KNOWN = 200  # rotated files that are remembered, besides those that are there
 SETTLES = 2.0  # seconds after a change of the folder, in which another one may have the same time
 UNFINISHED = 5.0  # seconds that the next file waits for the end of a line of such a file
-LONGEST = 1 << 26  # bytes of a message of a broker, once it is unpacked
-HEARTBEAT = 30  # seconds
-FIRST_PAUSE, LONGEST_PAUSE = 0.2, 10.0  # seconds without a broker
+
+Told = Dict[str, Any]  # what is kept of a file
 
 
-def digest(text):
-    return hashlib.sha256(text).hexdigest()[:16]
-
-
-def take_lines(bridge, stream):
+def take_lines(bridge: Bridge, stream: BinaryIO) -> None:
     """Takes a stream, and says of each line what came of it."""
-    for line in spools.lines_of(stream):
-        for told in bridge.take((line if isinstance(line, bytes) else b"".join(line)).strip()).told:
+    for line in disk.lines_of(stream):
+        whole = line if isinstance(line, bytes) else b"".join(line)
+        for told in bridge.take(whole.strip()).told:
             console.say(told)
 
 
@@ -57,11 +57,13 @@ class Opened:
     """An open file, and how far it was read. What it began with, and what it had last before that place, are looked at again with each
     piece: other bytes there are other lines, which are read from the beginning."""
 
-    def __init__(self, path, told=None):
+    def __init__(self, path: pathlib.Path, told: Optional[Told] = None) -> None:
         self.file, self.id = open_log(path)
         self.at, self.head, self.last, self.rest, self.since = 0, b"", b"", b"", time.monotonic()
         self.taken = b""  # what was taken of a line that has no end
-        self.packed = None  # by what the packed file is known again, once it is read
+        self.packed: Optional[
+            Told
+        ] = None  # by what the packed file is known again, once it is read
         if told:
             at = told["At"]
             self.at, self.head, self.last = (
@@ -70,7 +72,7 @@ class Opened:
                 os.pread(self.file.fileno(), min(at, BEFORE), max(0, at - BEFORE)),
             )
 
-    def told(self):
+    def told(self) -> Told:
         """What is kept of it."""
         return {
             "At": self.at,
@@ -79,15 +81,15 @@ class Opened:
             "Inode": self.id[1],
         }
 
-    def is_of(self, told):
+    def is_of(self, told: Told) -> bool:
         """Whether it is the file of which this was kept."""
-        return (
+        return bool(
             told["At"] > 0
             and digest(self.last) == told["Before"]
             and digest(self.head) == told["Head"]
         )
 
-    def next_lines(self):
+    def next_lines(self) -> bytes:
         """The next whole lines, as bytes; they aren't counted as read yet."""
         size, handle = PIECE, self.file.fileno()
         while True:
@@ -113,11 +115,11 @@ class Opened:
                 return whole
             size *= 2
 
-    def grown(self, rest):
+    def grown(self, rest: bytes) -> None:
         if rest != self.rest:
             self.rest, self.since = rest, time.monotonic()
 
-    def read(self, lines):
+    def read(self, lines: bytes) -> None:
         """Counts these lines as read."""
         if lines:
             self.head = (self.head + lines)[:BEFORE] if len(self.head) < BEFORE else self.head
@@ -128,41 +130,42 @@ class Opened:
             )
 
 
-def open_log(path):
+def open_log(path: pathlib.Path) -> tuple[IO[bytes], tuple[int, int]]:
     """A file of lines, with the device and the inode of its path. What is packed is unpacked into a file without a name."""
-    file = open(path, "rb", buffering=0)
+    file: IO[bytes] = open(path, "rb", buffering=0)
     there = os.fstat(file.fileno())
     if path.suffix in PACKED:
         with file, contextlib.ExitStack() as kept:
             lines = kept.enter_context(tempfile.TemporaryFile(buffering=0))
-            if PACKED[path.suffix] is None:
+            unpack = PACKED[path.suffix]
+            if unpack is None:
                 raise OSError(f"nothing here unpacks {path.suffix}")
-            shutil.copyfileobj(kept.enter_context(PACKED[path.suffix](file)), lines, 1 << 20)
+            shutil.copyfileobj(kept.enter_context(unpack(file)), lines, 1 << 20)
             kept.pop_all()
         file = lines
     return file, (there.st_dev, there.st_ino)
 
 
-def head_of(path):
+def head_of(path: pathlib.Path) -> bytes:
     with open(path, "rb") as file:
         return file.read(BEFORE)
 
 
-def identity(inode, head):
+def identity(inode: int, head: bytes) -> Told:
     """By what a file is known again: its inode and its first bytes."""
     return {"Head": digest(head), "Inode": inode, "Size": len(head)}
 
 
-def begins_so(head, known):
+def begins_so(head: bytes, known: Told) -> bool:
     """Whether first bytes are those of a known file."""
-    return known["Size"] > 0 and known["Head"] == digest(head[: known["Size"]])
+    return int(known["Size"]) > 0 and known["Head"] == digest(head[: known["Size"]])
 
 
-def read_position(spool):
+def read_position(spool: Spool) -> dict[str, Any]:
     """How far the files of a spool were read, by their paths. Up to version 0.3.0 there was no list of known files."""
     place = spool.folder / ".position"
     try:
-        told = json.loads(place.read_text())
+        told: dict[str, Any] = json.loads(place.read_text())
         for mine in told.values():
             files, known = (mine, []) if isinstance(mine, list) else (mine["Files"], mine["Known"])
             if any(
@@ -191,11 +194,18 @@ class Following:
     Each rotated file of its folder is known or new. A new one is read, whenever it came and whatever the clock says of it. At the first
     run with a spool all that are there are known, and aren't read."""
 
-    def __init__(self, bridge, path, position, rotated=None, follows=False):
+    def __init__(
+        self,
+        bridge: Bridge,
+        path: pathlib.Path,
+        position: dict[str, Any],
+        rotated: Optional[str] = None,
+        follows: bool = False,
+    ) -> None:
         self.bridge, self.path, self.all, self.follows = bridge, path.absolute(), position, follows
         self.rotated = re.compile(fnmatch.translate(rotated) if rotated else usual_names(path))
         mine = position.get(str(self.path))
-        self.known = (
+        self.known: list[Told] = (
             mine["Known"]
             if isinstance(mine, dict)
             else [
@@ -210,20 +220,17 @@ class Following:
             for it in map(self.found, mine["Files"] if isinstance(mine, dict) else mine or ())
             if it
         ]
-        self.kept, self.is_told, self.folder, self.changed, self.unreadable = (
-            None,
-            False,
-            None,
-            0.0,
-            {},
-        )
+        self.kept: Optional[list[Told]] = None
+        self.folder: Optional[int] = None  # when it was changed, by its own clock
+        self.unreadable: dict[pathlib.Path, float] = {}
+        self.is_told, self.changed = False, 0.0
         self.keep()
 
-    def gap(self, why):
+    def gap(self, why: str) -> None:
         self.bridge.counts["gaps"] += 1
         console.tell(f"a gap: {why}")
 
-    def candidates(self):
+    def candidates(self) -> list[tuple[pathlib.Path, os.stat_result]]:
         """The rotated files of the folder that have something, with what the system says of them, the oldest first."""
         found = []
         for path in self.path.parent.iterdir():
@@ -238,13 +245,12 @@ class Following:
                     found.append((path, there))
         return sorted(found, key=lambda it: (it[1].st_mtime_ns, it[0].name))
 
-    def found(self, told):
+    def found(self, told: Told) -> Optional[Opened]:
         """The file of which this was kept: here, or under a new name in the same folder, and packed where it is there in no other way.
         One that is there and can't be read now is an OSError, and no gap: it is waited for."""
-        files, there = [], [
-            self.path,
-            *sorted(it for it in self.path.parent.iterdir() if it != self.path),
-        ]
+        files: list[Opened] = []
+        others = sorted(it for it in self.path.parent.iterdir() if it != self.path)
+        there = [self.path, *others]
         for path in sorted(there, key=lambda it: it.suffix in PACKED):
             is_packed, is_same = path.suffix in PACKED, False
             try:
@@ -258,13 +264,11 @@ class Following:
                     if not (files[-1].is_of(told) or told["At"] == 0 and is_same):
                         files.pop().file.close()
             except NOT_UNPACKED as fault:
-                if (is_packed or is_same) and getattr(fault, "errno", None) not in (
-                    None,
-                    errno.ENOENT,
-                    errno.EACCES if is_packed else None,
-                ):
-                    raise  # no errno: what is packed is damaged
-        files.sort(key=lambda it: it.id[1] != told["Inode"])
+                # no number: what is packed is damaged
+                passes = (None, errno.ENOENT, errno.EACCES if is_packed else None)
+                if (is_packed or is_same) and getattr(fault, "errno", None) not in passes:
+                    raise
+        files.sort(key=lambda file: bool(file.id[1] != told["Inode"]))
         for it in files[1:]:
             it.file.close()
         if not files and told["At"]:
@@ -273,7 +277,7 @@ class Following:
             )
         return files[0] if files else None
 
-    def look_for_another(self):
+    def look_for_another(self) -> None:
         """Opens the file of the path, if that is another one than before, after those that came and were moved away meanwhile."""
         there, folder = os.stat(self.path), os.stat(self.path.parent).st_mtime_ns
         if folder != self.folder:
@@ -285,13 +289,11 @@ class Following:
             if same or not self.unreadable:
                 self.files.append(same or Opened(self.path))
 
-    def new_ones(self, newest):
+    def new_ones(self, newest: os.stat_result) -> list[Opened]:
         """The rotated files that aren't known, each opened, up to one that can't be read yet: those after it wait, so that lines stay in their order."""
-        found, open_ones, candidates = (
-            [],
-            {it.id[1] for it in self.files} | {newest.st_ino},
-            self.candidates(),
-        )
+        found: list[Opened] = []
+        open_ones = {it.id[1] for it in self.files} | {newest.st_ino}
+        candidates = self.candidates()
         self.unreadable = {
             path: since for path, since in self.unreadable.items() if path in dict(candidates)
         }
@@ -322,7 +324,7 @@ class Following:
         del self.known[: -(KNOWN + 4 * len(candidates))]
         return found
 
-    def opened(self, path):
+    def opened(self, path: pathlib.Path) -> Optional[Opened]:
         """A new file, opened; from how far that was read where it is a copy of one that is being read, and none where it is one of a known one."""
         for old in [it.told() for it in self.files]:
             it = Opened(path, old)
@@ -336,13 +338,13 @@ class Following:
             return None
         return it
 
-    def take_data(self, data):
+    def take_data(self, data: bytes) -> None:
         for line in data.split(b"\n"):
             if line.strip():
                 self.bridge.take(line.strip())
             self.bridge.look()
 
-    def look(self):
+    def look(self) -> bool:
         """Takes what is there of each file; whether that was anything. The newest is read first and taken last: a writer that goes on
         to a new file has written to the old one before."""
         try:
@@ -372,7 +374,7 @@ class Following:
             self.keep()
         return any(pieces)
 
-    def keep(self):
+    def keep(self) -> None:
         """Keeps how far the files were read, and which are known."""
         told = [it.told() for it in self.files]
         if told != self.kept:
@@ -389,18 +391,20 @@ class Following:
             ]
             self.all[str(self.path)] = {"Files": told, "Known": self.known}
             place = self.bridge.kept.spool.folder / ".position"
-            spools.write_synced(place, json.dumps(self.all).encode())
-            spools.sync_folder(place.parent)
+            disk.write_synced(place, json.dumps(self.all).encode())
+            disk.sync_folder(place.parent)
             self.kept = told
 
 
-def usual_names(path):
+def usual_names(path: pathlib.Path) -> str:
     """Of rotated files: the name with more behind it, or with digits and signs of a time before it or before its ending."""
     time_ = r"[\d._:TZ-]*"
     return f"{re.escape(path.name)}.+|{time_}{re.escape(path.stem)}{time_}{re.escape(path.suffix)}(?:{'|'.join(map(re.escape, PACKED))})?"
 
 
-def take_file(bridge, path, follows, rotated=None):
+def take_file(
+    bridge: Bridge, path: pathlib.Path, follows: bool, rotated: Optional[str] = None
+) -> None:
     """Takes a file; one that is followed, and then those that take its place, without an end."""
     if not follows:
         path.stat()
@@ -413,131 +417,3 @@ def take_file(bridge, path, follows, rotated=None):
             time.sleep(LOOK)
     for it in following.files:
         following.take_data(it.rest)  # and once more by who reads on from that place
-
-
-# --- A broker
-
-
-def plain(value):
-    """A value of a broker as JSON has it. What is neither text nor number nor a list or a map of them is spelled as Python does."""
-    if isinstance(value, dict):
-        return {str(plain(name)): plain(it) for name, it in value.items()}
-    if isinstance(value, (list, tuple)):
-        return [plain(it) for it in value]
-    if isinstance(value, (bytes, memoryview, bytearray)):
-        return bytes(value).decode(errors="backslashreplace")
-    return value if value is None or isinstance(value, (str, bool, int, float)) else repr(value)
-
-
-def unpacked(message):
-    """The bytes of a message of a broker, which may be packed."""
-    body = message.body
-    if not isinstance(body, (str, bytes, memoryview, bytearray)):
-        return json.dumps(plain(body)).encode()
-    data = body.encode(errors="surrogatepass") if isinstance(body, str) else bytes(body)
-    text, rest = b"", data
-    with contextlib.suppress(zlib.error):
-        while rest[:2] == b"\x1f\x8b" and len(text) < LONGEST:
-            packed = zlib.decompressobj(31)
-            text += packed.decompress(rest, LONGEST - len(text))
-            rest = packed.unused_data if packed.eof else rest[:1]  # one that isn't whole is none
-            if not rest.strip(b"\0"):
-                return text
-    return data
-
-
-def message_of(proton):
-    """Messages whose body is what came, where that can't be read, as a text that is no UTF-8."""
-
-    class Message(proton.Message):
-        def decode(self, data):
-            try:
-                super().decode(data)
-            except (ValueError, TypeError, proton.ProtonException):
-                self.clear()
-                self.body = bytes(data)
-
-    return Message
-
-
-def connection_of(proton):
-    """Connections that also tell when the broker ends their session: so RabbitMQ says that there is no such queue."""
-    from proton import _handlers
-    from proton.utils import BlockingConnection
-
-    _handlers.Message = message_of(proton)  # proton has no other place for it
-
-    class Connection(BlockingConnection):
-        def on_session_remote_close(self, event):
-            if not self.closing:
-                raise proton.SessionException(str(event.session.remote_condition))
-
-    return Connection
-
-
-class Queue:
-    """A queue of a broker. `asked` has the words of the command line."""
-
-    def __init__(self, bridge, asked):
-        try:
-            import proton
-        except ImportError as fault:
-            raise ImportError(
-                f"{fault}: apt-get install python3-qpid-proton, and start this by /usr/bin/python3"
-            ) from None
-        self.proton, self.bridge, self.asked = proton, bridge, asked
-        self.pause, self.why = FIRST_PAUSE, None
-
-    def connect(self):
-        asked, domain = self.asked, None
-        if asked.broker.startswith("amqps:"):
-            domain = self.proton.SSLDomain(self.proton.SSLDomain.MODE_CLIENT)
-            domain.set_trusted_ca_db(asked.ca or "/etc/ssl/certs/ca-certificates.crt")
-            domain.set_peer_authentication(self.proton.SSLDomain.VERIFY_PEER_NAME)
-        who = (
-            {"user": asked.user, "password": asked.password, "allowed_mechs": "PLAIN"}
-            if asked.user
-            else {"allowed_mechs": "ANONYMOUS"}
-        )
-        return connection_of(self.proton)(
-            asked.broker, timeout=20, ssl_domain=domain, heartbeat=HEARTBEAT, **who
-        )
-
-    def is_answered(self, names):
-        return all(map(self.bridge.kept.is_answered, names))
-
-    def take(self, link):
-        """Takes from a connection. What came first is acknowledged first, once its answers are on disk."""
-        receiver, open_ones = link.create_receiver(self.asked.queue, credit=0), collections.deque()
-        while True:
-            while open_ones and self.is_answered(open_ones[0]):
-                open_ones.popleft()
-                receiver.accept()
-                self.pause, self.why = FIRST_PAUSE, None
-            self.bridge.look()
-            with contextlib.suppress(self.proton.Timeout):
-                if len(open_ones) < self.asked.window:
-                    message = receiver.receive(timeout=0.02 if open_ones else LOOK)
-                    open_ones.append(self.bridge.take(unpacked(message)).names)
-                else:
-                    link.wait(lambda: self.is_answered(open_ones[0]), timeout=LOOK)
-
-    def run(self):
-        """Takes without an end, and connects again whenever that breaks: what isn't acknowledged comes again."""
-        while True:
-            link = None
-            try:
-                link = self.connect()
-                self.take(link)
-            except (self.proton.ProtonException, OSError) as fault:
-                why = str(fault) or repr(fault)
-                if why != self.why:
-                    console.tell(f"{self.asked.broker}: {why}. It is asked again")
-                self.why = why
-            if link is not None:
-                with contextlib.suppress(
-                    Exception
-                ):  # proton closes what is broken with errors of many kinds
-                    link.close()
-            time.sleep(self.pause)
-            self.pause = min(2 * self.pause, LONGEST_PAUSE)
