@@ -32,7 +32,7 @@ import time
 from collections.abc import Iterator
 
 from bench import copies, proxy
-from station_site import wait_for
+from station_site import Site, wait_for
 from tracedesk_dev import program
 from tracedesk_dev.trial import ROOT
 from tracedesk_ops import plant
@@ -47,7 +47,7 @@ USER = "m0"
 class Served:
     """A desk whose service is started and stopped by commands, as by a unit."""
 
-    def __init__(self, site: proxy.Site, binary: str) -> None:
+    def __init__(self, site: Site, binary: str) -> None:
         self.site, self.file, self.port = site, site.room / "desk", site.desk_port
         self.pid, self.start = site.room / "desk-pid", site.room / "start"
         self.start.write_text(START.format(binary, self.file, self.port), encoding="utf-8")
