@@ -193,7 +193,8 @@ class Run:
     def keep_up(self) -> None:
         """Starts again what ended, as a supervisor does."""
         if self.sender is None or self.sender.is_over():
-            options = [[], ["--patience", "20"], ["--stop-at-refusal"], ["--rate", "0"]]
+            options: list[list[str]] = [[], ["--patience", "20"]]
+            options += [["--stop-at-refusal"], ["--rate", "0"]]
             more: list[str] = self.chance.choice(options) if self.world.has_faults else []
             follow: list[object] = ["--follow", self.world.out]
             choices: list[list[object]] = [follow, follow, ["--stay"], []]
