@@ -120,7 +120,7 @@ def test_both_packages_have_the_same_files(packages: Packages) -> None:
     if run("sha256sum", "--check", "--quiet", "SHA256SUMS", cwd=packages.tar).returncode:
         raise Difference("SHA256SUMS is wrong")
     for tree, wrong in (
-        (packages.deb, rb"/usr/local/(?!bin/tracedesk)"),
+        (packages.deb, rb"/usr/local/(?:bin|lib|share|share/doc)/tracedesk"),
         (packages.tar / "usr", rb"/usr/(?:bin|lib|share|share/doc)/tracedesk"),
         (packages.tar / "etc", rb"/usr/(?:bin|lib|share)/tracedesk"),
     ):

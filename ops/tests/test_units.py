@@ -85,11 +85,12 @@ def test_a_unit_is_little_exposed(units: list[pathlib.Path], name: str) -> None:
 
 
 @pytest.mark.needs("systemd-analyze")
-def test_the_package_makes_each_user_of_a_unit(
+def test_the_packages_make_each_user_of_a_unit(
     units: list[pathlib.Path], folder: pathlib.Path
 ) -> None:
     (folder / "etc").mkdir()
-    run(["systemd-sysusers", f"--root={folder}", ROOT / "packaging/tracedesk.sysusers"]).expect()
+    lists = sorted((ROOT / "packaging").glob("*.sysusers"))
+    run(["systemd-sysusers", f"--root={folder}", *lists]).expect()
     made = {line.split(":")[0] for line in (folder / "etc/passwd").read_text().splitlines()}
     wanted = {name for unit in units for name in re.findall(r"^User=(.*)$", unit.read_text(), re.M)}
     assert wanted <= made

@@ -2,6 +2,7 @@
 from __future__ import annotations
 
 import contextlib
+import os
 import pathlib
 import tempfile
 from typing import Iterator, NamedTuple
@@ -19,8 +20,11 @@ class Packages(NamedTuple):
 
 
 def make_packages(program: pathlib.Path, room: pathlib.Path) -> Packages:
-    run(ROOT / "dev/dist", "--program", program, "--to", room / "made")
-    debs, (tarball,) = sorted(room.glob("made/*.deb")), room.glob("made/*.tar.gz")
+    """Makes them, or takes those of the folder that TRACEDESK_PACKAGES in the environment names."""
+    made = pathlib.Path(os.environ.get("TRACEDESK_PACKAGES") or room / "made")
+    if not made.exists():
+        run(ROOT / "dev/dist", "--program", program, "--to", made)
+    debs, (tarball,) = sorted(made.glob("*.deb")), made.glob("*.tar.gz")
     return Packages(debs, tarball, [newer_than(deb, room) for deb in debs])
 
 

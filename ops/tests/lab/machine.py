@@ -6,8 +6,9 @@ packages that are missing here, which apt-get installs. All changes to the other
 memory, and are gone at the end. The client is another network namespace, with a cable between the
 two.
 
-TRACEDESK_MACHINE in the environment names the folder, and TRACEDESK_EXTRA files of this machine
-that are put on the other one, as FILE:PATH.
+TRACEDESK_MACHINE in the environment names the folder, TRACEDESK_PACKAGES one with packages that
+dev/dist made already, and TRACEDESK_EXTRA files of this machine that are put on the other one,
+as FILE:PATH.
 """
 from __future__ import annotations
 
