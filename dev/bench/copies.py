@@ -62,6 +62,7 @@ from tracedesk_dev.bench_line import Line
 from tracedesk_ops import held, plant
 
 SLOW = 1.0  # seconds for a block on a slow disk
+AGAIN = 0.02  # seconds after which a sender that was sent away sends again
 SMALL = "400k"  # a disk that is full
 LIST = "SELECT number, uid, source, own, command FROM accepted ORDER BY number"
 FORK = multiprocessing.get_context("fork")
@@ -127,8 +128,14 @@ class Place(NamedTuple):
 
 
 def post(link: http.client.HTTPConnection, text: bytes, headers: dict[str, str]) -> Any:
-    link.request("POST", "/messages", text, headers)
-    return json.loads(link.getresponse().read())
+    """The answer to a message, which is sent again while the proxy sends senders away."""
+    while True:
+        link.request("POST", "/messages", text, headers)
+        answer = link.getresponse()
+        said = answer.read()
+        if answer.status != 503:
+            return json.loads(said)
+        time.sleep(AGAIN)
 
 
 def send(
@@ -364,16 +371,8 @@ def copied(asked: argparse.Namespace, folder: pathlib.Path) -> int:
     faults = [it for it in FAULTS if it != "full disk" or not os.geteuid()]
     with proxy.site_with(asked.program, users, proxy.salted, folder=str(folder)) as site:
         site.kill_desk()
-        desk, work = site.room / "desk", Line().messages()
-        for file in site.room.glob("desk*"):
-            file.unlink()
-        if asked.desk:
-            shutil.copyfile(asked.desk, desk)
-            placed = 0
-            while placed < asked.pieces:
-                placed += next(work)[1]
-        else:
-            starts.grown(asked, desk, work, collections.Counter(), asked.pieces)
+        desk = site.room / "desk"
+        work = desk_of(asked, desk)
         site.start_desk()
         trust = str(site.room / "etc/server.crt") if asked.proxy else ""
         places = [Place(site.port if trust else site.desk_port, trust, user) for user in users]
@@ -399,6 +398,21 @@ def copied(asked: argparse.Namespace, folder: pathlib.Path) -> int:
     for fault in bad[:20]:
         print(f"WRONG   {fault}")
     return int(bool(bad) != asked.planted)
+
+
+def desk_of(asked: argparse.Namespace, desk: pathlib.Path) -> Iterator[tuple[bytes, int]]:
+    """Makes a desk with the pieces that are asked for; the messages with which its line goes on."""
+    work = Line().messages()
+    for file in desk.parent.glob(f"{desk.name}*"):
+        file.unlink()
+    if not asked.desk:
+        starts.grown(asked, desk, work, collections.Counter(), asked.pieces)
+        return work
+    shutil.copyfile(asked.desk, desk)
+    placed = 0
+    while placed < asked.pieces:
+        placed += next(work)[1]
+    return work
 
 
 def settled(desk: pathlib.Path) -> None:
