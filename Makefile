@@ -2,7 +2,7 @@
 # wants beside Python 3: rt is Rattle's kit, and the others are packages of Debian 12. A line of #: begins a group.
 # The program is that of PROGRAM=FILE, else crates/tracedesk/out/tracedesk as long as no source is newer. Where neither is there,
 # make build and make test prove and build it, make demo runs it before its proof, and the others say so and end.
-.PHONY: help demo build day plant-recall test lint ops-test wrong-bodies faults send-test bridge-test station-test plant-test bench pictures dist
+.PHONY: help demo build day plant-recall test lint ops-test truth-test evidence-test wrong-bodies faults send-test bridge-test station-test plant-test bench pictures dist
 row = sed -n 's/^\($(1)\):\( *\)\#\# /make \1\2/p; s/^\#: /\n/p' $(firstword $(MAKEFILE_LIST))
 say = @$(call row,$@) | grep make >&2
 
@@ -27,9 +27,16 @@ test:          ## the gate: looks at the sources, proves everything from nothing
 	@dev/test
 lint:          ## format, types, unused names, scripts and lengths of files, in all that isn't Rattle | 1 min | black mypy pyflakes3 eslint shellcheck
 	@dev/lint
-ops-test:      ## all tests of the tools in ops/, also those that take minutes or want root, but for make plant-test | 30 min | postgresql postgresql-15-plproxy python3-psycopg python3-pytest nginx openssl
+ops-test:      ## all tests of the tools in ops/, also those that take minutes or want root, but for make plant-test and truth-test | 30 min | postgresql postgresql-15-plproxy python3-psycopg python3-pytest nginx openssl
 	$(say)
-	@/usr/bin/python3 -m pytest -q ops/tests --ignore-glob='*installed*'
+	@/usr/bin/python3 -m pytest -q ops/tests --ignore-glob='*installed*' --ignore=ops/tests/test_truth.py
+truth-test:    ## recalls of 10,000 simulated shifts, compared with what happened at the machines | half an hour or more | python3-pytest python3-pytest-xdist
+	$(say)
+	@/usr/bin/python3 -m pytest -q -n 4 ops/tests/test_truth.py
+evidence-test: ## kills the tools that keep evidence at each call, and in 3,000 random sequences | hours
+	$(say)
+	@ops/tests/evidence-faults --points 0 --moments 3
+	@ops/tests/evidence-faults --points 3000 random
 wrong-bodies:  ## tries all wrong bodies, those outside the tests too, and the wrong programs: each has to be refused; and asks another validator about all messages | 1 h, and up to 40 min for each of the programs | rt
 	$(say)
 	@dev/wrong-bodies
@@ -43,10 +50,10 @@ faults:        ## fails each call of the program, refuses its memory, cuts the p
 	@dev/faults/run kills
 	@dev/faults/run kills --planted --kills 20
 	@dev/faults/run damage
-send-test:     ## the senders: 10,000 messages while tracedesk-send, nginx and `serve` are killed 200 times; a proxy that fails; TLS | 6 min | nginx openssl
+send-test:     ## the senders: 10,000 messages while tracedesk-send, nginx and `serve` are killed 200 times; a proxy that fails; TLS; a model of all that is outside | 6 min | python3-pytest nginx openssl
 	$(say)
 	@/usr/bin/python3 -m pytest -q clients/python/tests
-bridge-test:   ## the bridge: its table, its sources, kills, and kills of RabbitMQ under it | 3 min | rabbitmq-server python3-qpid-proton
+bridge-test:   ## the bridge: its table, its sources, kills, and kills of RabbitMQ under it | 3 min | python3-pytest rabbitmq-server python3-qpid-proton openssl
 	$(say)
 	@/usr/bin/python3 -m pytest -q examples/bridge/tests
 station-test:  ## the station in headless Chromium behind nginx: each flow, kills, looks: docs/station.md | 15 min | chromium chromium-driver python3-selenium nginx zbar-tools poppler-utils openssl

@@ -50,6 +50,7 @@ import signal
 import sqlite3
 import statistics
 import subprocess
+import sys
 import tempfile
 import time
 from collections.abc import Iterator
@@ -462,6 +463,7 @@ def main(asked: argparse.Namespace, _reader: argparse.ArgumentParser) -> int:
     asked.program = program.to_use(asked.program)
     program.want("nginx", "nginx-light")
     program.want("openssl", "openssl")
+    signal.signal(signal.SIGTERM, lambda *_: sys.exit(1))  # what was started ends too
     with tempfile.TemporaryDirectory(dir=asked.folder) as room:
         pathlib.Path(room).chmod(0o755)
         return copied(asked, pathlib.Path(room))

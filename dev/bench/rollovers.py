@@ -27,12 +27,13 @@ import os
 import pathlib
 import signal
 import subprocess
+import sys
 import tempfile
 import time
 from collections.abc import Iterator
 
 from bench import copies, proxy
-from station_site import wait_for
+from station_site import Site, wait_for
 from tracedesk_dev import program
 from tracedesk_dev.trial import ROOT
 from tracedesk_ops import plant
@@ -47,7 +48,7 @@ USER = "m0"
 class Served:
     """A desk whose service is started and stopped by commands, as by a unit."""
 
-    def __init__(self, site: proxy.Site, binary: str) -> None:
+    def __init__(self, site: Site, binary: str) -> None:
         self.site, self.file, self.port = site, site.room / "desk", site.desk_port
         self.pid, self.start = site.room / "desk-pid", site.room / "start"
         self.start.write_text(START.format(binary, self.file, self.port), encoding="utf-8")
@@ -137,6 +138,7 @@ def main(asked: argparse.Namespace, _reader: argparse.ArgumentParser) -> int:
     asked.program = program.to_use(asked.program)
     program.want("nginx", "nginx-light")
     program.want("openssl", "openssl")
+    signal.signal(signal.SIGTERM, lambda *_: sys.exit(1))  # what was started ends too
     with tempfile.TemporaryDirectory(dir=asked.folder) as room:
         pathlib.Path(room).chmod(0o755)
         return measured(asked, pathlib.Path(room))

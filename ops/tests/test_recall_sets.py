@@ -1,4 +1,4 @@
-"""Recalls of sets of reels: several lots, one part of a lot, attributes, and a reel with several names."""
+"""Recalls of sets of reels: lots, a part of a lot, attributes, and a reel with several names."""
 from __future__ import annotations
 
 import json

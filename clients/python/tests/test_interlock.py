@@ -11,7 +11,7 @@ from unittest import mock
 import pytest
 from desk_model import Model, Server
 
-from tracedesk import answers, asking, desk, interlock, spool
+from tracedesk import answers, asking, desk, disk, interlock, spool
 
 
 class Line:
@@ -330,7 +330,7 @@ def test_one_sender_has_a_machine(line: Line, tmp_path: pathlib.Path) -> None:
     with line.states.held("desk:1"):
         with other.held("desk:2"):
             pass
-        with pytest.raises(spool.SpoolError, match="another sender"), other.held("desk:1"):
+        with pytest.raises(disk.SpoolError, match="another sender"), other.held("desk:1"):
             pass
     with other.held("desk:1"):
         pass

@@ -5,8 +5,9 @@ import tempfile
 import time
 from typing import Counter
 
-import outside
 import pytest
+from outside_run import run
+from outside_way import bridge_program, modelled
 
 SHM = "/dev/shm" if os.access("/dev/shm", os.W_OK) else None
 NEWS = 100  # runs between two lines
@@ -15,12 +16,12 @@ NEWS = 100  # runs between two lines
 def test_each_message_acts_once_and_in_order_whatever_fails(request: pytest.FixtureRequest) -> None:
     """--outside N random runs, the first one of --seed N: that of a run which fails, with --outside 1, is that run again."""
     runs, first = request.config.getoption("--outside"), request.config.getoption("--seed")
-    bridge, counts, begun = outside.bridge_program(), Counter[str](), time.monotonic()
-    with outside.modelled(bridge):
+    bridge, counts, begun = bridge_program(), Counter[str](), time.monotonic()
+    with modelled(bridge):
         for seed in range(first, first + runs):
             with tempfile.TemporaryDirectory(dir=SHM) as room:
                 try:
-                    counts.update(outside.run(seed, bridge, room))
+                    counts.update(run(seed, bridge, room))
                 except BaseException as fault:
                     raise AssertionError(f"seed {seed}: {fault}") from fault
             done = seed - first + 1

@@ -193,7 +193,7 @@ def make(folder: pathlib.Path) -> flask.Flask:
     def guard(response: flask.Response) -> flask.Response:
         response.headers["Content-Security-Policy"] = POLICY
         response.headers["X-Content-Type-Options"] = "nosniff"
-        response.headers["Referrer-Policy"] = "no-referrer"
+        response.headers["Referrer-Policy"] = "same-origin"  # else Origin is null
         response.headers["Cache-Control"] = "no-store"
         return response
 
