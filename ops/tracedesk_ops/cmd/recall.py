@@ -241,7 +241,8 @@ def context_of(path: pathlib.Path | None, lines: Iterable[Line]) -> ssl.SSLConte
 
 def parse() -> argparse.Namespace:
     parser = reader_of(__doc__)
-    parser.add_argument("kind", choices=("lot", "reel", "board", "where"), help="what is recalled")
+    kinds = ("lot", "reel", "board", "where")
+    parser.add_argument("kind", choices=kinds, metavar="KIND", help="how the names are meant")
     parser.add_argument("names", nargs="+", type=carry.identifier, help="its names, or attributes")
     parser.add_argument("--part", type=carry.identifier, help="of lots, this part alone")
     parser.add_argument(
