@@ -45,16 +45,14 @@ faults:        ## fails each call of the program, refuses its memory, cuts the p
 	@dev/faults/run damage
 send-test:     ## the senders: 10,000 messages while tracedesk-send, nginx and `serve` are killed 200 times; a proxy that fails; TLS | 6 min | nginx openssl
 	$(say)
-	@clients/python/tests/send-test
 	@/usr/bin/python3 -m pytest -q clients/python/tests
 bridge-test:   ## the bridge: its table, its sources, kills, and kills of RabbitMQ under it | 3 min | rabbitmq-server python3-qpid-proton
 	$(say)
-	@examples/bridge/test
-	@examples/bridge/test broker
+	@/usr/bin/python3 -m pytest -q examples/bridge/tests
 station-test:  ## the station in headless Chromium behind nginx: each flow, kills, looks: docs/station.md | 15 min | chromium chromium-driver python3-selenium nginx zbar-tools poppler-utils openssl
 	$(say)
 	@station/tests/station-test
-plant-test:    ## installs the packages on a fresh Debian 12 of its own, as root, follows docs/operations.md there, and runs the tests of ops/ | 20 min | debootstrap iproute2 pandoc binutils debhelper python3-pytest
+plant-test:    ## installs the packages on a fresh Debian 12 of its own, as root, follows docs/operations-*.md there, and runs the tests of ops/ | 20 min | debootstrap iproute2 pandoc binutils debhelper dpkg-dev python3-pytest
 	$(say)
 	@/usr/bin/python3 -m pytest -q ops/tests/test_installed*.py
 
@@ -66,6 +64,6 @@ pictures:      ## the SVGs of docs/: crates, a splice, starts by pieces, two yea
 	@dev/pictures
 
 #: package
-dist:          ## a .deb and a tarball in dist: both programs and what a plant installs with them | 20 s | pandoc binutils debhelper
+dist:          ## Debian's packages and a tarball in dist: both programs and what a plant installs with them | 20 s | pandoc binutils debhelper dpkg-dev
 	$(say)
 	@dev/dist

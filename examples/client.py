@@ -19,10 +19,7 @@ import pathlib
 import sys
 
 HERE = pathlib.Path(__file__).resolve().parent
-sys.path[1:1] = [
-    str(HERE.parent / "clients/python"),
-    "/usr/bin/tracedesk-send",
-]  # the package lies in the repository, or in that file
+sys.path.insert(1, str(HERE.parent / "clients/python"))  # the package, if it isn't installed
 from tracedesk import (
     Desk,
     NotTaken,
@@ -36,7 +33,7 @@ from tracedesk import (
 from tracedesk.console import ended, tell  # noqa: E402
 
 
-def main():
+def main() -> int:
     reader = argparse.ArgumentParser(
         description=__doc__,
         formatter_class=argparse.RawDescriptionHelpFormatter,
@@ -63,6 +60,5 @@ def main():
 
 
 if __name__ == "__main__":
-    sys.exit(
-        ended(main, {NotTaken: 2, SpoolError: 2, ValueError: 2, OSError: 2})
-    )  # OutOfRange is a ValueError
+    # OutOfRange is a ValueError
+    sys.exit(ended(main, {NotTaken: 2, SpoolError: 2, ValueError: 2, OSError: 2}))

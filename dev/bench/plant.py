@@ -18,7 +18,8 @@ new start of it, with its files out of the system's cache.
 
 With --recall they are the archives of one line that rolls over, each begun by ops/tracedesk-begin from the one before. A lot with
 pieces in two of them is asked for, and a board, by tracedesk-chain and by ops/tracedesk-recall, and each file is audited: the same
-reading, so that is compared. tracedesk-chain is the one next to the program, or that of CHAIN. PostgreSQL isn't needed then.
+reading, so that is compared. The lot is also asked for in the four parts that tracedesk-recall reads side by side if four processors
+are free, one after the other: each is timed as if it were alone. tracedesk-chain is the one next to the program, or that of CHAIN. PostgreSQL isn't needed then.
 
 --folder   where all of it lies; it is new, and is removed at the end
 --archives made by the program: 52 with --recall, else 4; the last is loaded after all others
@@ -44,7 +45,7 @@ import time
 from typing import Any, Iterator
 from tracedesk_dev import bench_line, postgres, program
 from tracedesk_dev.program import ROOT
-from tracedesk_ops import catalogue, plant
+from tracedesk_ops import catalogue, parts, plant
 from tracedesk_dev.bench_archives import LOT, MEMORY, line_of, made, whole
 
 
@@ -187,6 +188,11 @@ def recall_bench(asked: argparse.Namespace, room: pathlib.Path) -> None:
     )
     of("check", measured(asked.chain, "check", *copies))
     of("lot", measured(asked.chain, "lot", lot, *copies))
+    spans = parts.spans([it.stat().st_size for it in copies], 4)
+    words = [["--from-middle", *copies[first : last + 1]][not first :] for first, last in spans]
+    its = [measured(asked.chain, "lot", lot, *part) for part in words]
+    of("the longest of its four parts", max(its))
+    of("the sum of its four parts", tuple(map(sum, zip(*its))))
     for it in room.glob("archive-*"):
         it.unlink()
     line = [

@@ -42,7 +42,7 @@ TICKS = os.sysconf("SC_CLK_TCK")
 
 
 def salted(password: str) -> str:
-    """A password as docs/operations.md writes it into the file of the proxy: one round of SHA-1 with a salt."""
+    """A password as docs/operations-access.md writes it into the file of the proxy: one round of SHA-1 with a salt."""
     salt = secrets.token_bytes(8)
     digest = hashlib.sha1(password.encode() + salt).digest()
     return "{SSHA}" + base64.b64encode(digest + salt).decode()
@@ -66,17 +66,24 @@ def message(source: str) -> bytes:
     return json.dumps(told).encode()
 
 
-def send(port: int, certificate: str, user: str, count: int) -> list[float]:
-    """The seconds of each message of one sender. Without a certificate it goes straight to the desk."""
+def link_to(
+    port: int, certificate: str, user: str
+) -> tuple[http.client.HTTPConnection, dict[str, str]]:
+    """A sender's connection and headers. Without a certificate each message goes straight to the
+    desk, over a connection of its own.
+    """
     headers = {"Content-Type": "application/json"}
-    link: http.client.HTTPConnection
-    if certificate:
-        trust = ssl.create_default_context(cafile=certificate)
-        link = http.client.HTTPSConnection("localhost", port, timeout=60, context=trust)
-        headers["Authorization"] = "Basic " + base64.b64encode(f"{user}:{user}".encode()).decode()
-    else:
-        link = http.client.HTTPConnection("127.0.0.1", port, timeout=60)
+    if not certificate:
         headers["Connection"] = "close"
+        return http.client.HTTPConnection("127.0.0.1", port, timeout=60), headers
+    trust = ssl.create_default_context(cafile=certificate)
+    headers["Authorization"] = "Basic " + base64.b64encode(f"{user}:{user}".encode()).decode()
+    return http.client.HTTPSConnection("localhost", port, timeout=60, context=trust), headers
+
+
+def send(port: int, certificate: str, user: str, count: int) -> list[float]:
+    """The seconds of each message of one sender."""
+    link, headers = link_to(port, certificate, user)
     took = []
     for _ in range(count):
         body = message(user)
@@ -102,9 +109,15 @@ def processor_seconds(site: Site) -> float:
     return sum(int(field[11]) + int(field[12]) for field in fields) / TICKS
 
 
-def site_with(binary: str, users: list[str], hashed: Callable[[str], str], limit: str) -> Site:
+def site_with(
+    binary: str,
+    users: list[str],
+    hashed: Callable[[str], str],
+    limit: str = "",
+    folder: str | None = None,
+) -> Site:
     """A desk behind nginx whose log-ins are hashed so, and whose limit of requests is this line."""
-    site = Site(binary)
+    site = Site(binary, folder)
     lines = "".join(f"{user}:{hashed(user)}\n" for user in users)
     for name in ("senders", "readers"):
         (site.room / "etc" / name).write_text(lines)
@@ -153,7 +166,7 @@ def main(asked: argparse.Namespace, _reader: argparse.ArgumentParser) -> int:
         "nginx as packaged": [],
     }
     with site_with(binary, users, slow, BEFORE) as before, site_with(
-        binary, users, salted, ""
+        binary, users, salted
     ) as packaged, concurrent.futures.ProcessPoolExecutor(asked.senders) as pool:
         targets = {
             "straight to the desk": (packaged, packaged.desk_port, ""),

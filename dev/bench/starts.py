@@ -133,7 +133,7 @@ def section(asked: argparse.Namespace, load: Any, rows: Any) -> str:
     )
     text = f"""{HEADING}
 
-`dev/bench/run starts` measured the program {sourced(asked)}: {at}; {turns}.{busy} One file grows: a line of four machines, of which each places 100 pieces on each board. A start is the time from the run of `serve` to its first answer; beside it stands how long the processor worked for it. Resident is its memory then, and most the most until then. The picture on [long-life.md](long-life.md) is drawn from this table by `make pictures`.
+`dev/bench/run starts` measured the program {sourced(asked)}: {at}; {turns}.{busy} One file grows: a line of four machines that each place 100 pieces on each board. `start` is the time from the run of `serve` to its first answer, `resident` its memory then, and `most` the most until then. `make pictures` draws the picture on [long-life.md](long-life.md) from this table.
 
 | pieces | commands | file, MB | start, s | of the processor, s | resident, MB | most, MB |
 |---:|---:|---:|---:|---:|---:|---:|

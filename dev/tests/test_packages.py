@@ -1,9 +1,9 @@
-"""What dev/dist makes: both packages, man pages and completions. Nothing of this machine is changed.
+"""What dev/dist makes: Debian's packages, the tarball, man pages and completions. Nothing of this machine is changed.
 
-Both packages are built twice, in two folders, under two time zones and masks for new files, and are compared byte by
+All are built twice, in two folders, under two time zones and masks for new files, and are compared byte by
 byte. Then their files are compared with each other and with the repository, lintian is asked, the man pages are rendered,
-and bash is asked for completions. Where root calls it, the .deb is installed and purged in a root laid over this one,
-which goes away. `make plant-test` installs the packages, and takes them away.
+and bash is asked for completions. Where root calls it, Debian's packages are installed, run a day (debian/tests/day) and
+are purged in a root laid over this one, which goes away. `make plant-test` installs them, and takes them away.
 """
 import concurrent.futures
 import json
@@ -21,16 +21,17 @@ from tracedesk_dev.trial import Difference
 from tracedesk_ops import plant
 
 pytestmark = [
-    pytest.mark.needs("pandoc", "readelf", "dh_builddeb"),
+    pytest.mark.needs("pandoc", "readelf", "dh_builddeb", "dpkg-buildpackage"),
     pytest.mark.xdist_group("packages"),
 ]
 
+NAMES = ("tracedesk", "tracedesk-plant", "tracedesk-send")
 ONE_ALONE = {
     f"usr/share/{it}"
     for it in (
-        "doc/tracedesk/changelog.gz",
-        "doc/tracedesk/copyright",
-        "lintian/overrides/tracedesk",
+        *(f"doc/{name}/{file}" for name in NAMES for file in ("changelog.gz", "copyright")),
+        "doc/tracedesk-plant",
+        *(f"lintian/overrides/{name}" for name in NAMES),
     )
 } | {"install", "docs", "LICENSE", "NEEDS", "SHA256SUMS"}
 
@@ -50,7 +51,7 @@ def run(
 
 
 class Packages:
-    """What was made, unpacked: `deb` and `tar` are trees from / on, `control` the .deb's own files."""
+    """What was made, unpacked: `deb` (of all three) and `tar` are trees from / on, `control` has a folder of each .deb's own files."""
 
     def __init__(self, program: str, room: pathlib.Path) -> None:
         self.program, self.room = program, room
@@ -69,9 +70,14 @@ class Packages:
         return to
 
     def unpack(self, to: pathlib.Path) -> None:
-        (self.package,), (tarball,) = to.glob("*.deb"), to.glob("*.tar.gz")
-        run("dpkg-deb", "--extract", self.package, self.deb, check=True)
-        run("dpkg-deb", "--control", self.package, self.control, check=True)
+        (tarball,) = to.glob("*.tar.gz")
+        self.packages = sorted(to.glob("*.deb"))
+        assert tuple(sorted(it.name.partition("_")[0] for it in self.packages)) == NAMES
+        for it in self.packages:
+            run("dpkg-deb", "--extract", it, self.deb, check=True)
+            to_control = self.control / it.name.partition("_")[0]
+            to_control.parent.mkdir(exist_ok=True)
+            run("dpkg-deb", "--control", it, to_control, check=True)
         self.tar.mkdir()
         run("tar", "-xzf", tarball, "-C", self.tar, "--strip-components=1", check=True)
 
@@ -114,7 +120,7 @@ def test_both_packages_have_the_same_files(packages: Packages) -> None:
     if run("sha256sum", "--check", "--quiet", "SHA256SUMS", cwd=packages.tar).returncode:
         raise Difference("SHA256SUMS is wrong")
     for tree, wrong in (
-        (packages.deb, rb"/usr/local/"),
+        (packages.deb, rb"/usr/local/(?:bin|lib|share|share/doc)/tracedesk"),
         (packages.tar / "usr", rb"/usr/(?:bin|lib|share|share/doc)/tracedesk"),
         (packages.tar / "etc", rb"/usr/(?:bin|lib|share)/tracedesk"),
     ):
@@ -177,29 +183,50 @@ def test_each_command_has_the_version(packages: Packages) -> None:
 
 def test_what_a_plant_edits_is_a_conffile(packages: Packages) -> None:
     """What a plant edits is a conffile, and nothing else is; the scripts are shell that dash takes."""
-    told = (packages.control / "conffiles").read_text().split()
+    told = (packages.control / "tracedesk-plant/conffiles").read_text().split()
+    others = [it.parent.name for it in packages.control.glob("*/conffiles")]
+    assert others == ["tracedesk-plant"]
     wanted = ["/etc/nginx/sites-available/tracedesk", "/etc/tracedesk/station/setup.json"]
     if sorted(told) != wanted or wanted != sorted(
         f"/{it}" for it in files_below(packages.deb) if it.startswith("etc/")
     ):
         raise Difference(f"the conffiles are {told}")
-    for it in ("postinst", "prerm", "postrm"):
-        if (done := run("sh", "-n", packages.control / it)).returncode:
+    scripts = [
+        it for name in ("postinst", "prerm", "postrm") for it in packages.control.glob(f"*/{name}")
+    ]
+    assert len(scripts) == 3 * len(NAMES)
+    for it in scripts:
+        if (done := run("sh", "-n", it)).returncode:
             raise Difference(f"{it}: {done.stdout}")
-        if left := re.findall(r"^[^#\n]*#[A-Z]+#", (packages.control / it).read_text(), re.M):
+        if left := re.findall(r"^[^#\n]*#[A-Z]+#", it.read_text(), re.M):
             raise Difference(f"{it} has {left}")
+
+
+def test_each_package_stands_alone_or_names_what_it_needs(packages: Packages) -> None:
+    """The desk wants no Python, the sender neither of the others, and the tools the very versions of both."""
+    control = {name: (packages.control / name / "control").read_text() for name in NAMES}
+    needs = {name: re.findall(r"^Depends: (.*)", text, re.M)[0] for name, text in control.items()}
+    version = re.findall(r"^Version: (.*)", control["tracedesk"], re.M)[0]
+    assert "python" not in needs["tracedesk"] and "tracedesk" not in needs["tracedesk"]
+    assert "python3" in needs["tracedesk-send"]
+    assert not re.search(r"tracedesk(-plant)? \(", needs["tracedesk-send"])
+    for name in ("tracedesk", "tracedesk-send"):
+        assert f"{name} (= {version})" in needs["tracedesk-plant"]
 
 
 OTHER_ROOT = r"""
 mount --make-rprivate / && mount -t tmpfs room "$1" && mkdir "$1/up" "$1/work" "$1/root" || exit 77
 mount -t overlay tried -o "lowerdir=/,upperdir=$1/up,workdir=$1/work" "$1/root" 2> /dev/null || exit 77
-cd "$1/root" && cp "$2" tried.deb && mount -t proc proc proc && mount -t tmpfs run run && mount --rbind /dev dev || exit 77
-exec chroot . env -i PATH=/usr/sbin:/usr/bin:/sbin:/bin HOME=/root LC_ALL=C.UTF-8 DEBIAN_FRONTEND=noninteractive sh -exc "$3" 2>&1
+cd "$1/root" && mkdir tried && cp "$2"/*.deb tried && mount -t proc proc proc && mount -t tmpfs run run && mount --rbind /dev dev || exit 77
+cp "$4" day && exec chroot . env -i PATH=/usr/sbin:/usr/bin:/sbin:/bin HOME=/root LC_ALL=C.UTF-8 DEBIAN_FRONTEND=noninteractive sh -exc "$3" 2>&1
 """
 INSTALLED = """
-dpkg --no-triggers --force-depends --install /tried.deb
+dpkg --no-triggers --force-depends --install /tried/*.deb
 systemctl is-enabled tracedesk tracedesk-backup.timer tracedesk-rollover.timer || true
-cd / && python3 -c 'import tracedesk; print("package", tracedesk.__version__)'
+cd / && python3 -c 'import tracedesk; print("package", tracedesk.__version__, tracedesk.__file__)'
+python3 /usr/share/tracedesk/tracedesk-send.pyz --version
+ip link set lo up
+AUTOPKGTEST_TMP=$(mktemp -d) sh -x /day > /day.log 2>&1 && echo a day passed || tail -n 20 /day.log
 echo '{"MessageName":"TraceDesk.PartsDefined"}' | tracedesk-send --validate - || true
 stat -c '%n %U %G %a' /etc/tracedesk /var/lib/tracedesk /var/lib/tracedesk/archive /var/lib/tracedesk/untraced /var/lib/tracedesk/status
 for who in www-data tracedesk-send; do setpriv --reuid=$who --regid=$who --init-groups sh -c 'umask 022; cd / && echo x > /var/lib/tracedesk/untraced/$1.json && ! ls /var/lib/tracedesk 2> /dev/null' sh $who; done
@@ -207,11 +234,11 @@ runuser -u tracedesk -- sh -c 'cat /var/lib/tracedesk/untraced/*.json && rm /var
 runuser -u tracedesk -- tracedesk feed --db /var/lib/tracedesk/desk < /dev/null
 echo changed > /etc/tracedesk/station/setup.json; touch /etc/tracedesk/senders
 ln -s ../sites-available/tracedesk /etc/nginx/sites-enabled/tracedesk || mkdir -p /etc/nginx/sites-enabled
-dpkg --no-triggers --force-depends --install /tried.deb
+dpkg --no-triggers --force-depends --install /tried/*.deb
 cat /etc/tracedesk/station/setup.json
-dpkg --no-triggers --purge tracedesk
+dpkg --no-triggers --purge tracedesk-plant tracedesk-send tracedesk
 echo left $(find /bin /etc /lib /usr /var/lib/tracedesk -xdev -name '*tracedesk*' -o -path '/var/lib/tracedesk/*' | sort)
-dpkg --no-triggers --force-depends --install /tried.deb
+dpkg --no-triggers --force-depends --install /tried/*.deb
 runuser -u tracedesk -- tracedesk audit --db /var/lib/tracedesk/desk
 """
 
@@ -225,19 +252,22 @@ def test_it_is_installed_and_purged_in_a_root_that_goes_away(packages: Packages)
     room = packages.room / "other"
     room.mkdir()
     done = run(
-        "unshare", "--mount", "sh", "-c", OTHER_ROOT, "sh", room, packages.package, INSTALLED
+        *("unshare", "--mount", "--net", "sh", "-c", OTHER_ROOT, "sh"),
+        *(room, packages.first, INSTALLED, ROOT / "debian/tests/day"),
     )
     if done.returncode == 77:
         pytest.skip("no root can be laid over this one")
     for wanted in (
         "\ndisabled\ndisabled\ndisabled\n",
         "\n/etc/tracedesk root www-data 750\n/var/lib/tracedesk tracedesk tracedesk 710\n/var/lib/tracedesk/archive tracedesk tracedesk 700\n/var/lib/tracedesk/untraced tracedesk tracedesk 2770\n/var/lib/tracedesk/status tracedesk tracedesk 2770\n",
-        f"\npackage {packages.version()}\n",
+        f"\npackage {packages.version()} /usr/lib/python3/dist-packages/tracedesk/__init__.py\n",
+        f"\ntracedesk-send {packages.version()}\n",
+        "\na day passed\n",
         "the nearest is TraceDesk.PartDefined",
         "tracedesk: there is no desk yet",
         "\nchanged\n",
         "tracedesk: /var/lib/tracedesk is kept",
-        "tracedesk: /etc/tracedesk is kept",
+        "tracedesk-plant: /etc/tracedesk is kept",
         "\nleft /etc/tracedesk /var/lib/tracedesk /var/lib/tracedesk/desk /var/lib/tracedesk/desk-wal\n",
         "\nlawful 0\n",
     ):
@@ -249,7 +279,7 @@ def test_it_is_installed_and_purged_in_a_root_that_goes_away(packages: Packages)
 
 @pytest.mark.needs("lintian")
 def test_lintian_finds_nothing(packages: Packages) -> None:
-    """Nothing but what packaging/debian/lintian-overrides names, each with its reason."""
+    """Nothing but what debian/*.lintian-overrides name, each with its reason."""
     done = run(
         "lintian",
         "--profile",
@@ -257,7 +287,7 @@ def test_lintian_finds_nothing(packages: Packages) -> None:
         "--allow-root",
         "--fail-on",
         "error,warning",
-        packages.package,
+        *packages.packages,
     )
     said = [it for it in done.stdout.splitlines() if not it.startswith("N:")]
     if done.returncode or said:

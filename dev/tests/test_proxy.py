@@ -1,6 +1,6 @@
 """The packaged nginx before a desk: what it answers by itself, whom it lets send, and the folders of a line.
 
-nginx and the desk run in a folder of their own, on free ports of this machine. The rules of docs/operations.md against
+nginx and the desk run in a folder of their own, on free ports of this machine. The rules of packaging/limits against
 connections that never finish a request are tried by root, in a network of its own:
 
     unshare --net sh -c 'ip link set lo up && /usr/bin/python3 -m pytest dev/tests/test_proxy.py -m root'
@@ -255,16 +255,15 @@ def test_status_is_put_by_senders_and_read(site: Site) -> None:
 
 
 def rules_of_the_firewall() -> str:
-    """The rules of docs/operations.md."""
-    text = (ROOT / "docs/operations.md").read_text(encoding="utf-8")
-    return str(re.findall(r"^table inet tracedesk \{\n.*?^\}\n", text, re.M | re.S)[0])
+    """The packaged rules."""
+    return (ROOT / "packaging/limits/nftables.conf").read_text(encoding="utf-8")
 
 
 @pytest.mark.needs("fail2ban-regex")
 def test_guesses_can_be_counted(site: Site) -> None:
-    """fail2ban finds a wrong password in the log by the expression of docs/operations.md, and no reader who asks whether to send."""
-    page = (ROOT / "docs/operations.md").read_text(encoding="utf-8")
-    rule = re.findall(r"^failregex = (.*)$", page, re.M)[0]
+    """fail2ban finds a wrong password in the log by the packaged expression, and no reader who asks whether to send."""
+    packaged = (ROOT / "packaging/limits/fail2ban-filter.conf").read_text(encoding="utf-8")
+    rule = re.findall(r"^failregex = (.*)$", packaged, re.M)[0]
     for user, password in (
         ("op", "op"),
         ("op", "guess"),

@@ -6,6 +6,7 @@ import re
 from typing import Callable, TypeVar
 
 # The body of a function with a contract, as `rt fmt` writes it: a caller does not see it.
+HEAD = r"(?:pub(?:\([^)]*\))? )?(?:const )?fn "
 BODY = re.compile(r"^( *)\{\n(?:(?! *(?:pub )?fn ).*\n)*?\1\}$", re.M)
 
 
@@ -59,9 +60,28 @@ def edits_in(owner: str, *folders: str) -> list[Edit]:
     return [Edit(path, f"{owner}/{labels[path]}") for path in paths if not path.endswith(".md")]
 
 
+def span_of(function: str, path: str, text: str) -> tuple[int, int]:
+    """Returns where a function's text begins and ends in its file, or the whole file where no function is named."""
+    if not function:
+        return 0, len(text)
+    rows = text.split("\n")
+    named = [
+        at
+        for at, row in enumerate(rows)
+        if re.match(rf"\s*{HEAD}{function.split('::')[-1]}\b", row)
+        and function in functions_at(path, text, [at])
+    ]
+    if len(named) != 1:
+        raise NotApplied(f"{path} has {len(named)} functions {function}, and not one")
+    indent = re.match(r"\s*", rows[named[0]])
+    assert indent, "each line begins with no space or some"
+    end = next(at for at in range(named[0], len(rows)) if rows[at].rstrip() == f"{indent[0]}}}")
+    return len("\n".join(rows[: named[0]])), len("\n".join(rows[: end + 1]))
+
+
 def texts_of(edits: list[Edit], folder: str) -> tuple[dict[str, str], dict[str, str]]:
     """Returns the texts of the files that edits change, before and after, by their paths in the folder."""
-    path, old = "", ""
+    path, function, old = "", "", ""
     before: dict[str, str] = {}
     after: dict[str, str] = {}
     if not all(it.path.endswith(".edit") for it in edits):
@@ -79,16 +99,23 @@ def texts_of(edits: list[Edit], folder: str) -> tuple[dict[str, str], dict[str, 
                 raise NotApplied(f"there is no file {path}")
             before.setdefault(path, read(f"{folder}/{path}"))
             after.setdefault(path, before[path])
+            function = ""
+        elif word == "function":
+            function = rest.strip()
         elif word == "old":
             old = rest
         elif word == "new":
             if not path or not old:
                 raise NotApplied("a 'new:' line has no 'file:' or 'old:' line before it")
-            if after[path].count(old) != 1:
+            first, last = span_of(function, path, after[path])
+            place = after[path][first:last]
+            if place.count(old) != 1:
+                where = f"{function} of {path}" if function else path
                 raise NotApplied(
-                    f"an 'old:' text is in {path} {after[path].count(old)} times, and not once"
+                    f"an 'old:' text is in {where} {place.count(old)} times, and not once"
                 )
-            after[path], old = after[path].replace(old, rest), ""
+            after[path] = after[path][:first] + place.replace(old, rest) + after[path][last:]
+            old = ""
     if before == after:
         raise NotApplied("it changes nothing")
     return before, after
@@ -141,7 +168,7 @@ def functions_at(path: str, text: str, lines: list[int]) -> dict[str, bool]:
     ]
     for line in lines:
         for at in range(line, -1, -1):
-            head = re.match(r"(\s*)(?:pub(?:\([^)]*\))? )?(?:const )?fn (\w+)", rows[at])
+            head = re.match(rf"(\s*){HEAD}(\w+)", rows[at])
             ends = (f"{head[1]}}}", f"{head[1]}{{}}") if head else ()
             end = (
                 next((it for it in range(at, len(rows)) if rows[it].rstrip() in ends), at)

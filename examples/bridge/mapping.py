@@ -1,209 +1,46 @@
 """Turns messages of another vocabulary into a desk's, by a table. tables.md says what a table has."""
+from __future__ import annotations
+
 import contextlib
 import dataclasses
 import datetime
-import decimal
-import hashlib
 import itertools
 import json
 import re
+from typing import Any, Iterable, Optional
 
 from tracedesk import MESSAGES, OutOfRange, forms, words
+from values import (
+    HOLE,
+    NUMBER,
+    Each,
+    Form,
+    Hash,
+    Kind,
+    Members,
+    Named,
+    Names,
+    NothingToSay,
+    NotMapped,
+    Number,
+    OrNone,
+    Scope,
+    Text,
+    as_text,
+    elements,
+    found_at,
+)
 
 WORDS = {it.WORD: it for it in MESSAGES}
 RECORDED = {it.partition(words.PREFIX)[2] for it in words.RECORDED}
-HOLE = re.compile(r"\{([^{}]*)\}")
 TIME = re.compile(r"(\d{4}-\d\d-\d\d)[Tt ](\d\d:\d\d:\d\d)(?:\.\d+)?(?:[Zz]|([+-]\d\d:\d\d))")
-NUMBER = "#"  # the place of an element in its list, from 1 on
-OTHERS = "*"  # in a list of names: all that it doesn't have
-
-
-ROUNDED = (
-    2**53
-)  # from this number on programs that calculate in doubles round, so that two names become one
 
 
 class BadTable(Exception):
     """What is wrong with a table, and where."""
 
 
-class NotMapped(Exception):
-    """Why a message that the table names gives none of the desk's."""
-
-
-class NothingToSay(Exception):
-    """It is of a machine that the table passes over, or of an empty list."""
-
-
-# --- Where something stands. A path is a JSON Pointer. With `/` in front it leads from the top of the message, else from the
-# element of the list that is gone through; `../` leads to the element around that. A scope is the message and these elements.
-
-
-def found_at(path, scope, number):
-    """The value at a path; NotMapped where there is none."""
-    if path == NUMBER:
-        return number
-    steps, at = path.split("/"), len(scope) - 1
-    if path.startswith("/"):
-        steps, at = steps[1:], 0
-    while steps[0] == ".." and at > 0:
-        steps, at = steps[1:], at - 1
-    value = scope[at]
-    for step in steps:
-        step = step.replace("~1", "/").replace("~0", "~")
-        if isinstance(value, dict) and value.get(step) is not None:
-            value = value[step]
-        elif isinstance(value, list) and step.isdecimal() and int(step) < len(value):
-            value = value[int(step)]
-        else:
-            raise NotMapped(f"{path} is not there")
-    return value
-
-
-def whole(path, value):
-    """A whole number, of a text or of a number."""
-    if isinstance(value, str) and re.fullmatch(r"-?\d{1,18}", value):
-        return int(value)
-    if isinstance(value, (int, float, decimal.Decimal)) and not isinstance(value, bool):
-        if not -ROUNDED < value < ROUNDED:
-            raise NotMapped(
-                f"{path} is {value!s:.100}, and many programs round numbers from 2^53 on: it has to come as a text"
-            )
-        if value == int(value):
-            return int(value)
-    raise NotMapped(f"{path} is {value!r:.100}, and no whole number")
-
-
-def as_text(path, value):
-    return value if isinstance(value, str) else str(whole(path, value))
-
-
-def elements(path, scope, number):
-    """The elements of a list; NothingToSay of an empty one."""
-    found = listed(path, scope, number)
-    if not found:
-        raise NothingToSay(f"{path} is empty")
-    return found
-
-
-def listed(path, scope, number):
-    found = found_at(path, scope, number)
-    if not isinstance(found, list):
-        raise NotMapped(f"{path} is no list")
-    return found
-
-
-def scopes_of(path, scope, number):
-    """The scope of each element of a list; of `LIST/*/LIST` those of the lists in each element of the first."""
-    outer, star, inner = path.partition("/*/")
-    scopes = [(*scope, it) for it in listed(outer, scope, number)]
-    if star:
-        scopes = [it for one in scopes for it in scopes_of(inner, one, number)]
-    return scopes
-
-
-# --- Forms: what a member is made of. Each is called with the scope and the number of the element.
-
-
-class Text:
-    """A text, in which {PATH} stands for the value there, and {PATH|OTHER} for OTHER where there is none."""
-
-    def __init__(self, text):
-        self.text = text
-        self.paths = HOLE.findall(text)
-
-    def made(self, scope, number):
-        def value(hole):
-            path, has_other, other = hole[1].partition("|")
-            try:
-                found = found_at(path, scope, number)
-            except NotMapped:
-                if has_other:
-                    return other
-                raise
-            return as_text(path, found)
-
-        return HOLE.sub(value, self.text)
-
-
-class Number:
-    def __init__(self, path):
-        self.path = path
-
-    def made(self, scope, number):
-        return whole(self.path, found_at(self.path, scope, number))
-
-
-class Named:
-    """What a list of names has for a text: another text, or null, where the message is passed over."""
-
-    def __init__(self, text, which, names):
-        self.text, self.which, self.names = text, which, names
-
-    def made(self, scope, number):
-        text = self.text.made(scope, number)
-        if text not in self.names and OTHERS not in self.names:
-            raise NotMapped(f"the names {self.which} don't have {text!r:.100}")
-        name = self.names.get(text, self.names.get(OTHERS))
-        if name is None:
-            raise NothingToSay(f"{text} is passed over")
-        return name
-
-
-class Hash:
-    """A name for what has no name of its own: the beginning of the SHA-256 of a text."""
-
-    def __init__(self, text):
-        self.text, self.paths = text, text.paths
-
-    def made(self, scope, number):
-        return hashlib.sha256(
-            self.text.made(scope, number).encode("utf-8", "surrogatepass")
-        ).hexdigest()[:32]
-
-
-class Each:
-    """A list, made of each element of another one."""
-
-    def __init__(self, path, form):
-        self.path, self.form = path, form
-
-    def made(self, scope, number):
-        scopes = scopes_of(self.path, scope, number)
-        if not scopes:
-            raise NothingToSay(f"{self.path} is empty")
-        return [self.form.made(it, at) for at, it in enumerate(scopes, 1)]
-
-
-class OrNone:
-    """A member that is read in a case alone; its constructor knows in which."""
-
-    def __init__(self, form):
-        self.form = form
-
-    def made(self, scope, number):
-        try:
-            return self.form.made(scope, number)
-        except NotMapped:
-            return None
-
-
-class Members:
-    """A body, or a row of one, by its constructor, which looks at each range."""
-
-    def __init__(self, kind, made_of):
-        self.kind, self.made_of = kind, made_of
-
-    def made(self, scope, number):
-        return self.kind(
-            **{attribute: form.made(scope, number) for attribute, form in self.made_of.items()}
-        )
-
-
-# --- A table
-
-
-def members_of(place, given, *wanted, **optional):
+def members_of(place: str, given: Any, *wanted: str, **optional: Any) -> list[Any]:
     """The members of an object of a table, which has these and no others; of an optional one that is not there what stands for it."""
     if not isinstance(given, dict) or not set(wanted) <= set(given) <= {*wanted, *optional}:
         raise BadTable(
@@ -213,13 +50,13 @@ def members_of(place, given, *wanted, **optional):
     return [given.get(name, optional.get(name)) for name in (*wanted, *optional)]
 
 
-def path_of(place, path):
+def path_of(place: str, path: Any) -> str:
     if not isinstance(path, str) or not path.strip("/"):
         raise BadTable(f"{place}: {path!r:.100} is no path, as /MessageBody/Units/0/UnitIdentifier")
     return path
 
 
-def text_of(place, text):
+def text_of(place: str, text: Any) -> Text:
     if (
         not isinstance(text, str)
         or not text
@@ -232,7 +69,9 @@ def text_of(place, text):
     return Text(text)
 
 
-def form_of(place, given, names, kind=None):
+def form_of(
+    place: str, given: Any, names: dict[str, Names], kind: Optional[type[forms.Part]] = None
+) -> Form:
     """A form of a table; `kind` is the row that is made of it, where it is a row."""
     if kind is not None:
         return row_of(place, given, names, kind)
@@ -250,7 +89,7 @@ def form_of(place, given, names, kind=None):
     return Named(text_of(place, text), which, names[which])
 
 
-def row_of(place, given, names, kind):
+def row_of(place: str, given: Any, names: dict[str, Names], kind: type[Kind]) -> Members[Kind]:
     """The members of a body, or of a row of one, each by its name in the message."""
     if not isinstance(given, dict):
         raise BadTable(f"{place} is no object")
@@ -260,7 +99,7 @@ def row_of(place, given, names, kind):
         raise BadTable(
             f"{place} has {', '.join(given) or 'nothing'}, and {kind.__name__} has {', '.join(known)}"
         )
-    made_of = {}
+    made_of: dict[str, Form] = {}
     for name, it in given.items():
         attribute, form = known[name]
         there = f"{place}, {name}"
@@ -278,21 +117,21 @@ def row_of(place, given, names, kind):
 class Where:
     """Of which elements a message is made: those whose text is, or isn't, one of these."""
 
-    def __init__(self, place, given, names):
+    def __init__(self, place: str, given: Any, names: dict[str, Names]) -> None:
         text, texts, others = members_of(place, given, "Text", Is=None, IsNot=None)
         self.text, self.texts = form_of(f"{place}, Text", text, names), others or texts
         self.is_not = others is not None
         if (texts is None) == (others is None) or not isinstance(self.texts, list):
             raise BadTable(f"{place} has one list of texts, as Is or as IsNot")
 
-    def holds(self, scope, number):
+    def holds(self, scope: Scope, number: int) -> bool:
         return (self.text.made(scope, number) in self.texts) != self.is_not
 
 
 class Entry:
     """How one message is made, or one for each element of a list, or for each of those that have a text in common."""
 
-    def __init__(self, place, given, names):
+    def __init__(self, place: str, given: Any, names: dict[str, Names]) -> None:
         wanted = ("Word", "UniqueID", "Source", "TimeStamp", "Members")
         more = {"Each": None, "By": None, "Where": None, "Once": False, "MachineReels": None}
         word, uid, source, time, body, self.each, by, where, self.is_once, reels = members_of(
@@ -323,38 +162,27 @@ class Entry:
                 f"{place}: the UniqueID has to have {{#}}, since there is a message for each element of {self.each}"
             )
 
-    def one(self, scope, number):
+    def one(self, scope: Scope, number: int) -> forms.Message:
         uid, source, time = (it.made(scope, number) for it in (self.uid, self.source, self.time))
         try:
             made = self.body.made(scope, number).message(source, unique_id=uid, at=moment(time))
         except OutOfRange as fault:
             raise NotMapped(f"{self.body.kind.__name__}: {fault}") from None
-        return self.with_reels(made, scope, number) if self.reels else made
+        return with_reels(made, self.reels.made(scope, number)) if self.reels else made
 
-    def with_reels(self, made, scope, number):
-        """An install with the reel that the machine names for each designator, where it names any. The desk skips that member."""
-        reels, told = [it or None for it in self.reels.made(scope, number)], json.loads(made.text)
-        names = told["MessageBody"]["Designators"]
-        if len(reels) != len(names):
-            raise NotMapped(f"MachineReels: {len(reels)} reels are named for {len(names)} pieces")
-        if any(reels):
-            told["MessageBody"]["MachineReels"] = reels
-        text = json.dumps(told, separators=(",", ":")).encode()
-        return dataclasses.replace(made, text=text)
-
-    def scopes(self, message):
+    def scopes(self, message: Any) -> list[tuple[Scope, int]]:
         """The scopes of its messages, each with its number."""
         if not self.each:
             return [((message,), 0)]
         its = [(message, it) for it in elements(self.each, (message,), 0)]
         if self.by:
-            groups = {}
+            groups: dict[str, list[Any]] = {}
             for number, it in enumerate(its, 1):
                 groups.setdefault(self.by.made(it, number), []).append(it[-1])
             its = [(message, {"By": name, "Of": all_}) for name, all_ in groups.items()]
         return [(it, number) for number, it in enumerate(its, 1)]
 
-    def guessed(self, message):
+    def guessed(self, message: Any) -> dict[str, Any]:
         """What can be read of a message that gives none of the desk's: its kind, its machine, and its board or slot."""
         body, known = {}, {name: form for name, form, _ in self.body.kind.MEMBERS}
         for name in ("Machine", "Board", "Slot", "Reel"):
@@ -363,7 +191,7 @@ class Entry:
         return {"MessageName": f"TraceDesk.{self.word}", "MessageBody": body}
 
 
-def reels_of(place, given, names, word):
+def reels_of(place: str, given: Any, names: dict[str, Names], word: str) -> Optional[Each]:
     """The form of the machine's reels, of an install."""
     if given is None:
         return None
@@ -373,7 +201,22 @@ def reels_of(place, given, names, word):
     return Each(path_of(place, path), form_of(place, each, names))
 
 
-def moment(text):
+def with_reels(made: forms.Message, named: list[Any]) -> forms.Message:
+    """An install with the reels that the machine names, one for each designator, if it names any.
+
+    The desk skips that member.
+    """
+    told = json.loads(made.text)
+    names, reels = told["MessageBody"]["Designators"], [reel or None for reel in named]
+    if len(reels) != len(names):
+        raise NotMapped(f"MachineReels: {len(reels)} reels are named for {len(names)} pieces")
+    if any(reels):
+        told["MessageBody"]["MachineReels"] = reels
+    text = json.dumps(told, separators=(",", ":")).encode()
+    return dataclasses.replace(made, text=text)
+
+
+def moment(text: str) -> datetime.datetime:
     """The moment of a time of RFC 3339."""
     told = TIME.fullmatch(text)
     if not told:
@@ -384,18 +227,21 @@ def moment(text):
         raise NotMapped(f"{text!r:.100} is in no calendar") from None
 
 
-def names_of(given):
+def names_of(given: Any) -> dict[str, Names]:
+    found: dict[str, Names] = {}
     for which, names in given.items() if isinstance(given, dict) else [("all", None)]:
         if not isinstance(names, dict) or not all(
-            it is None or isinstance(it, str) for it in names.values()
+            name is None or isinstance(name, str) for name in names.values()
         ):
             raise BadTable(
-                f"Names, {which}: it is no object of texts; null passes a message over, and * is any other"
+                f"Names, {which}: it is no object of texts;"
+                " null passes a message over, and * is any other"
             )
-    return given
+        found[which] = names
+    return found
 
 
-def once(pairs):
+def once(pairs: Iterable[tuple[str, Any]]) -> dict[str, Any]:
     """An object, each name of which is there once."""
     found = {}
     for name, value in pairs:
@@ -408,7 +254,7 @@ def once(pairs):
 class Table:
     """A table that was looked at: it makes messages of a message."""
 
-    def __init__(self, given):
+    def __init__(self, given: Any) -> None:
         messages, _, self.name, names = members_of(
             "the table", given, "Messages", About=None, Name="/MessageName", Names={}
         )
@@ -428,20 +274,20 @@ class Table:
                 raise BadTable(f"{name}: each of its messages needs a UniqueID of its own")
 
     @classmethod
-    def read(cls, text):
+    def read(cls, text: bytes | str) -> Table:
         try:
             given = json.loads(text, object_pairs_hook=once)
         except (ValueError, RecursionError) as fault:
             raise BadTable(f"it is no JSON: {fault}") from None
         return cls(given)
 
-    def name_of(self, message):
+    def name_of(self, message: Any) -> str:
         """The name of a message."""
         if not isinstance(message, dict):
             raise NotMapped("it is no JSON object")
         return as_text(self.name, found_at(self.name, (message,), 0))
 
-    def report_of(self, message):
+    def report_of(self, message: Any) -> Optional[dict[str, Any]]:
         """What can be read of a message that gives none of the desk's; none where it has a name that gives no report, load, splice or unload."""
         try:
             entries = self.entries.get(self.name_of(message), ())
@@ -449,7 +295,7 @@ class Table:
             return {}
         return next((it.guessed(message) for it in entries if it.word in RECORDED), None)
 
-    def made(self, message):
+    def made(self, message: Any) -> list[forms.Message]:
         """The desk's messages that it gives, all or none; none where the table passes it over. Entries of the same list, one behind the
         other, are made element by element, and an element for which one of them has nothing to say gives none.
         """

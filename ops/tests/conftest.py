@@ -121,7 +121,7 @@ def site(program: pathlib.Path) -> "Iterator[object]":
 
 @pytest.fixture(scope="session")
 def installed(program: pathlib.Path) -> Iterator[Installed]:
-    """The packages on a fresh Debian 12, on which all commands of docs/operations.md were run."""
+    """The packages on a fresh Debian 12, on which all commands of docs/operations-*.md were run."""
     with installations.installed(program) as made:
         yield made
 

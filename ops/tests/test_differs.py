@@ -47,6 +47,7 @@ def test_both_lots_name_the_board_until_somebody_decides(plant: Plant) -> None:
     plant.untraced("collect").expect()
     told = json.loads((plant.status / "untraced.json").read_text())["Undecided"]
     assert [(it["Board"], it["Refusal"], it["Place"]) for it in told] == [("B1", "Differs", "R-2")]
+    assert [(it["DeskReel"], it["Designators"]) for it in told] == [("R-1", ["C1"])]
     (record,) = untraced.undecided(untraced.read(plant.line.archive).records)
     plant.decide(record.id[:12], "the machine was wrong: its feeder table was old")
     for lot in ("L-R-1", "L-R-2"):

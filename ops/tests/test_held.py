@@ -1,4 +1,5 @@
 """A copy of a running desk: it ends in its marker, has each acknowledged command, and a tool that hangs doesn't hold the line."""
+import itertools
 import json
 import os
 import pathlib
@@ -15,13 +16,13 @@ from lab import ROOT, messages
 from lab.desk import Desk
 from lab.tools import run
 from lab.waits import wait_for
-from tracedesk_ops import copies, held
+from tracedesk_ops import copies, held, plant
 
 TRY = """
 import pathlib, sys, time
 sys.path.insert(0, sys.argv[1])
 from tracedesk_ops import held
-def slow(file, to):
+def slow(*_):
     print("held", flush=True)
     time.sleep(60)
 held.copy_bytes = slow
@@ -90,16 +91,21 @@ def test_a_copy_under_load_ends_in_its_marker_and_has_what_was_acknowledged(
         assert acknowledged.items() <= there.items()
 
 
+def tried(served: Desk, folder: pathlib.Path) -> "subprocess.Popen[bytes]":
+    """A tool that holds the connection and hangs; its process group is its own, as in a terminal."""
+    words = [sys.executable, "-c", TRY, str(ROOT / "ops"), str(served.file), str(served.port)]
+    words += [marker().decode(), str(folder / "copy")]
+    return subprocess.Popen(words, stdout=subprocess.PIPE, start_new_session=True)
+
+
 @pytest.mark.gate
-@pytest.mark.parametrize("how", [signal.SIGSTOP, signal.SIGKILL])
+@pytest.mark.parametrize("how", [signal.SIGSTOP, signal.SIGTSTP, signal.SIGKILL])
 def test_a_tool_that_hangs_or_is_killed_holds_nobody(
     served: Desk, folder: pathlib.Path, how: signal.Signals
 ) -> None:
-    words = [sys.executable, "-c", TRY, str(ROOT / "ops"), str(served.file), str(served.port)]
-    words += [marker().decode(), str(folder / "copy")]
-    with subprocess.Popen(words, stdout=subprocess.PIPE) as tool:
+    with tried(served, folder) as tool:
         assert tool.stdout is not None and tool.stdout.readline() == b"held\n"
-        os.kill(tool.pid, how)
+        os.killpg(tool.pid, how)
         began = time.monotonic()
         assert served.say("PartDefined", PartNumber="AFTER")["Answer"] == "Accepted"
         waited = time.monotonic() - began
@@ -108,13 +114,58 @@ def test_a_tool_that_hangs_or_is_killed_holds_nobody(
 
 
 @pytest.mark.gate
+def test_a_tool_that_is_stopped_before_it_reads_the_answer_holds_nobody(
+    served: Desk, folder: pathlib.Path
+) -> None:
+    link = served.begin_post(messages.part("P"))
+    with tried(served, folder) as tool:
+        wait_for("the tool waits for the desk", lambda: plant.connections(served.port)[0] == 2)
+        os.killpg(tool.pid, signal.SIGSTOP)
+        link.close()
+        assert served.say("PartDefined", PartNumber="AFTER")["Answer"] == "Accepted"
+        assert tool.wait() == -signal.SIGKILL
+
+
+@pytest.mark.gate
+def test_a_copy_that_takes_long_is_given_up(
+    served: Desk, folder: pathlib.Path, monkeypatch: pytest.MonkeyPatch
+) -> None:
+    monkeypatch.setattr(held, "SLOW", 0.0)
+    with pytest.raises(held.NoCopy, match="the disk is slow"):
+        held.copy(served.file, served.port, marker(), folder / "copy")
+    assert served.say("PartDefined", PartNumber="AFTER")["Answer"] == "Accepted"
+
+
+@pytest.mark.gate
+@pytest.mark.parametrize("good", [1, 3, 4])
+def test_a_copy_is_good_if_it_has_just_the_commands_until_its_marker(
+    served: Desk, folder: pathlib.Path, good: int
+) -> None:
+    to, audits = folder / "copy", itertools.count(1)
+    program = plant.Program(str(served.program), served.file)
+
+    def audit(file: pathlib.Path) -> int:
+        return program.audit(file) - (next(audits) < good)
+
+    numbers = itertools.count()
+    words = (served.file, served.port, lambda: f"copy-{next(numbers)}", to, audit)
+    if good > held.TRIES:
+        with pytest.raises(held.NoCopy, match="not just those until copy-2"):
+            held.lawful(*words)
+        assert not list(folder.glob("copy*"))
+    else:
+        assert held.lawful(*words).number == max(commands(to).values())
+    assert next(numbers) == min(good, held.TRIES)
+
+
+@pytest.mark.gate
 def test_a_copy_of_a_file_that_another_program_writes_is_refused(
     served: Desk, folder: pathlib.Path, monkeypatch: pytest.MonkeyPatch
 ) -> None:
-    whole: Callable[[pathlib.Path, pathlib.Path], None] = held.copy_bytes
+    whole: Callable[[pathlib.Path, pathlib.Path, float], None] = held.copy_bytes
 
-    def moving(file: pathlib.Path, to: pathlib.Path) -> None:
-        whole(file, to)
+    def moving(file: pathlib.Path, to: pathlib.Path, until: float) -> None:
+        whole(file, to, until)
         os.utime(file, ns=(0, 0))
 
     monkeypatch.setattr(held, "copy_bytes", moving)

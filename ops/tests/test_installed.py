@@ -1,4 +1,4 @@
-"""The packages on a fresh Debian 12: the commands of docs/operations.md, install and purge."""
+"""The packages on a fresh Debian 12: the commands of docs/operations-*.md, install and purge."""
 import pathlib
 import re
 import shutil
@@ -7,7 +7,7 @@ import tarfile
 import pytest
 from lab import ROOT
 from lab.installed import Installed, metrics_of
-from lab.machine import FOLDER, Machine, blocks, is_same, run
+from lab.machine import FOLDER, Machine, blocks, blocks_of, is_same, run
 
 pytestmark = [pytest.mark.root, pytest.mark.xdist_group("machine")]
 
@@ -18,7 +18,7 @@ KEPT = "/var/lib/tracedesk /var/lib/tracedesk-send /var/backups/tracedesk /etc/t
 SUMS = f"find {KEPT} -type f -print0 | sort -z | xargs -0 sha256sum"
 BROUGHT = (
     "/usr/bin/tracedesk* /usr/lib/tracedesk* /lib/systemd/system/tracedesk*"
-    " /etc/nginx/sites-*/tracedesk /usr/share/doc/tracedesk /usr/share/man/man1/tracedesk*"
+    " /etc/nginx/sites-*/tracedesk /usr/share/doc/tracedesk* /usr/lib/python3/dist-packages/tracedesk /usr/share/man/man1/tracedesk*"
 )
 PLACES = "find /usr/local /etc/nginx /etc/systemd /usr/lib/tracedesk -printf '%p %C@\\n'"
 TARBALL = """rm -rf /tmp/package; mkdir /tmp/package
@@ -27,7 +27,7 @@ chmod -R a+rX /tmp/package; cp /tmp/package/install /tmp/alone"""
 BEFORE_0_3 = """
 install -D -m 644 /dev/null /usr/local/lib/tracedesk/catalogue.py
 cp /lib/systemd/system/tracedesk* /etc/systemd/system; systemctl daemon-reload
-apt-get purge --yes tracedesk; systemctl daemon-reload
+apt-get purge --yes 'tracedesk*'; systemctl daemon-reload
 systemctl enable tracedesk tracedesk-backup.timer
 cp /tmp/package/etc/nginx/sites-available/tracedesk /etc/nginx/conf.d/tracedesk.conf
 sed -i 's/05:00/04:00/' /etc/systemd/system/tracedesk-backup.timer; systemctl daemon-reload
@@ -64,9 +64,9 @@ SOUND = LAWFUL + r"{}: sound\n"
 DESK = "/var/lib/tracedesk/desk"
 
 
-@pytest.mark.parametrize("line", [block.line for block in blocks()])
-def test_the_page_prints_what_it_says(installed: Installed, line: int) -> None:
-    assert not installed.differences.get(line)
+@pytest.mark.parametrize("place", [block.place for block in blocks()])
+def test_the_page_prints_what_it_says(installed: Installed, place: str) -> None:
+    assert not installed.differences.get(place)
 
 
 def test_both_programs_run_with_the_c_library_alone(
@@ -222,13 +222,13 @@ def test_faults_of_the_desks_file_are_named(machine: Machine) -> None:
 
 def test_an_integrator_connects(machine: Machine) -> None:
     """docs/connect.md on what is installed, by a user without rights in an empty folder."""
-    found = blocks(CONNECT)
+    found = blocks_of(CONNECT)
     script = "".join(f"{block.script}echo '@@@'\n" for block in found).replace("8080", "8099")
     machine.write(f"trap 'kill $(jobs -p)' EXIT\n{script}", "/tmp/connect.sh")
     nobody = "runuser -u nobody --"
     said = machine.shell(f"cd $({nobody} mktemp -d); {nobody} bash /tmp/connect.sh 2>&1")
     for block, got in zip(found, said.split("@@@\n")[:-1], strict=True):
-        assert is_same(block.prints or "", got), f"line {block.line}: {got}"
+        assert is_same(block.prints or "", got), f"{block.place}: {got}"
 
 
 def test_a_purge_keeps_what_was_sent_and_the_next_installation_goes_on(
@@ -238,12 +238,12 @@ def test_a_purge_keeps_what_was_sent_and_the_next_installation_goes_on(
     first = machine.post("before-the-purge", body=True)
     machine.shell("systemctl stop tracedesk tracedesk-watch.timer tracedesk-send@m1")
     lawful, before = machine.shell(audit), machine.shell(SUMS)
-    machine.shell("apt-get purge --yes tracedesk")
+    machine.shell("apt-get purge --yes 'tracedesk*'")
     left = "systemctl list-units --state=active --no-legend 'tracedesk*'; nginx -t 2> /dev/null"
     assert machine.shell(f"ls -d {BROUGHT} 2> /dev/null || true; {left}") == ""
     assert machine.shell(SUMS) == before
     machine.shell(
-        "cd /root/new; apt-get install --yes ./tracedesk_*_amd64.deb;"
+        "cd /root/new; apt-get install --yes ./tracedesk*.deb;"
         " ln -s ../sites-available/tracedesk /etc/nginx/sites-enabled/tracedesk;"
         " systemctl restart nginx"
     )

@@ -3,13 +3,18 @@ import subprocess
 
 import pytest
 from lab import ROOT
-from lab.machine import Machine
+from lab.machine import PAGES, Machine
 
 pytestmark = [pytest.mark.root, pytest.mark.xdist_group("machine")]
 
 AT, INSTALLED = "/root/tests", "/usr/lib/tracedesk"
 GIVEN = (  # what the tests are given of the repository
-    *("pyproject.toml", "examples/first-line.jsonl", "packaging", "docs/operations.md"),
+    *(
+        "pyproject.toml",
+        "examples/first-line.jsonl",
+        "packaging",
+        *(f"docs/{page.name}" for page in PAGES),
+    ),
     "cases/tables_that_were_altered/messages.jsonl",
     *("clients/python/tests", "ops/tests", "dev", "station/tests"),
 )

@@ -10,11 +10,13 @@ from lab import ROOT
 
 READS = """
 import sys
-from tracedesk_ops import chains, plant
-chains.SECONDS_BETWEEN_NOTES = 0
+from tracedesk_ops import chains, parts, plant
+parts.SECONDS_BETWEEN_NOTES = 0
 class Run:
     program, how = sys.argv[1], {}
-chains.said_of(Run, ["check"], [plant.pathlib.Path(name) for name in sys.argv[2:]], "asked: ")
+files = [plant.pathlib.Path(name) for name in sys.argv[2:]]
+progress = parts.Progress("asked: ", [file.stat().st_size for file in files], 2)
+chains.said_of(Run, ["check"], files, progress)
 """
 CHAIN = """#!/bin/sh
 for file in "$2" "$3"; do echo "x: $file: 7 commands, last minute 3; 0 to go" >&2; done
@@ -27,6 +29,8 @@ def test_progress_goes_to_a_terminal_alone(terminal: bool, tmp_path: pathlib.Pat
     chain = tmp_path / "chain"
     chain.write_text(CHAIN)
     chain.chmod(0o755)
+    for name in "ab":
+        (tmp_path / name).write_bytes(bytes(2_000_000))
     words = [sys.executable, "-c", READS, str(chain), str(tmp_path / "a"), str(tmp_path / "b")]
     environment = {**os.environ, "PYTHONPATH": str(ROOT / "ops")}
     ours, theirs = pty.openpty()
@@ -36,4 +40,5 @@ def test_progress_goes_to_a_terminal_alone(terminal: bool, tmp_path: pathlib.Pat
     told = os.read(ours, 4096) if terminal else done.stderr
     os.close(ours)
     os.close(theirs)
-    assert (b"asked: 1 of 2 files were read" in told) == terminal
+    for line in (b"asked: 2 files, 4 MB, are read, 2 at a time", b"asked: 1 of 2 files were read"):
+        assert (line in told) == terminal

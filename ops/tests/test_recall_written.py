@@ -21,7 +21,7 @@ L1-000001,Customer A,2026-03-05,
 L1-000001,Customer B,2026-04-01,again
 """
 EVIDENCE = """SHA256SUMS asked.csv boards.csv catalogue-1.csv catalogue-2.csv
-    chain-1.csv chain-2.csv desk-1.txt desk-2.txt doubtful.csv pieces.csv question.txt recall.html
+    certificate.json chain-1.csv chain-2.csv desk-1.txt desk-2.txt doubtful.csv pieces.csv question.txt recall.html
     reels.csv shipped.csv untraced.csv""".split()
 NOBODY = 65534
 

@@ -15,7 +15,6 @@ from lab.databases import Database
 from lab.desk import rows_of_archive
 from lab.plants import WorkedLine
 from lab.recalls import BOARD_TRACE, KINDS, TRACE, Asking, Rows
-from lab.world import RUNNING
 from tracedesk_dev import postgres, shift
 from tracedesk_ops import backups
 
@@ -105,11 +104,6 @@ def again(server: postgres.Server, whole: Database) -> Iterator[Database]:
 # --- The three ways
 
 
-def of_running(rows: Rows) -> Rows:
-    """As a recall prints them: a running desk has no minutes for it."""
-    return [{**row, "minute": ""} if row["file"] == RUNNING else row for row in rows]
-
-
 def expect_same(asking: Asking, database: Database, kind: str, name: str) -> Rows:
     """The pieces of a name, if all print the same, row by row."""
     columns = BOARD_TRACE if kind == "board" else TRACE
@@ -124,7 +118,7 @@ def expect_same(asking: Asking, database: Database, kind: str, name: str) -> Row
     for row in by_plant:
         minutes = asking.minutes[row["line"], row["file"]]
         assert row["minute"] == minutes[row["board"], row["designator"]], row
-    assert by_tool == of_running(by_plant), f"{kind} {name}"
+    assert by_tool == by_plant, f"{kind} {name}"
     return by_plant
 
 

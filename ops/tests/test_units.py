@@ -40,9 +40,9 @@ def test_each_rule_is_fired_by_a_test() -> None:
     assert set(re.findall(shape, TESTS.read_text())) == alerts()
 
 
-def test_the_page_has_a_row_of_each_metric_and_rule(metrics: set[str]) -> None:
-    page = (ROOT / "docs/operations.md").read_text()
-    assert [name for name in metrics | alerts() if f"`{name}`" not in page] == []
+def test_each_rule_says_what_to_do() -> None:
+    told = re.findall(r"- alert: (\w+)\n(?: +(?!- ).*\n)+? +do: \".+\"$", RULES.read_text(), re.M)
+    assert set(told) == alerts()
 
 
 @pytest.mark.needs("promtool")
@@ -85,11 +85,12 @@ def test_a_unit_is_little_exposed(units: list[pathlib.Path], name: str) -> None:
 
 
 @pytest.mark.needs("systemd-analyze")
-def test_the_package_makes_each_user_of_a_unit(
+def test_the_packages_make_each_user_of_a_unit(
     units: list[pathlib.Path], folder: pathlib.Path
 ) -> None:
     (folder / "etc").mkdir()
-    run(["systemd-sysusers", f"--root={folder}", ROOT / "packaging/tracedesk.sysusers"]).expect()
+    lists = sorted((ROOT / "packaging").glob("*.sysusers"))
+    run(["systemd-sysusers", f"--root={folder}", *lists]).expect()
     made = {line.split(":")[0] for line in (folder / "etc/passwd").read_text().splitlines()}
     wanted = {name for unit in units for name in re.findall(r"^User=(.*)$", unit.read_text(), re.M)}
     assert wanted <= made

@@ -5,9 +5,9 @@ import argparse
 import pathlib
 import sys
 
-# In the repository the package of clients has a folder of its own; in a package it lies in tracedesk-send.
+# In the repository the package of clients has a folder of its own; installed below a prefix it lies in that of Debian's Python.
 HERE = pathlib.Path(__file__).resolve()
-for clients in (HERE.parents[2] / "clients/python", HERE.parents[3] / "bin/tracedesk-send"):
+for clients in (HERE.parents[2] / "clients/python", HERE.parents[2] / "python3/dist-packages"):
     if clients.exists():
         sys.path.append(str(clients))
         break

@@ -7,25 +7,25 @@ It refuses a file that has several hard links. So what has those, is locked, or 
 
 Each desk names the file from which it was begun, by its checksum. After a roll-over with an option it doesn't carry that on
 as it was. Then the program is asked about the files before and behind this link, which is known by the checksum alone.
+
+Many files are read in parts, side by side: the last file of a part is the first of the next one, and both say the same of it.
 """
 from __future__ import annotations
 
+import concurrent.futures
 import contextlib
 import csv
 import dataclasses
-import io
 import os
 import pathlib
 import re
 import shutil
 import subprocess
-import sys
 import tempfile
-import time
-from collections.abc import Iterable, Sequence
+from collections.abc import Iterable, Iterator, Sequence
 from typing import Any
 
-from tracedesk_ops import catalogue, copies, identity, plant
+from tracedesk_ops import catalogue, copies, identity, parts, plant
 
 NO_CHAIN, REFUSED, BEGUN = (
     1,
@@ -35,7 +35,6 @@ NO_CHAIN, REFUSED, BEGUN = (
 OPTION = re.compile(
     ": differs (minute|slot|board .* in work old)"
 )  # what --at, --no-loads and --with-board-in-work make
-SECONDS_BETWEEN_NOTES = 10
 FILE = re.compile(
     r"[^:]*: (.*): (\d+) commands, last minute (\d+|none)(?:, begun from (.*))?; (\d+) to go"
 )
@@ -57,13 +56,22 @@ class End:
 @dataclasses.dataclass(frozen=True)
 class Answer:
     """What the program answered: the rows by their columns, `file` being the place of a row's file;
-    what it read of each file; what it printed; and links that are known by the checksum alone.
+    what it read of each file; what it printed, its header and each row; and links that are known by
+    the checksum alone.
     """
 
     rows: list[dict[str, Any]]
     ends: list[End]
-    text: str
+    printed: list[str]
     options: list[str]
+
+    @property
+    def text(self) -> str:
+        return "".join(self.printed)
+
+    def of_file(self, number: int) -> list[str]:
+        """The rows of a file, as they were printed, without the file's name."""
+        return [text for row, text in zip(self.rows, self.printed[1:]) if row["file"] == number]
 
 
 class NoAnswer(Exception):
@@ -92,20 +100,68 @@ class Asker:
 
 
 def asked(
-    chain: str, words: list[str], files: Files, archives: Archives, about: str = ""
+    chain: str,
+    words: list[str],
+    files: Files,
+    archives: Archives,
+    about: str = "",
+    is_middle: bool = False,
 ) -> Answer:
     """What the program answers to these words about files, from the oldest on, of which these are the lines of the catalogue; the last may
-    have none. A NoAnswer where there is none, a Fault where a file changes meanwhile. Long runs are told about.
+    have none. A NoAnswer where there is none, a Fault where a file changes meanwhile. Long runs are told about. With `is_middle` the first
+    file may be one that was begun from another, which isn't named.
     """
-    parts: list[tuple[int, Answer]] = []
+    sizes = [os.stat(file).st_size for file in files]
+    spans = parts.spans(sizes, parts.jobs(sizes))
+    progress = parts.Progress(about, sizes, len(spans))
+
+    def of(span: parts.Span) -> Answer:
+        first, end = span[0], span[1] + 1
+        middle = ["--from-middle"] * (is_middle or first > 0)
+        its = files[first:end], archives[first:end]
+        return in_turn(chain, words, middle, *its, progress, first > 0)
+
+    with concurrent.futures.ThreadPoolExecutor(len(spans)) as threads:
+        return joined(spans, list(threads.map(of, spans)))
+
+
+def joined(spans: Sequence[parts.Span], answers: Sequence[Answer]) -> Answer:
+    """The answer over all files, by those over parts that share a file each."""
+    whole = answers[0]
+    for (first, _), its in zip(spans[1:], answers[1:]):
+        if whole.ends[-1] != its.ends[0] or len(whole.of_file(first)) != len(its.of_file(0)):
+            raise plant.Fault(
+                "two parts of the chain differ about the file that they share: ask again"
+            )
+        later = [it for it in zip(its.rows, its.printed[1:]) if it[0]["file"] > 0]
+        whole = Answer(
+            whole.rows + [{**row, "file": first + row["file"]} for row, _ in later],
+            whole.ends + its.ends[1:],
+            whole.printed + [text for _, text in later],
+            whole.options + its.options,
+        )
+    return whole
+
+
+def in_turn(
+    chain: str,
+    words: list[str],
+    middle: list[str],
+    files: Files,
+    archives: Archives,
+    progress: parts.Progress,
+    is_shared: bool,
+) -> Answer:
+    """What the program answers about files that it reads one after the other; the first may be another part's last."""
+    runs: list[tuple[int, Answer]] = []
     options: list[str] = []
-    middle: list[str] = []
     first, last = 0, len(files)
     links: list[str] = []
     while first < len(files):
         try:
             asks = [*words, *middle, *links]
-            parts.append((first, asked_of(chain, asks, files[first:last], about)))
+            shared = is_shared and first == 0
+            runs.append((first, asked_of(chain, asks, files[first:last], progress, shared)))
             first, last, middle = last, len(files), ["--from-middle"]
         except NoAnswer as fault:
             if fault.status == BEGUN and len(fault.ends) > 1 and not links:
@@ -125,34 +181,35 @@ def asked(
             ):
                 raise
             options.append(str(fault))
-    ends = [end for _, its in parts for end in its.ends]
+    ends = [end for _, its in runs for end in its.ends]
     for file, end, before in zip(files[1:], ends[1:], archives):
         if not identity.follows(end.mark, before):
             raise NoAnswer(
                 f"{file.name} doesn't say that it was begun from {before.file}", NO_CHAIN
             )
-    rows = [{**row, "file": first + row["file"]} for first, its in parts for row in its.rows]
-    return Answer(
-        rows,
-        ends,
-        parts[0][1].text + "".join(its.text.partition("\n")[2] for _, its in parts[1:]),
-        options,
-    )
+    rows = [{**row, "file": first + row["file"]} for first, its in runs for row in its.rows]
+    printed = runs[0][1].printed[:1] + [text for _, its in runs for text in its.printed[1:]]
+    return Answer(rows, ends, printed, options)
 
 
-def asked_of(chain: str, words: list[str], files: Files, about: str) -> Answer:
-    """The same of files without such links. If one can't be opened where it is, as another call has it, copies of all are asked."""
+def asked_of(
+    chain: str, words: list[str], files: Files, progress: parts.Progress, is_shared: bool
+) -> Answer:
+    """The same of files without such links. If one can't be opened where it is, as another call has it, copies of all are asked.
+    A first file that is shared is copied, since another part has it open."""
     run = plant.Program(chain, files[0])
+    here = [can_be_opened(run, it) for it in files]
+    here[0] = here[0] and not is_shared
     try:
-        return asked_once(run, words, files, about, [can_be_opened(run, it) for it in files])
+        return asked_once(run, words, files, progress, here)
     except NoAnswer as fault:
         if fault.status != REFUSED or not str(fault).endswith(": Unavailable"):
             raise
-    return asked_once(run, words, files, about, [False] * len(files))
+    return asked_once(run, words, files, progress, [False] * len(files))
 
 
 def asked_once(
-    run: plant.Program, words: list[str], files: Files, about: str, here: list[bool]
+    run: plant.Program, words: list[str], files: Files, progress: parts.Progress, here: list[bool]
 ) -> Answer:
     before = [state_of(it) for it in files]
     with tempfile.TemporaryDirectory(prefix="tracedesk-") as room:
@@ -167,7 +224,7 @@ def asked_once(
             for number, (it, stays) in enumerate(zip(files, here), 1)
         ]
         try:
-            answer = said_of(run, words, named, about)
+            answer = said_of(run, words, named, progress)
         finally:
             for it in (it for it, stays in zip(files, here) if stays and not plant.is_open(it)):
                 plant.without_log(it)
@@ -176,15 +233,14 @@ def asked_once(
     return answer
 
 
-def said_of(run: plant.Program, words: list[str], files: Files, about: str) -> Answer:
+def said_of(run: plant.Program, words: list[str], files: Files, progress: parts.Progress) -> Answer:
     """The answer, with the files' own names in its texts."""
     folders = re.compile("|".join(sorted({f"{re.escape(str(it.parent))}/" for it in files})))
     ends: list[End] = []
     errors: list[str] = []
-    due = time.monotonic() + SECONDS_BETWEEN_NOTES
     with tempfile.TemporaryFile("w+", newline="", **plant.TEXT) as out:
         with subprocess.Popen(
-            [run.program, *words, *files],
+            [*plant.LOW, run.program, *words, *files],
             stdin=subprocess.DEVNULL,
             stdout=out,
             stderr=subprocess.PIPE,
@@ -199,18 +255,16 @@ def said_of(run: plant.Program, words: list[str], files: Files, about: str) -> A
                 ends.append(
                     End(int(found[2]), int(found[3]) if found[3] != "none" else 0, found[4] or "")
                 )
-                if sys.stderr.isatty() and time.monotonic() >= due:
-                    plant.tell(f"{about}{len(ends)} of {len(files)} files were read")
-                    due = time.monotonic() + SECONDS_BETWEEN_NOTES
+                progress.of(os.stat(found[1]).st_size)
         out.seek(0)
-        text = out.read()
+        printed = list(records(out))
     if running.returncode:
         raise NoAnswer(
             "; ".join(errors) or f"it ended with status {running.returncode}",
             running.returncode,
             ends,
         )
-    header, *rows = [*csv.reader(io.StringIO(text, newline=""))] or [[]]
+    header, *rows = [fields for fields, _ in printed] or [[]]
     if ",".join(header) != (CHECKED if words[0] == "check" else PIECES) or len(ends) != len(files):
         raise NoAnswer(
             f"it answers {words[0]} with {','.join(header)} about {len(ends)} of {len(files)} files: it is another version"
@@ -219,9 +273,23 @@ def said_of(run: plant.Program, words: list[str], files: Files, about: str) -> A
     return Answer(
         [{**dict(zip(header, row)), "file": place[row[header.index("file")]]} for row in rows],
         ends,
-        folders.sub("", text),
+        [folders.sub("", text) for _, text in printed],
         [],
     )
+
+
+def records(text: Iterable[str]) -> Iterator[tuple[list[str], str]]:
+    """The records of a CSV text, each with its text: a field may have an end of line."""
+    read: list[str] = []
+
+    def lines() -> Iterator[str]:
+        for line in text:
+            read.append(line)
+            yield line
+
+    for fields in csv.reader(lines()):
+        yield fields, "".join(read)
+        read.clear()
 
 
 def can_be_opened(run: plant.Program, file: pathlib.Path) -> bool:

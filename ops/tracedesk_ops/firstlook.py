@@ -8,25 +8,17 @@ from typing import NamedTuple, Protocol
 
 from tracedesk_ops import catalogue, copies
 
-KNOWN_AS = {
-    "lot": "SELECT 1 FROM reel WHERE lot = ?",
-    "reel": "SELECT 1 FROM reel WHERE reel = ?",
-    "board": "SELECT 1 FROM board WHERE board = ?",
-}
+KNOWN = "SELECT 1 FROM {} WHERE {}"
 # without an index by reel this is one scan of placement, in the order in which it lies: so nothing is ordered here
 PIECES = """SELECT board, designator, part, lot, reel.reel, placement.machine, slot, overdue, effective
     FROM placement CROSS JOIN reel USING (reel) CROSS JOIN accepted USING (number) WHERE {}"""
-THOSE_OF = {
-    "lot": "placement.reel IN (SELECT reel FROM reel WHERE lot = ?)",
-    "reel": "placement.reel = ?",
-    "board": "board = ?",
-}
+THOSE_OF = "placement.reel IN (SELECT reel FROM reel WHERE {})"
 LEFT = """SELECT reel, part, lot, remaining, iif(mount.reel IS NOT NULL, 'mounted', iif(open_since >= 0, 'open', 'sealed')),
-    coalesce(machine, ''), coalesce(slot, '') FROM reel LEFT JOIN mount USING (reel) WHERE {} = ? AND remaining > 0 ORDER BY reel"""
+    coalesce(machine, ''), coalesce(slot, '') FROM reel LEFT JOIN mount USING (reel) WHERE {} AND remaining > 0 ORDER BY reel"""
 
 
 class Question(Protocol):
-    """What is asked: `kind` is lot, reel or board."""
+    """What is asked: `kind` is lot, reel, reels or board."""
 
     @property
     def kind(self) -> str:
@@ -35,6 +27,9 @@ class Question(Protocol):
     @property
     def name(self) -> str:
         ...
+
+    def sql(self) -> tuple[str, list[str]]:
+        """The condition on a row of the table of its kind, and its values."""
 
 
 class Line(Protocol):
@@ -101,9 +96,13 @@ def told_by(
     question: Question,
     wants_pieces: bool,
 ) -> Told:
-    known = bool(copies.rows(database, KNOWN_AS[question.kind], question.name))
-    query = PIECES.format(THOSE_OF[question.kind])
-    placed = database.execute(query, [question.name]) if known and wants_pieces else ()
+    where, values = question.sql()
+    is_board = question.kind == "board"
+    known = bool(
+        copies.rows(database, KNOWN.format("board" if is_board else "reel", where), *values)
+    )
+    query = PIECES.format(where if is_board else THOSE_OF.format(where))
+    placed = database.execute(query, values) if known and wants_pieces else ()
     return Told(
         known,
         [
@@ -121,15 +120,24 @@ def told_by(
     )
 
 
+def with_minutes(database: sqlite3.Connection, pieces: list[Piece]) -> list[Piece]:
+    """The pieces that a running desk told, with the minutes that its tables have of them."""
+    query = (
+        "SELECT designator, effective FROM placement JOIN accepted USING (number) WHERE board = ?"
+    )
+    placed = {
+        board: dict(copies.rows(database, query, board))
+        for board in dict.fromkeys(piece.board for piece in pieces)
+    }
+    return [piece._replace(minute=placed[piece.board].get(piece.designator)) for piece in pieces]
+
+
 def left_in(
     database: sqlite3.Connection, line: Line, question: Question, minute: int | None = None
 ) -> tuple[list[Reel], set[str]]:
     """What is left of the lot or reel by the tables of a desk, as of a minute, none being now; and the machines of its sheets."""
-    left = (
-        database.execute(LEFT.format(question.kind), [question.name]).fetchall()
-        if question.kind != "board"
-        else []
-    )
+    where, values = question.sql()
+    left = [] if question.kind == "board" else copies.rows(database, LEFT.format(where), *values)
     return [Reel._make((*row, line.name, minute)) for row in left], {
         machine for (machine,) in database.execute("SELECT machine FROM sheet_row")
     }

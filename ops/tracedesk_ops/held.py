@@ -5,8 +5,11 @@ can come between. It posts a marker, whose answer has the number of the copy's l
 until file and log are copied. The caller then has the proved audit judge the copy: it is good if that finds just so many
 commands. A copy that fails is never kept.
 
-The line waits while the connection is held. A watchdog, a process of its own, kills a tool that holds it for too long, as one
-that somebody stopped; the kernel then closes the connection. A tool that is killed holds nothing either.
+    copied = held.lawful(desk, 8080, held.new_marker, folder / "desk", program.audit)
+
+The line waits while the connection is held. So a copy that takes too long, as on a slow disk, is given up. A watchdog, a process
+in a session of its own, ends the connection of a tool that hangs, or that somebody stopped, and kills the tool. A tool that is
+killed holds nothing either.
 """
 from __future__ import annotations
 
@@ -16,27 +19,44 @@ import http.client
 import json
 import os
 import pathlib
+import secrets
 import socket
+import sqlite3
 import subprocess
 import sys
 import time
-from typing import Iterator
+from collections.abc import Callable, Iterator
 
-LONGEST = 5.0  # seconds that the connection may be held
+from tracedesk_ops import catalogue, model, plant, stored
+
+LONGEST = 5.0  # seconds that the connection may be held by a tool that hangs
+SLOW = 2.5  # seconds after which a copy is given up
+TRIES = 3
 ANSWER = 30.0  # seconds for the desk to answer the marker: it may be at a long report
 HEAD = 32  # bytes at the beginning of a log: they change when it begins anew
 BLOCK = 1 << 20
 LOG = "-wal"
-# A letter says how long the next one may take, in seconds: else it kills who started it.
+UID = "SELECT uid FROM accepted WHERE number = ?"
+# A letter says how long the next one may take, in seconds: else it kills who started it. From the
+# answer to the marker on the desk waits. A tool that is stuck in the kernel, as at a disk that is
+# gone, dies later: so the connection, which comes with a letter, is ended before.
 WATCHDOG = """
-import os, select, signal, sys
+import os, select, signal, socket, sys
+said = socket.socket(fileno=0)
 limits = dict(a=float(sys.argv[2]), h=float(sys.argv[3]), f=None)
-limit = None
-while select.select([0], [], [], limit)[0]:
-    letter = os.read(0, 1).decode()
+limit, link, awaited = None, None, []
+said.send(b"r")
+while ready := select.select([said, *awaited], [], [], limit)[0]:
+    if said not in ready:
+        limit, awaited = limits["h"], []
+        continue
+    letter, links, _, _ = socket.recv_fds(said, 1, 1)
     if not letter:
         sys.exit()
-    limit = limits[letter]
+    if links:
+        link = socket.socket(fileno=links[0])
+    limit, awaited = limits[letter.decode()], [link] if letter == b"a" else []
+link.shutdown(socket.SHUT_RDWR)
 os.kill(int(sys.argv[1]), signal.SIGKILL)
 """
 
@@ -51,6 +71,58 @@ class Copied:
     seconds: float  # that the connection was held
 
 
+def lawful(
+    desk: pathlib.Path,
+    port: int,
+    marker: Callable[[], str],
+    to: pathlib.Path,
+    audit: Callable[[pathlib.Path], int],
+) -> Copied:
+    """A copy that the proved audit found lawful, with just the commands until its marker, after some
+    tries; each has a marker of its own, by its UniqueID. A copy that fails goes away. `audit` is
+    called when nothing waits for it.
+    """
+    for left in reversed(range(TRIES)):
+        try:
+            uid = marker()
+            copied = copy(desk, port, message(uid), to)
+            if (commands := audit(to)) != copied.number or last_of(to, commands) != uid:
+                raise NoCopy(
+                    f"{to} has {commands} commands, and not just those until {uid}, the"
+                    f" {copied.number}th on port {port}: does another desk answer there?"
+                )
+            return copied
+        except (NoCopy, plant.Fault, OSError, sqlite3.Error) as fault:
+            remove(to)
+            if not left:
+                raise NoCopy(str(fault)) from fault
+        except BaseException:
+            remove(to)
+            raise
+    raise AssertionError("there is a last try")
+
+
+def new_marker() -> str:
+    """The UniqueID of a marker."""
+    return f"copy-{secrets.token_hex(16)}"
+
+
+def message(uid: str) -> bytes:
+    """A marker: it never moves the desk's minute."""
+    return stored.line(uid, model.SOURCE, 0, "ClockSet", {}).encode()
+
+
+def last_of(file: pathlib.Path, number: int) -> str:
+    """The UniqueID of a command of an audited file."""
+    with catalogue.opened(file) as database:
+        return str(database.execute(UID, [number]).fetchone()[0])
+
+
+def remove(copied: pathlib.Path) -> None:
+    for file in (copied, beside(copied)):
+        file.unlink(missing_ok=True)
+
+
 def copy(desk: pathlib.Path, port: int, marker: bytes, to: pathlib.Path) -> Copied:
     """Copies the file and the log of the desk that runs on this port of this machine. `marker` is a message that it accepts."""
     log, log_to = beside(desk), beside(to)
@@ -59,13 +131,14 @@ def copy(desk: pathlib.Path, port: int, marker: bytes, to: pathlib.Path) -> Copi
     with watchdog() as said:
         link = http.client.HTTPConnection("127.0.0.1", port, timeout=ANSWER)
         try:
-            said("a")
+            link.connect()
+            said("a", link.sock)
             number = accepted(link, marker)
             said("h")
             began = time.monotonic()
             before = notes(desk, log)
-            copy_bytes(desk, to)
-            copy_bytes(log, log_to)
+            for source, target in ((desk, to), (log, log_to)):
+                copy_bytes(source, target, began + SLOW)
             has_moved = notes(desk, log) != before
             held = time.monotonic() - began
         except (OSError, ValueError, http.client.HTTPException) as fault:
@@ -74,7 +147,8 @@ def copy(desk: pathlib.Path, port: int, marker: bytes, to: pathlib.Path) -> Copi
             ) from fault
         finally:
             end(link)
-            said("f")
+            with contextlib.suppress(OSError):
+                said("f")
     if has_moved:
         raise NoCopy(
             f"{desk} changed while its only connection was held: another program writes to it"
@@ -114,10 +188,13 @@ def warm(file: pathlib.Path) -> None:
             pass
 
 
-def copy_bytes(file: pathlib.Path, to: pathlib.Path) -> None:
+def copy_bytes(file: pathlib.Path, to: pathlib.Path, until: float) -> None:
+    """Copies a file; an OSError where that takes longer than until this time of the monotonic clock."""
     with open(file, "rb", buffering=0) as source, open(to, "xb", buffering=0) as target:
         room = memoryview(bytearray(BLOCK))
         while count := source.readinto(room):
+            if time.monotonic() > until:
+                raise TimeoutError(f"after {SLOW:g} seconds {file} is not copied: the disk is slow")
             written = 0
             while written < count:
                 written += target.write(room[written:count])
@@ -136,22 +213,27 @@ def watchdog() -> Iterator["Said"]:
     """Starts the watchdog, before there is a connection that it could inherit."""
     limits = [str(ANSWER), str(LONGEST)]
     words = [sys.executable, "-I", "-S", "-c", WATCHDOG, str(os.getpid()), *limits]
-    child = subprocess.Popen(words, stdin=subprocess.PIPE, bufsize=0)
-    try:
-        yield Said(child)
-    finally:
-        if child.stdin is not None:
-            child.stdin.close()
-        child.wait()
+    own, other = socket.socketpair()
+    with own:
+        with other:
+            # what stops the tool in a terminal doesn't stop the watchdog
+            child = subprocess.Popen(
+                words, stdin=other.fileno(), stderr=subprocess.DEVNULL, start_new_session=True
+            )
+        try:
+            if own.recv(1) != b"r":
+                raise NoCopy("the watchdog of a copy can't be started")
+            yield Said(own)
+        finally:
+            own.close()
+            child.wait()
 
 
 class Said:
     """Says a letter to the watchdog: an answer is awaited, the connection is held, it is free."""
 
-    def __init__(self, child: "subprocess.Popen[bytes]") -> None:
-        self.child = child
+    def __init__(self, to: socket.socket) -> None:
+        self.to = to
 
-    def __call__(self, letter: str) -> None:
-        assert self.child.stdin is not None
-        with contextlib.suppress(OSError):
-            self.child.stdin.write(letter.encode())
+    def __call__(self, letter: str, link: socket.socket | None = None) -> None:
+        socket.send_fds(self.to, [letter.encode()], [link.fileno()] if link else [])

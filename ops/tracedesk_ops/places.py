@@ -21,8 +21,8 @@ FOLDER = Path(os.environ.get("TRACEDESK_SET_UP", "/etc/tracedesk"))
 PROXYS = "certificates.conf"  # it is there too: packaging/nginx.conf
 HOME = Path("/var/lib/tracedesk")
 DESK, COPIES, PORT = HOME / "desk", Path("/var/backups/tracedesk"), 8080
-WORDS = ("line", "db", "archive", "inbox", "status", "copies", "port", "url", "stop", "start")
-PATHS = ("db", "archive", "inbox", "status", "copies")
+WORDS = "line db archive inbox status copies port url stop start key".split()
+PATHS = ("db", "archive", "inbox", "status", "copies", "key")
 
 
 class NotSetUp(Exception):
@@ -31,7 +31,7 @@ class NotSetUp(Exception):
 
 @dataclasses.dataclass(frozen=True)
 class Places:
-    """Where a line is. `stop` and `start` are empty if the set-up file doesn't name them."""
+    """Where a line is. `stop`, `start` and `key` are empty if the set-up file doesn't name them."""
 
     line: str
     db: Path
@@ -43,6 +43,7 @@ class Places:
     url: str
     stop: str = ""
     start: str = ""
+    key: str = ""  # the private key of ssh-keygen by which the evidence of a recall is signed
 
     def words(self) -> dict[str, str]:
         """The same as the words of a set-up file."""
@@ -65,6 +66,7 @@ def of_words(words: dict[str, str]) -> Places:
         url=words.get("url", f"http://127.0.0.1:{port}"),
         stop=words.get("stop", ""),
         start=words.get("start", ""),
+        key=words.get("key", ""),
     )
 
 

@@ -42,6 +42,7 @@ TEXT: dict[str, Any] = {
     "encoding": sys.getfilesystemencoding(),
     "errors": "surrogateescape",
 }  # of what a program prints: it may name files
+LOW = ("nice", "-n", "10", "ionice", "-t", "-c", "3")  # runs a program at low priority
 KILL_AFTER = "TRACEDESK_KILL_AFTER"  # a step of a tool, for its test
 
 
@@ -399,7 +400,8 @@ class Program:
     also where that is killed: else it would have a file open that the next call of the tool wants.
     """
 
-    def __init__(self, program: str, db: pathlib.Path) -> None:
+    def __init__(self, program: str, db: pathlib.Path, is_low: bool = False) -> None:
+        self.before = LOW if is_low else ()
         self.program, owner = program, (db if db.exists() else db.parent).stat()
         self.uid, self.gid = owner.st_uid, owner.st_gid
         self.how: dict[str, Any] = (
@@ -424,7 +426,10 @@ class Program:
 
     def run(self, *words: object, **how: Any) -> subprocess.CompletedProcess[str]:
         return subprocess.run(
-            [self.program, *map(str, words)], preexec_fn=self.end_with_the_tool, **self.how, **how
+            [*self.before, self.program, *map(str, words)],
+            preexec_fn=self.end_with_the_tool,
+            **self.how,
+            **how,
         )
 
     def audit(self, file: pathlib.Path) -> int:

@@ -418,18 +418,21 @@ def decide(archive: pathlib.Path, of: str, by: str, became: str, reason: str) ->
     return record
 
 
+def shown(record: Record) -> dict[str, Any]:
+    """What a screen shows of a record about which nobody decided."""
+    row = said(record)
+    names = ("Id", "At", "Machine", "Board", "MessageName", "Refusal", "Place")
+    found = dict(zip(names, [row[0], *row[2:5], f"TraceDesk.{word_of(record)}", *row[6:8]]))
+    more = ("DeskReel", "Designators") if record.told["Kind"] == "differs" else ()
+    return {**found, **{name: record.told[name] for name in more}}
+
+
 def write_status(folder: pathlib.Path, records: list[Record]) -> None:
     """Writes what the station's screens read: what is undecided, and the ids of what was decided last."""
-    names = ("Id", "At", "Machine", "Board", "MessageName", "Refusal", "Place")
-    open_ones = [
-        dict(zip(names, [row[0], *row[2:5], f"TraceDesk.{word_of(it)}", *row[6:8]]))
-        for it in undecided(records)
-        for row in [said(it)]
-    ]
     told = {
         "At": now(),
         "Decided": list(decisions(records))[-MOST_DECIDED:],
-        "Undecided": open_ones,
+        "Undecided": [shown(record) for record in undecided(records)],
         "Version": 1,
     }
     files.put(pathlib.Path(folder) / STATUS, json.dumps(told) + "\n", 0o644)

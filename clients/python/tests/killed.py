@@ -1,80 +1,85 @@
-"""Processes that are killed while the messages of a machine go to a desk, and what has to hold after that: none is lost, none acts twice, and their order is kept."""
+"""Processes that are killed while the messages of a machine go to a desk.
+
+What has to hold after that: none is lost, none acts twice, and their order is kept.
+"""
+from __future__ import annotations
+
 import collections
 import contextlib
 import json
 import os
+import pathlib
 import random
 import signal
 import sqlite3
 import subprocess
 import threading
 import time
+from typing import Any, Sequence
 
-from tracedesk_dev import program
-from tracedesk_dev.trial import Difference, rows_in
+from tracedesk_dev import program as programs
+from tracedesk_dev.trial import rows_in
 
 PATIENCE = 900  # seconds without an answer more, after which it stands still
 
 
-def fed(asked, file, given):
+def fed(program: pathlib.Path, file: pathlib.Path, given: bytes) -> bytes:
     """The answers of `feed` to these lines."""
-    return subprocess.run(
-        [asked.program, "feed", "--db", file], input=given, stdout=subprocess.PIPE
-    ).stdout
+    words: list[Any] = [program, "feed", "--db", file]
+    return subprocess.run(words, input=given, stdout=subprocess.PIPE).stdout
 
 
-def tables(file):
+def tables(file: pathlib.Path) -> dict[str, list[Any]]:
     with contextlib.closing(sqlite3.connect(file)) as database:
         return rows_in(database)
 
 
-def is_as_fed(asked, folder):
-    """Compares the desk with that of a clean run; what audit says of it."""
-    audit = subprocess.run(
-        [asked.program, "audit", "--db", folder / "desk"], capture_output=True, text=True
-    )
-    if audit.returncode:
-        raise Difference(f"audit: {audit.stdout}{audit.stderr}")
+def is_as_fed(program: pathlib.Path, folder: pathlib.Path) -> None:
+    """Compares the desk with that of a clean run."""
+    words: list[Any] = [program, "audit", "--db", folder / "desk"]
+    audit = subprocess.run(words, capture_output=True, text=True)
+    assert audit.returncode == 0, audit.stdout + audit.stderr
     got, wanted = tables(folder / "desk"), tables(folder / "clean")
-    if wrong := [name for name in wanted if got.get(name) != wanted[name]]:
-        raise Difference(
-            f"the tables {wrong} are not those of a clean run: {[(len(got.get(name, [])), len(wanted[name])) for name in wrong]} rows"
-        )
-    return audit.stdout.strip()
+    assert [name for name in wanted if got.get(name) != wanted[name]] == []
+
+
+def answers_in(spool: pathlib.Path) -> list[dict[str, Any]]:
+    """The lines of answers of a spool, in order."""
+    files = sorted((spool / "answers").iterdir())
+    return [json.loads(line) for file in files for line in file.read_bytes().splitlines()]
 
 
 class Run:
-    """A machine that writes lines, what takes them to a desk, and who kills that. `kinds` are the parts that a kill hits, in turn."""
+    """A machine that writes lines, what takes them to a desk, and who kills that.
 
-    kinds = (("sender",), ("desk",), ("sender", "desk"))
+    `kinds` are the parts that a kill hits, in turn.
+    """
 
-    def __init__(self, asked, at, spool, kills):
-        self.asked, self.at, self.spool, self.most_kills, self.chance = (
-            asked,
-            at,
-            spool,
-            kills,
-            random.Random(asked.seed),
-        )
-        self.running, self.kills, self.is_written = {}, collections.Counter(), False
-        self.lines, self.clean = (
-            [],
-            [],
-        )  # what the machine writes, and the answers that a clean run gives
+    kinds: Sequence[Sequence[str]] = (("sender",), ("desk",), ("sender", "desk"))
 
-    def words(self):
+    def __init__(self, program: pathlib.Path, at: pathlib.Path, seed: int, kills: int) -> None:
+        self.program, self.at, self.seed, self.most_kills = program, at, seed, kills
+        self.spool, self.chance = at / "spool", random.Random(seed)
+        self.running: dict[str, subprocess.Popen[bytes]] = {}
+        self.kills: collections.Counter[str] = collections.Counter()
+        self.is_written = False
+        # What the machine writes, and the answers that a clean run gives.
+        self.lines: list[bytes] = []
+        self.clean: list[bytes] = []
+
+    def words(self) -> dict[str, list[Any]]:
         """Of each part its command line, in the order in which they are started."""
         raise NotImplementedError
 
-    def write(self):
+    def write(self) -> None:
         """What the machine does, in a thread of its own."""
         raise NotImplementedError
 
-    def is_done(self):
+    def is_done(self) -> bool:
         """Whether nothing is left to do."""
         raise NotImplementedError
 
-    def keep_up(self):
+    def keep_up(self) -> None:
         """Starts what ended, as a supervisor does: a port that isn't free yet ends a start."""
         for part, words in self.words().items():
             if part not in self.running or self.running[part].poll() is not None:
@@ -88,43 +93,36 @@ class Run:
                         process_group=0,
                     )
 
-    def kill(self, part):
+    def kill(self, part: str) -> None:
         """Ends a part with its workers, as a power cut does."""
         if part in self.running:
             with contextlib.suppress(ProcessLookupError):
                 os.killpg(self.running[part].pid, signal.SIGKILL)
             self.running.pop(part).wait()
 
-    def answered(self):
+    def answered(self) -> int:
         """How many messages have an answer: the number of the last one in the spool."""
         with contextlib.suppress(OSError, ValueError, LookupError):
             with open(max((self.spool / "answers").iterdir()), "rb") as file:
                 file.seek(max(0, file.seek(0, os.SEEK_END) - 4096))
-                return int(
-                    json.loads(file.read().rpartition(b"\n")[0].rpartition(b"\n")[2])["Message"]
-                )
+                whole = file.read().rpartition(b"\n")[0]
+            return int(json.loads(whole.rpartition(b"\n")[2])["Message"])
         return 0
 
-    def go(self):
+    def go(self) -> None:
         """Kills whenever so many answers more are there, and a moment after; until all is done."""
         threading.Thread(target=self.write, daemon=True).start()
-        ticks, due, seen, since = program.Ticks(), 0, 0, time.monotonic()
+        ticks, due, seen, since = programs.Ticks(), 0, 0, time.monotonic()
+        count = len(self.clean)
         while not self.is_done():
             self.keep_up()
             now = self.answered()
             if now > seen:
                 seen, since = now, time.monotonic()
-            if (
-                self.most_kills > 12
-            ):  # a short run says nothing on its way, however busy the machine is
-                ticks.tell(f"{now} of {len(self.clean)} answers, {self.kills.total()} kills")
-            if time.monotonic() - since > PATIENCE:
-                raise Difference(
-                    f"it stands still at {now} of {len(self.clean)} answers: {''.join(it.read_text()[-300:] for it in self.at.glob('*.txt'))}"
-                )
-            if due < self.most_kills and now >= len(self.clean) * (due + 1) // (
-                self.most_kills + 2
-            ):
+            if self.most_kills > 12:  # a short run says nothing on its way
+                ticks.tell(f"{now} of {count} answers, {self.kills.total()} kills")
+            assert time.monotonic() - since <= PATIENCE, f"it stands still at {now}: {self.told()}"
+            if due < self.most_kills and now >= count * (due + 1) // (self.most_kills + 2):
                 time.sleep(self.chance.uniform(0, 0.05))
                 for part in self.kinds[due % len(self.kinds)]:
                     self.kill(part)
@@ -132,33 +130,25 @@ class Run:
                 due += 1
             time.sleep(0.01)
 
-    def end(self):
+    def told(self) -> str:
+        """What the parts said last."""
+        return "".join(file.read_text()[-300:] for file in self.at.glob("*.txt"))
+
+    def end(self) -> None:
         for part in list(self.running):
             self.kill(part)
 
-    def look_at(self, given):
-        """What holds of the desk and the spool, where these messages were wanted in this order; what was seen."""
+    def look_at(self, given: Sequence[bytes]) -> None:
+        """What holds of the desk and the spool, if these messages were wanted in this order."""
         self.end()
-        got = [
-            json.loads(it)
-            for file in sorted((self.spool / "answers").iterdir())
-            for it in file.read_bytes().splitlines()
-        ]
-        if [(int(it["Message"]), it["Answer"]) for it in got] != [
-            (number, json.loads(it)) for number, it in enumerate(self.clean, 1)
-        ]:
-            raise Difference(
-                f"{len(given)} messages and {len(got)} answers, or others than of a clean run: {got[-1:]}"
-            )
-        said = is_as_fed(self.asked, self.at)
-        aside = {it.stem: it.read_bytes() for it in (self.spool / "aside").glob("*.json")}
-        if aside != {
+        got = [(int(line["Message"]), line["Answer"]) for line in answers_in(self.spool)]
+        assert got == [(number, json.loads(line)) for number, line in enumerate(self.clean, 1)]
+        is_as_fed(self.program, self.at)
+        aside = {file.stem: file.read_bytes() for file in (self.spool / "aside").glob("*.json")}
+        assert aside == {
             f"{number:012}": line
-            for number, (line, told) in enumerate(zip(given, self.clean), 1)
-            if json.loads(told)["Answer"] in ("Refused", "Faulty")
-        }:
-            raise Difference(f"set aside are {sorted(aside)}")
-        if not all("To do: " in (self.spool / f"aside/{name}.why").read_text() for name in aside):
-            raise Difference("a message that is set aside has no reason")
-        kills = ", ".join(f"{count} of the {what}" for what, count in self.kills.items())
-        return f"kills: {kills}; {len(got)} messages, each with one answer, in order, as in a clean run; {said}; {len(aside)} set aside, each with its reason"
+            for number, (line, answer) in enumerate(zip(given, self.clean), 1)
+            if json.loads(answer)["Answer"] in ("Refused", "Faulty")
+        }
+        for name in aside:
+            assert "To do: " in (self.spool / f"aside/{name}.why").read_text()

@@ -22,7 +22,7 @@ import time
 import types
 from unittest import mock
 
-from tracedesk import answers, console, desk, forms, send, sender, spool
+from tracedesk import answers, console, desk, forms, send, sender, sent, spool
 
 BRIDGE = pathlib.Path(__file__).resolve().parents[3] / "examples/bridge/tracedesk-bridge"
 TABLE = {
@@ -517,7 +517,8 @@ def modelled(bridge):
     )
     day = types.SimpleNamespace(today=lambda: spool_date.fromtimestamp(clock.time()))
     spool_date = spool.datetime.date
-    modules = [answers, console, desk, sender, spool, *([bridge, bridge.sources] if bridge else [])]
+    modules = [answers, console, desk, sender, sent, spool]
+    modules += [sys.modules[name] for name in ("bridge", "keeping", "logs")] if bridge else []
     with contextlib.ExitStack() as patched:
 
         def patch(where, name, it):
@@ -531,7 +532,7 @@ def modelled(bridge):
         patch(desk.http.client, "HTTPConnection", Way)
         patch(forms, "LONGEST_MESSAGE", 2000)
         if bridge:
-            patch(bridge.sources, "BEFORE", BEFORE)
+            patch(bridge.logs, "BEFORE", BEFORE)
         patch(fcntl, "flock", lambda handle, how: World.now.flock(handle, how))
         patch(os, "fsync", lambda handle: World.now.fsync(handle))
         for name in ("write", "pwrite", "pread", "rename", "open"):

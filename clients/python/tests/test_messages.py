@@ -3,10 +3,11 @@ import dataclasses
 import datetime
 import json
 import pathlib
-import unittest
+from typing import Any, cast
 
-from tracedesk_dev import schemas
+import pytest
 import tracedesk
+from tracedesk_dev import schemas
 from tracedesk import forms, words
 
 API = pathlib.Path(__file__).resolve().parents[3] / "docs/api"
@@ -14,7 +15,7 @@ TABLE = json.loads((API / "messages.json").read_text(encoding="utf-8"))
 SCHEMA = schemas.Schema(json.loads((API / "message.schema.json").read_text(encoding="utf-8")))
 
 
-def from_body(kind, body):
+def from_body(kind: Any, body: dict[str, Any]) -> Any:
     """The object of a body as a message has it."""
     rows = {"rows": words.SheetRow, "counts": words.CountRow}
     given = {}
@@ -28,113 +29,118 @@ def from_body(kind, body):
     return kind(**given)
 
 
-class Messages(unittest.TestCase):
-    def examples(self):
-        document = json.loads((API / "message.schema.json").read_text(encoding="utf-8"))["$defs"]
-        return [(kind, document[kind.WORD]["examples"][0]) for kind in words.MESSAGES]
+def examples() -> list[tuple[Any, Any]]:
+    """Each kind of message, with its example."""
+    document = json.loads((API / "message.schema.json").read_text(encoding="utf-8"))["$defs"]
+    return [(kind, document[kind.WORD]["examples"][0]) for kind in words.MESSAGES]
 
-    def test_seventeen_in_the_order_of_the_table(self):
-        self.assertEqual(
-            [it.WORD for it in words.MESSAGES], [it["word"] for it in TABLE["messages"]]
+
+def test_seventeen_in_the_order_of_the_table() -> None:
+    assert [it.WORD for it in words.MESSAGES] == [it["word"] for it in TABLE["messages"]]
+    assert len(words.MESSAGES) == 17
+
+
+def test_each_example_is_made() -> None:
+    for kind, example in examples():
+        at = datetime.datetime.fromisoformat(example["TimeStamp"].replace("Z", "+00:00"))
+        made = from_body(kind, example["MessageBody"]).message(
+            example["Source"], unique_id=example["UniqueID"], at=at
         )
-        self.assertEqual(len(words.MESSAGES), 17)
+        assert json.loads(made.text) == example
+        assert SCHEMA.fault(json.loads(made.text)) is None
 
-    def test_each_example_is_made(self):
-        for kind, example in self.examples():
-            at = datetime.datetime.fromisoformat(example["TimeStamp"].replace("Z", "+00:00"))
-            made = from_body(kind, example["MessageBody"]).message(
-                example["Source"], unique_id=example["UniqueID"], at=at
-            )
-            self.assertEqual(json.loads(made.text), example)
-            self.assertIsNone(SCHEMA.fault(json.loads(made.text)))
 
-    def test_what_the_schema_refuses_is_not_made(self):
-        tried = 0
-        for kind, example in self.examples():
-            for name, attribute, form in kind.MEMBERS:
-                for value in (
-                    None,
-                    True,
-                    "",
-                    " x",
-                    "x" * 65,
-                    "x\n",
-                    -1,
-                    0,
-                    10_000_001,
-                    1.0,
-                    2.5,
-                    [],
-                    {},
-                    "C1",
-                    ["C 1"],
-                    ["C1"] * 5001,
+VALUES: tuple[Any, ...] = (
+    None,
+    True,
+    "",
+    " x",
+    "x" * 65,
+    "x\n",
+    -1,
+    0,
+    10_000_001,
+    1.0,
+    2.5,
+    [],
+    {},
+    "C1",
+    ["C 1"],
+    ["C1"] * 5001,
+)
+
+
+def test_what_the_schema_refuses_is_not_made() -> None:
+    tried = 0
+    for kind, example in examples():
+        for name, attribute, form in kind.MEMBERS:
+            for value in VALUES:
+                body = {**example["MessageBody"], name: value}
+                if (
+                    isinstance(form, forms.Where)
+                    and body["Level"] != "6"
+                    or name in ("Rows", "Counts")
                 ):
-                    body = {**example["MessageBody"], name: value}
-                    if (
-                        isinstance(form, forms.Where)
-                        and body["Level"] != "6"
-                        or name in ("Rows", "Counts")
-                    ):
-                        continue
-                    is_good = SCHEMA.fault({**example, "MessageBody": body}) is None
-                    if value == 1.0 and isinstance(value, float):
-                        is_good = False  # to a schema it is 1; a desk refuses it
-                    try:
-                        from_body(kind, body).message("S")
-                        self.assertTrue(is_good, f"{kind.WORD} was made with {name} {value!r:.50}")
-                    except forms.OutOfRange as fault:
-                        self.assertFalse(
-                            is_good, f"{kind.WORD} was not made with {name} {value!r:.50}: {fault}"
-                        )
-                        self.assertEqual(fault.member, name)
-                    tried += 1
-        self.assertGreater(tried, 400)
-
-    def test_rows_are_rows(self):
-        for given in ([], [{"Slot": "1"}], "row", None, [words.CountRow("K", 1)] * 5001):
-            with self.assertRaises(forms.OutOfRange) as caught:
-                words.CountsTaken(given)
-            self.assertEqual(caught.exception.member, "Counts")
-        self.assertEqual(
-            words.CountsTaken([words.CountRow("K", 0)]).body(),
-            {"Counts": [{"Reel": "K", "Quantity": 0}]},
-        )
-
-    def test_label_minutes_stand_at_level_6_alone(self):
-        self.assertNotIn("LabelMinutes", words.ReelReceived("K", "P", "L", "3", 5, 60).body())
-        self.assertEqual(words.ReelReceived("K", "P", "L", "6", 5, 60).body()["LabelMinutes"], 60)
-        with self.assertRaises(forms.OutOfRange):
-            words.ReelReceived("K", "P", "L", "6", 5)
-
-    def test_times_know_their_offset(self):
-        berlin = datetime.timezone(datetime.timedelta(hours=1))
-        made = words.ClockSet().message("S", at=datetime.datetime(2026, 3, 2, 7, 0, tzinfo=berlin))
-        self.assertIn(b'"TimeStamp":"2026-03-02T06:00:00Z"', made.text)
-        for at in (
-            datetime.datetime(2026, 3, 2),
-            datetime.datetime(1969, 12, 31, tzinfo=berlin),
-            datetime.datetime(9999, 12, 31, tzinfo=berlin),
-        ):
-            with self.assertRaises(forms.OutOfRange):
-                words.ClockSet().message("S", at=at)
-
-    def test_each_has_a_name_of_its_own_and_keeps_it(self):
-        made = [words.ClockSet().message("S") for _ in range(100)]
-        self.assertEqual(len({it.unique_id for it in made}), 100)
-        with self.assertRaises(dataclasses.FrozenInstanceError):
-            made[0].text = b""
-
-    def test_a_message_that_is_too_long_is_not_made(self):
-        row = words.SheetRow("1", "P", ["C" * 16] * 5000)
-        with self.assertRaises(forms.OutOfRange) as caught:
-            words.SheetDefined("P", "M", [row] * 20).message("S")
-        self.assertIn("1,048,576", str(caught.exception))
-
-    def test_all_names_are_there(self):
-        for name in tracedesk.__all__:
-            self.assertTrue(hasattr(tracedesk, name), name)
+                    continue
+                is_good = SCHEMA.fault({**example, "MessageBody": body}) is None
+                if value == 1.0 and isinstance(value, float):
+                    is_good = False  # to a schema it is 1; a desk refuses it
+                try:
+                    from_body(kind, body).message("S")
+                    assert is_good, f"{kind.WORD} was made with {name} {value!r:.50}"
+                except forms.OutOfRange as fault:
+                    assert (
+                        not is_good
+                    ), f"{kind.WORD} was not made with {name} {value!r:.50}: {fault}"
+                    assert fault.member == name
+                tried += 1
+    assert tried > 400
 
 
-if __name__ == "__main__":
-    unittest.main()
+def test_rows_are_rows() -> None:
+    for given in ([], [{"Slot": "1"}], "row", None, [words.CountRow("K", 1)] * 5001):
+        with pytest.raises(forms.OutOfRange) as caught:
+            words.CountsTaken(cast(Any, given))
+        assert caught.value.member == "Counts"
+    assert words.CountsTaken([words.CountRow("K", 0)]).body() == {
+        "Counts": [{"Reel": "K", "Quantity": 0}]
+    }
+
+
+def test_label_minutes_stand_at_level_6_alone() -> None:
+    assert "LabelMinutes" not in words.ReelReceived("K", "P", "L", "3", 5, 60).body()
+    assert words.ReelReceived("K", "P", "L", "6", 5, 60).body()["LabelMinutes"] == 60
+    with pytest.raises(forms.OutOfRange):
+        words.ReelReceived("K", "P", "L", "6", 5)
+
+
+def test_times_know_their_offset() -> None:
+    berlin = datetime.timezone(datetime.timedelta(hours=1))
+    made = words.ClockSet().message("S", at=datetime.datetime(2026, 3, 2, 7, 0, tzinfo=berlin))
+    assert b'"TimeStamp":"2026-03-02T06:00:00Z"' in made.text
+    for at in (
+        datetime.datetime(2026, 3, 2),
+        datetime.datetime(1969, 12, 31, tzinfo=berlin),
+        datetime.datetime(9999, 12, 31, tzinfo=berlin),
+    ):
+        with pytest.raises(forms.OutOfRange):
+            words.ClockSet().message("S", at=at)
+
+
+def test_each_has_a_name_of_its_own_and_keeps_it() -> None:
+    made = [words.ClockSet().message("S") for _ in range(100)]
+    assert len({it.unique_id for it in made}) == 100
+    with pytest.raises(dataclasses.FrozenInstanceError):
+        setattr(made[0], "text", b"")
+
+
+def test_a_message_that_is_too_long_is_not_made() -> None:
+    row = words.SheetRow("1", "P", ["C" * 16] * 5000)
+    with pytest.raises(forms.OutOfRange) as caught:
+        words.SheetDefined("P", "M", [row] * 20).message("S")
+    assert "1,048,576" in str(caught.value)
+
+
+def test_all_names_are_there() -> None:
+    for name in tracedesk.__all__:
+        assert hasattr(tracedesk, name), name

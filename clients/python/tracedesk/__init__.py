@@ -29,7 +29,8 @@ from .answers import (
 from .desk import Desk, GivenUp, NotTaken, NotThere, trust_of
 from .forms import Command, Message, OutOfRange
 from .sender import Folder, Lines, Sender, Stopped
-from .spool import Spool, SpoolError
+from .disk import SpoolError
+from .spool import Spool
 from .words import (
     AlternateAllowed,
     ClockSet,

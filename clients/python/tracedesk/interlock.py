@@ -11,7 +11,8 @@ from typing import Any, Dict, Iterator, List, Optional, Set
 
 from . import answers, records, words
 from .records import utc
-from .spool import Spool, SpoolError, write_synced
+from .disk import SpoolError, write_synced
+from .spool import Spool
 
 EVERY = (
     2.0  # seconds between two questions, and two calls of the plant's command with the same state

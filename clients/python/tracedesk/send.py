@@ -85,105 +85,22 @@ sent again: a person has to decide. With 3, 4 and 5 what has no answer is sent b
 from __future__ import annotations
 
 import argparse
-import contextlib
 import datetime
 import hashlib
 import os
 import pathlib
 import re
 import sys
-from typing import BinaryIO, Iterator, List, Optional
+from typing import List, Optional
 
-from . import __version__, answers, command, desk, interlock, records, scans, sender, spool
-from . import untraced, validate
+from . import __version__, answers, command, desk, disk, interlock, scans, sender, spool
+from . import sent, two_files, untraced, validate
 from .console import NAME, ended, say, tell
 
 RATE = 40.0  # messages a second of one spool
 SHOWING = 20.0  # seconds of patience for what is shown before a decision
 NAMED = re.compile("[A-Za-z0-9_-][A-Za-z0-9._-]{0,63}")
 TIME = re.compile(r"\d{4}-\d\d-\d\d[Tt]\d\d:\d\d.*")
-
-
-class BadFile(Exception):
-    """What is wrong with a file that was named."""
-
-
-# --- Two files
-
-
-@contextlib.contextmanager
-def held(path: str) -> Iterator[BinaryIO]:
-    """A file of answers, which one sender has at a time; it is made if there is none."""
-    with open(path, "a+b") as file:
-        spool.lock_alone(
-            file.fileno(), path, "sender has it: end that one, or name another file for answers"
-        )
-        yield file
-
-
-def whole_lines(file: BinaryIO) -> List[bytes]:
-    """The whole lines of a file."""
-    file.seek(0)
-    return file.read().split(b"\n")[:-1]
-
-
-def compare(messages: List[bytes], known: List[bytes]) -> None:
-    """Looks whether the answers that are there are a desk's to the first messages: one may name its message by UniqueID."""
-    if len(known) > len(messages):
-        raise BadFile(
-            f"it has {len(known)} answers, and there are {len(messages)} messages: name a new file for answers"
-        )
-    for number, (line, answer) in enumerate(zip(messages, known), 1):
-        told = answers.read(answer)
-        if told is None or isinstance(told, (answers.NotFound, answers.Unavailable)):
-            raise BadFile(
-                f"its line {number} is no answer of a desk, so that message may not have been taken: cut the file before that line"
-            )
-        uid = getattr(told, "unique_id", None)
-        if uid is not None and uid != answers.read_object(line).get("UniqueID"):
-            raise BadFile(
-                f"its line {number} answers {uid}, which is not the message of that line: name a new file for answers"
-            )
-
-
-def send_all(
-    to: desk.Desk,
-    messages: List[bytes],
-    known: List[bytes],
-    file: BinaryIO,
-    is_tried: bool,
-    stops: bool,
-) -> int:
-    """Sends what has no answer yet, and adds each answer to the file before the next message goes out; how many were mistyped."""
-    mistyped = 0
-    file.truncate(sum(len(it) + 1 for it in known))  # a line that was cut goes
-    for line in messages[len(known) :]:
-        answer, is_tried = to.send(line, is_tried), False
-        is_stopped = stops and not answers.is_taken(answer)
-        if not is_stopped and isinstance(answer, answers.Ignored) and answer.is_mistyped:
-            tell(answers.why(answer))
-            mistyped += 1
-        if not is_stopped or records.is_report(records.as_read(line)):
-            file.write(answer.text + b"\n")
-            file.flush()
-            os.fsync(file.fileno())
-        if is_stopped:
-            raise sender.Stopped(answer.text.decode(errors="replace") + "\n" + answers.why(answer))
-    return mistyped
-
-
-def run_files(asked: argparse.Namespace, to: desk.Desk) -> int:
-    """Goes through two files. If there were answers, a run before may have sent the next message."""
-    is_tried = os.path.exists(asked.files[1])
-    try:
-        with held(asked.files[1]) as file:
-            messages, known = pathlib.Path(asked.files[0]).read_bytes(), whole_lines(file)
-            lines = [it.rstrip(b"\r") for it in messages.split(b"\n") if it.strip()]
-            compare(lines, known)
-            return 1 if send_all(to, lines, known, file, is_tried, asked.stop_at_refusal) else 0
-    except BadFile as fault:
-        tell(f"{asked.files[1]}: {fault}")
-        return 2
 
 
 # --- A spool
@@ -198,7 +115,7 @@ def put(into: spool.Spool, file: str) -> int:
     with open(sys.stdin.fileno() if file == "-" else file, "rb", closefd=file != "-") as stream:
         count = sum(
             bool(into.put(it if isinstance(it, bytes) else b"".join(it)))
-            for it in spool.lines_of(stream)
+            for it in disk.lines_of(stream)
         )
     say(f"{count} put into {into.folder}, {len(into.names())} wait")
     return 0
@@ -209,9 +126,9 @@ def moment(text: str) -> float:
     try:
         at = datetime.datetime.fromisoformat(re.sub("[Zz]$", "+00:00", text))
     except ValueError:
-        raise spool.SpoolError(f"{text} is no time, as 2026-03-02T06:00Z") from None
+        raise disk.SpoolError(f"{text} is no time, as 2026-03-02T06:00Z") from None
     if at.tzinfo is None:
-        raise spool.SpoolError(
+        raise disk.SpoolError(
             f"{text} has no offset: a time is spelled as 2026-03-02T06:00Z or 2026-03-02T07:00+01:00"
         )
     return at.timestamp()
@@ -359,14 +276,14 @@ def reader_of_words() -> argparse.ArgumentParser:
     reader.add_argument(
         "--keep-days",
         type=float,
-        default=spool.KEPT_DAYS,
+        default=sent.KEPT_DAYS,
         metavar="N",
         help="how long sent messages are kept",
     )
     reader.add_argument(
         "--keep-mib",
         type=float,
-        default=spool.KEPT_BYTES / (1 << 20),
+        default=sent.KEPT_BYTES / (1 << 20),
         metavar="N",
         help="how much disk they may take",
     )
@@ -484,7 +401,7 @@ def run(asked: argparse.Namespace) -> int:
         return check(asked)
     to = desk_of(asked)
     try:
-        return run_spool(asked, to) if asked.spool else run_files(asked, to)
+        return run_spool(asked, to) if asked.spool else two_files.run(asked, to)
     finally:
         to.close()
         tell(f"{to.sent_again} times sent again")
@@ -496,7 +413,7 @@ def main() -> int:
         lambda: run(asked),
         {
             sender.Stopped: 1,
-            spool.SpoolError: 2,
+            disk.SpoolError: 2,
             OSError: 2,
             ValueError: 2,
             desk.GivenUp: 3,

@@ -13,7 +13,8 @@ from .console import NEWS_OF_A_FAULT, patiently
 from .desk import Desk
 from .command import Command
 from .interlock import Interlock
-from .spool import MOST_READ, Spool, files_in, lines_of, lock_alone, write_synced
+from .disk import files_in, lines_of, lock_alone, write_synced
+from .spool import MOST_READ, Spool
 
 LOOK = 0.2  # seconds between two looks at a folder
 
@@ -155,9 +156,9 @@ class Sender:
 
     def look_at_what_is_kept(self) -> None:
         """Reports, once a minute, sent messages that were deleted before their days were over."""
-        if self.spool.dropped_early > self.dropped and time.monotonic() >= self.next_news:
+        if self.spool.kept.dropped_early > self.dropped and time.monotonic() >= self.next_news:
             self.dropped, self.next_news = (
-                self.spool.dropped_early,
+                self.spool.kept.dropped_early,
                 time.monotonic() + NEWS_OF_A_FAULT,
             )
             self.tell(

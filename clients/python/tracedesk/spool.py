@@ -12,7 +12,6 @@ Files of answers of earlier days may be deleted. Programs may put messages in at
 """
 from __future__ import annotations
 
-import collections
 import contextlib
 import datetime
 import fcntl
@@ -20,13 +19,10 @@ import json
 import os
 import pathlib
 import re
-import time
 import uuid
 from typing import (
     Any,
-    BinaryIO,
     Callable,
-    Deque,
     Dict,
     Iterable,
     Iterator,
@@ -38,14 +34,22 @@ from typing import (
 
 from . import answers, forms, records
 from .console import patiently
+from .disk import (
+    NAME,
+    SpoolError,
+    lines_of,
+    lock_alone,
+    names_in,
+    spelled,
+    sync_folder,
+    write_synced,
+)
+from .intake import Intake
+from .sent import KEPT_BYTES, KEPT_DAYS, Sent
 
-NAME = re.compile(r"(\d{12})\.json")
 LOG = re.compile(r"\d{4}-\d\d-\d\d\.jsonl")
-BLOCK = 4096  # bytes that a small file takes on a disk
-KEPT_DAYS, KEPT_BYTES = 7.0, 512 << 20  # of sent messages, at most
 LAST = 999_999_999_999  # the greatest number
 MOST_READ = 16 << 20  # bytes of a message of which a record is made
-ALWAYS_KEPT = 16 << 20  # bytes of sent messages, however old a wrong clock makes them
 
 
 STATE: Dict[str, Callable[[Any], bool]] = {  # what the members of .sender may be
@@ -58,76 +62,6 @@ STATE: Dict[str, Callable[[Any], bool]] = {  # what the members of .sender may b
 }
 
 
-class SpoolError(Exception):
-    """What is wrong with a spool."""
-
-
-def sync_folder(path: pathlib.Path) -> None:
-    handle = os.open(path, os.O_RDONLY | os.O_DIRECTORY)
-    try:
-        os.fsync(handle)
-    finally:
-        os.close(handle)
-
-
-def write_synced(
-    path: pathlib.Path, text: Union[bytes, Iterable[bytes]], mode: Optional[int] = None
-) -> None:
-    """Puts a file of this text, or of its pieces, at its place, whole; it is on disk once its folder is synced."""
-    beside = path.with_name(f".{path.name}.new")
-    try:
-        with open(beside, "wb") as file:
-            for piece in [text] if isinstance(text, bytes) else text:
-                file.write(piece)
-            file.flush()
-            if mode is not None:
-                os.fchmod(file.fileno(), mode)
-            os.fsync(file.fileno())
-        os.rename(beside, path)
-    except OSError:
-        with contextlib.suppress(OSError):
-            beside.unlink()
-        raise
-
-
-def lock_alone(handle: int, place: object, why: str) -> None:
-    """Locks an open file or folder; a SpoolError if another process has it."""
-    try:
-        fcntl.flock(handle, fcntl.LOCK_EX | fcntl.LOCK_NB)
-    except BlockingIOError:
-        raise SpoolError(f"{place}: another {why}") from None
-
-
-def spelled(number: int) -> str:
-    return f"{number:012}"
-
-
-def names_in(folder: pathlib.Path) -> List[str]:
-    """The names of the messages in a folder, in their order."""
-    return sorted(found[1] for name in os.listdir(folder) if (found := NAME.fullmatch(name)))
-
-
-def lines_of(stream: BinaryIO) -> Iterator[Union[bytes, Iterator[bytes]]]:
-    """The messages of a stream: its lines, without those of spaces alone. A line longer than any message comes in pieces."""
-    most = forms.LONGEST_MESSAGE + 2
-    while line := stream.readline(most):
-        if len(line) < most or line.endswith(b"\n"):
-            if line.strip():
-                yield line.rstrip(b"\r\n")
-        else:
-            pieces = iter(lambda: stream.readline(most), b"")
-            whole = long_line(line, pieces)
-            yield whole
-            collections.deque(whole, 0)  # what the caller has not read of it
-
-
-def long_line(first: bytes, pieces: Iterator[bytes]) -> Iterator[bytes]:
-    piece: Optional[bytes] = first
-    while piece:
-        yield piece.rstrip(b"\r\n") if piece.endswith(b"\n") else piece
-        piece = None if piece.endswith(b"\n") else next(pieces, None)
-
-
 class Spool:
     """A spool, which is made if there is none. Sent messages are kept for `days`, and of at most so many bytes. Its name is in records."""
 
@@ -138,7 +72,7 @@ class Spool:
         most: int = KEPT_BYTES,
         name: Optional[str] = None,
     ) -> None:
-        self.folder, self.days, self.most = pathlib.Path(folder), days, most
+        self.folder = pathlib.Path(folder)
         self.name = name or self.folder.absolute().name
         self.waiting, self.aside, self.answered, self.sent, self.untraced = (
             self.folder / it for it in ("waiting", "aside", "answers", "sent", "untraced")
@@ -149,14 +83,11 @@ class Spool:
                 sync_folder(it.parent)
         self.is_counted, self.log = False, None  # type: Tuple[bool, Optional[Tuple[str, int]]]
         self.state: Dict[str, Any] = {}
-        self.kept: Optional[Deque[Tuple[pathlib.Path, int]]] = None
-        self.kept_bytes = self.dropped_early = 0
-        self.is_made_good = (
-            False  # whether this run set a message aside that one before had an answer to
-        )
-        self.is_unanswered = (
-            False  # whether the run that ends leaves a message with a try and without an answer
-        )
+        self.kept, self.intake = Sent(self.sent, days, most), Intake(self.folder)
+        # Whether this run set a message aside that one before had an answer to.
+        self.is_made_good = False
+        # Whether the run that ends leaves a message with a try and without an answer.
+        self.is_unanswered = False
 
     # --- Numbers. The file .lock has the last one, and the word "busy" while one more message is put in.
 
@@ -188,8 +119,8 @@ class Spool:
         """Keeps a message, and returns its name in the spool: it is on disk then, and is sent after those before it."""
         with self.locked() as lock:
             last = self.last(lock)
-            if intake := self.read_intake():
-                self.write_intake(intake[0], last + 2, intake[2] + max(0, last - intake[1] + 1))
+            if intake := self.intake.read():
+                self.intake.write(intake[0], last + 2, intake[2] + max(0, last - intake[1] + 1))
             return self.put_next(
                 lock, last, message if isinstance(message, bytes) else message.text
             )
@@ -209,36 +140,16 @@ class Spool:
             os.pwrite(lock, f"{name} free\n".encode(), 0)
         return name
 
-    # --- Files of messages. While one is taken in, .intake has its path, the number of its first line, and how many lines were
-    # in before that: a process that is started again goes on with the next line. Nobody else has a file of that path.
-
-    def read_intake(self) -> Optional[Tuple[str, int, int]]:
-        with contextlib.suppress(FileNotFoundError, ValueError, KeyError, TypeError):
-            told = json.loads((self.folder / ".intake").read_text())
-            if [type(told[it]) for it in ("File", "First", "Before")] == [str, int, int]:
-                return told["File"], told["First"], told["Before"]
-        return None
-
-    def write_intake(self, file: str, first: int, before: int) -> None:
-        write_synced(
-            self.folder / ".intake",
-            json.dumps({"File": file, "First": first, "Before": before}).encode(),
-        )
-        sync_folder(self.folder)
-
-    def drop_intake(self) -> None:
-        with contextlib.suppress(FileNotFoundError):
-            (self.folder / ".intake").unlink()
-            sync_folder(self.folder)
+    # --- Files of messages. Nobody else has a file of such a path.
 
     def take_file(self, path: pathlib.Path) -> int:
         """Takes the lines of a file in, each once, and deletes the file; how many they are. Only this spool has that path."""
         number = -1
         with open(path, "rb") as file, self.locked() as lock:
-            last, intake = self.last(lock), self.read_intake()
+            last, intake = self.last(lock), self.intake.read()
             if intake is None or intake[0] != str(path.absolute()):
                 intake = str(path.absolute()), last + 1, 0
-                self.write_intake(*intake)
+                self.intake.write(*intake)
             taken = intake[2] + max(0, last - intake[1] + 1)
             for number, line in enumerate(lines_of(file)):
                 if number >= taken:
@@ -246,18 +157,18 @@ class Spool:
                     last += 1
             path.unlink()
             sync_folder(path.parent)
-            self.drop_intake()
+            self.intake.drop()
         return number + 1
 
     def take_begun(self) -> None:
         """Goes on with the file that a run before was taking in, if one was."""
-        if intake := self.read_intake():
+        if intake := self.intake.read():
             with contextlib.suppress(FileNotFoundError):
                 self.take_file(pathlib.Path(intake[0]))
                 return
             with self.locked() as lock:
                 self.last(lock)
-                self.drop_intake()
+                self.intake.drop()
 
     # --- Sending. The file .sender has up to which message there may have been a try ("Tried"), whether a run is under way or was
     # killed ("Runs"), which file has the last answer ("Answers"), and which sent messages go back to those that wait ("Again").
@@ -391,20 +302,10 @@ class Spool:
             sync_folder(self.answered)
         if self.state.get("Answers") != today:
             self.write_state(Answers=today)
-        line = (
-            b'{"Answer":'
-            + answer.text
-            + (
-                b',"Archived":true'
-                if answers.is_archived(answer)
-                else b""
-                if answers.is_taken(answer)
-                else b',"At":"' + at.encode() + b'"'
-            )
-            + b',"Message":"'
-            + name.encode()
-            + b'"}\n'
-        )
+        more = b',"Archived":true' if answers.is_archived(answer) else b""
+        if not more and not answers.is_taken(answer):
+            more = b',"At":"%b"' % at.encode()
+        line = b'{"Answer":%b%b,"Message":"%b"}\n' % (answer.text, more, name.encode())
         size = os.fstat(self.log[1]).st_size
         try:
             if os.write(self.log[1], line) != len(line):
@@ -443,7 +344,7 @@ class Spool:
             os.rename(place, self.aside / place.name)
             sync_folder(self.aside)
         sync_folder(self.waiting)
-        self.drop_old(kept, size)
+        self.kept.add(kept, size)
 
     def keep_record(self, text: bytes, size: int, answer: answers.Answer, at: str) -> str:
         """Keeps a record of a message that was not taken: the line of it for the file .why."""
@@ -476,32 +377,6 @@ class Spool:
 
     # --- What was sent
 
-    def drop_old(self, newest: pathlib.Path, size: int) -> None:
-        """Counts one more sent message, and deletes the oldest: what is older than `days`, and what is above `most` bytes."""
-        if self.kept is None:
-            found = sorted(
-                (it.name, it.stat().st_size)
-                for it in os.scandir(self.sent)
-                if re.fullmatch(r"\d{12}\.(json|refused)", it.name)
-            )
-            self.kept = collections.deque(
-                (self.sent / name, -(-it // BLOCK) * BLOCK) for name, it in found
-            )
-            self.kept_bytes = sum(it for _, it in self.kept)
-        else:
-            self.kept.append((newest, -(-size // BLOCK) * BLOCK))
-            self.kept_bytes += self.kept[-1][1]
-        while len(self.kept) > 1 and self.kept_bytes > ALWAYS_KEPT:
-            path, taken = self.kept[0]
-            with contextlib.suppress(OSError):
-                is_old = time.time() - path.stat().st_ctime > self.days * 86400
-                if not is_old and self.kept_bytes <= self.most:
-                    return
-                path.unlink()
-                self.dropped_early += not is_old
-            self.kept.popleft()
-            self.kept_bytes -= taken
-
     def again_since(self, since: float) -> List[str]:
         """Puts each message that was sent since this second of the clock before those that wait, under its old name."""
         with self.sending():
@@ -525,7 +400,7 @@ class Spool:
                 if again[0] <= int(name) <= again[1]:
                     os.rename(self.sent / f"{name}.json", self.waiting / f"{name}.json")
             sync_folder(self.waiting)
-            self.kept = None
+            self.kept.recount()
             self.write_state(Again=None, Answers=None)
 
     def sent_after(self, name: str) -> List[str]:
@@ -610,12 +485,3 @@ class Spool:
             write_synced(place, uuid.uuid4().hex.encode())
             sync_folder(self.folder)
         return place.read_text()
-
-
-def files_in(folder: pathlib.Path) -> List[pathlib.Path]:
-    """The files of messages in a folder, by their names. What is being written there has another ending, or begins with a dot."""
-    return sorted(
-        it
-        for it in folder.iterdir()
-        if it.suffix in (".json", ".jsonl") and not it.name.startswith(".") and it.is_file()
-    )

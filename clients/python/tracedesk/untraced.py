@@ -12,7 +12,8 @@ from .console import NEWS_OF_A_FAULT, PAUSE_OF_A_FAULT
 from .desk import Desk, NotThere
 from .interlock import PERIOD, Interlock
 from .records import spelled, utc
-from .spool import Spool, sync_folder, write_synced
+from .disk import sync_folder, write_synced
+from .spool import Spool
 
 READABLE = 0o644  # whoever collects records, and the proxy, are other users
 

@@ -4,6 +4,7 @@ mod answers;
 mod cases;
 mod counts;
 mod desks;
+mod reading;
 mod rows;
 mod usable;
 

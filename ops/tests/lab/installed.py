@@ -1,9 +1,9 @@
-"""The packages, and the machine on which all commands of docs/operations.md were run."""
+"""The packages, and the machine on which all commands of docs/operations-*.md were run."""
 from __future__ import annotations
 
 import contextlib
+import os
 import pathlib
-import re
 import tempfile
 from typing import Iterator, NamedTuple
 
@@ -12,35 +12,40 @@ from lab.machine import ARCHIVE, OFFICE, URL, Block, Machine, blocks, booted, is
 
 
 class Packages(NamedTuple):
-    """Both packages, and a .deb that is a newer one for apt."""
+    """Debian's packages, the tarball, and the same packages with a later version."""
 
-    deb: pathlib.Path
+    debs: list[pathlib.Path]
     tarball: pathlib.Path
-    newer: pathlib.Path
+    newer: list[pathlib.Path]
 
 
 def make_packages(program: pathlib.Path, room: pathlib.Path) -> Packages:
-    run(ROOT / "dev/dist", "--program", program, "--to", room / "made")
-    (deb,), (tarball,) = (room.glob(f"made/*{end}") for end in (".deb", ".tar.gz"))
-    return Packages(deb, tarball, newer_than(deb, room))
+    """Makes them, or takes those of the folder that TRACEDESK_PACKAGES in the environment names."""
+    made = pathlib.Path(os.environ.get("TRACEDESK_PACKAGES") or room / "made")
+    if not made.exists():
+        run(ROOT / "dev/dist", "--program", program, "--to", made)
+    debs, (tarball,) = sorted(made.glob("*.deb")), made.glob("*.tar.gz")
+    return Packages(debs, tarball, [newer_than(deb, room) for deb in debs])
 
 
 def newer_than(deb: pathlib.Path, room: pathlib.Path) -> pathlib.Path:
-    """The same package with a later version."""
-    run("dpkg-deb", "--raw-extract", deb, room / "newer")
-    control = room / "newer/DEBIAN/control"
-    control.write_text(re.sub(r"^(Version: .*)$", r"\1+1", control.read_text(), flags=re.M))
-    made = room / deb.name.replace("_amd64", "+1_amd64")
-    run("dpkg-deb", "-Zgzip", "-z1", "--root-owner-group", "--build", room / "newer", made)
+    """The same package with a later version, which also those that need it name."""
+    name, version, architecture = deb.stem.split("_")
+    raw = room / f"newer {name}"
+    run("dpkg-deb", "--raw-extract", deb, raw)
+    control = raw / "DEBIAN/control"
+    control.write_text(control.read_text().replace(version, f"{version}+1"))
+    made = room / f"{name}_{version}+1_{architecture}.deb"
+    run("dpkg-deb", "-Zgzip", "-z1", "--root-owner-group", "--build", raw, made)
     return made
 
 
 class Installed(NamedTuple):
-    """The machine, the packages, and how each block of the page, by its line, differs from it."""
+    """The machine, the packages, and how each block of the pages, by its place, differs from them."""
 
     machine: Machine
     packages: Packages
-    differences: dict[int, str]
+    differences: dict[str, str]
 
 
 def difference(machine: Machine, block: Block) -> str:
@@ -58,14 +63,16 @@ def difference(machine: Machine, block: Block) -> str:
 def installed(program: pathlib.Path) -> Iterator[Installed]:
     with tempfile.TemporaryDirectory() as room, booted() as machine:
         packages = make_packages(program, pathlib.Path(room))
-        for file, folder in zip(packages, ("/root", "/root", "/root/new")):
-            machine.put(file, f"{folder}/{file.name}")
+        for file in (*packages.debs, packages.tarball):
+            machine.put(file, f"/root/{file.name}")
+        for file in packages.newer:
+            machine.put(file, f"/root/new/{file.name}")
         differences = {
-            block.line: difference(machine, block)
+            block.place: difference(machine, block)
             for block in blocks()
             if "apt-get update" not in block.script  # the machine was made with these packages
         }
-        wrong = {line: text for line, text in differences.items() if text}
+        wrong = {place: text for place, text in differences.items() if text}
         assert machine.answers(), f"the desk doesn't answer behind the page's commands: {wrong}"
         machine.set_up()
         yield Installed(machine, packages, differences)

@@ -6,8 +6,9 @@ packages that are missing here, which apt-get installs. All changes to the other
 memory, and are gone at the end. The client is another network namespace, with a cable between the
 two.
 
-TRACEDESK_MACHINE in the environment names the folder, and TRACEDESK_EXTRA files of this machine
-that are put on the other one, as FILE:PATH.
+TRACEDESK_MACHINE in the environment names the folder, TRACEDESK_PACKAGES one with packages that
+dev/dist made already, and TRACEDESK_EXTRA files of this machine that are put on the other one,
+as FILE:PATH.
 """
 from __future__ import annotations
 
@@ -25,7 +26,9 @@ from lab import ROOT
 from lab.tools import Word, strings
 from lab.waits import PATIENCE, wait_for
 
-PAGE = ROOT / "docs/operations.md"
+PAGES = [  # in the order in which plant-test follows them
+    ROOT / f"docs/operations-{name}.md" for name in ("install", "access", "daily", "faults")
+]
 FOLDER = pathlib.Path(os.environ.get("TRACEDESK_MACHINE", "/var/cache/tracedesk-plant"))
 EXTRA = os.environ.get("TRACEDESK_EXTRA", "").split()
 HERE = {  # commands, and the packages that bring them
@@ -37,7 +40,7 @@ HERE = {  # commands, and the packages that bring them
 }
 THERE = (
     "systemd,systemd-sysv,dbus,procps,iproute2,ca-certificates"
-    ",nginx-light,openssl,curl,python3"  # docs/operations.md
+    ",nginx-light,openssl,curl,python3"  # docs/operations-install.md
     ",postgresql,postgresql-15-plproxy,python3-psycopg"  # docs/plant.md
     ",python3-pytest"
 )
@@ -77,26 +80,29 @@ ARCHIVE, COPIES = "/var/lib/tracedesk/archive", "/var/backups/tracedesk"
 class Block(NamedTuple):
     """Commands of a page, what they print if the page says so, and the notes before them."""
 
-    line: int
+    place: str  # the page and the line
     script: str
     prints: Optional[str]
     notes: str
 
 
-def blocks(page: pathlib.Path = PAGE) -> list[Block]:
+def blocks_of(page: pathlib.Path) -> list[Block]:
     """The blocks of a page that are run."""
     text = page.read_text(encoding="utf-8")
-    found = [
-        Block(
-            text[: its.start("script")].count("\n") + 1, its["script"], its["prints"], its["notes"]
-        )
-        for its in SHAPE.finditer(text)
-    ]
+    found = []
+    for its in SHAPE.finditer(text):
+        line = text[: its.start("script")].count("\n") + 1
+        found.append(Block(f"{page.name}:{line}", its["script"], its["prints"], its["notes"]))
     return [block for block in found if "<!-- not run:" not in block.notes]
 
 
+def blocks() -> list[Block]:
+    """The blocks of the pages on operations that are run, in order."""
+    return [block for page in PAGES for block in blocks_of(page)]
+
+
 def block_with(text: str) -> str:
-    """The block of the page that has this text."""
+    """The block of these pages that has this text."""
     (found,) = (block.script for block in blocks() if text in block.script)
     return found
 
@@ -256,7 +262,7 @@ class Machine:
         return self.ask(f"{M1} --data-binary '{part(name)}' {URL}/messages", body)
 
     def run_block(self, block: Block) -> str:
-        """Runs a block of the page as it says, and returns what it prints."""
+        """Runs a block of a page as it says, and returns what it prints."""
         for before in re.findall(r"<!-- before: (.*) -->", block.notes):
             self.shell(before)
         said = self.shell(block.script, by_client="on a client" in block.notes)
@@ -265,7 +271,7 @@ class Machine:
         return said
 
     def set_up(self) -> None:
-        """What the page sets up and switches on, and a purge takes away."""
+        """What the pages set up and switch on, and a purge takes away."""
         self.shell(block_with("station/setup.json <<"))
         self.shell("systemctl enable --now tracedesk-watch.timer tracedesk-send@m1")
 

@@ -13,7 +13,7 @@ from typing import Any, Callable, Iterator, Protocol, Sequence
 from lab.desk import rows_of_archive
 from lab.line import table
 from lab.tools import Ended, Word, run, run_tool
-from lab.world import RUNNING, World
+from lab.world import World
 from tracedesk_ops import catalogue, chains
 from tracedesk_ops.recalls.desk import Desk, Line, Question
 from tracedesk_ops.recalls.recall import Recall
@@ -127,7 +127,7 @@ class Asking:
             meanwhile()
             return Desk(line, None, None)
 
-        asker = chains.Asker(str(self.program), question)
+        asker = chains.Asker(str(self.program), question.words(self.room))
         its = Recall(question, self.asked[:lines], desk_of, asker)
         its.ask()
         return its
@@ -177,9 +177,7 @@ class Asking:
         by_file: dict[tuple[str, str], list[tuple[str, ...]]] = collections.defaultdict(list)
         for row in pieces:
             by_file[row["line"], row["file"]].append(tuple(row[column] for column in columns))
-            minute = ""
-            if row["file"] != RUNNING:
-                minute = self.minutes[row["line"], row["file"]][row["board"], row["designator"]]
+            minute = self.minutes[row["line"], row["file"]][row["board"], row["designator"]]
             assert (row["minute"], row[kind]) == (minute, name), row
         for line, file, wanted in self.wanted(kind, name):
             assert sorted(by_file.pop((line, file), [])) == wanted, f"{kind} {name}, {line} {file}"

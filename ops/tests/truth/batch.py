@@ -304,7 +304,7 @@ class AskedOnce(chains.Asker):
     """tracedesk-chain, whose answer is the same for all lots."""
 
     def __init__(self, program: str) -> None:
-        super().__init__(program, Question("lot", "no lot"))
+        super().__init__(program, ["lot", "no lot"])
         self.told: Any = None
 
     def ask(self, *words: Any) -> Any:

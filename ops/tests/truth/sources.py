@@ -5,7 +5,7 @@ import pathlib
 from typing import Any, Optional
 
 from tracedesk import desk as desks
-from tracedesk import interlock, scans, sender, spool
+from tracedesk import disk, interlock, scans, sender, spool
 from tracedesk import untraced as places
 from truth.world import Killed, Killer
 
@@ -99,13 +99,13 @@ class Source:
         """The message by which the desk accepted the start of a board, if it did, by what is in the
         spool."""
         sent, wanted = self.spool.sent, ("TraceDesk.WorkStarted", board)
-        names = reversed(spool.names_in(sent))
+        names = reversed(disk.names_in(sent))
         return next((name for name in names if board_of(sent, name) == wanted), "")
 
     def open_slots(self, slots: set[str]) -> set[str]:
         """The slots of which the last scan was refused, from what they were before the last one that was looked at."""
-        answered = {name: self.spool.sent for name in spool.names_in(self.spool.sent)}
-        answered.update({name: self.spool.aside for name in spool.names_in(self.spool.aside)})
+        answered = {name: self.spool.sent for name in disk.names_in(self.spool.sent)}
+        answered.update({name: self.spool.aside for name in disk.names_in(self.spool.aside)})
         for name in sorted(name for name in answered if name > self.looked_at):
             told = json.loads((answered[name] / f"{name}.json").read_bytes())["MessageBody"]
             slots = slots | {told["Slot"]}
@@ -116,7 +116,7 @@ class Source:
 
     def is_refused(self, board: str, since: str) -> bool:
         """Whether the desk has accepted no start of a board, or refused something since that message."""
-        aside = spool.names_in(self.spool.aside)
+        aside = disk.names_in(self.spool.aside)
         return not self.start_of(board) or any(name > since for name in aside)
 
     def end(self) -> None:

@@ -12,13 +12,15 @@ examples:
   tracedesk-backup --restore              the newest copy becomes the desk
   tracedesk-backup --restore 2026-11-24T061203Z      an older one, by its name or its path
 
-The service is stopped while the file and its log are copied, and senders get the answer to come again. The copy is audited, and
-gets its name only if it is lawful. Of each of the last --days days and --months months that have a copy the last one is kept, all of
+Nothing is stopped for it: the desk answers nobody while its file and its log are copied, which takes less than a second. If that
+fails three times, as on a disk that is slow, or if the desk has no name yet, the service is stopped for it, senders get the answer to
+come again, and the tool says so. The copy is audited, and gets its name only if it is lawful and has all that the desk had accepted. Of each of the last --days days and --months months that have a copy the last one is kept, all of
 the newest day, and the last one that has an archive. Copies of another desk are left alone. A copy that can't be read is a fault:
 look at its disk, and move it elsewhere.
 
 --check also asks tracedesk-chain whether the archives and the desk of the copy are a chain, and writes how that ended next to
-the copies, for tracedesk-watch. The program is the one next to tracedesk, or that of CHAIN in the environment.
+the copies, for tracedesk-watch. The program is the one next to tracedesk, or that of CHAIN in the environment. It reads a file
+again only if the file's checksum is another, or the program is: which files it has judged is kept next to the copies too.
 
 --restore compares all checksums, and audits a copy of the copy while the desk runs on. Then the desk, its log and its archive go
 into a new folder of `aside`. The commands that the copy lacks are printed, and written to an entry lacks-*.json in the archive's
@@ -54,7 +56,9 @@ from tracedesk_ops import (
     chains,
     copies,
     files,
+    held,
     identity,
+    judged,
     plant,
     reader_of,
     unfinished,
@@ -100,10 +104,7 @@ class Backup:
             self.copy_archives()
             self.faults += untraced.copy(self.asked.archive, self.room, self.opened)
             taken = now()
-            gone = self.copy_desk()
-            commands = plant.Program(self.asked.program, self.room / "desk").audit(
-                self.room / "desk"
-            )
+            commands, gone = self.copy_desk()
             plant.without_log(self.room / "desk")
             self.write_down(commands, gone)
             while (
@@ -199,22 +200,38 @@ class Backup:
             raise plant.Fault(f"{to} is not what was copied: look at the disks")
         return True
 
-    def copy_desk(self) -> float:
-        """Copies file and log while the service is stopped; how many seconds it was not there."""
+    def copy_desk(self) -> tuple[int, float]:
+        """Copies file and log, and audits the copy: how many commands it has, and for how many seconds the desk was not there."""
+        desk = self.room / "desk"
+        audit = plant.Program(self.asked.program, self.room, is_low=True).audit
+        if self.may_be_held():
+            try:
+                words = (self.asked.db, self.asked.port, held.new_marker, desk, audit)
+                copied = held.lawful(*words)
+                return copied.number, copied.seconds
+            except held.NoCopy as fault:
+                plant.tell(f"the service is stopped for this copy: {fault}")
         service = plant.Service(self.asked, always=False)
         try:
             service.drain()
             service.stop()
-            copies.copy(self.asked.db, self.room / "desk")
-            with copies.database(self.room / "desk") as database:
-                desk = identity.read(database)
-            if self.program.named(self.asked.db, desk):
-                for tail in ("", *catalogue.LOGS):
-                    pathlib.Path(f"{self.room / 'desk'}{tail}").unlink(missing_ok=True)
-                copies.copy(self.asked.db, self.room / "desk")
+            copies.copy(self.asked.db, desk)
+            with copies.database(desk) as database:
+                read = identity.read(database)
+            if self.program.named(self.asked.db, read):
+                held.remove(desk)
+                copies.copy(self.asked.db, desk)
         finally:
             gone = service.start()
-        return gone
+        return audit(desk), gone
+
+    def may_be_held(self) -> bool:
+        """Whether a desk runs that can be copied as it runs: it has a name, and no earlier call was cut off that sent senders away."""
+        if self.asked.drained.exists() or not plant.is_open(self.asked.db):
+            return False
+        with contextlib.suppress(sqlite3.Error):
+            return bool(backups.commands(self.asked.db) and identity.of(self.asked.db).name)
+        return False
 
     def write_down(self, commands: int, gone: float) -> None:
         """What the copy says of itself, and the checksums of all of it; all of it on disk."""
@@ -361,14 +378,14 @@ def broken(
     try:
         if not program:
             raise plant.Fault("there is no tracedesk-chain next to tracedesk: CHAIN names it")
-        chains.asked(
+        judged.check(
             program,
-            ["check"],
             [
                 *(catalogue.path_of(live if it in own else path, it) for it in chain[::-1]),
                 copy / "desk",
             ],
             chain[::-1],
+            judged.record_of(backups.note_of(asked.to, asked.db)),
         )
     except (chains.NoAnswer, plant.Fault) as fault:
         yield f"{copy}: whether its archives and its desk are a chain: {fault}"

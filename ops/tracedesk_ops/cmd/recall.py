@@ -1,12 +1,18 @@
-"""Recalls a lot, a board or a reel over the running desks of lines and all archives of their catalogues.
+"""Recalls lots, a board or reels over the running desks of lines and all archives of their catalogues.
 
-usage: tracedesk-recall (lot | board | reel) NAME [--line LINE URL CATALOGUE].. [--lines FILE]
-                        [--show TABLE] [--shipped FILE] [--html FILE] [--evidence FOLDER]
+usage: tracedesk-recall lot NAME.. [--part PART] [OPTION]..
+       tracedesk-recall board NAME [OPTION]..
+       tracedesk-recall reel NAME.. [OPTION]..
+       tracedesk-recall where ATTRIBUTE=VALUE.. [OPTION]..
+options:                [--line LINE URL CATALOGUE].. [--lines FILE]
+                        [--show TABLE] [--shipped FILE] [--customer NAME] [--html FILE] [--evidence FOLDER] [--key FILE | --unsigned]
                         [--cacert FILE] [--netrc FILE] [--archives-only] [--quick]
 
 examples:
   tracedesk-recall lot L-77            of the lines that are set up on this machine, by /etc/tracedesk/LINE.conf
   tracedesk-recall lot L-77 --quick    a first look at them
+  tracedesk-recall lot L-77 L-78 --part CAP-100N
+  tracedesk-recall where date_code=2614 part=CAP-100N
   tracedesk-recall lot L-77 --line L1 http://127.0.0.1:8080 /var/lib/tracedesk/archive/catalogue.csv
   tracedesk-recall lot L-77 --lines lines.csv --shipped shipped.csv --html L-77.html --evidence recalls/L-77 > boards.csv
   tracedesk-recall board SN-117 --archives-only --line L1 - archive/catalogue.csv      no desk runs
@@ -17,6 +23,10 @@ file names the archive from which its desk was begun, and the running desk is as
 So a missing archive, or a URL of another desk, is reported. Standard error says who could not be asked, and why: then the answer may
 lack boards. tracedesk-chain is the one next to tracedesk, or that of CHAIN in the environment. Archives that the caller can't write,
 or another one has, are copied for it into TMPDIR.
+
+A lot is only its name: --part PART leaves out other parts that came in a lot of that name. A reel that changed lines is followed under
+its other names. ATTRIBUTE is reel, part, lot, date_code, supplier, maker_part or order, as tracedesk-reels keeps them. If it is named
+twice, a reel has one of the values. A reel whose attributes nobody gave may be one of them: it is named, and the status is 3.
 
 --line          a line's name, the URL of its running desk (`-` where none runs), and the path of its catalogue: where the
                 line was never rolled over, the path that it will have
@@ -30,16 +40,20 @@ or another one has, are copied for it into TMPDIR.
   untraced      work that the desks refused, on any reel: its pieces are in no trace; with the decisions about it
   doubtful      pieces of the lot, reel or board that may be of another reel: a load, splice or unload came late or was refused
 --shipped FILE  a CSV file with the columns board,customer,date, which the boards have then
+--customer NAME  with --shipped and --evidence: the evidence has the serials of this customer alone, also those that hold no
+                piece, and nothing of other boards; a serial that no line knows makes it incomplete
 --html FILE     one page to print, with all of it
---evidence FOLDER  all of it as CSV and HTML, the desks' answers, the catalogues, the question, and checksums
+--evidence FOLDER  all of it as CSV and HTML, the desks' answers, the catalogues, a certificate, checksums and a signature:
+                tracedesk-verify verifies it
+--key FILE      the private key that signs the evidence, as ssh-keygen makes it; without it the `key` of the line's set-up file
+--unsigned      the evidence is not signed, and its certificate says so
 --cacert FILE   the certificate of an https URL, or of its signer
 --netrc FILE    the users and passwords of the URLs
 --archives-only lets a line have no running desk; without it `-` for a URL ends with status 3
 --quick         a first look at the archives, by SQL and checksums without the proof; the status is 3 then
 
-FILE of --html and FOLDER must not be there yet. Each gets its name once it is whole. A running desk reports no minutes, so those of
-pieces in it are empty. It lists no reels of a lot either: its file does, if the line's set-up names it, or it is next to the folder of
-its archives.
+FILE of --html and FOLDER must not be there yet. Each gets its name once it is whole. A running desk reports no minutes, and lists no
+reels of a lot: its file has both, if the line's set-up names it, or it is next to the folder of its archives.
 
 Exit status: 0 all were asked; 1 all were asked, and none knows the name; 2 bad command line, or a list that can't be
 read; 3 not all were asked, the archives are no chain, pieces are counted twice, or nobody decided about untraced work; 4 the
@@ -57,17 +71,20 @@ import re
 import ssl
 import stat
 import sys
+import tempfile
 import urllib.parse
 from collections.abc import Iterable, Iterator, Sequence
 from typing import Any, NoReturn
 
 from tracedesk.desk import checked_url
 from tracedesk_ops import carry, catalogue, chains, plant, reader_of
+from tracedesk_ops.recalls import customers, sets, signing
+from tracedesk_ops.recalls.certificate import bytes_of, programs
 from tracedesk_ops.recalls.desk import Desk, Line, Question
 from tracedesk_ops.recalls.evidence import (
-    bytes_of,
+    LISTED,
     evidence,
-    program_version,
+    listing,
     read_once,
     write_beside,
     write_evidence,
@@ -224,8 +241,9 @@ def context_of(path: pathlib.Path | None, lines: Iterable[Line]) -> ssl.SSLConte
 
 def parse() -> argparse.Namespace:
     parser = reader_of(__doc__)
-    parser.add_argument("kind", choices=("lot", "reel", "board"), help="the kind of the name")
-    parser.add_argument("name", type=carry.identifier, help="its name")
+    parser.add_argument("kind", choices=("lot", "reel", "board", "where"), help="what is recalled")
+    parser.add_argument("names", nargs="+", type=carry.identifier, help="its names, or attributes")
+    parser.add_argument("--part", type=carry.identifier, help="of lots, this part alone")
     parser.add_argument(
         "--line", nargs=3, action="append", default=[], metavar=("LINE", "URL", "CATALOGUE")
     )
@@ -237,18 +255,35 @@ def parse() -> argparse.Namespace:
         ("shipped", "FILE"),
         ("html", "FILE"),
         ("evidence", "FOLDER"),
+        ("key", "FILE"),
         ("cacert", "FILE"),
         ("netrc", "FILE"),
     ):
         parser.add_argument(f"--{option}", type=pathlib.Path, metavar=metavar)
-    for option in ("archives-only", "quick"):
+    for option in ("archives-only", "quick", "unsigned"):
         parser.add_argument(f"--{option}", action="store_true")
+    parser.add_argument("--customer", metavar="NAME")
     parser.add_argument(
         "--program",
         default=os.environ.get("PROGRAM", "tracedesk"),
         help="the program whose version is recorded; else PROGRAM in the environment, or tracedesk on the path",
     )
     words = parser.parse_args()
+    if words.kind == "board" and len(words.names) > 1:
+        stop("a recall is of one board: ask for each by itself")
+    if words.part and words.kind != "lot":
+        stop("--part is of lots: with `where` say part=PART")
+    if words.kind == "where":
+        try:
+            sets.terms_of(words.names)
+        except ValueError as fault:
+            stop(str(fault))
+    if words.customer and not (words.shipped and words.evidence and not words.html):
+        stop(
+            "--customer wants --shipped and --evidence, and has no --html: the evidence has a page"
+        )
+    if words.key and words.unsigned:
+        stop("--key signs the evidence, and --unsigned doesn't: say one of them")
     for path in (words.html, words.evidence):
         if path and (os.path.lexists(path) or not os.path.isdir(path.absolute().parent)):
             stop(
@@ -260,10 +295,38 @@ def parse() -> argparse.Namespace:
     return words
 
 
+def key_of(words: argparse.Namespace) -> pathlib.Path | None:
+    """The key that signs the evidence; none if no set-up file names one."""
+    if words.unsigned or not words.evidence:
+        return None
+    if words.key:
+        return pathlib.Path(words.key)
+    keys = sorted({its["key"] for its in plant.set_ups() if "key" in its})
+    if len(keys) > 1:
+        stop(
+            f"the set-up files in {plant.SET_UP} name the keys {', '.join(keys)}: say one by --key"
+        )
+    return pathlib.Path(keys[0]) if keys else None
+
+
 def main() -> int:
     words = parse()
+    with tempfile.TemporaryDirectory(prefix="tracedesk-") as room:
+        return answer(words, pathlib.Path(room))
+
+
+def listed_in(room: pathlib.Path, question: Question) -> pathlib.Path:
+    """A file with the reels of a question, which the desk's owner can read."""
+    room.chmod(0o755)
+    path = room / LISTED
+    path.write_bytes(listing(question))
+    path.chmod(0o644)
+    return path
+
+
+def answer(words: argparse.Namespace, room: pathlib.Path) -> int:
     try:
-        lines, users = lines_of(words), users_of(words.netrc)
+        lines, users, key = lines_of(words), users_of(words.netrc), key_of(words)
     except (
         plant.Fault,
         OSError,
@@ -275,19 +338,33 @@ def main() -> int:
     want_secrets_kept(lines, users)
     shipped = shipped_of(words.shipped) if words.shipped else None
     os.nice(NICE)
-    question = Question(words.kind, words.name)
+    question, lacking, notes = sets.question_of(words.kind, words.names, words.part or "", lines)
+    if question.kind == "reels" and not question.reels:
+        for text in (*(f"NOT ASKED: {why}" for why in lacking), *notes):
+            plant.tell(text)
+        stop(f"no reel is one of {question.name}", 3 if lacking else 1)
     recall = Recall(
         question,
         lines,
         lambda line: Desk(line, context, users),
-        None if words.quick else chains.Asker(words.program, question),
+        None
+        if words.quick
+        else chains.Asker(words.program, question.words(listed_in(room, question))),
         words.archives_only,
     )
+    recall.faults += lacking
+    recall.notes += notes
     if not words.line and not words.lines:
         recall.notes.append(
             f"by the files of {plant.SET_UP} the lines are {', '.join(it.name for it in lines)}: one without a file there was not asked"
         )
     recall.ask()
+    own = None
+    if words.customer:
+        own = customers.narrow(recall, shipped or {}, words.customer)
+        if len(own["serials"]) == 1:
+            stop(f"{words.shipped}: it has no board of the customer {words.customer}")
+        plant.tell(customers.sentence(own["serials"]))
     tables = tables_of(recall, shipped)
     if any(
         str(it)[:1] in ("=", "+", "-", "@")
@@ -317,18 +394,24 @@ def main() -> int:
         plant.tell(note)
     try:
         if words.html or words.evidence:
-            version = program_version(words.program)
-            paper = page(recall, tables, shipped, version)
+            used = programs(words.program)
+            signed_by = signing.fingerprint(key) if key else ""
+            paper = page(recall, tables, shipped, used[0].version)
+            its = evidence(recall, tables, words.shipped, paper, used, signed_by)
+            if own:
+                its = customers.contents(recall, own, used, signed_by)
         if words.html:
             write_beside(words.html, bytes_of(paper))
         if words.evidence:
-            write_evidence(words.evidence, evidence(recall, tables, words, paper, version))
+            write_evidence(words.evidence, its, key)
+            if not key:
+                plant.tell("the evidence is not signed: a reader can't know who made it (--key)")
         plant.write_out(
             catalogue.csv_text(
                 tables[words.show or ("pieces" if words.kind == "board" else "boards")]
             )
         )
-    except plant.Fault as fault:
+    except (plant.Fault, signing.NoSignature) as fault:
         stop(f"the answer can't be written: {fault}", 4)
     if recall.faults or recall.breaks:
         plant.tell(

@@ -143,7 +143,7 @@ class RollOver(unfinished.Rolling):
         self.room.mkdir(mode=0o700)
         old = self.copied()
         self.pieces = old.pieces
-        archive = self.named(old, self.audited(old))
+        archive = self.named(old, self.held_as_copied())
         carried = carry.Archive(self.copy, catalogue.opened)
         at, is_earlier = self.asked.at, self.asked.at is not None and self.asked.at < carried.minute
         carrier = self.begun(carried, None if is_earlier else at, archive.sha256)
@@ -158,10 +158,8 @@ class RollOver(unfinished.Rolling):
     def copied(self) -> Seen:
         """The desk's file and its log as one file, and what it says; a board in work is refused."""
         copies.copy(self.db, self.copy)
-        with copies.database(self.copy) as database:
-            busy, *_ = database.execute("PRAGMA wal_checkpoint(TRUNCATE)").fetchone()
-        if busy or catalogue.log_of(self.copy):
-            raise plant.Fault(f"the log of {self.db} could not be put into its copy")
+        copies.fold(self.copy)
+        plant.without_log(self.copy)
         it = seen(self.copy)
         self.desk = identity.of(self.copy)
         if not self.desk.taken:
@@ -175,14 +173,12 @@ class RollOver(unfinished.Rolling):
             )
         return it
 
-    def audited(self, old: Seen) -> str:
-        """Both audits, and the checksum that both files have; from here on no run can open the desk's."""
-        for file in (self.db, self.copy):
-            if (commands := self.program.audit(file)) != old.commands:
-                raise plant.Fault(
-                    f"{file} has {commands} commands, and the copy had {old.commands}: something else writes to it"
-                )
-        plant.without_log(self.copy)
+    def held_as_copied(self) -> str:
+        """The checksum that the desk's file and its copy have; from here on no run can open the
+        desk's. Whether they are lawful is judged once, when the new desk is compared with them.
+        """
+        copies.fold(self.db)
+        plant.without_log(self.db)
         sha256 = self.hold()
         if catalogue.log_of(self.db) or sha256 != catalogue.sha256_of(self.copy):
             raise plant.Fault(

@@ -2,6 +2,7 @@
 from __future__ import annotations
 
 import base64
+import json
 import netrc
 import pathlib
 import ssl
@@ -29,10 +30,39 @@ class Line(NamedTuple):
 
 
 class Question(NamedTuple):
-    """What is asked: `kind` is lot, board or reel."""
+    """What is asked: `kind` is lot, board, reel, or reels, a set of them whose `name` is a title. A lot
+    may be asked for its pieces of one part.
+    """
 
     kind: str
     name: str
+    part: str = ""
+    reels: tuple[str, ...] = ()
+
+    def about(self) -> dict[str, str]:
+        """The question as a certificate has it."""
+        part = {"part": self.part} if self.part else {}
+        return {"kind": self.kind, "name": self.name, **part}
+
+    def words(self, listed: pathlib.Path) -> list[str]:
+        """The words of tracedesk-chain; a set of reels is in this file."""
+        if self.kind == "reels":
+            return ["reels", str(listed)]
+        return [self.kind, self.name, *(["--part", self.part] if self.part else [])]
+
+    def sql(self) -> tuple[str, list[str]]:
+        """The condition on a row of the table `reel`, and its values."""
+        if self.kind == "reels":
+            return "reel IN (SELECT value FROM json_each(?))", [json.dumps(self.reels)]
+        if self.part:
+            return "lot = ? AND part = ?", [self.name, self.part]
+        return f"{self.kind} = ?", [self.name]
+
+    def is_of(self, reel: str, part: str, lot: str) -> bool:
+        """Whether such a reel is asked for."""
+        if self.kind == "lot":
+            return lot == self.name and self.part in ("", part)
+        return reel in (self.reels or (self.name,))
 
 
 class Desk(asking.Once):
@@ -70,17 +100,18 @@ class Desk(asking.Once):
             )
             there = [self.piece(row, question.name, row.lot) for row in of_board or []]
             return Told(of_board is not None, there)
-        lot = question.name
-        if question.kind == "reel":
-            card = self.card(question.name)
-            if card is None:
-                return Told(False, [])
-            lot = card.lot
-        of_lot: list[reports.LotPiece] | None = self.rows("/trace/lot", 4, lot=lot)
-        wanted = [
-            row for row in of_lot or [] if question.kind == "lot" or row.reel == question.name
-        ]
-        return Told(of_lot is not None, [self.piece(row, row.board, lot) for row in wanted])
+        lots = [question.name]
+        if question.kind != "lot":
+            cards = [self.card(reel) for reel in question.reels or (question.name,)]
+            lots = sorted({card.lot for card in cards if card})
+        pieces: list[Piece] = []
+        is_known = False
+        for lot in lots:
+            of_lot: list[reports.LotPiece] | None = self.rows("/trace/lot", 4, lot=lot)
+            wanted = [row for row in of_lot or [] if question.is_of(row.reel, row.part, lot)]
+            is_known |= bool(wanted) if question.part else of_lot is not None
+            pieces += [self.piece(row, row.board, lot) for row in wanted]
+        return Told(is_known, pieces)
 
     def card(self, reel: str) -> reports.ReelCard | None:
         """A reel's card; None if the desk doesn't know the reel."""
@@ -105,14 +136,18 @@ class Desk(asking.Once):
             for machine in looked_at
             for row in self.rows("/slots", machine=machine) or []
         }
-        named = {question.name}
+        named = set(question.reels or (question.name,))
         if question.kind == "lot":
-            named = {name for name, (_, row) in mounted.items() if row.lot == question.name}
+            named = {
+                name
+                for name, (_, row) in mounted.items()
+                if question.is_of(name, row.part, row.lot)
+            }
         for name in sorted({*named, *held, *(piece.reel for piece in told.pieces)}):
             card = self.card(name)
             if card is None and name in held:
                 yield held[name]
-            elif card and getattr(card, question.kind) == question.name and card.remaining:
+            elif card and question.is_of(name, card.part, card.lot) and card.remaining:
                 machine, slot = "", ""
                 if name in mounted:
                     machine, slot = mounted[name][0], mounted[name][1].slot

@@ -1,39 +1,27 @@
 """What a recall writes: a page, or a folder of evidence, whole or not at all."""
 from __future__ import annotations
 
-import argparse
 import contextlib
 import functools
 import hashlib
 import os
 import pathlib
 import shutil
-import sqlite3
-import subprocess
 import tempfile
-from collections.abc import Iterator
-from typing import Any
+from collections.abc import Iterable, Iterator
 
 from tracedesk_ops import catalogue, files, plant
+from tracedesk_ops.recalls import certificate, signing
+from tracedesk_ops.recalls.certificate import Program, bytes_of
+from tracedesk_ops.recalls.desk import Question
 from tracedesk_ops.recalls.recall import Recall
+from tracedesk_ops.recalls.signing import SUMS
 from tracedesk_ops.recalls.tables import Table
 
-read_once = functools.lru_cache(
-    pathlib.Path.read_bytes
-)  # a list may be a pipe, and may change: the evidence has what was asked by
-
-
-def program_version(program: str) -> str:
-    try:
-        how: dict[str, Any] = {"capture_output": True, "check": True, **plant.TEXT}
-        return str(subprocess.run([program, "--version"], **how).stdout).strip()
-    except (OSError, subprocess.CalledProcessError):
-        return f"no version: {program} is not here"
-
-
-def bytes_of(text: str) -> bytes:
-    """A text as UTF-8, whatever names of files stand in it."""
-    return text.encode(errors="backslashreplace")
+# A list may be a pipe, and may change: the evidence has what was asked by.
+read_once = functools.lru_cache(pathlib.Path.read_bytes)
+LISTED = certificate.LISTED
+Contents = dict[str, bytes]  # of the files of a folder, by their names
 
 
 def write(path: pathlib.Path, content: bytes) -> None:
@@ -58,85 +46,68 @@ def named(path: pathlib.Path) -> Iterator[None]:
         files.keep(path.parent)
     except OSError as fault:
         raise plant.Fault(f"{path}: {fault.strerror}") from fault
+    except signing.NoSignature as fault:
+        raise plant.Fault(f"{path}: {fault}") from fault
 
 
-def write_evidence(folder: pathlib.Path, contents: dict[str, bytes]) -> None:
-    """A new folder with these files and their checksums, whole or not at all; one that has something in it stays."""
-    sums = "".join(
-        f"{hashlib.sha256(content).hexdigest()}  {name}\n"
-        for name, content in sorted(contents.items())
-    )
+def sums_of(contents: Contents) -> bytes:
+    """The checksums of the files, as `sha256sum` writes them."""
+    rows = (f"{hashlib.sha256(text).hexdigest()}  {name}\n" for name, text in contents.items())
+    return bytes_of("".join(sorted(rows, key=lambda row: row[66:])))
+
+
+def write_evidence(folder: pathlib.Path, contents: Contents, key: pathlib.Path | None) -> None:
+    """A new folder with these files, their checksums, and a signature by a key, if there is one;
+    whole or not at all. A folder with something in it stays.
+    """
     with named(folder):
         room = pathlib.Path(tempfile.mkdtemp(prefix=f".{folder.name}-", dir=folder.parent))
         try:
-            for name, content in {**contents, "SHA256SUMS": bytes_of(sums)}.items():
+            for name, content in {**contents, SUMS: sums_of(contents)}.items():
                 write(room / name, content)
+            if key:
+                signing.sign(room, key)
+                files.keep(room / signing.SIGNATURE)
             files.keep(room)
             os.rename(room, folder)
         finally:
             shutil.rmtree(room, ignore_errors=True)
 
 
+def listing(question: Question) -> bytes:
+    """The reels of a question, one a line."""
+    return bytes_of("".join(f"{reel}\n" for reel in question.reels))
+
+
 def evidence(
-    recall: Recall, tables: dict[str, Table], words: argparse.Namespace, paper: str, version: str
-) -> dict[str, bytes]:
+    recall: Recall,
+    tables: dict[str, Table],
+    shipped: pathlib.Path | None,
+    paper: str,
+    used: Iterable[Program],
+    signed_by: str,
+) -> Contents:
     """The files of the evidence: their names and contents."""
+    told = certificate.certificate(recall, tables, used, signed_by)
     contents = {
         f"{name}.csv": bytes_of(catalogue.csv_text(table)) for name, table in tables.items()
     }
     contents |= {
-        "question.txt": bytes_of(question_text(recall, words, version)),
+        certificate.FILE_NAME: certificate.as_json(told),
+        "question.txt": bytes_of(certificate.as_text(told)),
         "recall.html": bytes_of(paper),
     }
+    if recall.question.reels:
+        contents[LISTED] = listing(recall.question)
     for number, survey in enumerate(recall.catalogues.values(), 1):
         contents[f"catalogue-{number}.csv"] = survey.text
     for number, line in enumerate(recall.lines, 1):
         if line.name in recall.proofs:
             contents[f"chain-{number}.csv"] = bytes_of(recall.proofs[line.name].text)
         if line.url:
-            contents[f"desk-{number}.txt"] = bytes_of(
-                "".join(
-                    f"GET {target}\n{text}\n" for target, text in recall.desks[line.name].answers
-                )
-            )
-    if words.shipped:
-        contents["shipped.csv"] = read_once(words.shipped)
+            answers = recall.desks[line.name].answers
+            text = "".join(f"GET {target}\n{answer}\n" for target, answer in answers)
+            contents[f"desk-{number}.txt"] = bytes_of(text)
+    if shipped:
+        contents["shipped.csv"] = read_once(shipped)
     return contents
-
-
-def checksum_of_tools() -> str:
-    """The checksum of all modules of the plant's tools, in the order of their paths."""
-    modules = sorted(pathlib.Path(plant.__file__).parent.rglob("*.py"))
-    return hashlib.sha256(b"".join(module.read_bytes() for module in modules)).hexdigest()
-
-
-def question_text(recall: Recall, words: argparse.Namespace, version: str) -> str:
-    lines = [
-        f"question: {recall.question.kind} {recall.question.name}",
-        f"asked at: {recall.minute:%Y-%m-%dT%H:%M:00Z}",
-        f"program: {version}",
-        f"recall: sha256 {checksum_of_tools()}",
-        f"SQLite: {sqlite3.sqlite_version}",
-        f"archives: {' '.join(['by tracedesk-chain', *recall.chain.words]) if recall.chain else 'a first look by SQL'}",
-        f"status: {recall.status()}",
-    ]
-    catalogues = list(recall.catalogues)
-    for number, line in enumerate(recall.lines, 1):
-        kept = f"{line.catalogue} (catalogue-{catalogues.index(line.catalogue) + 1}.csv)"
-        lines.append(
-            f"line: {line.name}; running desk: {f'{line.url} (desk-{number}.txt)' if line.url else 'none'}; catalogue: {kept}"
-        )
-    if words.shipped:
-        lines.append(f"shipped: {words.shipped}")
-    return (
-        "\n".join(
-            [
-                *lines,
-                *(f"not asked: {it}" for it in recall.faults),
-                *(f"no chain: {it}" for it in recall.breaks),
-                *(f"twice: {it}" for it in recall.doubts),
-                *(f"note: {it}" for it in recall.notes),
-            ]
-        )
-        + "\n"
-    )

@@ -69,6 +69,7 @@ class Recall:
         self.catalogues: dict[pathlib.Path, catalogue.Survey] = {}
         self.around: dict[pathlib.Path, list[str]] = {}
         self.desks: dict[str, Desk] = {}  # by line
+        self.running_desks: dict[str, identity.Identity] = {}  # by line, if their file is at hand
         self.proofs: dict[str, chains.Answer] = {}  # by line
         self.untraced: list[list[str]] = []
         self.doubtful: list[list[str]] = []
@@ -270,25 +271,39 @@ class Recall:
             self.faults += desk.want_line(
                 next((it for it in archives if newest and it.file == newest.file), newest)
             )
-            told = self.take(about, desk.pieces_of(self.question))
+            told = desk.pieces_of(self.question)
         except plant.Fault as fault:
             self.miss(about, fault)
             return None
-        if not told.known or self.question.kind == "board":
-            return None
+        left: list[Reel] | None = None
         try:
-            file = line.desk or line.catalogue.parent.parent / "desk"
-            with contextlib.suppress(OSError), doubtful.copied(file) as database:
-                if not doubtful.why_not(file, database, [newest] if newest else [], [desk.has]):
-                    return firstlook.left_in(database, line, self.question)[0]
-            left = list(desk.stock(self.question, told, held, machines))
-            self.notes += desk.notes
-            return left
+            its = self.by_its_file(line, desk, newest, told)
+            if its:
+                told, left = its
+            elif told.known and self.question.kind != "board":
+                left = list(desk.stock(self.question, told, held, machines))
+                self.notes += desk.notes
         except (plant.Fault, catalogue.CatalogueError) as fault:
             self.faults.append(
                 f"{line.name}: what is left of it is told as of the last archive: {fault}"
             )
-            return None
+        self.take(about, told)
+        return left if told.known and self.question.kind != "board" else None
+
+    def by_its_file(
+        self, line: Line, desk: Desk, newest: catalogue.Archive | None, told: Told
+    ) -> tuple[Told, list[Reel]] | None:
+        """What a running desk told, with the minutes of the pieces, and what is left of the reels, by
+        its file; None if that is not at hand.
+        """
+        file = line.desk or line.catalogue.parent.parent / "desk"
+        with contextlib.suppress(OSError), doubtful.copied(file) as database:
+            if not doubtful.why_not(file, database, [newest] if newest else [], [desk.has]):
+                self.running_desks[line.name] = identity.read(database)
+                left = firstlook.left_in(database, line, self.question)[0]
+                timed = firstlook.with_minutes(database, told.pieces)
+                return Told(told.known or bool(left), timed), left
+        return None
 
     def look_for_untraced(self, path: pathlib.Path) -> None:
         """What is around a catalogue: work that a desk refused, what was decided about it, and the pieces of the question that may be of another reel."""
@@ -317,9 +332,8 @@ class Recall:
                     ),
                 ]
             )
-        self.doubtful += [
-            [name, *it.row()] for it in its.pieces if its.story.concerns(it, *self.question)
-        ]
+        concern = Concern(its.story, self.question)
+        self.doubtful += [[name, *it.row()] for it in its.pieces if it in concern]
 
     def has(self, line: Line, uid: str) -> bool | None:
         """Whether the running desk of a line has a UniqueID; None if it gives no answer, which is a fault by then."""
@@ -371,7 +385,7 @@ class Recall:
             )
 
     def note(self) -> None:
-        kind, name = self.question
+        kind, name = self.question.kind, self.question.name
         if not self.known and not self.faults:
             self.notes.append(
                 f"nobody knows the {kind} {name}: look at its spelling; names are told apart to the letter"
@@ -383,7 +397,7 @@ class Recall:
             )
         if any(it.minute is None for it in self.pieces):
             self.notes.append(
-                "a piece that lies in a running desk has no minute here: it was placed after the line's last archive"
+                "a piece that lies in a running desk has no minute here, since the desk's file is not at hand: it was placed after the line's last archive"
             )
         if not self.chain:
             self.faults.append(
@@ -404,3 +418,31 @@ class Recall:
             if self.known
             else 1
         )
+
+
+class Concern:
+    """Which pieces in doubt a recall has to name: those that may be of a reel of the question, or of its
+    part. A reel that no desk knows may have been on each machine on which it was refused.
+    """
+
+    def __init__(self, story: doubtful.Story, question: Question) -> None:
+        self.story, self.question = story, question
+        self.is_set = bool(question.part or question.reels)
+        self.reels = set(question.reels) or {
+            reel for reel, lot in story.lots.items() if question.is_of(reel, story.parts[reel], lot)
+        }
+        unknown = self.reels - story.parts.keys()
+        if not self.reels:  # of a lot that no desk knows
+            unknown = story.machines.keys() - story.parts.keys()
+        self.parts = {story.parts[reel] for reel in self.reels - unknown}
+        self.machines = {it for reel in unknown for it in story.machines.get(reel, ())}
+
+    def __contains__(self, piece: doubtful.Piece) -> bool:
+        if not self.is_set:
+            return self.story.concerns(piece, self.question.kind, self.question.name)
+        if self.reels & {piece.reel, *piece.other_reels}:
+            return True
+        if doubtful.DIFFERS in piece.why and piece.other_lots[0]:
+            return False
+        part = self.story.parts.get(piece.reel)
+        return part in self.parts or piece.machine in self.machines

@@ -8,6 +8,7 @@ from typing import Any
 
 from tracedesk_ops import catalogue, doubtful
 from tracedesk_ops.firstlook import Piece, Reel
+from tracedesk_ops.recalls.desk import Question
 from tracedesk_ops.recalls.recall import Asked, Recall
 
 Table = list[Sequence[Any]]  # the first row is the header
@@ -20,7 +21,7 @@ def spelled(minute: int | None) -> str:
 
 
 def boards_table(recall: Recall, shipped: Shipped | None) -> Table:
-    """A row for each board; the last minute is empty where a piece lies in a running desk, and the first where all pieces of a line do."""
+    """A row for each board. If a piece in a running desk has no minute, the last minute is empty, and the first where all pieces of a line do."""
     boards: dict[str, list[Piece]] = {}
     for it in recall.pieces:
         boards.setdefault(it.board, []).append(it)
@@ -94,6 +95,12 @@ def tables_of(recall: Recall, shipped: Shipped | None) -> dict[str, Table]:
     }
 
 
+def title_of(question: Question) -> str:
+    part = f", part {question.part}" if question.part else ""
+    name = question.name if question.kind == "reels" else f"the {question.kind} {question.name}"
+    return f"Recall of {name}{part}"
+
+
 STYLE = """
 @page { size: A4 landscape; margin: 12mm }
 body { font: 10pt/1.35 "DejaVu Sans", sans-serif; color: #1b2430; margin: 1.2rem } h1 { font-size: 15pt; margin: 0 0 .3rem }
@@ -106,8 +113,8 @@ th { font-weight: normal; color: #5a6675 } td { overflow-wrap: anywhere } .whole
 
 def page(recall: Recall, tables: dict[str, Table], shipped: Shipped | None, version: str) -> str:
     """One page: the question, whether all were asked, the boards, what is left of the reels, and who was asked."""
-    kind, name = recall.question
-    title = html.escape(f"Recall of the {kind} {name}")
+    kind = recall.question.kind
+    title = html.escape(title_of(recall.question))
     asked, missing = len(recall.asked), sum(1 for it in recall.asked if it.why)
     head = f'<p class="whole">All were asked: {asked} {"archives and no running desk" if recall.archives_only and not any(it.url for it in recall.lines) else "desks and archives"}.</p>'
     if recall.faults or recall.breaks:

@@ -1,0 +1,216 @@
+"""What tests of the sender share: a desk, a proxy in front of it that fails, and runs of the sender with two files.
+
+Each step of the proxy's script is called with the request that is at hand.
+"""
+from __future__ import annotations
+
+import base64
+import contextlib
+import http.client
+import http.server
+import json
+import pathlib
+import socket
+import ssl
+import subprocess
+import sys
+import threading
+import time
+from typing import Any, Callable, Iterable, Iterator, NamedTuple, Optional
+
+from tracedesk_dev import ROOT
+from tracedesk_dev.trial import free_port
+
+SENDER = ROOT / "clients/python/tracedesk-send"
+
+
+def serving(
+    program: pathlib.Path, folder: pathlib.Path, port: int, connections: int = 1000
+) -> list[Any]:
+    """The words of a desk that is served."""
+    return [
+        program,
+        "serve",
+        "--db",
+        folder / "desk",
+        "--port",
+        str(port),
+        "--connections",
+        str(connections),
+    ]
+
+
+@contextlib.contextmanager
+def served(program: pathlib.Path, folder: pathlib.Path) -> Iterator[int]:
+    """The port of a desk that is served."""
+    port = free_port()
+    desk = subprocess.Popen(
+        serving(program, folder, port), stdout=subprocess.DEVNULL, stderr=subprocess.DEVNULL
+    )
+    try:
+        for _ in range(500):
+            with contextlib.suppress(ConnectionRefusedError), socket.create_connection(
+                ("127.0.0.1", port)
+            ):
+                break
+            time.sleep(0.02)
+        yield port
+    finally:
+        desk.terminate()
+        desk.wait()
+
+
+def message(word: str, number: int, **body: Any) -> bytes:
+    return json.dumps(
+        {
+            "MessageName": f"TraceDesk.{word}",
+            "UniqueID": f"m-{number}",
+            "Source": "S",
+            "TimeStamp": "2026-03-02T06:00:00Z",
+            "MessageBody": body,
+        }
+    ).encode()
+
+
+def parts(folder: pathlib.Path, count: int) -> bytes:
+    """Writes messages for a client, and gives them."""
+    given = b"".join(message("PartDefined", n, PartNumber=f"P{n}") + b"\n" for n in range(count))
+    (folder / "messages").write_bytes(given)
+    return given
+
+
+class Sent(NamedTuple):
+    """A run of the sender: its status, how many answers there are then, and what it said."""
+
+    status: int
+    answers: int
+    said: str
+
+
+def answered(folder: pathlib.Path) -> int:
+    with contextlib.suppress(FileNotFoundError):
+        return (folder / "answers").read_bytes().count(b"\n")
+    return 0
+
+
+def sent(folder: pathlib.Path, url: str, *words: Any, **how: Any) -> Sent:
+    """Runs the sender with the folder's two files."""
+    done = subprocess.run(
+        [sys.executable, SENDER, "--url", url, *words, folder / "messages", folder / "answers"],
+        capture_output=True,
+        text=True,
+        timeout=100,
+        **how,
+    )
+    return Sent(done.returncode, answered(folder), done.stderr)
+
+
+def expect(got: Sent, status: int, answers: int, said: str = "") -> None:
+    """Compares how a run ended, and looks for words in what it said."""
+    assert (got.status, got.answers) == (status, answers), got.said
+    assert said in got.said
+
+
+class Proxy(http.server.ThreadingHTTPServer):
+    """Stands in front of a desk: its first requests meet the steps of a script, and what comes then is passed on."""
+
+    daemon_threads = True
+
+    def __init__(self, desk: int, script: Iterable[Step] = (), log_in: bytes = b"") -> None:
+        super().__init__(("127.0.0.1", 0), Request)
+        self.desk, self.script, self.log_in = desk, list(script), log_in
+        self.came: list[float] = []  # when each request came
+        threading.Thread(target=self.serve_forever, daemon=True).start()
+
+    def url(self, scheme: str = "http", host: str = "127.0.0.1") -> str:
+        return f"{scheme}://{host}:{self.server_address[1]}"
+
+    def handle_error(self, request: Any, client_address: Any) -> None:
+        """A connection that broke is no news here."""
+
+
+class Request(http.server.BaseHTTPRequestHandler):
+    """A message that came to the proxy."""
+
+    protocol_version = "HTTP/1.1"
+    server: Proxy
+
+    def log_message(self, *_words: Any) -> None:
+        """Nothing is told."""
+
+    def do_POST(self) -> None:
+        self.server.came.append(time.monotonic())
+        step = self.server.script.pop(0) if self.server.script else passed_on
+        if self.server.log_in and not self.is_known():
+            step = says(401, b'{"Answer":"Proxy","Fault":"LogIn"}')
+        step(self)
+
+    def is_known(self) -> bool:
+        """By a certificate, or by a password."""
+        if isinstance(self.connection, ssl.SSLSocket) and self.connection.getpeercert():
+            return True
+        log_in = base64.b64encode(self.server.log_in).decode()
+        return bool(self.headers["Authorization"] == f"Basic {log_in}")
+
+    def body(self) -> bytes:
+        return self.rfile.read(int(self.headers["Content-Length"]))
+
+    def asked_of_desk(self) -> tuple[int, bytes]:
+        desk = http.client.HTTPConnection("127.0.0.1", self.server.desk, timeout=20)
+        desk.request("POST", self.path, self.body(), {"Connection": "close"})
+        answer = desk.getresponse()
+        told = answer.status, answer.read()
+        desk.close()
+        return told
+
+    def answer(
+        self,
+        status: int,
+        body: bytes,
+        headers: Iterable[tuple[str, Any]] = (),
+        length: Optional[int] = None,
+    ) -> None:
+        self.send_response(status)
+        for name, value in (("Content-Length", length or len(body)), *headers):
+            self.send_header(name, str(value))
+        self.end_headers()
+        self.wfile.write(body)
+
+
+Step = Callable[[Request], None]
+
+
+def passed_on(request: Request) -> None:
+    request.answer(*request.asked_of_desk())
+
+
+def says(status: int, body: bytes = b"<html>nginx</html>", **headers: object) -> Step:
+    def step(request: Request) -> None:
+        request.body()
+        request.answer(
+            status, body, [(name.replace("_", "-"), value) for name, value in headers.items()]
+        )
+
+    return step
+
+
+def closes(request: Request) -> None:
+    request.body()
+    request.close_connection = True
+
+
+def loses_the_answer(request: Request) -> None:
+    request.asked_of_desk()
+    request.close_connection = True
+
+
+def cuts_the_answer(request: Request) -> None:
+    status, body = request.asked_of_desk()
+    request.answer(status, body[:-9], length=len(body))
+    request.close_connection = True
+
+
+def turns_away(request: Request) -> None:
+    """Says 413 with the message unread, and closes: the client may still be sending."""
+    request.answer(413, b"<html>too large</html>", [("Connection", "close")])
+    request.close_connection = True

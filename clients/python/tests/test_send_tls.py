@@ -1,0 +1,65 @@
+"""The sender by TLS, with a password or a certificate; and examples/client.py, with a spool and without."""
+from __future__ import annotations
+
+import pathlib
+import ssl
+import subprocess
+import sys
+from typing import Any
+
+import pytest
+from proxy_lab import Proxy, expect, parts, passed_on, says, sent, served
+from station_site import certificate
+from tracedesk_dev import ROOT
+
+
+@pytest.mark.needs("openssl")
+def test_tls_is_spoken(program: pathlib.Path, tmp_path: pathlib.Path) -> None:
+    """With a password or a certificate; and with what is wrong of them nothing is sent."""
+    for name in ("server", "m2", "other"):
+        certificate(tmp_path, name, name)
+    parts(tmp_path, 4)
+    (tmp_path / "password").write_text("secret: 1\n")
+    context = ssl.create_default_context(ssl.Purpose.CLIENT_AUTH, cafile=tmp_path / "m2.crt")
+    context.verify_mode = ssl.CERT_OPTIONAL
+    context.load_cert_chain(tmp_path / "server.crt", tmp_path / "server.key")
+    with served(program, tmp_path) as port:
+        proxy = Proxy(port, [passed_on] * 3 + [says(401)], log_in=b"m1:secret: 1")
+        proxy.socket = context.wrap_socket(proxy.socket, server_side=True)
+        url, ca = proxy.url("https", "localhost"), ["--ca", tmp_path / "server.crt"]
+        m1 = ["--user", "m1", "--password-file", tmp_path / "password"]
+        m2 = ["--cert", tmp_path / "m2.crt", "--key", tmp_path / "m2.key"]
+        by_environment = [*ca, "--user", "m1"]
+        right, wrong = ({"TRACEDESK_PASSWORD": it} for it in ("secret: 1", "other"))
+        expect(sent(tmp_path, url, *ca), 4, 0, "log-in")
+        expect(sent(tmp_path, url, *m1), 4, 0, "certificate")
+        expect(sent(tmp_path, proxy.url("https"), *ca, *m1), 4, 0, "certificate")
+        expect(sent(tmp_path, url, *by_environment, env=wrong), 4, 0, "log-in")
+        expect(sent(tmp_path, url, *ca, *m1), 4, 1, "log-in")
+        expect(sent(tmp_path, url, *by_environment, env=right), 0, 4)
+        parts(tmp_path, 7)
+        expect(sent(tmp_path, url, *ca, *m2), 0, 7)
+        expect(sent(tmp_path, url, "--ca", tmp_path / "none"), 2, 7)
+        expect(sent(tmp_path, f"http://127.0.0.1:{port}", *m1), 2, 7, "in the clear")
+
+
+def example(*words: Any, boards: str) -> "subprocess.CompletedProcess[str]":
+    words = (sys.executable, ROOT / "examples/client.py", *words, "M1")
+    return subprocess.run(words, input=boards, capture_output=True, text=True, timeout=100)
+
+
+@pytest.mark.parametrize("with_spool", [False, True])
+def test_the_example_reports_refused_boards(
+    program: pathlib.Path, tmp_path: pathlib.Path, with_spool: bool
+) -> None:
+    """A board without a sheet is refused; with a spool it is set aside."""
+    more = ["--spool", tmp_path / "spool"] if with_spool else []
+    with served(program, tmp_path) as port:
+        done = example("--url", f"http://127.0.0.1:{port}", *more, boards="SN-1\nSN-2\n")
+    assert done.returncode == 1 and done.stderr.count("To do: ") == 2, done.stderr
+    assert "Traceback" not in done.stderr
+
+
+def test_the_example_refuses_a_name_that_is_none() -> None:
+    done = example(boards="SN 1\t\u00fc\n")
+    assert done.returncode == 2 and "Board" in done.stderr

@@ -1,0 +1,112 @@
+"""Which public functions have a wrong body: an edit that changes their own code."""
+import os
+import re
+from typing import Iterable, Iterator
+
+from tracedesk_dev.edits import (
+    HEAD,
+    NotApplied,
+    edits_in,
+    files_of,
+    find_functions,
+    functions_at,
+    read,
+)
+
+TRAIT = re.compile(r"^pub (?:unsafe )?trait (\w+)", re.M)
+BLOCK = re.compile(r"(?:pub(?:\([^)]*\))? )?(?:unsafe )?(?:impl|trait)\b")
+FUNCTION = re.compile(rf"\s*{HEAD}\w+")
+
+
+def sources(folder: str) -> list[str]:
+    """Returns the sources of a crate that are no tests."""
+    return [
+        it for it in files_of(folder, "src") if not re.search(r"/tests?[/.]", it[len(folder) :])
+    ]
+
+
+def own_traits(folders: Iterable[str]) -> set[str]:
+    return {
+        name for folder in folders for it in sources(folder) for name in TRAIT.findall(read(it))
+    }
+
+
+def is_of_own_trait(head: str, traits: set[str]) -> bool:
+    trait = re.match(r"(?:unsafe )?impl(?:<.*?>)? (?:\w+::)*(\w+)\b.* for ", head)
+    return bool(trait) and trait[1] in traits if trait else False
+
+
+def lines_with_code(rows: list[str], traits: set[str]) -> Iterator[int]:
+    """Yields the lines at which public functions begin, and methods of our own traits, but for laws without code."""
+    head = ""
+    for at, row in enumerate(rows):
+        if BLOCK.match(row):
+            head = row
+        elif row.startswith("}"):
+            head = ""
+        if not FUNCTION.match(row) or "trait" in head.split("{")[0].split():
+            continue
+        indent = re.match(r"\s*", row)
+        assert indent, "each line begins with no space or some"
+        ends = (f"{indent[0]}}}", f"{indent[0]}{{}}")
+        end = "{}" if row.endswith("{}") else next(it for it in rows[at:] if it.rstrip() in ends)
+        is_public = row.strip().startswith("pub ") and " for " not in head
+        if end.strip() == "}" and (is_public or is_of_own_trait(head, traits)):
+            yield at
+
+
+def functions_of(folder: str, traits: set[str]) -> list[str]:
+    """Returns the public functions of a crate that have code, as a check names them, in the order of its files."""
+    found: list[str] = []
+    for path in sources(folder):
+        text = read(path)
+        for at in lines_with_code(text.split("\n"), traits):
+            found += functions_at(path[len(folder) + 1 :], text, [at])
+    return found
+
+
+def with_a_body(crate: str, folder: str, *kinds: str) -> set[str]:
+    """Returns the functions that wrong bodies of these folders change, where they change functions alone."""
+    found: set[str] = set()
+    for edit in edits_in(crate, *(f"{folder}/{kind}" for kind in kinds)):
+        try:
+            find_functions(edit, folder)
+        except NotApplied:
+            continue
+        found |= edit.functions
+    return found
+
+
+def table(top: str, crates: Iterable[str], excused: dict[str, str]) -> tuple[list[str], list[str]]:
+    """Returns the table by crate, and what is wrong: a function with neither a wrong body nor an excuse, and an
+    excuse of a function that has one or isn't there."""
+    folders = {it: f"{top}/crates/{it}" for it in crates}
+    folders = {it: folder for it, folder in folders.items() if not it.endswith("_tests")}
+    traits = own_traits(folders.values())
+    rows, faults, sums = [], [], [0, 0, 0]
+    seen: set[str] = set()
+    for crate, folder in folders.items():
+        functions = functions_of(folder, traits)
+        own = with_a_body(crate, folder, "must-fail", "wrong-bodies")
+        lacking = [f"{crate} {it}" for it in functions if it not in own]
+        faults += [f"{it} has no wrong body" for it in lacking if it not in excused]
+        seen |= {*lacking}
+        counts = [
+            len(functions),
+            len(functions) - len(lacking),
+            len(with_a_body(crate, folder, "must-fail") & {*functions}),
+        ]
+        sums = [a + b for a, b in zip(sums, counts)]
+        if functions:
+            rows.append(f"{crate:16} {counts[0]:9} {counts[1]:7} {counts[2]:9}")
+    faults += [f"{it} has a wrong body, or isn't there" for it in excused if it not in seen]
+    rows.append(f"{'all':16} {sums[0]:9} {sums[1]:7} {sums[2]:9}")
+    return [f"{'crate':16} functions refused must-fail", *rows], faults
+
+
+def excuses(path: str) -> dict[str, str]:
+    """Returns the functions that can have no wrong body, each with the reason: `CRATE FUNCTION: REASON`."""
+    if not os.path.exists(path):
+        return {}
+    lines = [it for it in read(path).split("\n") if it and not it.startswith("#")]
+    return {name: why for name, _, why in (it.partition(": ") for it in lines)}

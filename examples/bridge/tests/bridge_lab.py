@@ -1,0 +1,187 @@
+"""What the bridge's tests share: messages of machines and of the desk, a table, and a folder with a spool."""
+from __future__ import annotations
+
+import contextlib
+import json
+import pathlib
+import subprocess
+import sys
+import time
+from typing import Any, Iterable, Optional
+
+from tracedesk_dev import ROOT
+
+BRIDGE = ROOT / "examples/bridge/tracedesk-bridge"
+EXAMPLE = ROOT / "examples/bridge/cfx-names.json"
+MACHINE = "Vendor1.Model1.Machine34"
+PATIENCE = 60  # seconds for what must come: a machine may be busy
+
+
+def line_of(message: Any) -> bytes:
+    return json.dumps(message, separators=(",", ":")).encode()
+
+
+def simple() -> Any:
+    """A table for machines that start each board, by which most tests are made."""
+    common = {"UniqueID": "{/UniqueID}", "Source": "{/Source}", "TimeStamp": "{/TimeStamp}"}
+    machine, board = {"Of": "{/Source}", "Names": "machines"}, "{/MessageBody/PrimaryIdentifier}"
+    installed_ = {
+        **common,
+        "Word": "MaterialsInstalled",
+        "Each": "/MessageBody/InstalledMaterials",
+        "UniqueID": "{/UniqueID}-{#}",
+        "Members": {
+            "Machine": machine,
+            "Board": "{UnitIdentifier}",
+            "Designators": {"Each": "InstalledComponents", "Make": "{ReferenceDesignator}"},
+        },
+    }
+    messages = {
+        f"CFX.Production.{word}": [
+            {**common, "Word": word, "Members": {"Machine": machine, "Board": board}}
+        ]
+        for word in ("WorkStarted", "WorkCompleted")
+    }
+    return json.loads(
+        json.dumps(
+            {
+                "Name": "/MessageName",
+                "Names": {
+                    "machines": {"Vendor1.Model1.Machine34": "M1", "Vendor1.Oven1.Oven7": None}
+                },
+                "Messages": {
+                    **messages,
+                    "CFX.Production.Assembly.MaterialsInstalled": [installed_],
+                },
+            }
+        )
+    )
+
+
+def said(name: str, uid: str = "u-1", source: str = MACHINE, **body: Any) -> dict[str, Any]:
+    """A message of a machine."""
+    return {
+        "MessageName": name,
+        "UniqueID": uid,
+        "Source": source,
+        "TimeStamp": "2026-03-02T07:10:59.9999999+01:00",
+        "MessageBody": body,
+    }
+
+
+def ours(
+    word: str, uid: str, source: str = MACHINE, stamp: str = "2026-03-02T06:10:59Z", **body: Any
+) -> bytes:
+    """A message of the desk."""
+    return line_of(
+        {
+            "MessageName": f"TraceDesk.{word}",
+            "UniqueID": uid,
+            "Source": source,
+            "TimeStamp": stamp,
+            "MessageBody": body,
+        }
+    )
+
+
+def start(uid: str, **more: Any) -> bytes:
+    """A start of a board, as a machine says it."""
+    return line_of(
+        said("CFX.Production.WorkStarted", uid, **{"PrimaryIdentifier": f"SN-{uid}", **more})
+    )
+
+
+def installed(*units: tuple[Any, list[str]]) -> dict[str, Any]:
+    """An install of the simple table: units, each with its designators."""
+    return said(
+        "CFX.Production.Assembly.MaterialsInstalled",
+        InstalledMaterials=[
+            {
+                "UnitIdentifier": board,
+                "InstalledComponents": [{"ReferenceDesignator": it} for it in names],
+            }
+            for board, names in units
+        ],
+    )
+
+
+def elements_of(board: str, slot: str, pieces: Iterable[tuple[str, Any]]) -> list[dict[str, Any]]:
+    """What a machine says of the pieces of a unit from one slot, after IPC's SDK: an element for each unit and material."""
+    carrier, _, position = board.rpartition("-")
+    found: dict[Any, list[dict[str, str]]] = {}
+    for name, reel in pieces:
+        found.setdefault(reel, []).append({"ReferenceDesignator": name})
+    return [
+        {
+            "UnitIdentifier": carrier,
+            "UnitPositionNumber": int(position),
+            "QuantityInstalled": len(names),
+            "Material": {"UniqueIdentifier": reel},
+            "CarrierLocation": {"LocationName": slot},
+            "InstalledComponents": names,
+        }
+        for reel, names in found.items()
+    ]
+
+
+class Room:
+    """A folder with a spool and a table."""
+
+    def __init__(self, at: pathlib.Path) -> None:
+        self.at, self.spool = at, at / "spool"
+        self.table, self.file = at / "table.json", at / "said.log"
+        self.table.write_text(json.dumps(simple()))
+        self.running: Optional[subprocess.Popen[bytes]] = None
+
+    def command(self, *more: Any) -> list[Any]:
+        return [sys.executable, BRIDGE, "--table", self.table, "--spool", self.spool, *more]
+
+    def run(
+        self, *more: Any, given: bytes = b"", status: int = 0
+    ) -> subprocess.CompletedProcess[bytes]:
+        done = subprocess.run(self.command(*more), input=given, capture_output=True, timeout=120)
+        assert done.returncode == status, done.stderr.decode()
+        return done
+
+    def follow(self, *more: Any) -> None:
+        self.running = subprocess.Popen(
+            self.command(self.file, "--follow", *more), stderr=subprocess.DEVNULL
+        )
+
+    def end(self) -> None:
+        if self.running:
+            self.running.kill()
+            self.running.wait()
+            self.running = None
+
+    def waiting(self) -> list[str]:
+        with contextlib.suppress(FileNotFoundError):
+            return [
+                str(json.loads(it.read_bytes())["UniqueID"])
+                for it in sorted((self.spool / "waiting").glob("*.json"))
+            ]
+        return []
+
+    def wait_for(self, wanted: list[str]) -> None:
+        end = time.monotonic() + PATIENCE
+        while self.waiting() != wanted:
+            assert time.monotonic() <= end, f"wanted {wanted}, got {self.waiting()}"
+            time.sleep(0.02)
+
+    def position(self) -> Optional[int]:
+        """How far the bridge has kept that the file was read; none where it has kept nothing."""
+        with contextlib.suppress(FileNotFoundError, ValueError, LookupError):
+            told = json.loads((self.spool / ".position").read_text())
+            return int(told[str(self.file)]["Files"][-1]["At"])
+        return None
+
+    def wait_until_at(self, place: int) -> None:
+        """Waits until the bridge has kept that it read to this place of its file."""
+        end = time.monotonic() + PATIENCE
+        while self.position() != place:
+            assert time.monotonic() <= end, f"the bridge has kept {self.position()}"
+            assert self.running and self.running.poll() is None
+            time.sleep(0.02)
+
+    def dead(self) -> list[bytes]:
+        return [it.read_bytes() for it in sorted((self.spool / "dead").glob("*.json"))]

@@ -1,0 +1,331 @@
+"""Where the bridge's messages come from: standard input, and a file that grows, is gone, or can't be read."""
+from __future__ import annotations
+
+import gzip
+import json
+import pathlib
+import re
+import shutil
+import subprocess
+import time
+import types
+from typing import Any
+
+import brokers
+import keeping
+import logs
+import pytest
+from bridge_lab import Room, line_of, said, simple, start
+
+
+def test_each_line_of_standard_input_is_answered(room: Room) -> None:
+    lines = [
+        start("a"),
+        line_of(said("CFX.Heartbeat")),
+        b"",
+        line_of(said("CFX.Production.WorkStarted", "b")),
+        b"{",
+        b"[" + start("c") + b" ,\t" + start("a") + b" ]",
+        b"[]",
+        b"\xff",
+    ]
+    done = room.run(given=b"\r\n".join(lines), status=1)
+    got = [it.split("-")[0] for it in done.stdout.decode().splitlines()]
+    assert got == [
+        "kept 000000000001",
+        "passed CFX.Heartbeat",
+        "dead 00000001",
+        "dead 00000002",
+        "kept 000000000002",
+        "kept 000000000001",
+        "passed []",
+        "dead 00000003",
+    ]
+    assert room.dead() == [lines[3] + b"\n", b"{\n", b"\xff\n"]
+    assert (
+        b"8 read, 2 put in, 1 there already, 3 dead, 2 passed over: CFX.Heartbeat 1, [] 1\n"
+        in done.stderr
+    ), done.stderr.decode()
+    mended = b"".join(room.dead()).replace(
+        b'"MessageBody":{}', b'"MessageBody":{"PrimaryIdentifier":"SN-b"}'
+    )
+    room.run(given=mended, status=1)
+    assert room.waiting() == ["a", "c", "b"]
+    assert len(room.dead()) == 3
+
+
+def test_what_is_given_twice_is_put_in_once(room: Room) -> None:
+    room.run(given=start("a") + b"\n" + start("b"))
+    (room.spool / "waiting/000000000001.json").rename(room.spool / "aside/000000000001.json")
+    done = room.run(
+        given=start("a") + b"\n" + start("b") + b"\n" + start("b", PrimaryIdentifier="SN-other")
+    )
+    assert done.stdout == b"kept 000000000001\nkept 000000000002\nkept 000000000003\n"
+    assert room.waiting() == ["b", "b"]
+
+
+def test_a_file_is_read_on_from_where_it_was(room: Room) -> None:
+    room.file.write_bytes(start("a") + b"\n" + start("b")[:20])
+    room.run(room.file, status=1)  # what isn't followed has its last line whole
+    room.file.write_bytes(start("a") + b"\n" + start("b") + b"\n")
+    room.follow()
+    room.wait_for(["a", "b"])
+    with open(room.file, "ab") as file:
+        file.write(start("c")[:30])
+        file.flush()
+        time.sleep(0.5)
+        assert room.waiting() == ["a", "b"]
+        file.write(start("c")[30:] + b"\n")
+    room.wait_for(["a", "b", "c"])
+    room.end()
+    with open(room.file, "ab") as file:
+        file.write(start("d") + b"\n")
+    done = room.run(room.file)
+    assert room.dead() == [start("b")[:20] + b"\n"]
+    assert room.waiting() == ["a", "b", "c", "d"]
+    assert (
+        b"1 put in" in done.stderr and b"1 put in" not in room.run(room.file).stderr
+    ), done.stderr.decode()
+
+
+ROTATED = (
+    "said.log.1",
+    "said.log-20261121",
+    "said-20261121.log",
+    "said-2026-11-21T06:00:00Z.log",
+    "20261121-said.log",
+    "said.1.log",
+    *(f"said-20261121.log{it}" for it in logs.PACKED),
+    "said.log.1.gz",
+)
+OTHERS = (
+    "said-old.log",
+    "unsaid.log",
+    "said",
+    "said.txt",
+    "said-20261121.log.bak",
+    "other.log.1",
+)
+
+
+def is_rotated(name: str) -> bool:
+    return bool(re.fullmatch(logs.usual_names(pathlib.Path("/var/log/said.log")), name))
+
+
+@pytest.mark.parametrize("name", ROTATED)
+def test_a_rotated_file_is_known_by_its_name(name: str) -> None:
+    assert is_rotated(name)
+
+
+@pytest.mark.parametrize("name", OTHERS)
+def test_another_file_is_no_rotated_one(name: str) -> None:
+    assert not is_rotated(name)
+
+
+def test_a_gap_is_reported_once(room: Room) -> None:
+    """A file that is gone, and two that can't be unpacked: status 1, and once."""
+    room.file.write_bytes(start("a") + b"\n")
+    room.run(room.file)
+    room.file.unlink()
+    packed = gzip.compress(start("b"))
+    (room.at / "said.log.1.gz").write_bytes(packed[:-9])
+    (room.at / "said.log.2.gz").write_bytes(packed[:20] + b"\xff" * 20 + packed[40:])
+    room.file.write_bytes(start("c") + b"\n")
+    done = room.run(room.file, status=1)
+    for it in (
+        b"was read to byte",
+        b"said.log.1.gz can't be read",
+        b"said.log.2.gz can't be read",
+        b"; 3 gaps",
+    ):
+        assert it in done.stderr, done.stderr.decode()
+    assert room.waiting() == ["a", "c"]
+    room.run(room.file)
+
+
+@pytest.mark.parametrize(
+    "harm",
+    [
+        "",
+        "{",
+        "[]",
+        '{"F":[1]}',
+        '{"F":[{"At":5}]}',
+        '{"F":{"Files":[{"At":"x","Before":"y","Head":"z","Inode":1}],"Known":[]}}',
+        '{"F":{"Files":[]}}',
+    ],
+)
+def test_a_damaged_position_ends_the_run(room: Room, harm: str) -> None:
+    """Nothing is guessed."""
+    room.file.write_bytes(start("c") + b"\n")
+    room.run(room.file)
+    (room.spool / ".position").write_text(harm.replace("F", str(room.file), 1))
+    assert b".position is damaged" in room.run(room.file, status=2).stderr
+
+
+def test_a_position_of_version_0_3_0_is_read(room: Room) -> None:
+    room.file.write_bytes(start("c") + b"\n")
+    room.run(room.file)
+    old = {
+        "At": room.file.stat().st_size,
+        "Head": keeping.digest(room.file.read_bytes()),
+        "Before": keeping.digest(room.file.read_bytes()),
+        "Inode": room.file.stat().st_ino,
+        "Time": time.time_ns(),
+    }
+    (room.spool / ".position").write_text(json.dumps({str(room.file): [old]}))
+    assert (
+        b" 0 read" in (done := room.run(room.file)).stderr
+    ), f"a position of version 0.3.0: {done.stderr.decode()}"
+
+
+def test_what_passes_is_waited_out(room: Room) -> None:
+    """A file that isn't there yet, and a folder of dead letters that is full."""
+    room.running = subprocess.Popen(
+        room.command(room.file, "--follow", "--dead", "2"), stderr=subprocess.PIPE
+    )
+    assert room.running.stderr
+    told = room.running.stderr.readline()
+    room.file.write_bytes(b"{1\n{2\n{1\n{3\n" + start("a") + b"\n")
+    told += room.running.stderr.readline()  # it says that the folder is full
+    assert room.dead() == [b"{1\n", b"{2\n"]
+    assert room.waiting() == []
+    for it in (room.spool / "dead").iterdir():
+        it.unlink()
+    room.wait_for(["a"])
+    assert room.dead() == [b"{3\n"]
+    room.running.kill()
+    told += room.running.communicate()[1]
+    assert b"not there yet" in told and b"--dead says no more" in told, told.decode()
+    room.running = None
+
+
+def test_a_refused_report_of_work_is_not_put_in_again(room: Room) -> None:
+    """Not even by another table, and once its copies are deleted; a request that was refused may be."""
+    table = simple()
+    table["Messages"]["load"] = [
+        {
+            "Word": "MaterialsLoaded",
+            "UniqueID": "{/UniqueID}",
+            "Source": "{/Source}",
+            "TimeStamp": "{/TimeStamp}",
+            "Members": {"Machine": "M1", "Slot": "1", "Reel": "{/MessageBody/Reel}"},
+        }
+    ]
+    load = line_of(said("load", "l", Reel="K-1"))
+    room.table.write_text(json.dumps(table))
+    room.run(given=start("a") + b"\n" + load + b"\n")
+    for number in (1, 2):
+        for kept in (f"aside/00000000000{number}.json", f"sent/00000000000{number}.refused"):
+            shutil.copy(room.spool / f"waiting/00000000000{number}.json", room.spool / kept)
+        (room.spool / f"waiting/00000000000{number}.json").unlink()
+    room.run(given=start("a") + b"\n")
+    for it in (*(room.spool / "aside").iterdir(), *(room.spool / "sent").iterdir()):
+        it.unlink()
+    table["Names"]["machines"]["Vendor1.Model1.Machine34"] = "M2"
+    room.table.write_text(json.dumps(table))
+    done = room.run(given=start("a") + b"\n" + load + b"\n")
+    assert done.stdout == b"kept 000000000001\nkept 000000000003\n"
+    assert room.waiting() == ["l"]
+
+
+def test_numbers_that_others_round_are_no_names(room: Room) -> None:
+    lines = [
+        start(str(n)).replace(b'"SN-%d"' % n, number)
+        for n, number in enumerate(
+            (
+                b"9007199254740991",
+                b"9007199254740992",
+                b"9007199254740993.0",
+                b"1e16",
+                b"-9007199254740993",
+                b"1e999999999",
+                b"1e-999999999",
+                b"4503599627370496.2",
+                b"NaN",
+                b"1e99999999999999999999",
+                b"17.0",
+            )
+        )
+    ]
+    done = room.run(
+        given=b"\n".join(lines) + b"\n[" + lines[2] + b"," + lines[0] + b"]\n", status=1
+    )
+    assert [it.split()[0] for it in done.stdout.decode().splitlines()] == [
+        "kept",
+        *["dead"] * 9,
+        "kept",
+        "dead",
+        "kept",
+    ]
+    assert room.dead() == [it + b"\n" for it in lines[1:10]]
+    boards = [
+        json.loads(it.read_bytes())["MessageBody"]["Board"]
+        for it in sorted((room.spool / "waiting").iterdir())
+    ]
+    assert boards == ["9007199254740991", "17"]
+
+
+BODIES: list[tuple[Any, Any]] = [
+    (
+        {b"MessageName": "x", 7: [1, None, b"\xff"]},
+        {"MessageName": "x", "7": [1, None, "\\xff"]},
+    ),
+    ({"a": {1, 2}.__class__}, {"a": "<class 'set'>"}),
+    ((1.5, True), [1.5, True]),
+    (None, None),
+]
+
+
+@pytest.mark.parametrize("body, wanted", BODIES)
+def test_a_body_with_values_of_a_broker_becomes_json(body: Any, wanted: Any) -> None:
+    assert json.loads(brokers.unpacked(types.SimpleNamespace(body=body))) == wanted
+
+
+PACKED = gzip.compress(b"{}\n") + gzip.compress(b"[]")
+BYTES: list[tuple[Any, bytes]] = [
+    ("\ud800", b"\xed\xa0\x80"),
+    (b"\xff", b"\xff"),
+    (memoryview(b"{}"), b"{}"),
+    (b"\x1f\x8bno", b"\x1f\x8bno"),
+    (PACKED, b"{}\n[]"),
+    (PACKED + b"{}", PACKED + b"{}"),
+    (PACKED + PACKED[:9], PACKED + PACKED[:9]),
+    (PACKED + b"\0\0", b"{}\n[]"),
+]
+
+
+@pytest.mark.parametrize("body, wanted", BYTES)
+def test_a_body_is_unpacked_whole_or_taken_as_it_came(body: Any, wanted: bytes) -> None:
+    assert brokers.unpacked(types.SimpleNamespace(body=body)) == wanted
+
+
+@pytest.mark.parametrize(
+    "words",
+    [
+        ["--follow"],
+        ["--try"],
+        ["--broker", "amqp://127.0.0.1"],
+        ["--broker", "http://x", "--queue", "q"],
+        ["--broker", "amqp://u:p@x", "--queue", "q"],
+        ["--user", "x"],
+        ["none"],
+        ["--dead", "0"],
+        ["--table", "broken.json"],
+        ["--table", "none"],
+        ["--window", "0", "--broker", "amqp://x", "--queue", "q"],
+    ],
+)
+def test_a_bad_command_line_is_refused(
+    room: Room, words: list[str], monkeypatch: pytest.MonkeyPatch
+) -> None:
+    monkeypatch.chdir(room.at)
+    (room.at / "broken.json").write_text("{")
+    assert b"Traceback" not in room.run(*words, status=2).stderr
+
+
+def test_one_bridge_has_a_spool(room: Room) -> None:
+    room.file.write_bytes(b"")
+    room.follow()
+    room.wait_until_at(0)
+    assert b"another bridge" in room.run(status=2).stderr

@@ -1,0 +1,253 @@
+"""The page of recalls: what a reader sees, and what the queue does."""
+from __future__ import annotations
+
+import csv
+import html
+import importlib
+import io
+import pathlib
+import re
+import zipfile
+from typing import Any, Iterator
+
+import pytest
+from lab import small
+from lab.line import Line
+from lab.tools import KILL_AFTER, KILLED, Word, run, tool
+from tracedesk_ops.recallpage import jobs, papers, view
+from tracedesk_ops.recallpage.jobs import Queue
+from tracedesk_ops.recallpage.worker import Worker
+from tracedesk_ops.recalls.wording import readable
+
+pytestmark = [
+    pytest.mark.needs("python:flask", "python:waitress", "ssh-keygen"),
+    pytest.mark.xdist_group("recall_page"),
+]
+
+SHIPPED = b"board,customer,date\nSN-3,Customer A,2026-03-09\n"
+RAW = {name for name in view.TITLES if "_" in name}
+
+
+class Site:
+    """The page over a small line, and who works off its queue."""
+
+    def __init__(self, line: Line, folder: pathlib.Path) -> None:
+        self.line, self.folder = line, folder
+        self.queue = Queue(folder / "queue")
+        self.queue.folder.mkdir()
+        self.lines = folder / "lines.csv"
+        self.lines.write_text(f"line,url,catalogue\nL1,{line.url},{line.catalogue}\n")
+        made = importlib.import_module("tracedesk_ops.recallpage.app").make(self.queue.folder)
+        self.client = made.test_client()
+
+    def more(self) -> list[Word]:
+        return ["--program", self.line.program, "--lines", self.lines]
+
+    def worker(self) -> Worker:
+        more = [str(word) for word in self.more()]
+        return Worker(self.queue, tool("recall"), more, small.own_environment(self.line.program))
+
+    def get(self, target: str, reader: str = "anna") -> Any:
+        return self.client.get(target, headers={"X-Reader": reader} if reader else {})
+
+    def ask(self, kind: str, names: str, reader: str = "anna", **more: Any) -> Any:
+        data = {"kind": kind, "names": names, **more}
+        return self.client.post("/recall/", data=data, headers={"X-Reader": reader})
+
+    def asked(self, kind: str, names: str, **more: Any) -> str:
+        """Asks, and returns where the answer will be."""
+        told = self.ask(kind, names, **more)
+        assert told.status_code == 303, told.get_data(as_text=True)
+        return str(told.headers["Location"])
+
+    def page(self, target: str) -> str:
+        told = self.get(target)
+        assert told.status_code == 200
+        return str(told.get_data(as_text=True))
+
+    def expect_no_inside(self, page: str) -> None:
+        """No path of the server, no address of a desk and no raw column name."""
+        texts = html.unescape(re.sub(r"<[^>]*>", " ", page))
+        assert str(self.folder) not in texts and str(self.line.folder) not in texts
+        assert "127.0.0.1" not in texts and not RAW & set(re.findall(r"\w+", texts))
+
+
+@pytest.fixture(scope="module")
+def line(program: pathlib.Path, tmp_path_factory: pytest.TempPathFactory) -> Iterator[Line]:
+    made = Line(program, tmp_path_factory.mktemp("small") / "line")
+    made.feed([])
+    made.serve()
+    try:
+        small.begin(made)
+        yield made
+    finally:
+        made.end()
+
+
+@pytest.fixture
+def site(line: Line, tmp_path: pathlib.Path) -> Site:
+    return Site(line, tmp_path)
+
+
+# --- A whole recall
+
+
+def test_a_reader_finds_the_boards(site: Site) -> None:
+    at = site.asked("lot", "L-3", shipped=(io.BytesIO(SHIPPED), "s.csv"))
+    second = site.asked("lot", "L-4")
+    assert "Is next." in site.page(at) and "Waits behind 1 other." in site.page(second)
+    site.worker().run(site.queue.waiting()[0])
+    page = site.page(at)
+    assert "Complete: 1 board holds a piece of lot L-3, and no other board" in page
+    for text in ("Customer A: 1 board", "SN-3", "2026-03-02 06:00 UTC", "Reels in stock", "K-3"):
+        assert text in page, text
+    site.expect_no_inside(page)
+    assert "Is next." in site.page(second)
+    assert "complete" in site.page("/recall/")
+
+
+def test_the_papers_have_the_answer(site: Site) -> None:
+    pytest.importorskip("weasyprint")
+    pytest.importorskip("xlsxwriter")
+    at = site.asked("lot", "L-3")
+    site.worker().work(is_once=True)
+    pdf, sheet, boards, evidence = (site.get(at + name) for name in papers.FILES)
+    (site.folder / "a.pdf").write_bytes(pdf.data)
+    text = run(["pdftotext", "-layout", site.folder / "a.pdf", "-"]).expect().out
+    assert "Complete: 1 board" in text and "SN-3" in text
+    site.expect_no_inside(text)
+    (site.folder / "a.xlsx").write_bytes(sheet.data)
+    with zipfile.ZipFile(site.folder / "a.xlsx") as book:
+        strings = book.read("xl/sharedStrings.xml").decode()
+    assert "SN-3" in strings and "First placed" in strings
+    assert [row["board"] for row in csv.DictReader(boards.get_data(as_text=True).splitlines())] == [
+        "SN-3"
+    ]
+    (site.folder / "a.zip").write_bytes(evidence.data)
+    with zipfile.ZipFile(site.folder / "a.zip") as packed:
+        assert {"certificate.json", "SHA256SUMS"} <= set(packed.namelist())
+
+
+def test_an_answer_that_is_not_complete_says_why(site: Site) -> None:
+    site.lines.write_text(f"line,url,catalogue\nL1,http://127.0.0.1:9,{site.line.catalogue}\n")
+    at = site.asked("lot", "L-3")
+    site.worker().work(is_once=True)
+    page = site.page(at)
+    assert "NOT COMPLETE: 0 boards hold a piece of lot L-3, and more may be missing." in page
+    assert "L1: the running desk: Connection refused" in page
+    assert "Mend what is named, then ask again." in page
+    site.expect_no_inside(page)
+
+
+def test_without_the_libraries_the_other_papers_are_there(
+    site: Site, monkeypatch: pytest.MonkeyPatch
+) -> None:
+    def missing(name: str) -> Any:
+        raise ImportError(name=name)
+
+    at = site.asked("reel", "K-1")
+    monkeypatch.setattr(importlib, "import_module", missing)
+    site.worker().work(is_once=True)
+    page = site.page(at)
+    assert "python3-weasyprint is not installed" in page
+    assert "python3-xlsxwriter is not installed" in page
+    assert site.get(at + papers.PDF).status_code == 404
+    assert site.get(at + papers.BOARDS).status_code == 200
+
+
+def test_a_kill_amid_a_recall_loses_nothing(site: Site) -> None:
+    at = site.asked("lot", "L-3")
+    words: list[Word] = [tool("recall-page"), "work", "--once", "--queue", site.queue.folder, "--"]
+    env = small.chain_of_sets(site.line.program)
+    killed = run([*words, *site.more()], env={**env, KILL_AFTER: "recalled"})
+    assert killed.status == KILLED and "are being read" in site.page(at)
+    run([*words, *site.more()], env=env).expect()
+    assert "Complete: 1 board" in site.page(at)
+
+
+# --- Who asks, and what
+
+
+def test_without_a_reader_nothing_is_shown(site: Site) -> None:
+    at = site.asked("lot", "L-3")
+    for target in ("/recall/", at, at + papers.PDF):
+        assert site.get(target, reader="").status_code == 403
+    assert site.client.post("/recall/", data={"kind": "lot", "names": "X"}).status_code == 403
+    assert len(site.queue.all()) == 1
+
+
+@pytest.mark.parametrize("name", ["<script>alert(1)</script>", "{{ 7 * 7 }}", '"><b>x', "a&b"])
+def test_a_name_with_markup_is_text(site: Site, name: str) -> None:
+    for page in (site.page(site.asked("lot", name)), site.page("/recall/")):
+        assert html.escape(name, quote=False) in page.replace("&#34;", '"')
+        assert name == "a&b" or name in ("{{ 7 * 7 }}",) or name not in page
+
+
+BAD = (
+    ("lot", ""),
+    ("lot", ","),
+    ("lot", "--evidence=/tmp/x"),
+    ("lot", "x" * 65),
+    ("lot", "a\nb"),
+    ("board", "A, B"),
+    ("part", "X"),
+    ("where", "date=1"),
+    ("lot", ",".join(map(str, range(51)))),
+)
+
+
+@pytest.mark.parametrize(("kind", "names"), BAD)
+def test_a_question_that_is_none_is_refused(site: Site, kind: str, names: str) -> None:
+    told = site.ask(kind, names)
+    assert told.status_code == 400 and 'id="refused"' in told.get_data(as_text=True)
+    assert not site.queue.all()
+
+
+def test_no_path_leads_out_of_the_queue(site: Site) -> None:
+    at = site.asked("lot", "L-3")
+    (site.folder / "secret").write_text("secret")
+    names = (
+        "../secret",
+        "..%2f..%2fsecret",
+        "asked.json",
+        "said.txt",
+        "evidence/boards.csv",
+        "%00",
+    )
+    for target in (*(at + name for name in names), "/recall/../secret", "/recall/.new-x/"):
+        told = site.get(target)
+        assert told.status_code in (404, 308) and b"secret" not in told.data, target
+
+
+def test_a_queue_takes_no_more_than_it_can_work_off(site: Site) -> None:
+    told = [site.ask("lot", f"L-{n}", reader=f"reader-{n % 4}").status_code for n in range(100)]
+    assert told.count(303) == 4 * jobs.MOST_OF_ONE and told.count(429) == 60
+    more = [site.ask("lot", f"M-{n}", reader=f"other-{n}").status_code for n in range(20)]
+    assert more.count(303) == jobs.MOST_WAITING - 40
+    assert len(site.queue.waiting()) == jobs.MOST_WAITING
+
+
+def test_the_same_question_waits_once(site: Site) -> None:
+    assert site.asked("lot", "L-3", reader="anna") == site.asked("lot", "L-3", reader="ben")
+
+
+def test_half_a_question_is_none(site: Site) -> None:
+    """What a killed page left of a question is not in the queue."""
+    (site.queue.folder / f"{jobs.NEW}20260302T060000Z-00000000").mkdir()
+    assert not site.queue.all() and "None." in site.page("/recall/")
+
+
+# --- Words
+
+
+@pytest.mark.parametrize(
+    ("text", "wanted"),
+    [
+        ("/var/lib/tracedesk/archive/catalogue.csv: it is old", "catalogue.csv: it is old"),
+        ("L1: http://127.0.0.1:8080/messages: refused", "L1: the running desk: refused"),
+        ("/etc/tracedesk", "tracedesk"),
+        ("3/4 of it", "3/4 of it"),
+    ],
+)
+def test_a_message_has_no_path_of_the_server(text: str, wanted: str) -> None:
+    assert readable(text) == wanted

@@ -1,0 +1,230 @@
+"""Recalls of sets of reels: several lots, one part of a lot, attributes, and a reel with several names."""
+from __future__ import annotations
+
+import json
+import pathlib
+import shutil
+from typing import Any, Iterator
+
+import pytest
+from lab import messages, small
+from lab.line import Line, NewLine, table
+from lab.tools import Ended, Word, run_tool
+from tracedesk_ops import attributes, plant
+
+pytestmark = pytest.mark.xdist_group("recall_sets")
+
+ATTRIBUTES = """reel,part,date_code,supplier,colour
+K-1,CAP,2614,Maker One,red
+K-3,CAP,2609,Maker Two,red
+K-4,CAP,2614,Maker Two,red
+"""
+
+
+@pytest.fixture(scope="module")
+def line(program: pathlib.Path, tmp_path_factory: pytest.TempPathFactory) -> Iterator[Line]:
+    made = Line(program, tmp_path_factory.mktemp("small") / "line")
+    made.feed([])
+    made.serve()
+    try:
+        small.begin(made)
+        yield made
+    finally:
+        made.end()
+
+
+@pytest.fixture
+def book(line: Line, folder: pathlib.Path) -> Iterator[pathlib.Path]:
+    """The attributes of some reels, in a file; the line's book is taken away afterwards."""
+    file = folder / "delivery.csv"
+    file.write_text(ATTRIBUTES)
+    yield file
+    (line.archive / attributes.FILE_NAME).unlink(missing_ok=True)
+    attributes.head_of(line.archive).unlink(missing_ok=True)
+
+
+def recall(line: Line, *words: Word) -> Ended:
+    env = small.chain_of_sets(line.program)
+    return run_tool("recall", *words, *line.recall_words(), env=env)
+
+
+def boards(done: Ended) -> dict[str, dict[str, str]]:
+    return {row["board"]: row for row in table(done.out)}
+
+
+def give(line: Line, file: pathlib.Path) -> Ended:
+    line.archive.parent.joinpath("untraced").mkdir(exist_ok=True)
+    return run_tool("reels", "add", file, "--by", "erp", "--archive", line.archive)
+
+
+# --- Lots
+
+
+def test_a_lot_of_one_part_has_no_board_of_another(line: Line) -> None:
+    assert [*boards(recall(line, "lot", "240131").expect())] == ["SN-1", "SN-2"]
+    found = boards(recall(line, "lot", "240131", "--part", "CAP").expect())
+    assert [*found] == ["SN-1"]
+    recall(line, "lot", "240131", "--part", "none").expect(1)
+
+
+def test_several_lots_are_one_recall(line: Line) -> None:
+    done = recall(line, "lot", "240131", "L-3", "--part", "CAP").expect()
+    assert [*boards(done)] == ["SN-1", "SN-3"]
+    left = recall(line, "lot", "240131", "L-3", "--show", "reels").expect()
+    assert [row["reel"] for row in table(left.out)] == ["K-1", "K-2", "K-3"]
+
+
+def test_boards_of_the_running_desk_have_their_minutes(line: Line) -> None:
+    row = boards(recall(line, "lot", "L-3").expect())["SN-3"]
+    assert row["first_minute"] == row["last_minute"] == messages.MORNING
+
+
+def test_several_reels_are_one_recall(line: Line) -> None:
+    assert [*boards(recall(line, "reel", "K-2", "K-4").expect())] == ["SN-2", "SN-4"]
+
+
+def test_the_evidence_of_a_set_names_its_reels(line: Line, folder: pathlib.Path) -> None:
+    to = folder / "evidence"
+    recall(line, "reel", "K-2", "K-4", "--evidence", to).expect()
+    assert (to / "asked-reels.txt").read_text() == "K-2\nK-4\n"
+    chain = json.loads((to / "certificate.json").read_text())["lines"][0]["chain"]
+    assert chain["words"] == ["reels", "asked-reels.txt", "--pieces"]
+    env = small.chain_of_sets(line.program)
+    again = run_tool("verify", to, "--archives", line.archive, env=env)
+    again.expect(3, "the answer comes again from its 1 archives")
+
+
+# --- Attributes
+
+
+def test_the_boards_of_a_date_code(line: Line, book: pathlib.Path) -> None:
+    give(line, book).expect(0, "3 of 3 reels")
+    done = recall(line, "where", "date_code=2614", "part=CAP").expect()
+    assert [*boards(done)] == ["SN-1", "SN-4"]
+    done = recall(line, "where", "date_code=2614", "part=CAP", "supplier=Maker Two").expect()
+    assert [*boards(done)] == ["SN-4"]
+    recall(line, "where", "date_code=2699", "part=CAP").expect(1, "no reel is one of")
+
+
+def test_a_reel_whose_attributes_nobody_gave_is_named(line: Line, book: pathlib.Path) -> None:
+    give(line, book).expect()
+    done = recall(line, "where", "date_code=2614")
+    assert [*boards(done.expect(3, "1 reels aren't known", "K-2"))] == ["SN-1", "SN-4"]
+
+
+def test_without_a_book_no_attribute_is_known(line: Line) -> None:
+    recall(line, "where", "date_code=2614", "part=CAP").expect(3, "K-1, K-3, K-4")
+
+
+def test_a_later_row_takes_the_place_of_the_one_before(line: Line, book: pathlib.Path) -> None:
+    give(line, book).expect()
+    give(line, book).expect(0, "0 of 3 reels")
+    book.write_text("reel,part,date_code\nK-3,CAP,2614\n")
+    give(line, book).expect(0, "1 of 1 reels")
+    assert len((line.archive / "reels.csv").read_text().splitlines()) == 5
+    done = run_tool("reels", "list", "date_code=2614", "--archive", line.archive).expect()
+    assert [row["reel"] for row in table(done.out)] == ["K-1", "K-3", "K-4"]
+
+
+BAD_FILES = (
+    "part\nCAP\n",
+    "reel,part\nK-1\n",
+    "reel,part\nK\x07,CAP\n",
+    f"reel,part\nK,{'x' * 201}\n",
+)
+
+
+@pytest.mark.parametrize("text", BAD_FILES, ids=range(len(BAD_FILES)))
+def test_a_file_that_is_no_table_of_reels_gives_nothing(
+    line: Line, book: pathlib.Path, text: str
+) -> None:
+    book.write_text(text)
+    give(line, book).expect(2)
+    assert not (line.archive / attributes.FILE_NAME).exists()
+
+
+def damage(kind: str, line: Line, older: bytes) -> None:
+    book, head = line.archive / attributes.FILE_NAME, attributes.head_of(line.archive)
+    if kind == "changed":
+        book.write_bytes(book.read_bytes().replace(b"2609", b"2614"))
+    if kind == "gone":
+        book.unlink()
+    if kind == "older":
+        book.write_bytes(older)
+    if kind == "head is gone":
+        head.unlink()
+
+
+@pytest.mark.parametrize("kind", ["changed", "gone", "older", "head is gone"])
+def test_a_book_that_is_not_as_it_was_written_is_noticed(
+    line: Line, book: pathlib.Path, kind: str
+) -> None:
+    give(line, book).expect()
+    older = (line.archive / attributes.FILE_NAME).read_bytes()
+    book.write_text("reel,date_code\nK-2,2614\n")
+    give(line, book).expect()
+    damage(kind, line, older)
+    give(line, book).expect(3)
+    recall(line, "where", "date_code=2614").expect(3, "NOT ASKED", "reels.")
+
+
+def test_a_row_that_was_cut_off_is_none(line: Line, book: pathlib.Path) -> None:
+    give(line, book).expect()
+    file = line.archive / attributes.FILE_NAME
+    whole = file.read_bytes()
+    file.write_bytes(whole + b"K-2,RES,24")
+    assert len(attributes.read(line.archive)) == 3
+    book.write_text("reel,date_code\nK-2,2614\n")
+    give(line, book).expect()
+    assert file.read_bytes().startswith(whole) and len(attributes.read(line.archive)) == 4
+
+
+BAD_WORDS = ("where", "where date=2614", "where date_code", "board A B", "reel K-1 --part CAP")
+
+
+@pytest.mark.parametrize("words", BAD_WORDS)
+def test_words_that_are_not_taken(line: Line, words: str) -> None:
+    recall(line, *words.split()).expect(2)
+
+
+# --- A reel that moved
+
+
+def moved(name: str, old: Line, new: Line, folder: pathlib.Path) -> None:
+    """Moves the reel K-3 from one line to another under this name."""
+    files = {}
+    for way, line in (("--from", old), ("--to", new)):
+        line.end()
+        files[way] = folder / f"copy-{line.name}"
+        shutil.copy(line.file, files[way])
+        for log in line.folder.glob(f"{line.file.name}-wal"):
+            shutil.copy(log, f"{files[way]}-wal")
+        line.serve()
+    words: list[Any] = ["K-3", "--as", name, *(word for pair in files.items() for word in pair)]
+    leaves = run_tool("move", *words, "--leaving").expect().out.encode().splitlines()
+    arrives = run_tool("move", *words).expect().out.encode().splitlines()
+    old.accept(*leaves)
+    new.accept(*arrives)
+
+
+def test_a_reel_that_moved_is_followed_under_its_other_name(
+    new_line: NewLine, folder: pathlib.Path
+) -> None:
+    lines = [new_line(folder / name, name, said=[]) for name in ("L1", "L2")]
+    for line in lines:
+        line.accept(*small.set_up(), *small.board("K-3", f"{line.name}-1"))
+    moved("K-3b", lines[0], lines[1], folder)
+    lines[1].accept(*small.board("K-3b", "L2-2", "CAP"))
+    words: list[Word] = [word for line in lines for word in line.recall_words()]
+    env = small.chain_of_sets(lines[0].program)
+    for name in ("K-3", "K-3b"):
+        done = run_tool("recall", "reel", name, *words, env=env)
+        found = [row["board"] for row in table(done.expect(0, "under other names too").out)]
+        assert found == ["L1-1", "L2-1", "L2-2"]
+    alone = run_tool("recall", "reel", "K-3b", *lines[1].recall_words(), env=env)
+    alone.expect(3, "K-3b came from a line that is not asked")
+
+
+def test_the_kinds_of_a_row_are_those_of_the_book() -> None:
+    assert attributes.Reel._fields == attributes.ASKED
+    assert issubclass(plant.Fault, Exception)

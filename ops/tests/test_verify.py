@@ -1,0 +1,271 @@
+"""The evidence of a recall: who signed it, that nothing was changed, and that its answer comes again."""
+from __future__ import annotations
+
+import contextlib
+import hashlib
+import json
+import pathlib
+import random
+import shutil
+import subprocess
+from typing import Any, Iterator
+
+import pytest
+from lab.line import table
+from lab.recalls import lot_of, recall
+from lab.tools import Ended, Word, run, run_tool
+from lab.world import World
+from tracedesk_ops.cmd import verify
+from tracedesk_ops.recalls import signing, verifying
+from tracedesk_ops.recalls.evidence import sums_of
+
+pytestmark = [pytest.mark.needs("ssh-keygen"), pytest.mark.xdist_group("verify")]
+
+FLIPS = 1_000
+
+
+class Plant:
+    """A plant's key, and evidence that it signed."""
+
+    def __init__(self, world: World, folder: pathlib.Path) -> None:
+        self.world, self.folder, self.lot = world, folder, lot_of(world)
+        self.key, self.signers = key_in(folder, "plant"), folder / "signers"
+        public = self.key.with_suffix(".pub").read_text()
+        self.signers.write_text(f'plant namespaces="tracedesk-recall" {public}')
+        self.evidence = folder / "evidence"
+        self.recall("--key", self.key, "--evidence", self.evidence).expect()
+
+    def recall(self, *more: Word, lot: str = "") -> Ended:
+        return recall("lot", lot or self.lot, *self.world.words(), *more)
+
+    def copy(self, name: str) -> pathlib.Path:
+        """A copy of the evidence, in which something may be changed."""
+        shutil.copytree(self.evidence, self.folder / name)
+        return self.folder / name
+
+    def sums_anew(self, folder: pathlib.Path) -> None:
+        left_out = (signing.SUMS, signing.SIGNATURE)
+        texts = {it.name: it.read_bytes() for it in folder.iterdir() if it.name not in left_out}
+        (folder / signing.SUMS).write_bytes(sums_of(texts))
+
+    def sign_anew(self, folder: pathlib.Path, key: pathlib.Path) -> None:
+        self.sums_anew(folder)
+        (folder / signing.SIGNATURE).unlink(missing_ok=True)
+        signing.sign(folder, key)
+
+    def verify(self, folder: pathlib.Path, *more: Word) -> Ended:
+        return run_tool("verify", folder, "--signers", self.signers, *more)
+
+    @property
+    def archives(self) -> list[Word]:
+        words: list[Word] = []
+        for line in self.world.lines:
+            words += ["--archives", line.archive]
+        return words
+
+
+def key_in(folder: pathlib.Path, name: str) -> pathlib.Path:
+    key = folder / name
+    run(["ssh-keygen", "-q", "-t", "ed25519", "-N", "", "-C", name, "-f", key]).expect()
+    return key
+
+
+@pytest.fixture(scope="module")
+def plant(world: World, tmp_path_factory: pytest.TempPathFactory) -> Plant:
+    return Plant(world, tmp_path_factory.mktemp("plant"))
+
+
+@contextlib.contextmanager
+def changed(file: pathlib.Path, content: bytes) -> Iterator[None]:
+    kept = file.read_bytes()
+    file.write_bytes(content)
+    try:
+        yield
+    finally:
+        file.write_bytes(kept)
+
+
+def told_in(folder: pathlib.Path) -> dict[str, Any]:
+    return dict(json.loads((folder / "certificate.json").read_text()))
+
+
+def without_a_row(folder: pathlib.Path) -> None:
+    """Takes a board out of all files."""
+    board = table((folder / "boards.csv").read_text())[0]["board"]
+    for file in folder.iterdir():
+        lines = file.read_text().splitlines(keepends=True)
+        file.write_text("".join(line for line in lines if board not in line))
+    told = told_in(folder)
+    for name in ("boards", "pieces"):
+        told["answer"][name] = len(table((folder / f"{name}.csv").read_text()))
+    (folder / "certificate.json").write_text(json.dumps(told))
+
+
+# --- What is genuine
+
+
+def test_what_the_plant_signed_is_verified(plant: Plant) -> None:
+    plant.verify(plant.evidence).expect(0, "signed by plant", "verified")
+
+
+def test_the_answer_comes_again_from_the_archives(plant: Plant) -> None:
+    done = plant.verify(plant.evidence, *plant.archives)
+    done.expect(0, "L1: the answer comes again", "L2: the answer comes again", "verified")
+
+
+def test_a_customer_needs_no_tools_of_ours(plant: Plant) -> None:
+    words = "-Y verify -I plant -n tracedesk-recall -s SHA256SUMS.sig".split()
+    sums = (plant.evidence / "SHA256SUMS").read_bytes()
+    command: list[Word] = ["ssh-keygen", *words, "-f", plant.signers]
+    run(command, given=sums, cwd=plant.evidence).expect(0, "Good")
+    check = ["sha256sum", "--check", "--strict", "--quiet", "SHA256SUMS"]
+    run(check, cwd=plant.evidence).expect()
+
+
+def test_the_certificate_names_programs_files_and_marks(plant: Plant) -> None:
+    told = told_in(plant.evidence)
+    programs = {its["name"]: its for its in told["programs"]}
+    file = shutil.which(str(plant.world.program)) or ""
+    sha256 = subprocess.run(["sha256sum", file], stdout=subprocess.PIPE, check=True).stdout[:64]
+    assert programs["tracedesk"]["sha256"] == sha256.decode()
+    assert len(programs["tracedesk-chain"]["sha256"]) == 64
+    first = told["lines"][0]
+    archives = [its["file"] for its in first["archives"]]
+    assert archives == [file.name for file in plant.world.first.archived]
+    digits = [its["sha256"][:24] for its in first["archives"]]
+    assert [its["mark"][:24] for its in first["archives"]] == ["", *digits[:-1]]
+    assert told["signed_by"] == signing.fingerprint(plant.key)
+    assert "lot" in (plant.evidence / "question.txt").read_text()
+
+
+def test_a_set_up_file_names_the_key(plant: Plant, folder: pathlib.Path) -> None:
+    (folder / "L1.conf").write_text(f"line = L1\nkey = {plant.key}\n")
+    words: list[Word] = ["lot", plant.lot, *plant.world.words(), "--evidence", folder / "evidence"]
+    run_tool("recall", *words, env={"TRACEDESK_SET_UP": str(folder)}).expect()
+    plant.verify(folder / "evidence").expect(0, "verified")
+
+
+# --- What is not
+
+
+def status_of(folder: pathlib.Path, signers: pathlib.Path) -> str:
+    """Why evidence is refused; empty if it isn't."""
+    try:
+        contents = verifying.contents_of(folder)
+        signing.signer(folder, (folder / signing.SUMS).read_bytes(), signers)
+        verifying.want_pieces(contents, verifying.told_in(contents))
+    except (verifying.Refused, signing.NoSignature) as fault:
+        return str(fault)
+    return ""
+
+
+def test_each_of_a_thousand_flipped_bits_is_refused(plant: Plant, seed: int) -> None:
+    """Half of them in the checksums and the signature, which are small."""
+    folder = plant.copy("flipped")
+    rng = random.Random(seed)
+    files = sorted(file for file in folder.iterdir() if file.stat().st_size)
+    small = [folder / signing.SUMS, folder / signing.SIGNATURE]
+    assert not status_of(folder, plant.signers)
+    for number in range(FLIPS):
+        file = rng.choice(small if number % 2 else files)
+        text = bytearray(file.read_bytes())
+        place = rng.randrange(len(text))
+        text[place] ^= 1 << rng.randrange(8)
+        with changed(file, bytes(text)):
+            assert status_of(folder, plant.signers), f"{file.name}, byte {place}"
+
+
+def test_a_row_that_is_taken_out_everywhere_is_refused(plant: Plant) -> None:
+    folder = plant.copy("row")
+    without_a_row(folder)
+    plant.sums_anew(folder)
+    plant.verify(folder).expect(1, "REFUSED", "the signature doesn't hold")
+
+
+def test_a_signature_of_anybody_else_is_refused(plant: Plant) -> None:
+    folder = plant.copy("other-key")
+    without_a_row(folder)
+    plant.sign_anew(folder, key_in(plant.folder, "other"))
+    plant.verify(folder).expect(1, "REFUSED", "nobody in")
+
+
+def test_evidence_whose_signature_is_gone_is_refused(plant: Plant) -> None:
+    folder = plant.copy("stripped")
+    (folder / signing.SIGNATURE).unlink()
+    plant.verify(folder).expect(1, "REFUSED", "not signed")
+
+
+@pytest.mark.parametrize("name", ["pieces.csv", "chain-1.csv"])
+def test_a_file_that_is_missing_is_refused(plant: Plant, name: str) -> None:
+    folder = plant.copy(f"without-{name}")
+    (folder / name).unlink()
+    plant.verify(folder).expect(1, f"{name} is missing")
+
+
+def test_a_file_more_is_refused(plant: Plant) -> None:
+    folder = plant.copy("more")
+    (folder / "boards-2.csv").write_text("board\n")
+    plant.verify(folder).expect(1, "boards-2.csv is not in SHA256SUMS")
+
+
+def test_the_answer_of_another_chain_is_refused(plant: Plant) -> None:
+    """Also if the plant's own key signs it."""
+    folder, other = plant.copy("other-chain"), plant.folder / "other-lot"
+    second = plant.world.second
+    plant.recall("--unsigned", "--evidence", other, lot="X").expect(1)
+    shutil.copy(other / "chain-1.csv", folder)
+    plant.verify(folder).expect(1, "chain-1.csv was changed")
+    plant.sign_anew(folder, plant.key)
+    plant.verify(folder).expect(1, "not the pieces that tracedesk-chain answered")
+    renamed = plant.folder / "renamed"
+    renamed.mkdir()
+    for file in plant.world.first.archived:
+        shutil.copy(second.archived[0], renamed / file.name)
+    done = plant.verify(plant.evidence, "--archives", renamed)
+    done.expect(1, "REFUSED", "is another archive")
+
+
+def test_a_row_less_that_the_plant_signs_is_refused_by_its_archives(plant: Plant) -> None:
+    folder = plant.copy("signed-row")
+    without_a_row(folder)
+    told = told_in(folder)
+    for line in told["lines"]:
+        text = (folder / line["chain"]["file"]).read_bytes()
+        line["chain"]["sha256"] = hashlib.sha256(text).hexdigest()
+    (folder / "certificate.json").write_text(json.dumps(told))
+    plant.sign_anew(folder, plant.key)
+    plant.verify(folder).expect(0)
+    done = plant.verify(folder, *plant.archives)
+    done.expect(1, "REFUSED", "tracedesk-chain answers otherwise")
+
+
+def test_without_the_archives_at_hand_nothing_is_said_of_them(plant: Plant) -> None:
+    done = plant.verify(plant.evidence, "--archives", plant.folder)
+    done.expect(1, "is in none of the folders")
+
+
+# --- What nobody knows
+
+
+def test_unsigned_evidence_is_not_verified(plant: Plant) -> None:
+    folder = plant.folder / "unsigned"
+    plant.recall("--unsigned", "--evidence", folder).expect(0, "not signed")
+    assert told_in(folder)["signed_by"] == "nobody"
+    run_tool("verify", folder).expect(3, "NOT KNOWN: it is not signed")
+    plant.verify(folder).expect(1, "REFUSED")
+
+
+def test_without_signers_nobody_knows_who_signed(plant: Plant) -> None:
+    run_tool("verify", plant.evidence).expect(3, "NOT KNOWN: it is signed")
+
+
+def test_a_key_that_nobody_may_read_signs_nothing(plant: Plant) -> None:
+    done = plant.recall("--key", plant.folder / "none", "--evidence", plant.folder / "nothing")
+    done.expect(4, "--unsigned")
+    assert not (plant.folder / "nothing").exists()
+
+
+def test_words_that_are_not_taken(plant: Plant) -> None:
+    run_tool("verify", plant.folder / "none").expect(2)
+    run_tool("verify", plant.evidence, "--signers", plant.folder / "none").expect(2)
+    assert verify.NOT_KNOWN == 3

@@ -1,0 +1,1 @@
+"""Recalls in a browser: a queue on disk, who works it off, and the pages."""

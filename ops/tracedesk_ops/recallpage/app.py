@@ -1,0 +1,200 @@
+"""The pages of recalls, for readers whom the proxy has logged in."""
+from __future__ import annotations
+
+import argparse
+import datetime
+import pathlib
+import re
+
+import flask
+from werkzeug.exceptions import HTTPException
+
+from tracedesk_ops import carry
+from tracedesk_ops.recallpage import pages, papers, view
+from tracedesk_ops.recallpage.jobs import KINDS, MOST_SHOWN, Asked, Full, Job, Queue
+from tracedesk_ops.recalls import sets
+from tracedesk_ops.recalls.wording import readable
+
+READER = "X-Reader"  # the header in which the proxy names the reader
+KIND_TEXTS = (
+    ("lot", "A lot, or several"),
+    ("reel", "A reel, or several"),
+    ("board", "A board: its pieces"),
+    ("where", "An attribute, as date_code=2614"),
+)
+DOWNLOADS = (
+    (papers.PDF, "PDF"),
+    (papers.SHEET, "Spreadsheet"),
+    (papers.BOARDS, "CSV of the boards"),
+    (papers.PACKED, "Evidence"),
+)
+STATES = {
+    0: "complete",
+    1: "complete: nothing of it is known",
+    3: "NOT COMPLETE",
+    5: "complete, with doubtful pieces",
+}
+MOST_NAMES = 50
+MOST_BYTES = 16 << 20  # of a request, with its list of shipped boards
+SECONDS_UNTIL_AGAIN = 3
+POLICY = "default-src 'none'; " + "; ".join(
+    (
+        "style-src 'self'",
+        "form-action 'self'",
+        "base-uri 'none'",
+        "frame-ancestors 'none'",
+    )
+)
+PROGRESS = re.compile(r"(.*\d+ of \d+ files were read.*)")
+
+
+class NotTaken(Exception):
+    """Why a question isn't taken."""
+
+
+def asked_in(form: "dict[str, str]", reader: str, has_list: bool) -> Asked:
+    """The question in a form; a NotTaken says what is wrong with it."""
+    kind, part = form.get("kind", ""), form.get("part", "").strip()
+    names = tuple(name.strip() for name in form.get("names", "").split(",") if name.strip())
+    if kind not in KINDS:
+        raise NotTaken("Say what is recalled.")
+    if not names or kind == "board" and len(names) > 1 or len(names) > MOST_NAMES:
+        raise NotTaken("Give one name." if kind == "board" else f"Give 1 to {MOST_NAMES} names.")
+    try:
+        for text in (*names, *([part] if part else [])):
+            carry.identifier(text)
+        if kind == "where":
+            sets.terms_of(names)
+    except (argparse.ArgumentTypeError, ValueError) as fault:
+        raise NotTaken(f"{str(fault)[:1].upper()}{str(fault)[1:]}.") from fault
+    if begun := [name for name in (*names, part) if name.startswith("-")]:
+        raise NotTaken(f"{begun[0]} begins with -: ask for it by tracedesk-recall.")
+    if part and kind == "where":
+        names, part = (*names, f"part={part}"), ""
+    if part and kind != "lot":
+        raise NotTaken("A part may be named with a lot or an attribute.")
+    now = datetime.datetime.now(datetime.timezone.utc)
+    return Asked(kind, names, part, reader, f"{now:%Y-%m-%d %H:%M} UTC", has_list)
+
+
+def title_of(asked: Asked) -> str:
+    part = f" of part {asked.part}" if asked.part else ""
+    if asked.kind == "where":
+        return str(sets.terms_of(asked.names))
+    return f"{asked.kind}{'s' if len(asked.names) > 1 else ''} {', '.join(asked.names)}{part}"
+
+
+def state_of(queue: Queue, job: Job) -> str:
+    ended = job.ended
+    if ended is not None:
+        return STATES.get(int(ended["status"]), "no answer")
+    return "runs" if job.is_running else waits(queue.place(job)).lower()
+
+
+def waits(before: int) -> str:
+    return f"Waits behind {view.count(before, 'other')}" if before else "Is next"
+
+
+def make(folder: pathlib.Path) -> flask.Flask:
+    """The application over the queue in a folder."""
+    app = flask.Flask("tracedesk-recall-page", static_folder=None, template_folder=None)
+    app.config["MAX_CONTENT_LENGTH"] = MOST_BYTES
+    queue = Queue(folder)
+
+    def reader() -> str:
+        name = flask.request.headers.get(READER, "")
+        if not name:
+            flask.abort(403)
+        return name
+
+    def form(refused: str, status: int, values: "dict[str, str]") -> tuple[str, int]:
+        jobs = [
+            {"name": job.name, "title": title_of(job.asked), "reader": job.asked.reader}
+            | {"at": job.asked.at, "state": state_of(queue, job)}
+            for job in reversed(queue.all()[-MOST_SHOWN:])
+        ]
+        asked = {name: values.get(name, "") for name in ("kind", "names", "part")}
+        its = {"refused": refused, "kinds": KIND_TEXTS, "asked": asked, "jobs": jobs}
+        return pages.page(pages.FORM, "Recall", its), status
+
+    def job_of(name: str) -> Job:
+        return queue.job(name) or flask.abort(404)
+
+    @app.get("/recall/")
+    def ask() -> tuple[str, int]:
+        reader()
+        return form("", 200, {})
+
+    @app.post("/recall/")
+    def take() -> "flask.typing.ResponseReturnValue":
+        who, values = reader(), flask.request.form.to_dict()
+        upload = flask.request.files.get("shipped")
+        shipped = upload.read() if upload else b""
+        try:
+            job = queue.add(asked_in(values, who, bool(shipped)), shipped)
+        except NotTaken as fault:
+            return form(str(fault), 400, values)
+        except Full as fault:
+            return form(str(fault), 429, values)
+        return flask.redirect(f"/recall/{job.name}/", 303)
+
+    @app.get("/recall/<name>/")
+    def show(name: str) -> str:
+        reader()
+        job = job_of(name)
+        ended = job.ended
+        title = title_of(job.asked)
+        if ended is None:
+            return waiting(job, title)
+        if not job.evidence.is_dir():
+            said = ended.get("why", "") or job.said
+            headline, lines = view.without_answer(int(ended["status"]), said)
+            return pages.page(pages.NOTHING, title, {"headline": headline, "said": lines})
+        there = [its for its in DOWNLOADS if (job.folder / its[0]).exists()]
+        lacking = [f"No {file}: {why}." for file, why in ended.get("lacking", {}).items()]
+        its: dict[str, object] = {"answer": view.answer_of(job.evidence), "most": view.MOST_ROWS}
+        its["name"] = job.name
+        its |= {"downloads": there, "lacking": lacking}
+        return pages.page(pages.JOB, title, its)
+
+    def waiting(job: Job, title: str) -> str:
+        before = queue.place(job)
+        read = [its[1] for its in map(PROGRESS.fullmatch, job.said.splitlines()) if its]
+        progress = readable(read[-1].partition(": ")[2]) if read else ""
+        state = "The archives are being read." if job.is_running else f"{waits(before)}."
+        its = {"state": state, "progress": progress}
+        return pages.page(pages.WAIT, title, its, SECONDS_UNTIL_AGAIN)
+
+    @app.get("/recall/<name>/<file>")
+    def download(name: str, file: str) -> flask.Response:
+        reader()
+        job = job_of(name)
+        if file not in papers.FILES or not (job.folder / file).is_file() or job.ended is None:
+            flask.abort(404)
+        path, called = job.folder.resolve() / file, f"recall-{job.name}-{file}"
+        return flask.send_file(path, as_attachment=file != papers.PDF, download_name=called)
+
+    @app.get("/recall/page.css")
+    def style() -> flask.Response:
+        return flask.Response(pages.CSS, mimetype="text/css")
+
+    @app.errorhandler(HTTPException)
+    def wrong(fault: HTTPException) -> tuple[str, int]:
+        texts = {
+            403: "This log-in may not recall.",
+            404: "There is no such page.",
+            413: "The file is too large.",
+        }
+        status = fault.code or 500
+        text = texts.get(status, "That can't be done.")
+        return pages.page(pages.WORD, "Recall", {"text": text}), status
+
+    @app.after_request
+    def guard(response: flask.Response) -> flask.Response:
+        response.headers["Content-Security-Policy"] = POLICY
+        response.headers["X-Content-Type-Options"] = "nosniff"
+        response.headers["Referrer-Policy"] = "no-referrer"
+        response.headers["Cache-Control"] = "no-store"
+        return response
+
+    return app

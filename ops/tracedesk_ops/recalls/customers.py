@@ -1,0 +1,126 @@
+"""The answer for one customer: their serials only, with those that hold no piece."""
+from __future__ import annotations
+
+import contextlib
+import html
+import sqlite3
+from collections.abc import Iterable
+
+from tracedesk_ops import catalogue, copies, plant
+from tracedesk_ops.recalls import certificate, evidence, tables, wording
+from tracedesk_ops.recalls.certificate import Program, bytes_of
+from tracedesk_ops.recalls.recall import Recall
+from tracedesk_ops.recalls.tables import Shipped, Table
+
+HEADER = ("board", "customer", "date", "holds", "pieces", "first_minute", "last_minute")
+YES, NO, PERHAPS, NOT_KNOWN = "yes", "no", "perhaps", "not known"
+KNOWN = "SELECT 1 FROM board WHERE board = ?"
+
+
+def serials_of(shipped: Shipped, customer: str) -> dict[str, str]:
+    """The serials of a customer, and the dates."""
+    return {
+        board: "; ".join(date for name, date in rows if name == customer)
+        for board, rows in shipped.items()
+        if any(name == customer for name, _ in rows)
+    }
+
+
+def unknown(recall: Recall, serials: Iterable[str]) -> set[str]:
+    """The serials that no file and no running desk of the lines knows."""
+    left = set(serials)
+    for path, survey in recall.catalogues.items():
+        for archive in survey.archives if left else ():
+            with contextlib.suppress(OSError, sqlite3.Error):
+                with catalogue.opened(catalogue.path_of(path, archive)) as database:
+                    left -= {its for its in left if copies.rows(database, KNOWN, its)}
+    for desk in recall.desks.values():
+        with contextlib.suppress(plant.Fault):
+            left -= {its for its in left if desk.rows("/trace/board", 1, board=its) is not None}
+    return left
+
+
+def narrow(recall: Recall, shipped: Shipped, customer: str) -> dict[str, Table]:
+    """The tables for a customer. A serial that nobody knows makes the answer incomplete."""
+    serials = serials_of(shipped, customer)
+    holding = {piece.board for piece in recall.pieces}
+    doubtful = {row[1] for row in recall.doubtful} | {row[3] for row in recall.undecided()}
+    nowhere = unknown(recall, serials.keys() - holding)
+    if nowhere:
+        named = ", ".join(sorted(nowhere)[:20])
+        recall.faults.append(
+            f"{len(nowhere)} serials of {customer} are known to none of these lines: {named}."
+            " Look at how they are spelled, and ask the lines that made them"
+        )
+    rows: Table = [HEADER]
+    by_board = {row[0]: row for row in tables.boards_table(recall, None)[1:]}
+    for serial, date in serials.items():
+        its = by_board.get(serial)
+        holds = PERHAPS if serial in doubtful else NOT_KNOWN if serial in nowhere else NO
+        placed = its[1:4] if its else [0, "", ""]
+        rows.append([serial, customer, date, YES if its else holds, *placed])
+    whole = tables.tables_of(recall, None)
+    places = {"pieces": 0, "doubtful": 1, "untraced": 3}  # of the column that has the board
+    own = {
+        name: [whole[name][0], *(row for row in whole[name][1:] if row[at] in serials)]
+        for name, at in places.items()
+    }
+    return {"serials": rows, **own}
+
+
+def sentence(serials: Table) -> str:
+    """How many of the serials hold a piece."""
+    count = {word: 0 for word in (YES, NO, PERHAPS, NOT_KNOWN)}
+    for row in serials[1:]:
+        count[str(row[3])] += 1
+    texts = [
+        f"Of your {len(serials) - 1} serials {count[YES]} hold a piece",
+        f"{count[NO]} hold none",
+    ]
+    texts += [f"{count[PERHAPS]} may hold one"] if count[PERHAPS] else []
+    texts += [f"{count[NOT_KNOWN]} are not known"] if count[NOT_KNOWN] else []
+    return f"{', '.join(texts)}."
+
+
+def contents(
+    recall: Recall, its: dict[str, Table], used: Iterable[Program], signed_by: str
+) -> evidence.Contents:
+    """The files of a customer's evidence. What others have in the files of the lines is in none of
+    them: the certificate has the checksums of those alone.
+    """
+    told = certificate.certificate(recall, its, used, signed_by)
+    told["customer"] = sentence(its["serials"])
+    for name in ("not_asked", "no_chain", "notes"):
+        told[name] = [wording.readable(text) for text in told[name]]
+    told["twice"] = ["pieces are there twice in these lines' files"] if recall.doubts else []
+    for line in told["lines"]:
+        line["running_desk"] = bool(line["running_desk"])
+        line["catalogue"] = None
+        for archive in line["archives"]:
+            archive["why"] = wording.readable(archive["why"])
+    listed = evidence.listing(recall.question)
+    return {
+        **({certificate.LISTED: listed} if listed else {}),
+        **{f"{name}.csv": bytes_of(catalogue.csv_text(table)) for name, table in its.items()},
+        certificate.FILE_NAME: certificate.as_json(told),
+        "question.txt": bytes_of(certificate.as_text(told)),
+        "recall.html": bytes_of(page(recall, its, told["customer"])),
+    }
+
+
+def page(recall: Recall, its: dict[str, Table], told: str) -> str:
+    """One page to print."""
+    title = html.escape(tables.title_of(recall.question))
+    kind = "whole" if recall.status() in (0, 1, 5) else "missing"
+    missing = "" if kind == "whole" else "<p>NOT COMPLETE: question.txt says why.</p>"
+    body = "".join(
+        f"<h2>{name.capitalize()}</h2>{tables.html_table(table)}"
+        for name, table in its.items()
+        if len(table) > 1
+    )
+    return (
+        f'<!DOCTYPE html>\n<html lang="en"><head><meta charset="utf-8"><title>{title}</title>'
+        f"<style>{tables.STYLE}</style></head><body>\n<h1>{title}</h1>\n"
+        f"<p>Asked at {recall.minute:%Y-%m-%d %H:%M} UTC.</p>\n"
+        f'<div class="{kind}"><p>{html.escape(told)}</p>{missing}</div>{body}\n</body></html>\n'
+    )

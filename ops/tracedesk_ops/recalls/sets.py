@@ -1,0 +1,182 @@
+"""The set of reels that a question means: those of several lots, those with an attribute, and the other
+names of a reel that changed lines.
+"""
+from __future__ import annotations
+
+import collections
+import contextlib
+import pathlib
+import re
+import sqlite3
+from collections.abc import Iterable, Iterator, Sequence
+from typing import NamedTuple
+
+from tracedesk_ops import attributes, catalogue, copies, doubtful, plant, stored
+from tracedesk_ops.recalls.desk import Line, Question
+
+REELS = "SELECT reel, part, lot FROM reel"
+MOVES = "SELECT uid, command FROM accepted WHERE uid >= 'move-' AND uid < 'move.'"
+MOVE = re.compile(r"(move-.+-\d+-\d+?)(-left)?-\d+")
+KNOWN_TO_DESKS = ("reel", "part", "lot")
+MOST_NAMED = 20  # reels in a message
+
+
+class Terms(NamedTuple):
+    """Which reels are asked for: of each attribute the values, one of which a reel has to have."""
+
+    values: dict[str, list[str]]
+
+    def take(self, its: attributes.Reel) -> bool:
+        told = its._asdict()
+        return all(told[name] in values for name, values in self.values.items())
+
+    def lack(self, its: attributes.Reel) -> bool:
+        """Whether a reel may be one of them, and an attribute that would say so isn't known."""
+        told = its._asdict()
+        named = {name: values for name, values in self.values.items() if told[name]}
+        return len(named) < len(self.values) and Terms(named).take(its)
+
+    def __str__(self) -> str:
+        words = (
+            f"{name.replace('_', ' ')} {' or '.join(values)}"
+            for name, values in self.values.items()
+        )
+        return f"the reels of {', '.join(words)}"
+
+
+def terms_of(words: Iterable[str]) -> Terms:
+    """The terms of words as `date_code=2614`; a ValueError says what is wrong with one."""
+    values: dict[str, list[str]] = {}
+    for word in words:
+        name, equals, value = word.partition("=")
+        if not equals or not value or name not in attributes.ASKED:
+            raise ValueError(
+                f"{word} is no ATTRIBUTE=VALUE: an attribute is one of {', '.join(attributes.ASKED)}"
+            )
+        values.setdefault(name, []).append(value)
+    return Terms(values)
+
+
+class Known:
+    """What the files of all lines know of reels: `cards` has a reel's part and lot, `same` the names of
+    each move, and `faults` what could not be looked at.
+    """
+
+    def __init__(self, lines: Sequence[Line]) -> None:
+        self.cards: dict[str, attributes.Reel] = {}
+        self.old: dict[str, set[str]] = collections.defaultdict(
+            set
+        )  # by the beginning of UniqueIDs
+        self.new: dict[str, set[str]] = collections.defaultdict(set)
+        self.faults: list[str] = []
+        for line in lines:
+            for file, is_running in files_of(line):
+                try:
+                    with opened(file, is_running) as database:
+                        self.read(database)
+                except (OSError, sqlite3.Error, catalogue.CatalogueError) as fault:
+                    self.faults.append(f"{line.name}: the reels of {file} aren't known: {fault}")
+
+    def read(self, database: sqlite3.Connection) -> None:
+        for row in copies.rows(database, REELS):
+            self.cards[row[0]] = attributes.Reel(*row)
+        for uid, command in copies.rows(database, MOVES):
+            if found := MOVE.fullmatch(uid):
+                word, body = stored.body(command)
+                if word == "ReelReceived":
+                    self.new[found[1]].add(body["Reel"])
+                elif word == "CountsTaken" and found[2]:
+                    self.old[found[1]].update(row["Reel"] for row in body["Counts"])
+
+    def followed(self, reels: Iterable[str]) -> tuple[list[str], list[str]]:
+        """The reels with all names that they have had, and which of them came from, or went to, a line
+        that isn't asked.
+        """
+        found, faults = dict.fromkeys(reels), []
+        waiting = list(found)
+        while waiting:
+            reel = waiting.pop()
+            for move in {*self.old, *self.new}:
+                names = self.old[move] | self.new[move]
+                if reel not in names:
+                    continue
+                if not (self.old[move] and self.new[move]):
+                    way = "went to" if self.old[move] else "came from"
+                    faults.append(
+                        f"the reel {reel} {way} a line that is not asked: name that line too"
+                    )
+                waiting += [name for name in sorted(names) if name not in found]
+                found |= dict.fromkeys(sorted(names))
+        return list(found), faults
+
+
+def files_of(line: Line) -> Iterator[tuple[pathlib.Path, bool]]:
+    """The archives of a line, and the running desk's file."""
+    for archive in catalogue.survey(line.catalogue).archives:
+        if archive.desk == line.name:
+            yield catalogue.path_of(line.catalogue, archive), False
+    if line.url:
+        yield line.desk or line.catalogue.parent.parent / "desk", True
+
+
+@contextlib.contextmanager
+def opened(file: pathlib.Path, is_running: bool) -> Iterator[sqlite3.Connection]:
+    with doubtful.copied(file) if is_running else catalogue.opened(file) as database:
+        yield database
+
+
+def title(kind: str, names: Sequence[str], part: str) -> str:
+    of_part = f" of part {part}" if part else ""
+    return f"the {kind}s {', '.join(names)}{of_part}"
+
+
+def question_of(
+    kind: str, names: Sequence[str], part: str, lines: Sequence[Line]
+) -> tuple[Question, list[str], list[str]]:
+    """The question that these words ask, why its set of reels may not be whole, and what a reader has to
+    know.
+    """
+    if kind == "board" or kind == "lot" and len(names) == 1:
+        return Question(kind, names[0], part), [], []
+    known = Known(lines)
+    if kind == "reel":
+        reels, faults = known.followed(names)
+        more = [name for name in reels if name not in names]
+        notes = [f"followed under other names too: {', '.join(more)}"] if more else []
+        if len(reels) == 1:
+            return Question(kind, names[0]), faults, []
+        return Question("reels", title(kind, reels, ""), "", tuple(reels)), faults, notes
+    if kind == "lot":
+        cards = known.cards.values()
+        of_lots = [its.reel for its in cards if its.lot in names and part in ("", its.part)]
+        its = Question("reels", title(kind, names, part), "", tuple(sorted(of_lots)))
+        unknown = [lot for lot in names if not any(card.lot == lot for card in cards)]
+        return its, known.faults, [f"nobody knows the lot {lot}" for lot in unknown]
+    return where(terms_of(names), known, lines)
+
+
+def where(
+    terms: Terms, known: Known, lines: Sequence[Line]
+) -> tuple[Question, list[str], list[str]]:
+    """The question for the reels with these attributes. A reel whose attributes nobody knows may be one of
+    them.
+    """
+    faults = list(known.faults)
+    told: dict[str, attributes.Reel] = {}
+    for archive in dict.fromkeys(line.catalogue.parent for line in lines):
+        try:
+            told |= attributes.newest(attributes.read(archive))
+        except plant.Fault as fault:
+            faults.append(str(fault))
+    for reel, card in known.cards.items():  # what a desk knows counts
+        told[reel] = told.get(reel, card)._replace(part=card.part, lot=card.lot)
+    lacking = sorted(reel for reel, its in told.items() if terms.lack(its))
+    if lacking:
+        named = ", ".join(lacking[:MOST_NAMED])
+        more = f" and {len(lacking) - MOST_NAMED} more" if len(lacking) > MOST_NAMED else ""
+        faults.append(
+            f"the attributes of {len(lacking)} reels aren't known, so they may be of this recall:"
+            f" {named}{more}. Give them by tracedesk-reels add"
+        )
+    reels, gone = known.followed(sorted(reel for reel, its in told.items() if terms.take(its)))
+    return Question("reels", str(terms), "", tuple(reels)), [*faults, *gone], []

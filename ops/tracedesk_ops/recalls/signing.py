@@ -1,0 +1,88 @@
+"""Signatures over the checksums of a folder, by ssh-keygen of OpenSSH, so that anybody can verify them:
+
+    ssh-keygen -Y verify -f signers -I plant -n tracedesk-recall -s SHA256SUMS.sig < SHA256SUMS
+"""
+from __future__ import annotations
+
+import base64
+import binascii
+import pathlib
+import subprocess
+
+SUMS, SIGNATURE = "SHA256SUMS", "SHA256SUMS.sig"
+NAMESPACE = "tracedesk-recall"
+BEGIN, END = "-----BEGIN SSH SIGNATURE-----\n", "-----END SSH SIGNATURE-----\n"
+WIDTH = 70  # letters of a line of a signature
+
+
+class NoSignature(Exception):
+    """Why nothing is signed, or a signature isn't that of a signer."""
+
+
+def keygen(*words: str | pathlib.Path, given: bytes = b"") -> str:
+    """What ssh-keygen prints; a NoSignature if it fails."""
+    command = ["ssh-keygen", *map(str, words)]
+    try:
+        done = subprocess.run(
+            command, input=given, stdout=subprocess.PIPE, stderr=subprocess.STDOUT
+        )
+    except FileNotFoundError as fault:
+        raise NoSignature(
+            "there is no ssh-keygen: install it, as by apt-get install openssh-client"
+        ) from fault
+    text = done.stdout.decode(errors="replace")
+    if done.returncode:
+        raise NoSignature(" ".join(text.split()))
+    return text
+
+
+def fingerprint(key: pathlib.Path) -> str:
+    """The fingerprint of a private key, or of a public one."""
+    try:
+        return keygen("-l", "-E", "sha256", "-f", key).split()[1]
+    except NoSignature as fault:
+        raise NoSignature(
+            f"{key} can't be used as a key: {fault}. Call it as a user who may read the key, or with --unsigned"
+        ) from fault
+
+
+def sign(folder: pathlib.Path, key: pathlib.Path) -> None:
+    """Writes the signature next to the checksums of a folder."""
+    try:
+        keygen("-Y", "sign", "-f", key, "-n", NAMESPACE, folder / SUMS)
+    except NoSignature as fault:
+        raise NoSignature(f"{key} doesn't sign: {fault}") from fault
+
+
+def want_canonical(text: str) -> None:
+    """Stops at a signature that reads as another one does, but has other bytes."""
+    body = text.removeprefix(BEGIN).removesuffix(END)
+    try:
+        raw = base64.b64decode(body.replace("\n", ""), validate=True)
+    except (binascii.Error, ValueError) as fault:
+        raise NoSignature(f"{SIGNATURE} is no signature: {fault}") from fault
+    letters = base64.b64encode(raw).decode()
+    lines = [letters[at : at + WIDTH] for at in range(0, len(letters), WIDTH)]
+    if text != "".join([BEGIN, *(f"{line}\n" for line in lines), END]):
+        raise NoSignature(f"{SIGNATURE} is not as ssh-keygen writes it")
+
+
+def signer(folder: pathlib.Path, sums: bytes, signers: pathlib.Path) -> str:
+    """Who of a file of allowed signers signed these checksums; a NoSignature if nobody did."""
+    signature = folder / SIGNATURE
+    try:
+        want_canonical(signature.read_bytes().decode("ascii"))
+        with open(signers, "rb"):
+            pass
+    except (OSError, UnicodeDecodeError) as fault:
+        raise NoSignature(str(fault)) from fault
+    words = ("-s", signature, "-f", signers)
+    try:
+        found = keygen("-Y", "find-principals", *words).splitlines()
+    except NoSignature as fault:
+        raise NoSignature(
+            f"its key is that of nobody in {signers}: ask the plant for its key by another way than with the evidence"
+        ) from fault
+    named = ("-I", found[0], "-n", NAMESPACE)
+    keygen("-Y", "verify", *words, *named, given=sums)
+    return found[0]
