@@ -401,7 +401,7 @@ def test_a_chain_of_twenty_files(files: Files) -> None:
     rows = "board,file\nB1,a.db\n" + rows
     assert files.answers("lot", "L1", *names) == rows
     # one file is open at a time
-    few = ["sh", "-c", 'ulimit -n 12; exec "$@"', "sh", files.chain, "lot", "L1", *names]
+    few = ["sh", "-c", 'ulimit -n 12; exec "$@"', "sh", str(files.chain), "lot", "L1", *names]
     done = subprocess.run(few, capture_output=True, text=True, cwd=files.folder)
     assert (done.returncode, done.stdout) == (0, rows)
     gap = [*names[:9], *names[10:]]
