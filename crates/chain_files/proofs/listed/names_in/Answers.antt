@@ -1,4 +1,4 @@
-use Rattle.desk_types.proofs.Common.{All, All-nil, List, None, Option, Some, [], ap, get_or, inr, length, length-map, map, map-append, refl, rules, subst, sym, ℕ, ◌++◌, ◌+◌, ◌<◌, ◌==◌, ◌∙◌, ◌∷◌, ◌≡◌}
+use Rattle.desk_types.proofs.Common.{All, All-nil, List, None, Option, Some, [], ap, arith, get_or, inr, length, length-map, map, map-append, refl, rules, subst, sym, ℕ, ◌++◌, ◌+◌, ◌-◌, ◌<◌, ◌==◌, ◌∙◌, ◌∷◌, ◌≡◌}
 use Rattle.std.proofs.Common.{tests}
 use Rattle.std.proofs.lemmas.Iterator.Consumers.{YieldsList-end, YieldsList-turn}
 use Rattle.std.proofs.lemmas.Iterator.Splits.{YieldsList-from_slice_split}
@@ -56,14 +56,16 @@ returns-in-None-read-clause-err c =
     (λ x b q k. search (rules, tests))) in
     let count : length c.loop-line.names.items ≡ i = ap length c.loop-line.invariant.lines
     ∙ length-map c.loop-line.yielded (λ line. line.now) in
-    let here : slice_get lines (length c.loop-line.names.items) ≡ Some line = ap (slice_get lines) count
+    let n = c.len.result in
+    let index : n + 1 - 1 ≡ i = omega (arith, c.len.ensures, count) in
+    let here : slice_get lines (n + 1 - 1) ≡ Some line = ap (slice_get lines) index
     ∙ slice_get-get_or lines i line turn.0 ∙ (λ j. Some (sym turn.1 j)) in
     inr (
-      length c.loop-line.names.items + 1,
+      n + 1,
       refl,
       line,
-      ap (λ (t : List ℕ). slice_get (slice_split (λ b. b == 10) t) (length c.loop-line.names.items))
-          (sym c.without_feed-text.ensures) ∙ here,
+      ap (λ (t : List ℕ). slice_get (slice_split (λ b. b == 10) t) (n + 1 - 1)) (sym c.without_feed-text.ensures)
+          ∙ here,
       c.in-None-read.ensures,
     )
 
