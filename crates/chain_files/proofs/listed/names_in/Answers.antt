@@ -60,14 +60,9 @@ returns-in-None-read-clause-err c =
     let index : n + 1 - 1 ≡ i = omega (arith, c.len.ensures, count) in
     let here : slice_get lines (n + 1 - 1) ≡ Some line = ap (slice_get lines) index
     ∙ slice_get-get_or lines i line turn.0 ∙ (λ j. Some (sym turn.1 j)) in
-    inr (
-      n + 1,
-      refl,
-      line,
-      ap (λ (t : List ℕ). slice_get (slice_split (λ b. b == 10) t) (n + 1 - 1)) (sym c.without_feed-text.ensures)
-          ∙ here,
-      c.in-None-read.ensures,
-    )
+    let at : List ℕ → Option (List ℕ) = λ t. slice_get (slice_split (λ b. b == 10) t) (n + 1 - 1) in
+    let same-line = ap at (sym c.without_feed-text.ensures) in
+    inr (n + 1, refl, (line, same-line ∙ here, c.in-None-read.ensures))
 
 pub returns-clause-ok : goal.returns-clause-ok
 returns-clause-ok c =
