@@ -118,7 +118,7 @@ Examples:
 ";
 
 /// The program's name and version.
-pub const VERSION: &str = "tracedesk-chain 0.3.0\n";
+pub const VERSION: &str = "tracedesk-chain 1.0.0\n";
 
 /// Reads the arguments.
 pub fn read_words<'a>(words: &'a [String]) -> ChainCommand<'a>
