@@ -1,6 +1,8 @@
-//! The bytes that reads and writes move.
+//! The bytes that reads and writes move, and the result of `feed` after a failed read or write.
 
+mod failing;
 mod lengths;
+mod lines;
 
 use desk_answers::{Answer, Owner, ServeFault, Served};
 use desk_feed::feed;
@@ -30,17 +32,19 @@ impl Owner for Full {
 
 /// The result of a run of `feed` over a reader and a writer.
 #[derive(Drop)]
-struct Fed<W> {
+struct Fed<R, W> {
+    input: R,
     output: W,
     reads: u64,
     ended: Result<Served, ServeFault>,
 }
 
-fn run_feed<R: Read + Drop, W: Write + Drop>(alloc: Global, input: R, output: W) -> Fed<W> {
+fn run_feed<R: Read + Drop, W: Write + Drop>(alloc: Global, input: R, output: W) -> Fed<R, W> {
     let (mut input, mut output) = (Wire::new(input), Wire::new(output));
     let ended = feed(alloc, &mut input, &mut output, &mut Full);
     let reads = input.reads();
     Fed {
+        input: input.into_inner(),
         output: output.into_inner(),
         reads,
         ended,

@@ -1,5 +1,6 @@
 //! The lengths of reads and writes. No clause fixes them: a reader may return one byte a call.
 
+use super::lines::{FIRST_RUN, lines_of};
 use super::run_feed;
 use desk_answers::send;
 use desk_types::Wire;
@@ -10,9 +11,6 @@ use std::test::Fail;
 
 /// The longest piece tried: longer than a block, and than one write of `send_line`.
 const LONGEST: usize = 70_000;
-
-const LINE: &str =
-    "{\"MessageName\":\"TraceDesk.PartDefined\",\"UniqueID\":\"u1\",\"Source\":\"S\",\"TimeStamp\":\"1970-01-01T00:00:00Z\",\"MessageBody\":{\"PartNumber\":\"P\"}}\n";
 
 /// A writer that accepts every byte, and counts its calls.
 #[derive(Drop)]
@@ -74,13 +72,14 @@ fn each_length_moves_in_one_call(rt: HostRuntime) -> Result<(), Fail> {
     Ok(())
 }
 
-/// 5,000 lines are some 700,000 bytes. A read takes a block of 65,536 bytes, one more read finds the end,
+/// 5,000 lines are some 800,000 bytes. A read takes a block of 65,536 bytes, one more read finds the end,
 /// and each answer goes out in one write.
 #[test]
 fn reads_take_blocks(rt: HostRuntime) -> Result<(), Fail> {
+    let five = lines_of(rt.alloc(), FIRST_RUN)?;
     let mut text = Vec::new(rt.alloc());
-    for _ in 0..5_000 {
-        text.extend_from_slice(LINE.as_bytes())?;
+    for _ in 0..1_000 {
+        text.extend_from_slice(five.as_slice())?;
     }
     let run = run_feed(rt.alloc(), text.as_slice(), Counted { calls: 0, bytes: 0 });
     let answered = run.ended.ok().ok_or("a fault")?.answered;
