@@ -43,12 +43,14 @@ SPENT = [
 # Three boards of three reels, of which the second is of the first one's lot, and the third of another.
 REELS = [
     *board("B7", 20),
-    "25 MaterialsScrapped M 1 998",
     "25 ReelReceived K3 P L1 1 1 0",
     "25 ReelReceived K2 P L2 1 1 0",
+    "25 ReelOpened K3",
+    "25 ReelOpened K2",
     "26 MaterialsSpliced M 1 K3",
+    "26 MaterialsSpliced M 1 K2",
+    "27 MaterialsScrapped M 1 998",
     *board("B8", 30),
-    "35 MaterialsSpliced M 1 K2",
     *board("B9", 40),
 ]
 LISTS = {
