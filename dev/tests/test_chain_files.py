@@ -16,6 +16,15 @@ from tracedesk_ops import stored
 
 pytestmark = pytest.mark.xdist_group("chain_files")
 
+
+def board(name: str, minute: int) -> list[str]:
+    return [
+        f"{minute} WorkStarted M {name}",
+        f"{minute + 1} MaterialsInstalled M {name} 1 R1",
+        f"{minute + 2} WorkCompleted M {name}",
+    ]
+
+
 SETUP = [
     "0 PartDefined P",
     "0 SheetDefined PR M 1 1 P 1 R1",
@@ -31,20 +40,36 @@ SPENT = [
     "16 MaterialsSpliced M 1 K2",
     "17 MaterialsScrapped M 1 999",
 ]
+# Three boards of three reels, of which the second is of the first one's lot, and the third of another.
+REELS = [
+    *board("B7", 20),
+    "25 MaterialsScrapped M 1 998",
+    "25 ReelReceived K3 P L1 1 1 0",
+    "25 ReelReceived K2 P L2 1 1 0",
+    "26 MaterialsSpliced M 1 K3",
+    *board("B8", 30),
+    "35 MaterialsSpliced M 1 K2",
+    *board("B9", 40),
+]
+LISTS = {
+    "K1.txt": "K1",
+    "K2.txt": "K2\n",
+    "K3.txt": "K3\n",
+    "both.txt": "K1\nK2\nK1\n",
+    "K2-K3.txt": "K3\nK2\nK9\n",
+    "none.txt": "",
+    "gap.txt": "K1\n\nK2\n",
+    "end.txt": "K1\n\n",
+    "windows.txt": "K1\r\n",
+    "long.txt": "K1\n" * 400_000,
+}
 ROWS = "board,file\nB1,a.db\nB2,b.db\nB3,b.db\nB4,c.db\n"
 PIECES = "board,designator,part,lot,reel,machine,slot,overdue,minute,file\n"
 ONE = "B1,R1,P,L1,K1,M,1,no,11,a.db\n"
 OF_B = "B2,R1,P,L1,K1,M,1,no,21,b.db\nB3,R1,P,L1,K1,M,1,no,31,b.db\n"
+OF_R = "B8,R1,P,L1,K3,M,1,no,31,r.db\nB9,R1,P,L2,K2,M,1,no,41,r.db\n"
 WITHOUT = "--without-marks"
 ALL = ["a.db", "b.db", "c.db"]
-
-
-def board(name: str, minute: int) -> list[str]:
-    return [
-        f"{minute} WorkStarted M {name}",
-        f"{minute + 1} MaterialsInstalled M {name} 1 R1",
-        f"{minute + 2} WorkCompleted M {name}",
-    ]
 
 
 class Ended(NamedTuple):
@@ -70,6 +95,9 @@ class Files:
         self.say("same.db", "same", SETUP + board("B1", 10))
         self.carry_on("a.db", "fork.db", board("B5", 20))
         self.carry_on("a.db", "e.db", SPENT + board("B1", 20))
+        self.carry_on("a.db", "r.db", REELS)
+        for name, text in LISTS.items():
+            (folder / name).write_text(text)
 
     def copy(self, old: str, new: str) -> None:
         shutil.copy(self.folder / old, self.folder / new)
@@ -137,6 +165,13 @@ def files(
         (["board", "B2", *ALL], "lot,file\nL1,b.db\n"),
         (["reel", "K1", *ALL], ROWS),
         (["reel", "K2", *ALL], "board,file\n"),
+        (["reels", "K1.txt", *ALL], ROWS),
+        (["reels", "both.txt", *ALL], ROWS),
+        (["reels", "K2.txt", *ALL], "board,file\n"),
+        (["lot", "L1", "--part", "P", *ALL], ROWS),
+        (["lot", "L1", "--part", "Q", *ALL], "board,file\n"),
+        (["lot", "L1", "--part", "P", "--pieces", "a.db"], PIECES + ONE),
+        (["lot", "--part", "P", "--pieces", "--", "L1", "a.db"], PIECES + ONE),
         (["lot", "L1", "--pieces", "a.db", "b.db"], PIECES + ONE + OF_B),
         (["board", "B4", "--pieces", *ALL], PIECES + "B4,R1,P,L1,K1,M,1,no,41,c.db\n"),
         (["reel", "K1", "--pieces", "a.db"], PIECES + ONE),
@@ -148,6 +183,13 @@ def files(
         (["board", "B1", "a.db", "e.db"], "lot,file\nL1,a.db\nL2,e.db\n"),
         (["lot", "L2", "a.db", "e.db"], "board,file\nB1,e.db\n"),
         (["reel", "K2", "a.db", "e.db"], "board,file\nB1,e.db\n"),
+        # two reels of one lot, and one of another
+        (["reel", "K3", "a.db", "r.db"], "board,file\nB8,r.db\n"),
+        (["reels", "K3.txt", "a.db", "r.db"], "board,file\nB8,r.db\n"),
+        (["reels", "both.txt", "a.db", "r.db"], "board,file\nB1,a.db\nB7,r.db\nB9,r.db\n"),
+        (["reels", "K2-K3.txt", "a.db", "r.db"], "board,file\nB8,r.db\nB9,r.db\n"),
+        (["reels", "--pieces", "--", "K2-K3.txt", "a.db", "r.db"], PIECES + OF_R),
+        (["lot", "L1", "a.db", "r.db"], "board,file\nB1,a.db\nB7,r.db\nB8,r.db\n"),
         (
             ["board", "B1", "--pieces", "a.db", "e.db"],
             PIECES + ONE + "B1,R1,P,L2,K2,M,1,no,21,e.db\n",
@@ -185,7 +227,12 @@ def test_a_file_names_the_one_before_it_so_no_gap_and_no_other_order_has_an_answ
 
 
 @pytest.mark.parametrize(
-    "words", [["check", "--from-middle", "b.db", "c.db", "a.db"], ["check", "a.db", "same.db"]]
+    "words",
+    [
+        ["check", "--from-middle", "b.db", "c.db", "a.db"],
+        ["check", "a.db", "same.db"],
+        ["check", "a.db", "a.db"],
+    ],
 )
 def test_a_file_that_was_begun_from_none_comes_first(words: list[str], files: Files) -> None:
     files.stops(5, f"{words[-1]}: begun from no file", *words)
@@ -203,6 +250,7 @@ def test_a_file_that_was_begun_from_none_comes_first(words: list[str], files: Fi
             "a.db: differs minute 42 none",
         ),
         (["check", WITHOUT, "a.db", "same.db"], "same.db: differs minute 12 none"),
+        (["check", WITHOUT, "a.db", "a.db"], "a.db: differs minute 12 none"),
     ],
 )
 def test_without_marks_the_desks_alone_tell_a_gap_where_they_do(
@@ -248,8 +296,7 @@ def test_a_mark_has_24_digits_or_more_and_all_are_compared(
         assert files.answers("lot", "L1", "a.db", file) == f"board,file\nB1,a.db\nB6,{file}\n"
 
 
-def test_a_file_is_locked_until_the_end_and_has_to_be_a_desk(files: Files) -> None:
-    files.stops(3, "a.db: Unavailable", "check", "a.db", "a.db")
+def test_each_file_has_to_be_a_desk(files: Files) -> None:
     files.stops(3, "none.db: NotADesk", "check", "a.db", "none.db")
 
 
@@ -290,8 +337,16 @@ def test_a_line_for_each_file_has_its_mark(files: Files) -> None:
         "lot L1 --odd a.db",
         "lot L1 --pieces --pieces a.db",
         "lot -- L1",
+        "lot L1 --part a.db",
+        "lot L1 --part --pieces a.db",
+        "lot L1 --part P --part P a.db",
+        "lot L1 --pieces --part P a.db",
         "board B1",
+        "board B1 --part P a.db",
         "reel",
+        "reels K1.txt",
+        "reels --pieces a.db",
+        "reels K1.txt --part P a.db",
         "alike a.db",
         "alike a.db --b",
         "alike a.db b.db c.db",
@@ -299,6 +354,24 @@ def test_a_line_for_each_file_has_its_mark(files: Files) -> None:
 )
 def test_a_mistaken_command_line_has_status_2(words: str, files: Files) -> None:
     assert files.asked(*words.split())[:2] == (2, "")
+
+
+@pytest.mark.parametrize(
+    "name, fault",
+    [
+        ("no-list.txt", "the list can't be read"),
+        ("none.txt", "line 1 is no name of a reel"),
+        ("gap.txt", "line 2 is no name of a reel"),
+        ("end.txt", "line 2 is no name of a reel"),
+        ("windows.txt", "line 1 is no name of a reel"),
+        ("a.db", "line 1 is no name of a reel"),
+        ("long.txt", "the list is longer than 1048576 bytes"),
+    ],
+)
+def test_a_list_has_one_name_a_line_or_no_file_is_opened(
+    name: str, fault: str, files: Files
+) -> None:
+    files.stops(3, f"{name}: {fault}", "reels", name, "missing.db")
 
 
 def test_an_empty_name_has_status_2(files: Files) -> None:
@@ -325,7 +398,12 @@ def test_a_chain_of_twenty_files(files: Files) -> None:
     for place in range(1, 20):
         files.carry_on(names[place - 1], names[place], board(f"N{place}", 20 + 10 * place))
     rows = "".join(f"N{place},n{place}.db\n" for place in range(1, 20))
-    assert files.answers("lot", "L1", *names) == "board,file\nB1,a.db\n" + rows
+    rows = "board,file\nB1,a.db\n" + rows
+    assert files.answers("lot", "L1", *names) == rows
+    # one file is open at a time
+    few = ["sh", "-c", 'ulimit -n 12; exec "$@"', "sh", str(files.chain), "lot", "L1", *names]
+    done = subprocess.run(few, capture_output=True, text=True, cwd=files.folder)
+    assert (done.returncode, done.stdout) == (0, rows)
     gap = [*names[:9], *names[10:]]
     files.stops(5, f"n10.db: begun from {files.checksum('n9.db')[:24]}", "lot", "L1", *gap)
     files.stops(1, "n10.db: differs minute 102 112", "lot", "L1", WITHOUT, *gap)

@@ -12,7 +12,7 @@ for clients in (HERE.parents[2] / "clients/python", HERE.parents[2] / "python3/d
         sys.path.append(str(clients))
         break
 
-__version__ = "0.3.0"
+__version__ = "1.0.0"
 
 
 def reader_of(text: str | None) -> argparse.ArgumentParser:

@@ -54,7 +54,7 @@ from .words import (
     WorkStarted,
 )
 
-__version__ = "0.3.0"
+__version__ = "1.0.0"
 __all__ = [
     "Accepted",
     "Answer",

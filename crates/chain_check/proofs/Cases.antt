@@ -16,7 +16,7 @@ use Rattle.desk_laws.proofs.Common.{WorkStarted}
 use Rattle.chain_check.specs.Counted.{IsChainBy}
 use Rattle.chain_check.specs.Rows.{answer_over, rows_over}
 use Rattle.chain_check.specs.declared.question.Question.TheVariants.{Names}
-use Rattle.chain_check.specs.declared.question.Subject.TheVariants.{Board, Lot, Reel}
+use Rattle.chain_check.specs.declared.question.Subject.TheVariants.{Board, Lot, Reels}
 use Rattle.desk_laws.proofs.AfterCommands.{judged-run}
 use Rattle.desk_laws.proofs.AlikeCases.{new, old, with}
 use Rattle.desk_laws.proofs.ChainCases.{the_files_are_a_chain, the_second_file_is_carried}
@@ -318,8 +318,8 @@ the_lots_of_one_name_stay_apart = (refl, refl, refl, refl)
 
 -- A question about the reel's name covers both reels.
 pub one_name_has_the_boards_of_both_reels : (a b : List ℕ)
-    → (rows_over (Names (Lot L1)) (a ∷ b ∷ []) one_name ≡ (B1 ∷ a ∷ []) ∷ [])
-    × (rows_over (Names (Reel K1)) (a ∷ b ∷ []) one_name ≡ (B1 ∷ a ∷ []) ∷ (B2 ∷ b ∷ []) ∷ [])
+    → (rows_over (Names (Lot L1 None)) (a ∷ b ∷ []) one_name ≡ (B1 ∷ a ∷ []) ∷ [])
+    × (rows_over (Names (Reels (K1 ∷ []))) (a ∷ b ∷ []) one_name ≡ (B1 ∷ a ∷ []) ∷ (B2 ∷ b ∷ []) ∷ [])
 unfolding left_of takes_of install_picks tape_of
 one_name_has_the_boards_of_both_reels a b = (refl, refl)
 

@@ -1,7 +1,7 @@
 -- The rows over a chain are its recall.
 use Rattle.desk_types.proofs.Common.{[], ◌++◌, ◌||◌, ◌↔◌, ◌∙◌, ◌∷◌, ◌≡◌, Any, Any-from_list_any, ap}
 use Rattle.desk_types.proofs.Common.{boards_of, Bool, Contains, get_or, History, length, List, list_any}
-use Rattle.desk_types.proofs.Common.{list_any-append, list_any-from_Any, map, map-append, Name, or_comm, refl}
+use Rattle.desk_types.proofs.Common.{list_any-append, list_any-from_Any, map, map-append, Name, None, or_comm, refl}
 use Rattle.desk_types.proofs.Common.{same, sym, true, ℕ}
 use Rattle.desk_laws.proofs.Common.{boards_over, DeskFile, IsChain, lots_over}
 use Rattle.chain_check.specs.Rows.{first_field, name_row, names_of, pieces_of, rows_over}
@@ -12,17 +12,17 @@ use Rattle.desk_laws.proofs.ChainLots.{boards-union, lots-union}
 use Rattle.desk_laws.proofs.Mounts.{from-has, has, has-from}
 
 -- The names of a file, and those in the rows of all files.
-abbrev names-in : Subject → DeskFile → List Name
+abbrev pub names-in : Subject → DeskFile → List Name
 names-in subject file = names_of subject (pieces_of subject file.whole)
 
-abbrev names-over : Subject → List (List ℕ) → List DeskFile → List Name
+abbrev pub names-over : Subject → List (List ℕ) → List DeskFile → List Name
 names-over subject paths files = map first_field (rows_over (Names subject) paths files)
 
 first-fields : (path : List ℕ) (names : List Name) → map first_field (map (name_row path) names) ≡ names
 first-fields path [] = refl
 first-fields path (name ∷ names) = ap (λ (ns : List Name). name ∷ ns) (first-fields path names)
 
-has-over : (subject : Subject) (paths : List (List ℕ)) (files : List DeskFile) (name : Name) → has (names-over subject paths files) name ≡ list_any (λ (f : DeskFile). has (names-in subject f) name) files
+pub has-over : (subject : Subject) (paths : List (List ℕ)) (files : List DeskFile) (name : Name) → has (names-over subject paths files) name ≡ list_any (λ (f : DeskFile). has (names-in subject f) name) files
 has-over subject paths [] name = refl
 has-over subject paths (file ∷ older) name =
     let path = get_or paths (length older) [] in
@@ -48,8 +48,8 @@ over-rows subject paths files all name union = (
 )
 
 pub found-boards : (files : List DeskFile) (paths : List (List ℕ)) (lot board : Name) → IsChain files
-    → Contains (boards_over files lot) board ↔ Contains (map first_field (rows_over (Names (Lot lot)) paths files)) board
-found-boards files paths lot board chain = over-rows (Lot lot) paths files (boards_over files lot) board (boards-union files lot board chain)
+    → Contains (boards_over files lot) board ↔ Contains (map first_field (rows_over (Names (Lot lot None)) paths files)) board
+found-boards files paths lot board chain = over-rows (Lot lot None) paths files (boards_over files lot) board (boards-union files lot board chain)
 
 pub found-lots : (files : List DeskFile) (paths : List (List ℕ)) (board lot : Name) → IsChain files
     → Contains (lots_over files board) lot ↔ Contains (map first_field (rows_over (Names (Board board)) paths files)) lot

@@ -2,6 +2,7 @@ pub mod Cases
 pub mod Covered
 pub mod EqualLists
 pub mod FoundBoards
+pub mod FoundReels
 pub mod Gaps
 pub mod Refuted
 pub mod SameMinutes

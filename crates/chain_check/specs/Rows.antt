@@ -1,10 +1,13 @@
 -- The rows of the answer over a chain.
-use Rattle.std.specs.Prelude.{ℕ, List, [], ◌∷◌, ◌++◌, Bool, length, map, get_or, codes, decimal}
-use Rattle.std.specs.List.{filter, flat_map}
+use Rattle.std.specs.Prelude.{ℕ, List, [], ◌∷◌, ◌++◌, ◌&&◌, Bool, Some, None, length, map, get_or, codes, decimal}
+use Rattle.std.specs.List.{filter, filter_map, flat_map, list_any}
+use Rattle.std.specs.Option.{option_map}
+use Rattle.desk_types.specs.declared.command.Receipt.{Receipt}
 use Rattle.desk_types.specs.declared.placement.Placement.{Placement}
 use Rattle.desk_types.specs.Id.{Name, same}
 use Rattle.desk_types.specs.History.{History, desk_minute}
 use Rattle.desk_types.specs.Placements.{placements_of, set_of}
+use Rattle.desk_types.specs.Setup.{receipt_of}
 use Rattle.trace_reports.specs.Sets.{Fields}
 use Rattle.trace_reports.specs.Csv.{csv_text, record_text}
 use Rattle.trace_reports.specs.Traces.{yes_or_no}
@@ -12,20 +15,37 @@ use Rattle.desk_laws.specs.Chain.{DeskFile}
 use Rattle.chain_check.specs.declared.question.Question.{Question}
 use Rattle.chain_check.specs.declared.question.Question.TheVariants.{Chain, Names, Pieces}
 use Rattle.chain_check.specs.declared.question.Subject.{Subject}
-use Rattle.chain_check.specs.declared.question.Subject.TheVariants.{Lot, Board, Reel}
+use Rattle.chain_check.specs.declared.question.Subject.TheVariants.{Lot, Board, Reels}
 use Rattle.chain_check.specs.declared.rows.ChainFile.{ChainFile}
 use Rattle.chain_check.specs.Texts.{minute_text}
 
 -- ---- pieces and names
 
--- Whether the piece is of the lot or reel, or on the board.
+-- Whether the piece is of the lot, and of the part if one is named; or on the board; or of one of the reels.
 abbrev pub is_of : Subject → Placement → Bool
-is_of (Lot lot) p = same p.lot lot
+is_of (Lot lot None) p = same p.lot lot
+is_of (Lot lot (Some part)) p = same p.lot lot && same p.part part
 is_of (Board board) p = same p.board board
-is_of (Reel reel) p = same p.reel reel
+is_of (Reels reels) p = list_any (same p.reel) reels
 
--- Its pieces in a history, by number and then by place.
+-- The lots of those of these reels that were received.
+abbrev pub lots_received : List Name → History → List Name
+lots_received reels H =
+    filter_map (λ reel. option_map (λ (r : Receipt). r.lot) (receipt_of H reel)) reels
+
+-- Each of them once, in byte order.
+abbrev pub lots_among : List Name → History → List Name
+lots_among reels H = set_of (lots_received reels H)
+
+-- The pieces of these reels, lot by lot; those of a lot by number and then by place.
+abbrev pub reels_pieces : List Name → History → List Placement
+reels_pieces reels H =
+    flat_map (λ lot. filter (is_of (Reels reels)) (filter (is_of (Lot lot None)) (placements_of H)))
+    (lots_among reels H)
+
+-- Its pieces in a history: of a lot or on a board by number and then by place.
 abbrev pub pieces_of : Subject → History → List Placement
+pieces_of (Reels reels) H = reels_pieces reels H
 pieces_of subject H = filter (is_of subject) (placements_of H)
 
 -- The lot of a piece on the board, or the board of any other piece.
@@ -108,3 +128,9 @@ rows_text rows = flat_map record_text rows
 -- The first column of a row.
 abbrev pub first_field : Fields → List ℕ
 first_field row = get_or row 0 []
+
+-- What is asked of each placed piece of all files: its lot if it is on the board, or its board if it is of the lot or of one
+-- of the reels.
+abbrev pub named_over : Subject → List DeskFile → List Name
+named_over subject files = flat_map (λ (f : DeskFile). map (name_of subject)
+    (filter (is_of subject) (placements_of f.whole))) files

@@ -1,24 +1,29 @@
 //! The laws of a recall over a chain. They are for proofs, and do nothing when they run.
 
-ghost use Rattle.std.specs.Prelude.{◌≡◌, ◌↔◌, ◌+◌, ◌<◌, ℕ, List, [], ◌∷◌, All, Contains, get_or, map};
+ghost use Rattle.std.specs.Prelude.{◌≡◌, ◌↔◌, ◌+◌, ◌<◌, ℕ, List, None, [], ◌∷◌, All, Contains, get_or, map};
 ghost use Rattle.desk_types.specs.Id.{Name};
 ghost use Rattle.desk_types.specs.History.{History, now_of, desk_minute};
 ghost use Rattle.desk_types.specs.Pieces.{left_of, found_of, placed_of, scrapped_of};
 ghost use Rattle.desk_laws.specs.Chain.{DeskFile, IsChain, Carries, boards_over, lots_over, new_in};
 ghost use Rattle.trace_reports.specs.Sets.{Fields};
 ghost use Rattle.chain_check.specs.declared.question.Question.TheVariants.{Names};
+ghost use Rattle.chain_check.specs.declared.question.Subject.{Subject};
 ghost use Rattle.chain_check.specs.declared.question.Subject.TheVariants.{Board, Lot};
 ghost use Rattle.chain_check.specs.Counted.{Moves};
-ghost use Rattle.chain_check.specs.Rows.{first_field, rows_over};
+ghost use Rattle.chain_check.specs.Rows.{first_field, named_over, rows_over};
 
-/// The rows over a chain are the recall over it: a board is in the first column exactly if it is among the boards of the
-/// lot over all files, and a lot exactly if it is among the lots of the board. Any begins by which the same whole
+/// The rows over a chain are the recall over it: the first column has exactly what is asked of each placed piece of all
+/// files. A board is there exactly if it is among the boards of the lot, and a lot if it is among those of the board. Any begins by which the same whole
 /// histories are a chain give the same recall, so no fault in where a begin is said to end can lose a board.
 pub fn recalls_find_all_boards()
+    ensures named { (subject : Subject) (files : List DeskFile) (paths : List (List ℕ))
+        → (name : Name) → IsChain files
+        → Contains (named_over subject files) name
+        ↔ Contains (map first_field (rows_over (Names subject) paths files)) name }
     ensures all { (files : List DeskFile) (paths : List (List ℕ)) (lot board : Name)
         → IsChain files
         → Contains (boards_over files lot) board
-        ↔ Contains (map first_field (rows_over (Names (Lot lot)) paths files)) board }
+        ↔ Contains (map first_field (rows_over (Names (Lot lot None)) paths files)) board }
     ensures lots { (files : List DeskFile) (paths : List (List ℕ)) (board lot : Name)
         → IsChain files
         → Contains (lots_over files board) lot

@@ -67,8 +67,8 @@ fn write_names_header(writer: &mut TextWriter, subject: &Subject) -> Result<(), 
 {
     match subject {
         Subject::Board(_) => write_fields(writer, &[b"lot", b"file"]),
-        Subject::Lot(_) => write_fields(writer, &[b"board", b"file"]),
-        Subject::Reel(_) => write_fields(writer, &[b"board", b"file"]),
+        Subject::Lot { .. } => write_fields(writer, &[b"board", b"file"]),
+        Subject::Reels(_) => write_fields(writer, &[b"board", b"file"]),
     }
 }
 
@@ -147,8 +147,8 @@ fn name_of(subject: &Subject, piece: &Placement) -> Id
 {
     match subject {
         Subject::Board(_) => piece.lot,
-        Subject::Lot(_) => piece.board,
-        Subject::Reel(_) => piece.board,
+        Subject::Lot { .. } => piece.board,
+        Subject::Reels(_) => piece.board,
     }
 }
 

@@ -1,17 +1,18 @@
--- The pieces of a lot or reel, or on a board, by what a store's calls return.
-use Rattle.desk_types.proofs.Common.{[], ◌||◌, ◌∙◌, ◌∷◌, ◌≡◌, AllByRecursion, ap, boards_of, Bool, Contains}
-use Rattle.desk_types.proofs.Common.{Contains-from_any, false, filter, History, if◌then◌else◌, is_some}
-use Rattle.desk_types.proofs.Common.{IsJudged, List, list_any-from_Contains, map, Name, nat_list_eq_equiv}
-use Rattle.desk_types.proofs.Common.{None, Option, option_map, option_map_or, placements_of, receipt_of}
-use Rattle.desk_types.proofs.Common.{recursion_from_All, refl, same, same-refl, same-true, Some, subst, sym}
+-- The pieces of a lot or of reels, or on a board, by what a store's calls return.
+use Rattle.desk_types.proofs.Common.{[], ◌&&◌, ◌||◌, ◌∙◌, ◌∷◌, ◌≡◌, AllByRecursion, ap, boards_of, Bool, by_name, cons_option, Contains}
+use Rattle.desk_types.proofs.Common.{Contains-from_any, false, filter, History, if◌then◌else◌, is_at, is_some}
+use Rattle.desk_types.proofs.Common.{IsJudged, List, list_any, list_any-from_Contains, list_any-same, map, Name, nat_list_eq_equiv}
+use Rattle.desk_types.proofs.Common.{None, Option, option_map, option_to_list, placements_of, receipt_of}
+use Rattle.desk_types.proofs.Common.{recursion_from_All, refl, same, same-refl, same-true, set_of, Some, subst, sym}
 use Rattle.desk_types.proofs.Common.{true, unwrap_or}
+use Rattle.desk_types.proofs.Keys.{is_at-by_name}
 use Rattle.desk_laws.proofs.Common.{IsRightlyPlaced, Placement, Receipt, Two}
 use Rattle.line_tables.proofs.Common.{all_weaker, filter_none}
 use Rattle.chain_check.specs.{Rows.is_of, Rows.pieces_of, declared.question.Subject.TheVariants.Board}
 use Rattle.chain_check.specs.{declared.question.Subject.TheVariants.Lot}
-use Rattle.chain_check.specs.{declared.question.Subject.TheVariants.Reel}
-use Rattle.desk_laws.proofs.{InstalledPieces.rightly-placed, Mounts.has, NameSets.has-set}
-use Rattle.desk_laws.proofs.{NameSets.traces-agree}
+use Rattle.chain_check.specs.{declared.question.Subject.TheVariants.Reels}
+use Rattle.desk_laws.proofs.{InstalledPieces.rightly-placed, Mounts.has}
+use Rattle.desk_laws.proofs.{NameSets.has-set, NameSets.traces-agree}
 use Rattle.line_traces.proofs.{Converse.names-told, Converse.told-all, Converse.told-converse}
 use Rattle.line_traces.proofs.{PlacedColumns.receipt-there, StartedAndReceived.receipt-lot}
 use Rattle.line_traces.specs.Pieces.{AreConverse, board_trace, is_board, is_lot, lot_board_names, lot_trace}
@@ -36,9 +37,9 @@ unlike is_known a b there lacks = by (same a b) refl
 its-lot : (H : History) → IsJudged Two H → (p : Placement) → IsRightlyPlaced H p → is_lot H p.lot ≡ true
 its-lot H judged p right = receipt-lot H p.reel p.lot right.receipt (receipt-there H judged p right) (ap (λ n. same n p.lot) (sym right.lot) ∙ same-refl p.lot)
 
-pub lot-pieces : (H : History) (lot : Name) → IsJudged Two H → unwrap_or (lot_trace H lot) [] ≡ pieces_of (Lot lot) H
+pub lot-pieces : (H : History) (lot : Name) → IsJudged Two H → unwrap_or (lot_trace H lot) [] ≡ pieces_of (Lot lot None) H
 lot-pieces H lot judged =
-    told-all (is_lot H lot) (pieces_of (Lot lot) H) (λ lacks. none-placed H judged (is_of (Lot lot)) (λ p right. unlike (is_lot H) p.lot lot (its-lot H judged p right) lacks))
+    told-all (is_lot H lot) (pieces_of (Lot lot None) H) (λ lacks. none-placed H judged (is_of (Lot lot None)) (λ p right. unlike (is_lot H) p.lot lot (its-lot H judged p right) lacks))
 
 -- ---- boards
 
@@ -67,37 +68,26 @@ none-on H board judged lacks = at (pieces_on H board) refl
 pub board-pieces : (H : History) (board : Name) → IsJudged Two H → unwrap_or (board_trace H board) [] ≡ pieces_of (Board board) H
 board-pieces H board judged = told-all (is_board H board) (pieces_of (Board board) H) (none-on H board judged)
 
+-- ---- a part of a lot
+
+pub kept-twice : {X : Type 0} (p q : X → Bool) (xs : List X) → filter q (filter p xs) ≡ filter (λ x. p x && q x) xs
+kept-twice p q [] = refl
+kept-twice p q (x ∷ xs) = by (p x) (q x) refl (kept-twice p q xs)
+  where
+    by : (a b : Bool) → q x ≡ b → filter q (filter p xs) ≡ filter (λ x. p x && q x) xs
+        → filter q (if a then x ∷ filter p xs else filter p xs) ≡ (if a && b then x ∷ filter (λ x. p x && q x) xs else filter (λ x. p x && q x) xs)
+    by true true its rest = ap (λ c. if c then x ∷ filter q (filter p xs) else filter q (filter p xs)) its ∙ ap (λ ys. x ∷ ys) rest
+    by true false its rest = ap (λ c. if c then x ∷ filter q (filter p xs) else filter q (filter p xs)) its ∙ rest
+    by false b its rest = rest
+
 -- ---- reels
 
-pub reel-none : (H : History) (reel : Name) → IsJudged Two H → receipt_of H reel ≡ None → pieces_of (Reel reel) H ≡ []
-reel-none H reel judged none =
-    none-placed H judged (is_of (Reel reel)) (λ p right. unlike (λ n. is_some (receipt_of H n)) p.reel reel (ap is_some (receipt-there H judged p right)) (ap is_some none))
+abbrev pub lot-in : History → Name → Option Name
+lot-in H reel = option_map (λ (r : Receipt). r.lot) (receipt_of H reel)
 
-filter-both : {X : Type 0} (p q : X → Bool) (xs : List X) → AllByRecursion (λ x. q x ≡ true → p x ≡ true) xs → filter q (filter p xs) ≡ filter q xs
-filter-both p q [] all = refl
-filter-both p q (x ∷ xs) (first, all) = by (p x) (q x) refl refl (filter-both p q xs all)
-  where
-    by : (a b : Bool) → p x ≡ a → q x ≡ b → filter q (filter p xs) ≡ filter q xs
-        → filter q (if a then x ∷ filter p xs else filter p xs) ≡ (if b then x ∷ filter q xs else filter q xs)
-    by true b has its rest = ap (λ c. if c then x ∷ filter q (filter p xs) else filter q (filter p xs)) its ∙ ap (λ ys. if b then x ∷ ys else ys) rest
-    by false true has its rest = absurd (let passes = first its in cc)
-    by false false has its rest = rest
+pub one-more : {X : Type 0} (o : Option X) → option_to_list o ≡ cons_option o []
+one-more None = refl
+one-more (Some x) = refl
 
-pub reel-some : (H : History) (reel : Name) (r : Receipt) → IsJudged Two H → receipt_of H reel ≡ Some r → filter (is_of (Reel reel)) (pieces_of (Lot r.lot) H) ≡ pieces_of (Reel reel) H
-reel-some H reel r judged is = filter-both (is_of (Lot r.lot)) (is_of (Reel reel)) (placements_of H) (all_weaker (IsRightlyPlaced H) _ each (placements_of H) (all-right H judged))
-  where
-    each : (p : Placement) → IsRightlyPlaced H p → is_of (Reel reel) p ≡ true → is_of (Lot r.lot) p ≡ true
-    each p right its =
-        let one : Some right.receipt ≡ Some r = sym (receipt-there H judged p right) ∙ ap (receipt_of H) (same-true p.reel reel its) ∙ is in
-        let lot : right.receipt.lot ≡ r.lot = ap (λ o. option_map_or (λ (r : Receipt). r.lot) o []) one in
-        ap (λ n. same p.lot n) (sym (right.lot ∙ lot)) ∙ same-refl p.lot
-
--- ---- a receipt by its lot
-
-pub none-mapped : {X Y : Type 0} (f : X → Y) (o : Option X) → option_map f o ≡ None → o ≡ None
-none-mapped f None is = refl
-none-mapped f (Some x) is = cc
-
-pub some-mapped : {X Y : Type 0} (f : X → Y) (o : Option X) (y : Y) → option_map f o ≡ Some y → (x : X) × (o ≡ Some x) × (f x ≡ y)
-some-mapped f None y is = absurd cc
-some-mapped f (Some x) y is = (x, refl, cc)
+pub reels-test : (keys names : List Name) → keys ≡ set_of names → (p : Placement) → list_any (is_at (by_name p.reel)) keys ≡ is_of (Reels names) p
+reels-test keys names is p = list_any-same (is_at (by_name p.reel)) (same p.reel) (is_at-by_name p.reel) keys ∙ ap (list_any (same p.reel)) is ∙ has-set names p.reel

@@ -1,5 +1,5 @@
 -- The files of a recall: their contents, and why there is no answer.
-use Rattle.std.specs.Prelude.{◌≡◌, ◌<◌, ◌⊎◌, ◌↔◌, ⊤, ℕ, Bool, true, false, Option, Some, None, List, [], ◌∷◌, ◌++◌, get_or, length, string_bytes, All, Vec}
+use Rattle.std.specs.Prelude.{◌≡◌, ◌<◌, ◌⊎◌, ◌↔◌, ⊤, ℕ, Bool, true, false, Option, Some, None, List, [], ◌∷◌, ◌++◌, get_or, length, map, string_bytes, All, Vec}
 use Rattle.sqlite_disk.specs.declared.Disk as disk
 use Rattle.sqlite_disk.specs.declared.Files.{Files}
 use Rattle.sqlite_disk.specs.declared.start.Start as start
@@ -50,7 +50,7 @@ placed image paths place = image (get_or paths place []) place
 
 -- The first to be closed comes first.
 abbrev pub files_in : {D : Type 0} → ClosedChain D → List (Files D)
-files_in closed = closed.files.items
+files_in closed = map (λ (f, _). f) closed.files.items
 
 -- No disk lied until its file was closed, and each file held only a desk's tables, or those first.
 pub record AreHonest {D : Type 0} (g : disk.Ghosts D) (image : ℕ → Image)

@@ -1,5 +1,5 @@
 -- The effect of a run of the program.
-use Rattle.std.specs.Prelude.{◌≡◌, ◌⊎◌, ℕ, true, Option, List, [], length}
+use Rattle.std.specs.Prelude.{◌≡◌, ◌⊎◌, ◌++◌, ℕ, true, Option, List, [], codes, length}
 use Rattle.std.specs.Io.KnownBytes.{Appends}
 use Rattle.sqlite_disk.specs.declared.Disk as disk
 use Rattle.sqlite_disk.specs.declared.Files.{Files}
@@ -18,7 +18,16 @@ use Rattle.chain_files.specs.declared.marks.Links.{Links}
 use Rattle.chain_files.specs.Files.{AreHonest, HoldEach, IsStop, oldest_first, placed}
 use Rattle.chain_files.specs.Marks.{AreLinked}
 use Rattle.chain_files.specs.Stops.{status_of, stop_line, without_marks_line}
+use Rattle.chain_files.specs.Listed.{IsBadList, IsQuestion, list_fault_text}
 use Rattle.chain_files.specs.Words.{AsksForHelp, AsksForVersion, AsksOf, AsksToCompare, MeanNothing}
+use Rattle.chain_files.specs.declared.listed.ListFault.{ListFault}
+use Rattle.chain_files.specs.declared.words.Asked.{Asked}
+
+-- The words ask this question of these files, by the content of the file that they name as a list.
+abbrev pub AsksFor : (List ℕ → Option (List ℕ)) → List (List ℕ) → Question → Links
+    → List (List ℕ) → Type 0
+AsksFor holds words question links paths = (asked : Asked) × (word : List ℕ)
+    × AsksOf words asked word links paths × IsQuestion (holds word) asked question
 
 -- The files of these paths held, and still hold, lawful histories that are a chain, and this is the answer over them.
 pub record IsAnswer {D : Type 0} (g : disk.Ghosts D) (image : ℕ → Image) (closed : List (Files D))
@@ -66,12 +75,12 @@ abbrev pub AsksForText : List (List ℕ) → Type 0
 AsksForText words = AsksForHelp words ⊎ AsksForVersion words
 
 -- Status 0 of a recall or a text: the answer was written, or the text that was asked for. No file was opened for a text.
-abbrev pub Done : {D W E : Type 0} → disk.Ghosts D → (List ℕ → ℕ → Image) → List (Files D)
-    → List (List ℕ) → (W → Option (List ℕ)) → (E → Option (List ℕ)) → Wire W → Wire W → Wire E
-    → Type 0
-Done g image closed words writes tells output output' errors' =
+abbrev pub Done : {D W E : Type 0} → disk.Ghosts D → (List ℕ → ℕ → Image)
+    → (List ℕ → Option (List ℕ)) → List (Files D) → List (List ℕ) → (W → Option (List ℕ))
+    → (E → Option (List ℕ)) → Wire W → Wire W → Wire E → Type 0
+Done g image holds closed words writes tells output output' errors' =
     ((question : Question) × (links : Links) × (paths : List (List ℕ))
-    × AsksOf words question links paths
+    × AsksFor holds words question links paths
     × Answers g image closed question links paths writes tells output output' errors')
     ⊎ (AsksForText words × (closed ≡ []) × (text : List ℕ)
     × Appends (writes (inner_of output)) (writes (inner_of output')) text)
@@ -96,11 +105,28 @@ StopsAt {E = E} g image closed links paths writes errors' status =
     → IsStop g (placed image paths) links closed place fault))
     ⊎ ((status ≡ 3) × TellsLine writes errors errors' unavailable_line))
 
-abbrev pub Stops : {D E : Type 0} → disk.Ghosts D → (List ℕ → ℕ → Image) → List (Files D)
-    → List (List ℕ) → (E → Option (List ℕ)) → Wire E → ℕ → Type 0
-Stops g image closed words writes errors' status =
+abbrev pub Stops : {D E : Type 0} → disk.Ghosts D → (List ℕ → ℕ → Image)
+    → (List ℕ → Option (List ℕ)) → List (Files D) → List (List ℕ) → (E → Option (List ℕ)) → Wire E
+    → ℕ → Type 0
+Stops g image holds closed words writes errors' status =
     (question : Question) × (links : Links) × (paths : List (List ℕ))
-    × AsksOf words question links paths × StopsAt g image closed links paths writes errors' status
+    × AsksFor holds words question links paths
+    × StopsAt g image closed links paths writes errors' status
+
+-- The line on standard error of a list that was refused, by its path.
+abbrev pub list_line : List ℕ → ListFault → List ℕ
+list_line path fault = codes "tracedesk-chain: " ++ (path ++ (codes ": " ++ list_fault_text fault))
+
+-- Status 3: the list that the words name was refused, and standard error names it, and its fault. Or memory was refused. No
+-- file was opened.
+abbrev pub RefusesList : {D E : Type 0} → (List ℕ → Option (List ℕ)) → (List ℕ → Type 0)
+    → List (Files D) → List (List ℕ) → (E → Option (List ℕ)) → Wire E → Wire E → ℕ → Type 0
+RefusesList holds may_fail closed words tells errors errors' status = (status ≡ 3) × (closed ≡ [])
+    × (asked : Asked) × (word : List ℕ) × (links : Links) × (paths : List (List ℕ))
+    × AsksOf words asked word links paths
+    × (fault : ListFault) × IsBadList (holds word) (may_fail word) asked fault
+    × (TellsLine tells errors errors' (list_line word fault)
+    ⊎ TellsLine tells errors errors' unavailable_line)
 
 -- ---- a comparison
 
@@ -118,12 +144,12 @@ Unlike Made writes tells output output' errors errors' status =
     ⊎ ((status ≡ 3) × NoDesk Made tells output output' errors errors')
 
 -- Status 4: the output failed, and standard error says so. Only the first bytes of the text were written.
-abbrev pub Fails : {D W E : Type 0} → disk.Ghosts D → (List ℕ → ℕ → Image) → List (Files D)
-    → List (List ℕ) → (W → Option (List ℕ)) → (E → Option (List ℕ)) → Wire W → Wire W
-    → Wire E → Wire E → Type 0
-Fails g image closed words writes tells output output' errors errors' =
+abbrev pub Fails : {D W E : Type 0} → disk.Ghosts D → (List ℕ → ℕ → Image)
+    → (List ℕ → Option (List ℕ)) → List (Files D) → List (List ℕ) → (W → Option (List ℕ))
+    → (E → Option (List ℕ)) → Wire W → Wire W → Wire E → Wire E → Type 0
+Fails g image holds closed words writes tells output output' errors errors' =
     ((question : Question) × (links : Links) × (paths : List (List ℕ))
-    × AsksOf words question links paths
+    × AsksFor holds words question links paths
     × AnswersFront g image closed question links paths writes tells output output' errors')
     ⊎ (((AsksForText words × (closed ≡ []) × (text : List ℕ)
     × SendsFront (writes (inner_of output)) (writes (inner_of output')) text)

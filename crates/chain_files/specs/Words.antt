@@ -1,13 +1,16 @@
 -- The meaning of a command line.
-use Rattle.std.specs.Prelude.{◌≡◌, ◌≢◌, ◌⊎◌, ⊤, ℕ, Bool, true, false, List, [], ◌∷◌, ◌++◌, map, codes, string_bytes}
+use Rattle.std.specs.Prelude.{◌≡◌, ◌≢◌, ◌⊎◌, ⊤, ℕ, Bool, true, false, Option, Some, None, List, [], ◌∷◌, ◌++◌, IfSome, map, codes, string_bytes}
 use Rattle.desk_types.specs.Id.{IsId}
-use Rattle.chain_check.specs.declared.question.Question.{Question}
-use Rattle.chain_check.specs.declared.question.Question.TheVariants.{Chain, Names, Pieces}
-use Rattle.chain_check.specs.declared.question.Subject.{Subject}
-use Rattle.chain_check.specs.declared.question.Subject.TheVariants.{Lot, Board, Reel}
 use Rattle.chain_files.specs.declared.marks.Links.{Links}
+use Rattle.chain_files.specs.declared.words.Asked.{Asked}
+use Rattle.chain_files.specs.declared.words.Asked.TheVariants.{Chain, Names, Pieces}
 use Rattle.chain_files.specs.declared.words.ChainCommand.{ChainCommand}
 use Rattle.chain_files.specs.declared.words.ChainCommand.TheVariants.{Recall, Alike, Help, Version, Bad}
+use Rattle.chain_files.specs.declared.words.Chosen.{Chosen}
+use Rattle.chain_files.specs.declared.words.Kind.{Kind}
+use Rattle.chain_files.specs.declared.words.Kind.TheVariants as kind
+use Rattle.chain_files.specs.declared.words.Whose.{Whose}
+use Rattle.chain_files.specs.declared.words.Whose.TheVariants.{Lot, Board, Reel, Listed}
 
 -- ---- files and options
 
@@ -41,6 +44,7 @@ NotFirst word words = (rest : List (List ℕ)) → words ≢ word ∷ rest
 
 -- They don't begin with an option.
 pub record AreBehind (words : List (List ℕ)) : Type 0 where
+  pub no_part : NotFirst (codes "--part") words
   pub no_pieces : NotFirst (codes "--pieces") words
   pub no_middle : NotFirst (codes "--from-middle") words
   pub no_marks : NotFirst (codes "--without-marks") words
@@ -52,49 +56,75 @@ abbrev pub HasFiles : List (List ℕ) → Links → List (List ℕ) → Type 0
 HasFiles words links paths = (rest : List (List ℕ))
     × (words ≡ link_words links ++ rest) × NameFiles rest paths
 
--- The same behind the option for pieces.
-abbrev pub HasOptions : List (List ℕ) → Bool → Links → List (List ℕ) → Type 0
-HasOptions words with_pieces links rest =
-    words ≡ flag_words (codes "--pieces") with_pieces ++ (link_words links ++ rest)
+-- A name that doesn't look like an option.
+abbrev pub IsPart : List ℕ → Type 0
+IsPart part = IsId part × ¬ Begins (codes "--") part
 
--- A name that doesn't look like an option, then options and files.
-abbrev pub IsNamedFirst : List (List ℕ) → List ℕ → Bool → Links → List (List ℕ) → Type 0
-IsNamedFirst words name with_pieces links paths = IsId name × (¬ Begins (codes "--") name)
-    × (rest : List (List ℕ)) × (words ≡ name ∷ rest)
-    × (files : List (List ℕ)) × HasOptions rest with_pieces links files × NameFiles files paths
+-- The option for a part.
+abbrev pub part_words : Option (List ℕ) → List (List ℕ)
+part_words None = []
+part_words (Some part) = codes "--part" ∷ part ∷ []
 
--- Options, then `--`, any name, and files.
-abbrev pub IsNamedLast : List (List ℕ) → List ℕ → Bool → Links → List (List ℕ) → Type 0
-IsNamedLast words name with_pieces links paths = IsId name × (paths ≢ [])
-    × HasOptions words with_pieces links (codes "--" ∷ name ∷ paths)
+-- The words don't begin with it.
+abbrev pub HasNoPart : List (List ℕ) → Type 0
+HasNoPart words = (part : List ℕ) (rest : List (List ℕ)) → IsPart part
+    → words ≢ codes "--part" ∷ part ∷ rest
 
-abbrev pub HasName : List (List ℕ) → List ℕ → Bool → Links → List (List ℕ) → Type 0
-HasName words name with_pieces links paths =
-    IsNamedFirst words name with_pieces links paths
-    ⊎ IsNamedLast words name with_pieces links paths
+-- The options of a question about pieces, and then these words.
+abbrev pub HasOptions : List (List ℕ) → Chosen → List (List ℕ) → Type 0
+HasOptions words chosen rest = IfSome chosen.part IsPart × (words ≡ part_words chosen.part
+    ++ (flag_words (codes "--pieces") chosen.with_pieces ++ (link_words chosen.links ++ rest)))
+
+-- The word behind the verb says this, and the option this part.
+abbrev pub IsSaid : Whose → List ℕ → Option (List ℕ) → Type 0
+IsSaid (Lot lot part) word said = IsId word × (lot ≡ word) × (part ≡ said)
+IsSaid (Board board) word said = IsId word × (board ≡ word) × (said ≡ None)
+IsSaid (Reel reel) word said = IsId word × (reel ≡ word) × (said ≡ None)
+IsSaid Listed word said = said ≡ None
+
+-- A word that doesn't look like an option, then options and files.
+abbrev pub IsNamedFirst : List (List ℕ) → Whose → List ℕ → Chosen → List (List ℕ) → Type 0
+IsNamedFirst words whose word chosen paths = IsSaid whose word chosen.part
+    × (¬ Begins (codes "--") word) × (rest : List (List ℕ)) × (words ≡ word ∷ rest)
+    × (files : List (List ℕ)) × HasOptions rest chosen files × NameFiles files paths
+
+-- Options, then `--`, any word, and files.
+abbrev pub IsNamedLast : List (List ℕ) → Whose → List ℕ → Chosen → List (List ℕ) → Type 0
+IsNamedLast words whose word chosen paths = IsSaid whose word chosen.part
+    × (paths ≢ []) × HasOptions words chosen (codes "--" ∷ word ∷ paths)
+
+-- What is looked for, the word behind the verb, the options and the files.
+abbrev pub HasName : List (List ℕ) → Whose → List ℕ → Chosen → List (List ℕ) → Type 0
+HasName words whose word chosen paths =
+    IsNamedFirst words whose word chosen paths ⊎ IsNamedLast words whose word chosen paths
 
 -- ---- the whole
 
-abbrev pub verb_of : Subject → List ℕ
-verb_of (Lot lot) = codes "lot"
-verb_of (Board board) = codes "board"
-verb_of (Reel reel) = codes "reel"
+abbrev pub kind_of : Whose → Kind
+kind_of (Lot lot part) = kind.Lot
+kind_of (Board board) = kind.Board
+kind_of (Reel reel) = kind.Reel
+kind_of Listed = kind.Reels
 
-abbrev pub name_in : Subject → List ℕ
-name_in (Lot lot) = lot
-name_in (Board board) = board
-name_in (Reel reel) = reel
+abbrev pub kind_word : Kind → List ℕ
+kind_word kind.Lot = codes "lot"
+kind_word kind.Board = codes "board"
+kind_word kind.Reel = codes "reel"
+kind_word kind.Reels = codes "reels"
 
--- The words ask this of these files.
-abbrev pub AsksOf : List (List ℕ) → Question → Links → List (List ℕ) → Type 0
-AsksOf words Chain links paths =
-    (rest : List (List ℕ)) × (words ≡ codes "check" ∷ rest) × HasFiles rest links paths
-AsksOf words (Names subject) links paths =
-    (rest : List (List ℕ)) × (words ≡ verb_of subject ∷ rest)
-    × HasName rest (name_in subject) false links paths
-AsksOf words (Pieces subject) links paths =
-    (rest : List (List ℕ)) × (words ≡ verb_of subject ∷ rest)
-    × HasName rest (name_in subject) true links paths
+-- The words ask for the pieces of these, with these options.
+abbrev pub AsksAbout : List (List ℕ) → Whose → List ℕ → Chosen → List (List ℕ) → Type 0
+AsksAbout words whose word chosen paths = (rest : List (List ℕ))
+    × (words ≡ kind_word (kind_of whose) ∷ rest) × HasName rest whose word chosen paths
+
+-- The words ask this of these files. The first of them behind the verb is a name, or the path of a list.
+abbrev pub AsksOf : List (List ℕ) → Asked → List ℕ → Links → List (List ℕ) → Type 0
+AsksOf words Chain word links paths = (word ≡ [])
+    × (rest : List (List ℕ)) × (words ≡ codes "check" ∷ rest) × HasFiles rest links paths
+AsksOf words (Names whose) word links paths = (part : Option (List ℕ)) × AsksAbout words whose word
+    (record { part = part; with_pieces = false; links = links }) paths
+AsksOf words (Pieces whose) word links paths = (part : Option (List ℕ)) × AsksAbout words whose word
+    (record { part = part; with_pieces = true; links = links }) paths
 
 -- The words ask to compare these two.
 abbrev pub AsksToCompare : List (List ℕ) → List ℕ → List ℕ → Type 0
@@ -110,8 +140,8 @@ AsksForVersion words = (rest : List (List ℕ)) × (words ≡ codes "--version" 
 
 -- The words have this meaning.
 abbrev pub Means : List (List ℕ) → ChainCommand → Type 0
-Means words (Recall question links files) =
-    AsksOf words question links (map string_bytes files.now)
+Means words (Recall asked word links files) =
+    AsksOf words asked word.now links (map string_bytes files.now)
 Means words (Alike old new) = AsksToCompare words old.now new.now
 Means words Help = AsksForHelp words
 Means words Version = AsksForVersion words
@@ -119,8 +149,8 @@ Means words Bad = ⊥
 
 -- The words have no meaning.
 abbrev pub MeanNothing : List (List ℕ) → Type 0
-MeanNothing words = ((question : Question) (links : Links) (paths : List (List ℕ))
-    → ¬ AsksOf words question links paths)
+MeanNothing words = ((asked : Asked) (word : List ℕ) (links : Links) (paths : List (List ℕ))
+    → ¬ AsksOf words asked word links paths)
     × ((old : List ℕ) (new : List ℕ) → ¬ AsksToCompare words old new)
     × (¬ AsksForHelp words) × (¬ AsksForVersion words)
 

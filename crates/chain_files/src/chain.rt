@@ -119,9 +119,7 @@ pub fn look_at<O: Opener>(
                 return Err(OpenFault::Unavailable);
             };
             let (wanted, files) = wanted_after(rt.alloc(), files, without_marks);
-            let Ok(()) = add_closed(closed, files) else {
-                return Err(OpenFault::Unavailable);
-            };
+            add_closed(closed, files);
             let Ok(wanted) = wanted else {
                 return Err(OpenFault::Unavailable);
             };
@@ -144,10 +142,8 @@ fn shut<D: Disk + Drop>(refusal: RefusedFile<D>, closed: &mut ClosedChain<D>) ->
         return fault;
     };
     let (_is_whole, files) = close_any(file);
-    match add_closed(closed, files) {
-        Ok(()) => fault,
-        Err(_) => OpenFault::Unavailable,
-    }
+    add_closed(closed, files);
+    fault
 }
 
 /// Closes a file, or leaves what could not be closed. Returns whether it was closed.

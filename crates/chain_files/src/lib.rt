@@ -10,6 +10,7 @@ mod closed;
 mod compared;
 mod first;
 mod kept;
+mod listed;
 mod looking;
 mod marks;
 mod opener;

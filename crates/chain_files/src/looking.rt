@@ -1,29 +1,33 @@
 //! What a chain needs of one store.
 
-ghost use Rattle.std.specs.Prelude.{◌≡◌, [], IsTrue, IfOk, unwrap_or};
+ghost use Rattle.std.specs.Prelude.{◌≡◌, ◌++◌, [], None, IsTrue, IfOk, OnOk, flat_map, unwrap_or};
+ghost use Rattle.std.specs.BTreeSet.{contains_by};
 ghost use Rattle.std.specs.List.{filter};
-ghost use Rattle.std.specs.Option.{option_map};
+ghost use Rattle.std.specs.Option.{option_map, option_to_list};
 ghost use Rattle.sqlite.specs.State.{HasCleanDisk};
 ghost use Rattle.sqlite.specs.Held.{state};
 ghost use Rattle.desk_types.specs.declared.command.Receipt.{Receipt};
+ghost use Rattle.desk_types.specs.Id.{by_name, same};
+ghost use Rattle.desk_types.specs.Placements.{set_of};
 ghost use Rattle.desk_types.specs.Setup.{receipt_of};
 ghost use Rattle.line_tables.specs.Frames.{ReadsOnly};
 ghost use Rattle.line_schema.specs.Frames.{ReadsStore};
 ghost use Rattle.line_schema.specs.Stands.{ForKept, Kept, Stands, conn_of};
 ghost use Rattle.line_traces.specs.Pieces.{board_trace, lot_trace};
-ghost use Rattle.chain_check.specs.declared.question.Subject.TheVariants.{Reel};
-ghost use Rattle.chain_check.specs.Rows.{asked_of, is_of, pieces_of};
+ghost use Rattle.chain_check.specs.declared.question.Subject.TheVariants.{Lot, Reels};
+ghost use Rattle.chain_check.specs.Rows.{asked_of, lots_received, pieces_of};
 ghost use Rattle.chain_files.specs.Look.{Says};
 
 use crate::begin::{Begin, begin_of};
 use crate::first::first_desk;
 use chain_check::{Question, Subject};
-use desk_types::{Desk, Id, Listing, MOST_ENTRIES, Placement, Rules};
+use desk_types::{Desk, Id, IdList, Listing, MOST_ENTRIES, Placement, Rules};
 use line_schema::{LineStore, Unavailable};
 use line_traces::{PlacedRows, Working};
 use sqlite::{Alter, Connection};
 use state_rows::KeepsRows;
 use std::alloc::{AllocError, Global};
+use std::collections::BTreeSet;
 
 /// What a store says.
 #[derive(Drop)]
@@ -92,42 +96,142 @@ fn lot_of<S: Alter, D: KeepsRows + Drop>(
     }
 }
 
-/// Keeps the pieces of a reel.
-fn only_of(alloc: Global, reel: &Id, pieces: &[Placement]) -> Result<PlacedRows, AllocError>
-    ensures { IfOk result (λ kept. kept ≡ filter (is_of (Reel reel.now)) pieces.now) }
+/// Returns the lots of those of these reels that were received.
+fn lots_of<S: Alter, D: KeepsRows + Drop>(
+    alloc: Global,
+    store: &LineStore<S, D>,
+    reels: &[Id],
+) -> Result<Vec<Id>, Unavailable>
+    ensures { (L : Kept) → Stands S.Store D.Stands store.now L
+        → IfOk result (λ lots. lots.items ≡ lots_received reels.now L.history) }
+{
+    let mut lots = Vec::new(alloc);
+    for reel in reels {
+        let lot = lot_of(store, reel)?;
+        add_lot(&mut lots, lot)?;
+    }
+    Ok(lots)
+}
+
+fn add_lot(lots: &mut Vec<Id>, lot: Option<Id>) -> Result<(), AllocError>
+    ensures { OnOk result (lots.new.items ≡ lots.old.items ++ option_to_list lot) }
+{
+    if let Some(lot) = lot {
+        lots.push(lot)?;
+    }
+    Ok(())
+}
+
+/// Returns these names as a set.
+fn as_set(alloc: Global, names: &[Id]) -> Result<BTreeSet<Id>, AllocError>
+    ensures { IfOk result (λ found. found.keys ≡ set_of names.now) }
+{
+    let mut found = BTreeSet::new(alloc);
+    for name in names.iter().rev() {
+        found.insert(*name)?;
+    }
+    Ok(found)
+}
+
+/// Returns these names, each once and in byte order.
+fn in_order(alloc: Global, names: &[Id]) -> Result<IdList, AllocError>
+    ensures { IfOk result (λ found. found ≡ set_of names.now) }
+{
+    let found = as_set(alloc, names)?;
+    let list = found.into_iter().collect(alloc)?;
+    Ok(Listing::new(list))
+}
+
+/// Adds the pieces of these reels.
+fn add_pieces(
+    kept: &mut Vec<Placement>,
+    reels: &BTreeSet<Id>,
+    pieces: &[Placement],
+) -> Result<(), AllocError>
+    ensures { OnOk result (kept.new.items ≡ kept.old.items
+        ++ filter (λ p. contains_by (by_name p.reel) reels.now) pieces.now) }
+{
+    for piece in pieces {
+        if reels.contains(&piece.reel) {
+            kept.push(*piece)?;
+        }
+    }
+    Ok(())
+}
+
+/// Returns the pieces of these reels, lot by lot.
+fn of_lots<S: Alter, D: KeepsRows + Drop>(
+    alloc: Global,
+    store: &mut LineStore<S, D>,
+    lots: &[Id],
+    reels: &BTreeSet<Id>,
+) -> Result<PlacedRows, Unavailable>
+    ensures pieces { ForKept S.Store D.Stands store.old store.new
+        (λ L. IfOk result (λ pieces. pieces ≡ flat_map (λ lot. filter
+        (λ p. contains_by (by_name p.reel) reels.now) (pieces_of (Lot lot None) L.history))
+        lots.now)) }
+    ensures reads { ReadsStore S.Store D.Stands store.old store.new }
+{
+    let mut kept = Vec::new(alloc);
+    for lot in lots {
+        let pieces = of_lot(alloc, store, lot)?;
+        add_pieces(&mut kept, reels, pieces.as_slice())?;
+    }
+    Ok(Listing::new(kept))
+}
+
+/// Returns the pieces of these reels.
+fn of_reels<S: Alter, D: KeepsRows + Drop>(
+    alloc: Global,
+    store: &mut LineStore<S, D>,
+    reels: &[Id],
+) -> Result<PlacedRows, Unavailable>
+    ensures pieces { ForKept S.Store D.Stands store.old store.new
+        (λ L. IfOk result (λ pieces. pieces ≡ pieces_of (Reels reels.now) L.history)) }
+    ensures reads { ReadsStore S.Store D.Stands store.old store.new }
+{
+    let received = lots_of(alloc, store, reels)?;
+    let lots = in_order(alloc, received.as_slice())?;
+    let found = as_set(alloc, reels)?;
+    let pieces = of_lots(alloc, store, lots.as_slice(), &found)?;
+    Ok(pieces)
+}
+
+/// Keeps the pieces of a part.
+fn only_of(alloc: Global, part: &Id, pieces: &[Placement]) -> Result<PlacedRows, AllocError>
+    ensures { IfOk result (λ kept. kept ≡ filter (λ p. same p.part part.now) pieces.now) }
 {
     let mut kept = Vec::new(alloc);
     for piece in pieces {
-        if piece.reel == *reel {
+        if piece.part == *part {
             kept.push(*piece)?;
         }
     }
     Ok(Listing::new(kept))
 }
 
-/// Returns the pieces of a reel, none if it was not received: those of its lot that are the reel's.
-fn of_reel<S: Alter, D: KeepsRows + Drop>(
+/// Returns the pieces of a lot, or those of them of one part.
+fn of_part<S: Alter, D: KeepsRows + Drop>(
     alloc: Global,
     store: &mut LineStore<S, D>,
-    reel: &Id,
+    lot: &Id,
+    part: &Option<Id>,
 ) -> Result<PlacedRows, Unavailable>
     ensures pieces { ForKept S.Store D.Stands store.old store.new
-        (λ L. IfOk result (λ pieces. pieces ≡ pieces_of (Reel reel.now) L.history)) }
+        (λ L. IfOk result (λ pieces. pieces ≡ pieces_of (Lot lot.now part.now) L.history)) }
     ensures reads { ReadsStore S.Store D.Stands store.old store.new }
 {
-    let lot = match lot_of(store, reel) {
-        Ok(Some(lot)) => lot,
-        Ok(None) => return Ok(Listing::new(Vec::new(alloc))),
-        Err(fault) => return Err(fault),
-    };
-    let pieces = of_lot(alloc, store, &lot)?;
-    match only_of(alloc, reel, pieces.as_slice()) {
-        Ok(kept) => Ok(kept),
-        Err(_) => Err(Unavailable),
+    let pieces = of_lot(alloc, store, lot)?;
+    match part {
+        None => Ok(pieces),
+        Some(part) => {
+            let kept = only_of(alloc, part, pieces.as_slice())?;
+            Ok(kept)
+        }
     }
 }
 
-/// Returns the pieces of a lot or reel, or on a board.
+/// Returns the pieces of a lot or of reels, or on a board.
 fn of_subject<S: Alter, D: KeepsRows + Drop>(
     alloc: Global,
     store: &mut LineStore<S, D>,
@@ -138,9 +242,9 @@ fn of_subject<S: Alter, D: KeepsRows + Drop>(
     ensures reads { ReadsStore S.Store D.Stands store.old store.new }
 {
     match subject {
-        Subject::Lot(lot) => of_lot(alloc, store, lot),
+        Subject::Lot { lot, part } => of_part(alloc, store, lot, part),
         Subject::Board(board) => on_board(alloc, store, board),
-        Subject::Reel(reel) => of_reel(alloc, store, reel),
+        Subject::Reels(reels) => of_reels(alloc, store, reels.as_slice()),
     }
 }
 

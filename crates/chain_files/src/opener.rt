@@ -5,10 +5,13 @@ ghost use Rattle.sqlite_wal.specs.Recovery.{Image};
 ghost use Rattle.sqlite.specs.Files.{image_of};
 ghost use Rattle.line_schema.specs.declared.fault.OpenFault.TheVariants as Fault;
 
+use desk_feed::{Folder, UnreadFile, read_file};
 use desk_file::is_empty_at;
 use line_schema::OpenFault;
 use sqlite::{FileFrom, Files, Start, Unknown};
 use sqlite_disk::Disk;
+use std::alloc::Global;
+use std::fs::File;
 
 /// Opens the files of a run. They have one type, and contents of their own: `image` is what the file with a path held when
 /// it was opened at each place of the command line, from 0.
@@ -29,11 +32,19 @@ pub trait Opener {
             (λ fault. (fault ≡ Fault.Unavailable) ⊎ (fault ≡ Fault.NotADesk)) };
 }
 
-/// The files of the system. Nothing is known of their contents.
+/// The files of the system. Nothing is known of their contents, and each may fail.
 #[derive(Drop)]
-pub struct SystemFiles;
+pub struct SystemFiles<'a> {
+    rt: &'a HostRuntime,
+}
 
-impl Opener for SystemFiles {
+impl<'a> SystemFiles<'a> {
+    pub fn new(rt: &'a HostRuntime) -> SystemFiles<'a> {
+        SystemFiles { rt }
+    }
+}
+
+impl Opener for SystemFiles<'_> {
     ghost use Rattle.sqlite_wal.specs.Files.{image_at};
 
     type File = FileFrom<Unknown>;
@@ -53,5 +64,17 @@ impl Opener for SystemFiles {
             Ok(files) => Ok(files),
             Err(_) => Err(OpenFault::Unavailable),
         }
+    }
+}
+
+impl Folder for SystemFiles<'_> {
+    ghost use Rattle.std.specs.Prelude.{None, ⊤};
+
+    ghost holds = { λ _ _. None };
+
+    ghost may_fail = { λ _ _. ⊤ };
+
+    fn read(&self, alloc: Global, path: &str) -> Result<Vec<u8>, UnreadFile> {
+        read_file(alloc, File::open(self.rt, path)?)
     }
 }

@@ -43,7 +43,7 @@ pub fn alike<O: Opener, W: Write, E: Write>(
         → ShowsFront (Finds ⟦<O::File as Disk>⟧ (placed_both (O.image opener.now) old.now new.now)
         (files_in result.1)) W.contents output.old output.new }
 {
-    let mut closed = ClosedChain::new(rt.alloc());
+    let mut closed = ClosedChain::new();
     let found = compare_files(rt, opener, old, new, &mut closed);
     let status = tell_found(rt.alloc(), &found, output, errors);
     (status, closed)

@@ -10,10 +10,11 @@ ghost use Rattle.trace_reports.specs.Csv.{HasWritten};
 ghost use Rattle.chain_files.specs.Compared.{Shows};
 ghost use Rattle.chain_files.specs.Files.{files_in};
 ghost use Rattle.chain_files.specs.Stops.{status_of, stop_line, without_marks_line};
-ghost use Rattle.chain_files.specs.Whole.{Answers, AnswersFront, Bad, Compares, Done, Fails, IsStopped, SaysLinks, Stops, StopsAt, Unlike};
+ghost use Rattle.chain_files.specs.Whole.{Answers, AnswersFront, Bad, Compares, Done, Fails, IsStopped, RefusesList, SaysLinks, Stops, StopsAt, Unlike, list_line};
 
 use crate::chain::{Fault, Stopped, recall_files};
 use crate::closed::ClosedChain;
+use crate::listed::{ListFault, question_of};
 use crate::marks::Links;
 use crate::opener::Opener;
 use crate::paths::path_at;
@@ -22,6 +23,7 @@ use crate::words::{ChainCommand, HELP, VERSION, read_words};
 use chain_check::{Question, end_rows};
 use desk_answers::send;
 use desk_commands::{Exit, send_text, tell, tell_line, unavailable};
+use desk_feed::Folder;
 use desk_types::Wire;
 use sqlite_disk::Disk;
 use std::alloc::Global;
@@ -30,7 +32,7 @@ use trace_reports::TextWriter;
 
 /// Runs the program with these arguments. Returns the exit status, and the files that it closed, which clauses name: those
 /// of a recall or a comparison, in the order in which they were named.
-pub fn program<O: Opener, W: Write, E: Write>(
+pub fn program<O: Opener + Folder, W: Write, E: Write>(
     rt: &HostRuntime,
     opener: &O,
     words: &[String],
@@ -40,15 +42,17 @@ pub fn program<O: Opener, W: Write, E: Write>(
     requires few { HaveFewFailures output.old errors.old }
     ensures status { result.0 ≤ 5 }
     ensures done { result.0 ≡ 0
-        → Done ⟦<O::File as Disk>⟧ (O.image opener.now) (files_in result.1)
+        → Done ⟦<O::File as Disk>⟧ (O.image opener.now) (O.holds opener.now) (files_in result.1)
         (map string_bytes words.now) W.contents E.contents output.old output.new errors.new
         ⊎ Shows
         (Compares ⟦<O::File as Disk>⟧ (O.image opener.now) (files_in result.1)
         (map string_bytes words.now)) W.contents output.old output.new 0 }
     ensures stopped { IsStopped result.0
         → (output.new ≡ output.old)
-        × Stops ⟦<O::File as Disk>⟧ (O.image opener.now) (files_in result.1)
+        × (Stops ⟦<O::File as Disk>⟧ (O.image opener.now) (O.holds opener.now) (files_in result.1)
         (map string_bytes words.now) E.contents errors.new result.0
+        ⊎ RefusesList (O.holds opener.now) (O.may_fail opener.now) (files_in result.1)
+        (map string_bytes words.now) E.contents errors.old errors.new result.0)
         ⊎ Unlike
         (Compares ⟦<O::File as Disk>⟧ (O.image opener.now) (files_in result.1)
         (map string_bytes words.now)) W.contents E.contents output.old output.new errors.old
@@ -57,31 +61,32 @@ pub fn program<O: Opener, W: Write, E: Write>(
         → Bad (files_in result.1) (map string_bytes words.now) E.contents output.old output.new
         errors.old errors.new }
     ensures failed { result.0 ≡ 4
-        → Fails ⟦<O::File as Disk>⟧ (O.image opener.now) (files_in result.1)
+        → Fails ⟦<O::File as Disk>⟧ (O.image opener.now) (O.holds opener.now) (files_in result.1)
         (map string_bytes words.now) W.contents E.contents output.old output.new errors.old
         errors.new }
 {
     match read_words(words) {
         ChainCommand::Recall {
-            question,
+            asked,
+            word,
             links,
             files,
-        } => answer(rt, opener, &question, links, files, output, errors),
+        } => match question_of(rt.alloc(), opener, asked, word) {
+            Ok(question) => answer(rt, opener, &question, links, files, output, errors),
+            Err(fault) => (
+                tell_list(rt.alloc(), word, fault, errors),
+                ClosedChain::new(),
+            ),
+        },
         ChainCommand::Alike { old, new } => alike(rt, opener, old, new, output, errors),
-        ChainCommand::Help => (
-            send_text(HELP, output, errors),
-            ClosedChain::new(rt.alloc()),
-        ),
-        ChainCommand::Version => (
-            send_text(VERSION, output, errors),
-            ClosedChain::new(rt.alloc()),
-        ),
+        ChainCommand::Help => (send_text(HELP, output, errors), ClosedChain::new()),
+        ChainCommand::Version => (send_text(VERSION, output, errors), ClosedChain::new()),
         ChainCommand::Bad => {
             tell(
                 errors,
-                "usage: tracedesk-chain check|lot NAME|board NAME|reel NAME [--pieces] [--from-middle] [--without-marks] [--] FILE.., alike OLD NEW, or --help\n",
+                "usage: tracedesk-chain check|lot NAME|board NAME|reel NAME|reels LIST [--part PART] [--pieces] [--from-middle] [--without-marks] [--] FILE.., alike OLD NEW, or --help\n",
             );
-            (Exit::BadCommandLine as u8, ClosedChain::new(rt.alloc()))
+            (Exit::BadCommandLine as u8, ClosedChain::new())
         }
     }
 }
@@ -111,7 +116,7 @@ fn answer<O: Opener, W: Write, E: Write>(
         links (map string_bytes paths.now) W.contents E.contents output.old output.new
         errors.new }
 {
-    let mut closed = ClosedChain::new(rt.alloc());
+    let mut closed = ClosedChain::new();
     match recall_files(rt, opener, paths, question, links, errors, &mut closed) {
         Ok(answer) => (send_answer(answer, links, output, errors), closed),
         Err(stopped) => {
@@ -169,6 +174,25 @@ fn tell_links<E: Write>(links: Links, errors: &mut Wire<E>)
             errors,
             "tracedesk-chain: without marks: a gap or a fork may not show",
         );
+    }
+}
+
+/// Prints which list was refused, and why. Returns the exit status.
+fn tell_list<E: Write>(alloc: Global, path: &str, fault: ListFault, errors: &mut Wire<E>) -> u8
+    requires error_failures { failures_of errors.old < 2 ^ 63 }
+    ensures status { result ≡ 3 }
+    ensures told { TellsLine E.contents errors.old errors.new (list_line path.now fault)
+        ⊎ TellsLine E.contents errors.old errors.new unavailable_line }
+{
+    if let ListFault::NoMemory = fault {
+        return unavailable(errors);
+    }
+    match format!(in alloc; "tracedesk-chain: {path}: {fault}") {
+        Ok(line) => {
+            tell_line(errors, line.as_str());
+            Exit::NoDesk as u8
+        }
+        Err(_) => unavailable(errors),
     }
 }
 

@@ -1,20 +1,52 @@
 //! The command line.
 
 ghost use Rattle.std.specs.Prelude.{◌≡◌, ◌∷◌, ◌++◌, [], ℕ, Bool, List, false, true, IfSome, IsNone, codes, map, string_bytes};
-ghost use Rattle.chain_check.specs.declared.question.Question.{Question};
 ghost use Rattle.chain_files.specs.declared.marks.Links.{Links};
-ghost use Rattle.chain_files.specs.Words.{AreBehind, ArePlain, Asks, Begins, HasFiles, HasName, HasOptions, IsNamedLast, NameFiles, NotFirst, flag_words, link_words, name_in, verb_of};
+ghost use Rattle.chain_files.specs.declared.words.Chosen.{Chosen};
+ghost use Rattle.chain_files.specs.declared.words.Whose.{Whose};
+ghost use Rattle.chain_files.specs.Words.{AreBehind, ArePlain, Asks, Begins, HasFiles, HasName, HasNoPart, HasOptions, IsNamedLast, IsPart, IsSaid, NameFiles, NotFirst, flag_words, kind_of, kind_word, link_words, part_words};
 
 use crate::marks::Links;
-use chain_check::{Question, Subject};
 use desk_types::Id;
+
+/// Whose pieces are looked for, by the words.
+#[derive(Clone, Copy)]
+pub enum Whose {
+    /// A lot, or its pieces of one part.
+    Lot { lot: Id, part: Option<Id> },
+    Board(Id),
+    Reel(Id),
+    /// The reels that a file lists.
+    Listed,
+}
+
+/// What is asked, by the words.
+#[derive(Clone, Copy)]
+pub enum Asked {
+    /// Whether the files are a chain.
+    Chain,
+    /// The boards with a piece of these, or the lots with a piece on a board.
+    Names(Whose),
+    /// Each piece.
+    Pieces(Whose),
+}
+
+/// The verb of a question about pieces.
+#[derive(Clone, Copy)]
+pub enum Kind {
+    Lot,
+    Board,
+    Reel,
+    Reels,
+}
 
 /// The meaning of a command line.
 #[derive(Clone, Copy)]
 pub enum ChainCommand<'a> {
-    /// Recall over these files, the oldest first.
+    /// Recall over these files, the oldest first. The word is the one behind the verb: a name, or the path of a list.
     Recall {
-        question: Question,
+        asked: Asked,
+        word: &'a str,
         links: Links,
         files: &'a [String],
     },
@@ -33,12 +65,13 @@ pub enum ChainCommand<'a> {
 
 /// What the program does.
 pub const HELP: &str = "\
-Says whether desk files are the chain of one line, recalls a lot, a board or a reel over them, or compares two desks.
+Says whether desk files are the chain of one line, recalls a lot, a board or reels over them, or compares two desks.
 
 Usage: tracedesk-chain check [OPTION].. [--] FILE..
        tracedesk-chain lot NAME [OPTION].. [--] FILE..
        tracedesk-chain board NAME [OPTION].. [--] FILE..
        tracedesk-chain reel NAME [OPTION].. [--] FILE..
+       tracedesk-chain reels LIST [OPTION].. [--] FILE..
        tracedesk-chain alike [--] OLD NEW
 
 Name the files oldest first. Each file after the first has to be begun from the very file before it: its first UniqueID
@@ -50,14 +83,15 @@ header and a row for each file, name or piece:
 check: file,begun,commands,minute. That is with how many commands a desk was begun, how many it has, and its last minute.
 
 lot: board,file. Each board with a piece of the lot, once a file. With `board` it is lot,file, each lot with a piece on
-the board; with `reel` board,file, each board with a piece of the reel. A name that no file knows is no error: only the
-header is printed.
+the board; with `reel` board,file, each board with a piece of the reel; with `reels` the same of any of the reels that the
+file LIST names, one a line. A name that no file knows is no error: without others, only the header is printed.
 
 alike: compares the desk in OLD, which was closed, with the one that follows it in NEW, right after its begin. It prints
 `alike <reels> <mounts>`, the reels and mounts of the new desk, if the desks are alike and the new one received the
 pieces that were left of each reel. Otherwise it prints the first difference, as `differs reel K1 remaining 47 46`.
 
 Options, in this order, behind the name:
+  --part PART      With `lot`: only the pieces of this part
   --pieces         Print each piece: board,designator,part,lot,reel,machine,slot,overdue,minute,file
   --from-middle    The first file is one that was begun from an older file, which is left out
   --without-marks  A later file need not name the file before it. Then a file that is missing in the middle may not show,
@@ -71,19 +105,20 @@ Exit status:
   0  The files are a chain, and the answer was printed; or two desks are alike; or help or the version was printed
   1  They are not: standard error names the first file that does not carry on the one before it, and a difference; or two desks are not alike, and the output names a difference
   2  The command line asks for nothing that the program does: a name or a file that begins as an option does comes behind --
-  3  A file was refused, or memory was; standard error names the file, or old or new, and its fault
+  3  A file was refused, or LIST, or memory was; standard error names the file, or old or new, and its fault
   4  The output failed
   5  The first file was begun from another, or a later one was not begun from the file before it: standard error names the file, and the archive that it was begun from
 
 Examples:
   tracedesk-chain check archive/L1-2026* desk.db
   tracedesk-chain lot L4711 archive/L1-2026* desk.db > boards.csv
+  tracedesk-chain reels recalled.txt archive/L1-2026* desk.db > boards.csv
   tracedesk-chain board B1 --pieces archive/L1-2026* desk.db
   tracedesk-chain alike line-1.db line-2.db
 ";
 
 /// The program's name and version.
-pub const VERSION: &str = "tracedesk-chain 0.3.0\n";
+pub const VERSION: &str = "tracedesk-chain 1.0.0\n";
 
 /// Reads the arguments.
 pub fn read_words<'a>(words: &'a [String]) -> ChainCommand<'a>
@@ -95,24 +130,17 @@ pub fn read_words<'a>(words: &'a [String]) -> ChainCommand<'a>
     match verb.as_str() {
         "check" => match checked_in(rest) {
             Some((links, files)) => ChainCommand::Recall {
-                question: Question::Chain,
+                asked: Asked::Chain,
+                word: "",
                 links,
                 files,
             },
             None => ChainCommand::Bad,
         },
-        "lot" => match named_in(rest) {
-            Some(named) => recall_of(Subject::Lot(named.0), named.1, named.2),
-            None => ChainCommand::Bad,
-        },
-        "board" => match named_in(rest) {
-            Some(named) => recall_of(Subject::Board(named.0), named.1, named.2),
-            None => ChainCommand::Bad,
-        },
-        "reel" => match named_in(rest) {
-            Some(named) => recall_of(Subject::Reel(named.0), named.1, named.2),
-            None => ChainCommand::Bad,
-        },
+        "lot" => recall_in(Kind::Lot, rest),
+        "board" => recall_in(Kind::Board, rest),
+        "reel" => recall_in(Kind::Reel, rest),
+        "reels" => recall_in(Kind::Reels, rest),
         "alike" => match compared_in(rest) {
             Some((old, new)) => ChainCommand::Alike { old, new },
             None => ChainCommand::Bad,
@@ -123,30 +151,47 @@ pub fn read_words<'a>(words: &'a [String]) -> ChainCommand<'a>
     }
 }
 
-/// The options of a question about a name.
+/// The options of a question about pieces.
 #[derive(Clone, Copy)]
 struct Chosen {
+    part: Option<Id>,
     with_pieces: bool,
     links: Links,
 }
 
-/// Returns the recall of this subject.
-fn recall_of<'a>(subject: Subject, chosen: Chosen, files: &'a [String]) -> ChainCommand<'a>
-    ensures { (words : List (List ℕ))
-        → HasName words (name_in subject) chosen.with_pieces chosen.links
-        (map string_bytes files.now)
-        → Asks (verb_of subject ∷ words) result }
+/// Returns the recall that the words behind this verb ask for.
+fn recall_in<'a>(kind: Kind, words: &'a [String]) -> ChainCommand<'a>
+    ensures { Asks (kind_word kind ∷ map string_bytes words.now) result }
 {
-    let Chosen { with_pieces, links } = chosen;
-    if with_pieces {
+    match named_in(kind, words) {
+        Some(named) => recall_of(named.0, named.1, named.2, named.3),
+        None => ChainCommand::Bad,
+    }
+}
+
+/// Returns the recall with these options.
+fn recall_of<'a>(
+    whose: Whose,
+    chosen: Chosen,
+    word: &'a str,
+    files: &'a [String],
+) -> ChainCommand<'a>
+    ensures { (words : List (List ℕ))
+        → HasName words whose word.now chosen (map string_bytes files.now)
+        → Asks (kind_word (kind_of whose) ∷ words) result }
+{
+    let links = chosen.links;
+    if chosen.with_pieces {
         return ChainCommand::Recall {
-            question: Question::Pieces(subject),
+            asked: Asked::Pieces(whose),
+            word,
             links,
             files,
         };
     }
     ChainCommand::Recall {
-        question: Question::Names(subject),
+        asked: Asked::Names(whose),
+        word,
         links,
         files,
     }
@@ -178,55 +223,119 @@ fn compared_in<'a>(words: &'a [String]) -> Option<(&'a str, &'a str)>
     Some((old.as_str(), new.as_str()))
 }
 
-/// Returns the name, the options and the files.
-fn named_in<'a>(words: &'a [String]) -> Option<(Id, Chosen, &'a [String])>
-    ensures some { IfSome result (λ found. HasName (map string_bytes words.now) found.0
-        found.1.with_pieces found.1.links (map string_bytes found.2.now)) }
+/// What is looked for, the options, the word behind the verb, and the files.
+type Named<'a> = (Whose, Chosen, &'a str, &'a [String]);
+
+/// Returns what the words behind this verb ask for.
+fn named_in<'a>(kind: Kind, words: &'a [String]) -> Option<Named<'a>>
+    ensures some { IfSome result (λ found. (kind_of found.0 ≡ kind)
+        × HasName (map string_bytes words.now) found.0 found.2.now found.1
+        (map string_bytes found.3.now)) }
     ensures none { IsNone result
-        → (name : List ℕ) (with_pieces : Bool) (links : Links) (paths : List (List ℕ))
-        → ¬ HasName (map string_bytes words.now) name with_pieces links paths }
+        → (whose : Whose) (word : List ℕ) (chosen : Chosen) (paths : List (List ℕ))
+        → kind_of whose ≡ kind → ¬ HasName (map string_bytes words.now) whose word chosen paths }
 {
     let (first, rest) = words.split_first()?;
-    if begins_with(first.as_str(), "--") {
-        return named_last(words);
+    let word = first.as_str();
+    if begins_with(word, "--") {
+        return named_last(kind, words);
     }
-    let name = Id::read(first.as_str().as_bytes())?;
-    let (with_pieces, links, rest) = options_in(rest);
+    let (chosen, rest) = options_in(rest);
     let files = files_in(rest)?;
-    let chosen = Chosen { with_pieces, links };
-    Some((name, chosen, files))
+    let whose = whose_of(kind, word, chosen.part)?;
+    Some((whose, chosen, word, files))
 }
 
 /// The same where options and `--` come before the name.
-fn named_last<'a>(words: &'a [String]) -> Option<(Id, Chosen, &'a [String])>
-    ensures some { IfSome result (λ found. IsNamedLast (map string_bytes words.now) found.0
-        found.1.with_pieces found.1.links (map string_bytes found.2.now)) }
+fn named_last<'a>(kind: Kind, words: &'a [String]) -> Option<Named<'a>>
+    ensures some { IfSome result (λ found. (kind_of found.0 ≡ kind)
+        × IsNamedLast (map string_bytes words.now) found.0 found.2.now found.1
+        (map string_bytes found.3.now)) }
     ensures none { IsNone result
-        → (name : List ℕ) (with_pieces : Bool) (links : Links) (paths : List (List ℕ))
-        → ¬ IsNamedLast (map string_bytes words.now) name with_pieces links paths }
+        → (whose : Whose) (word : List ℕ) (chosen : Chosen) (paths : List (List ℕ))
+        → kind_of whose ≡ kind
+        → ¬ IsNamedLast (map string_bytes words.now) whose word chosen paths }
 {
-    let (with_pieces, links, rest) = options_in(words);
+    let (chosen, rest) = options_in(words);
     let (ends, rest) = rest.split_first()?;
     let (first, files) = rest.split_first()?;
     if ends.as_str() != "--" || files.is_empty() {
         return None;
     }
-    let name = Id::read(first.as_str().as_bytes())?;
-    let chosen = Chosen { with_pieces, links };
-    Some((name, chosen, files))
+    let word = first.as_str();
+    let whose = whose_of(kind, word, chosen.part)?;
+    Some((whose, chosen, word, files))
+}
+
+/// Returns what is looked for, by the word behind the verb and the part.
+fn whose_of(kind: Kind, word: &str, part: Option<Id>) -> Option<Whose>
+    ensures some { IfSome result (λ whose. (kind_of whose ≡ kind) × IsSaid whose word.now part) }
+    ensures none { IsNone result
+        → (whose : Whose) → kind_of whose ≡ kind → ¬ IsSaid whose word.now part }
+{
+    if let Kind::Lot = kind {
+        let lot = Id::read(word.as_bytes())?;
+        return Some(Whose::Lot { lot, part });
+    }
+    if part.is_some() {
+        return None;
+    }
+    if let Kind::Reels = kind {
+        return Some(Whose::Listed);
+    }
+    let name = Id::read(word.as_bytes())?;
+    if let Kind::Board = kind {
+        return Some(Whose::Board(name));
+    }
+    Some(Whose::Reel(name))
 }
 
 /// Returns the options that come first, and the words behind them.
-fn options_in<'a>(words: &'a [String]) -> (bool, Links, &'a [String])
-    ensures words { HasOptions (map string_bytes words.now) result.0 result.1
-        (map string_bytes result.2.now) }
-    ensures only { (with_pieces : Bool) (links : Links) (rest : List (List ℕ)) → AreBehind rest
-        → HasOptions (map string_bytes words.now) with_pieces links rest
-        → (with_pieces ≡ result.0) × (links ≡ result.1) × (rest ≡ map string_bytes result.2.now) }
+fn options_in<'a>(words: &'a [String]) -> (Chosen, &'a [String])
+    ensures words { HasOptions (map string_bytes words.now) result.0
+        (map string_bytes result.1.now) }
+    ensures only { (chosen : Chosen) (rest : List (List ℕ)) → AreBehind rest
+        → HasOptions (map string_bytes words.now) chosen rest
+        → (chosen ≡ result.0) × (rest ≡ map string_bytes result.1.now) }
 {
-    let (with_pieces, rest) = flag_in("--pieces", words);
+    let (part, rest) = part_in(words);
+    let (with_pieces, rest) = flag_in("--pieces", rest);
     let (links, rest) = links_in(rest);
-    (with_pieces, links, rest)
+    (
+        Chosen {
+            part,
+            with_pieces,
+            links,
+        },
+        rest,
+    )
+}
+
+/// Returns the part that comes first, and the words after it.
+fn part_in<'a>(words: &'a [String]) -> (Option<Id>, &'a [String])
+    ensures words { map string_bytes words.now
+        ≡ part_words result.0 ++ map string_bytes result.1.now }
+    ensures part { IfSome result.0 IsPart }
+    ensures none { IsNone result.0 → HasNoPart (map string_bytes result.1.now) }
+{
+    match read_part(words) {
+        Some((part, rest)) => (Some(part), rest),
+        None => (None, words),
+    }
+}
+
+fn read_part<'a>(words: &'a [String]) -> Option<(Id, &'a [String])>
+    ensures some { IfSome result (λ found. IsPart found.0 × (map string_bytes words.now
+        ≡ codes "--part" ∷ found.0 ∷ map string_bytes found.1.now)) }
+    ensures none { IsNone result → HasNoPart (map string_bytes words.now) }
+{
+    let (option, rest) = words.split_first()?;
+    let (word, rest) = rest.split_first()?;
+    if option.as_str() != "--part" || begins_with(word.as_str(), "--") {
+        return None;
+    }
+    let part = Id::read(word.as_str().as_bytes())?;
+    Some((part, rest))
 }
 
 /// Returns the options on the files, and the words behind them.

@@ -341,7 +341,7 @@ fn bare<'a>(alloc: Global) -> Result<clap::Command<'a>, AllocError>
 {
     let tracedesk = clap::Command::new(alloc, "tracedesk")
         .about("Verify feeders and trace boards to lots and back")
-        .version("0.3.0")
+        .version("1.0.0")
         .after_help(STATUSES)
         .bin_name("tracedesk")?
         .no_binary_name(true)

@@ -32,12 +32,26 @@ WorkCompleted\tM\tB2";
 
 /// Runs of the program: whether the files are turned round, the arguments, the status, the output, and the end of standard
 /// error. The UniqueIDs of both desks are those of a begin.
-const RUNS: [(bool, &str, u8, &str, &str); 8] = [
+const RUNS: [(bool, &str, u8, &str, &str); 10] = [
     (
         false,
         "lot L1 --from-middle --without-marks a b",
         0,
         "board,file\nB1,a\nB2,b\n",
+        "tracedesk-chain: without marks: a gap or a fork may not show\n",
+    ),
+    (
+        false,
+        "reels list --from-middle --without-marks a b",
+        0,
+        "board,file\nB1,a\nB2,b\n",
+        "tracedesk-chain: without marks: a gap or a fork may not show\n",
+    ),
+    (
+        false,
+        "lot L1 --part Q --from-middle --without-marks a b",
+        0,
+        "board,file\n",
         "tracedesk-chain: without marks: a gap or a fork may not show\n",
     ),
     (
@@ -125,7 +139,10 @@ fn both_desks(rt: &impl Abort, alloc: Global, is_turned: bool) -> Result<KeptFil
     let mut files = Vec::new(alloc);
     files.push(desk_of(rt, alloc, first))?;
     files.push(desk_of(rt, alloc, second))?;
-    Ok(KeptFiles { files })
+    Ok(KeptFiles {
+        files,
+        list: b"K9\nK1\n",
+    })
 }
 
 /// The program answers over files that an `Opener` knows, so its theorem is of files with different contents.

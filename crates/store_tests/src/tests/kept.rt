@@ -1,18 +1,21 @@
-//! Files in memory that a run of `tracedesk-chain` opens: their contents are known, and are those of the place.
+//! Files in memory that a run of `tracedesk-chain` opens: their contents are known, and are those of the place. So is the
+//! list of reels that it reads.
 
 ghost use Rattle.std.specs.Prelude.{◌≡◌, IfSome, IsTrue};
 ghost use Rattle.sqlite_disk.specs.Memory.{memory_bytes, memory_is_usable};
 
 use chain_files::Opener;
+use desk_feed::{Folder, UnreadFile, read_file};
 use line_schema::OpenFault;
 use sqlite::Files;
 use sqlite_disk::{Disk, Memory};
 use std::alloc::Global;
 
-/// The files of each place.
+/// The files of each place, and a list that every path has.
 #[derive(Drop)]
 pub struct KeptFiles {
     pub files: Vec<Files<Memory>>,
+    pub list: &'static [u8],
 }
 
 impl Opener for KeptFiles {
@@ -35,6 +38,21 @@ impl Opener for KeptFiles {
             return Err(OpenFault::Unavailable);
         };
         Ok(Files { log, db })
+    }
+}
+
+impl Folder for KeptFiles {
+    ghost use Rattle.std.specs.Prelude.{Some, ⊥};
+
+    ghost holds = { λ kept _. Some kept.list.now };
+
+    ghost may_fail = { λ _ _. ⊥ };
+
+    fn read(&self, alloc: Global, _path: &str) -> Result<Vec<u8>, UnreadFile> {
+        match read_file(alloc, self.list) {
+            Ok(bytes) => Ok(bytes),
+            Err(_) => Err(UnreadFile::NoMemory),
+        }
     }
 }
 

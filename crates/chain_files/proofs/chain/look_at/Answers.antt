@@ -30,7 +30,7 @@ still-read g f f' tables read holds image (inr left) = holds image (inr (read.le
 pub returns-in-Ok-looked-clause-takes : goal.returns-in-Ok-looked-clause-takes
 returns-in-Ok-looked-clause-takes g c = (
   c.wanted_after-wanted.result.1,
-  c.in-Ok-add_closed.ensures.ok,
+  c.add_closed.ensures,
   λ clean' ours.
       let read = c.wanted_after-wanted.ensures.read in
       let clean = read.clean clean' in
@@ -57,7 +57,7 @@ returns-in-Err-clause-refused g c =
     (subst (λ (i : Image). RefusesRun i None c.in-Err.refusal) c.in_ok-files.ensures.image c.in-Err.ensures.refused)
 
 pub returns-in_default-wanted-clause-refused : goal.returns-in_default-wanted-clause-refused
-returns-in_default-wanted-clause-refused g c = (Some c.wanted_after-wanted.result.1, c.in-Ok-add_closed.ensures.ok, inl refl)
+returns-in_default-wanted-clause-refused g c = (Some c.wanted_after-wanted.result.1, c.add_closed.ensures, inl refl)
 
 pub returns-in-Err-looked-clause-refused : goal.returns-in-Err-looked-clause-refused
-returns-in-Err-looked-clause-refused g c = (Some c.wanted_after-wanted.result.1, c.in-Ok-add_closed.ensures.ok, inl refl)
+returns-in-Err-looked-clause-refused g c = (Some c.wanted_after-wanted.result.1, c.add_closed.ensures, inl refl)

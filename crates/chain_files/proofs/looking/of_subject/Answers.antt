@@ -1,11 +1,7 @@
 use Rattle.desk_types.proofs.Common.{◌∙◌, ap, IfOk-weaker, sym}
 use Rattle.chain_check.specs.{Rows.pieces_of, declared.question.Subject.Subject}
-use Rattle.chain_files.proofs.AskedPieces.{board-pieces, lot-pieces}
+use Rattle.chain_files.proofs.AskedPieces.{board-pieces}
 use Rattle.chain_files.proofs.looking.of_subject.Goals as goal
-
-pub returns-in-Lot-clause-pieces : goal.returns-in-Lot-clause-pieces
-returns-in-Lot-clause-pieces g c L stands clean own =
-    IfOk-weaker c.of_lot.result _ _ (λ pieces is. is ∙ lot-pieces L.history _ stands.judged ∙ ap (λ (s : Subject). pieces_of s L.history) (sym c.in-Lot.is)) (c.of_lot.ensures.pieces L stands clean own)
 
 pub returns-in-Board-clause-pieces : goal.returns-in-Board-clause-pieces
 returns-in-Board-clause-pieces g c L stands clean own =

@@ -1,16 +1,61 @@
-use Rattle.desk_types.proofs.Common.{◌∙◌, arith, inl, inr, map, string_bytes}
+use Rattle.desk_types.proofs.Common.{◌∙◌, arith, inl, inr, map, refl, string_bytes}
 use Rattle.chain_files.proofs.whole.program.Goals as goal
 
-pub returns-in-Recall-clause-stopped : goal.returns-in-Recall-clause-stopped
-returns-in-Recall-clause-stopped g c stopped =
+pub returns-in-Ok-clause-done : goal.returns-in-Ok-clause-done
+returns-in-Ok-clause-done g c zero =
+    let asked = c.in-Recall in
+    inl (inl (
+      c.in-Ok.question,
+      asked.links,
+      map string_bytes asked.files.now,
+      (asked.asked, asked.word.now, asked.ensures, c.in-Ok.ensures.ok),
+      c.answer.ensures.done zero,
+    ))
+
+pub returns-in-Ok-clause-stopped : goal.returns-in-Ok-clause-stopped
+returns-in-Ok-clause-stopped g c stopped =
     let is = c.answer.ensures.stopped stopped in
     let asked = c.in-Recall in
-    inl (is.0, (asked.question, asked.links, map string_bytes asked.files.now, asked.ensures, is.1))
+    inl (
+      is.0,
+      inl (
+        c.in-Ok.question,
+        asked.links,
+        map string_bytes asked.files.now,
+        (asked.asked, asked.word.now, asked.ensures, c.in-Ok.ensures.ok),
+        is.1,
+      ),
+    )
 
-pub returns-in-Recall-clause-failed : goal.returns-in-Recall-clause-failed
-returns-in-Recall-clause-failed g c failed =
+pub returns-in-Ok-clause-failed : goal.returns-in-Ok-clause-failed
+returns-in-Ok-clause-failed g c failed =
     let asked = c.in-Recall in
-    inl (asked.question, asked.links, map string_bytes asked.files.now, asked.ensures, c.answer.ensures.failed failed)
+    inl (
+      c.in-Ok.question,
+      asked.links,
+      map string_bytes asked.files.now,
+      (asked.asked, asked.word.now, asked.ensures, c.in-Ok.ensures.ok),
+      c.answer.ensures.failed failed,
+    )
+
+pub returns-in-Err-clause-stopped : goal.returns-in-Err-clause-stopped
+returns-in-Err-clause-stopped g c stopped =
+    let asked = c.in-Recall in
+    inl (
+      refl,
+      inr (
+        c.tell_list.ensures.status,
+        c.new.ensures,
+        asked.asked,
+        asked.word.now,
+        asked.links,
+        map string_bytes asked.files.now,
+        asked.ensures,
+        c.in-Err.fault,
+        c.in-Err.ensures.err,
+        c.tell_list.ensures.told,
+      ),
+    )
 
 pub returns-in-Alike-clause-status : goal.returns-in-Alike-clause-status
 returns-in-Alike-clause-status g c =

@@ -1,0 +1,69 @@
+"""dev/wrong-bodies finds the function that an edit names, and each public function has a wrong body of its own."""
+import pathlib
+import subprocess
+import sys
+
+import pytest
+from tracedesk_dev import ROOT, own_bodies
+from tracedesk_dev.edits import NotApplied, edits_in, find_functions, texts_of
+
+SOURCE = """pub struct Pair;
+
+impl Pair {
+    pub fn first(&self) -> u64 {
+        self.0
+    }
+
+    pub fn second(&self) -> u64 {
+        self.0
+    }
+
+    pub fn law(&self) {}
+}
+"""
+
+
+def tool(*words: str) -> "subprocess.CompletedProcess[str]":
+    line = [sys.executable, str(ROOT / "dev/wrong-bodies"), *words]
+    return subprocess.run(line, capture_output=True, text=True)
+
+
+def crate(folder: pathlib.Path, *lines: str) -> pathlib.Path:
+    """A crate with two functions of the same text, and one wrong body."""
+    for name, text in (("src/lib.rt", SOURCE), ("wrong-bodies/half.edit", "\n".join(lines))):
+        file = folder / "crates/pairs" / name
+        file.parent.mkdir(parents=True, exist_ok=True)
+        file.write_text(text)
+    return folder / "crates/pairs"
+
+
+def test_an_edit_changes_the_function_that_it_names(tmp_path: pathlib.Path) -> None:
+    lines = "file: src/lib.rt", "old:         self.0", "new:         self.0 / 2", ""
+    folder = crate(tmp_path, *lines)
+    (edit,) = edits_in("pairs", str(folder / "wrong-bodies"))
+    with pytest.raises(NotApplied, match="2 times, and not once"):
+        texts_of([edit], str(folder))
+    crate(tmp_path, lines[0], "function: Pair::second", *lines[1:])
+    _, after = texts_of([edit], str(folder))
+    assert after["src/lib.rt"].index("self.0 / 2") > SOURCE.index("fn second")
+    find_functions(edit, str(folder))
+    assert edit.functions == {"Pair::second"}
+    crate(tmp_path, lines[0], "function: Pair::third", *lines[1:])
+    with pytest.raises(NotApplied, match="0 functions Pair::third"):
+        texts_of([edit], str(folder))
+
+
+def test_a_function_has_a_wrong_body_or_a_reason(tmp_path: pathlib.Path) -> None:
+    lines = "function: Pair::first", "old:         self.0", "new:         self.0 / 2", ""
+    crate(tmp_path, "file: src/lib.rt", *lines)
+    rows, faults = own_bodies.table(str(tmp_path), ["pairs"], {})
+    assert rows[1].split() == ["pairs", "2", "1", "0"]
+    assert faults == ["pairs Pair::second has no wrong body"]
+    excused = {"pairs Pair::second": "it is its field", "pairs Pair::first": "it is its field"}
+    _, faults = own_bodies.table(str(tmp_path), ["pairs"], excused)
+    assert faults == ["pairs Pair::first has a wrong body, or isn't there"]
+
+
+def test_an_unknown_name_is_refused() -> None:
+    assert "there is no wrong body reels/nothing" in tool("reels/nothing").stderr
+    assert "crates.txt has no crate nothing" in tool("nothing").stderr
