@@ -189,8 +189,8 @@ def recall_bench(asked: argparse.Namespace, room: pathlib.Path) -> None:
     of("check", measured(asked.chain, "check", *copies))
     of("lot", measured(asked.chain, "lot", lot, *copies))
     spans = parts.spans([it.stat().st_size for it in copies], 4)
-    words = [["--from-middle", *copies[first : last + 1]][not first :] for first, last in spans]
-    its = [measured(asked.chain, "lot", lot, *part) for part in words]
+    asks = [["--from-middle", *copies[first : last + 1]][not first :] for first, last in spans]
+    its = [measured(asked.chain, "lot", lot, *part) for part in asks]
     of("the longest of its four parts", max(its))
     of("the sum of its four parts", tuple(map(sum, zip(*its))))
     for it in room.glob("archive-*"):

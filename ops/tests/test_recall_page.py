@@ -233,7 +233,7 @@ def test_the_same_question_waits_once(site: Site) -> None:
 
 def test_half_a_question_is_none(site: Site) -> None:
     """What a killed page left of a question is not in the queue."""
-    (site.queue.folder / f"{jobs.NEW}20260302T060000Z-00000000").mkdir()
+    (site.queue.folder / f"{jobs.NEW}20260302T060000.000000Z-00000000").mkdir()
     assert not site.queue.all() and "None." in site.page("/recall/")
 
 

@@ -282,7 +282,7 @@ def test_a_body_with_values_of_a_broker_becomes_json(body: Any, wanted: Any) -> 
     assert json.loads(brokers.unpacked(types.SimpleNamespace(body=body))) == wanted
 
 
-PACKED = gzip.compress(b"{}\n") + gzip.compress(b"[]")
+PACKED = gzip.compress(b"{}\n", mtime=0) + gzip.compress(b"[]", mtime=0)
 BYTES: list[tuple[Any, bytes]] = [
     ("\ud800", b"\xed\xa0\x80"),
     (b"\xff", b"\xff"),

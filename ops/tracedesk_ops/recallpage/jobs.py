@@ -23,7 +23,7 @@ from typing import Any
 
 from tracedesk_ops import files
 
-NAME = re.compile(r"\d{8}T\d{6}Z-[0-9a-f]{8}")
+NAME = re.compile(r"\d{8}T\d{6}\.\d{6}Z-[0-9a-f]{8}")
 NEW = ".new-"  # the beginning of the name of a folder that is not whole yet
 MOST_WAITING = 50
 MOST_OF_ONE = 10  # that wait for one reader
@@ -136,7 +136,7 @@ class Queue:
         if own >= MOST_OF_ONE:
             raise Full(f"{own} recalls of yours wait already. Come again once they are done.")
         now = datetime.datetime.now(datetime.timezone.utc)
-        name = f"{now:%Y%m%dT%H%M%SZ}-{secrets.token_hex(4)}"
+        name = f"{now:%Y%m%dT%H%M%S.%fZ}-{secrets.token_hex(4)}"
         room = self.folder / f"{NEW}{name}"
         room.mkdir(mode=0o770)
         room.chmod(0o2770)
