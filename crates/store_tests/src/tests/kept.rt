@@ -1,5 +1,5 @@
-//! Files in memory that a run of `tracedesk-chain` opens: their contents are known, and are those of the place. So is the
-//! list of reels that it reads.
+//! Files in memory that a run of `tracedesk-chain` opens: their contents are known, and are those of the place. No clause
+//! names what is in the list of reels that it reads.
 
 ghost use Rattle.std.specs.Prelude.{◌≡◌, IfSome, IsTrue};
 ghost use Rattle.sqlite_disk.specs.Memory.{memory_bytes, memory_is_usable};
@@ -42,11 +42,11 @@ impl Opener for KeptFiles {
 }
 
 impl Folder for KeptFiles {
-    ghost use Rattle.std.specs.Prelude.{Some, ⊥};
+    ghost use Rattle.std.specs.Prelude.{None, ⊤};
 
-    ghost holds = { λ kept _. Some kept.list.now };
+    ghost holds = { λ _ _. None };
 
-    ghost may_fail = { λ _ _. ⊥ };
+    ghost may_fail = { λ _ _. ⊤ };
 
     fn read(&self, alloc: Global, _path: &str) -> Result<Vec<u8>, UnreadFile> {
         match read_file(alloc, self.list) {
