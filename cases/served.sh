@@ -14,8 +14,11 @@ trap 'kill "$(cat pid)"' EXIT
 # told COMMAND..   what a command says and its status; for what is another in each run, as seconds, stands `..`
 told() {
   { "$@" 2>&1; echo "status $?"; } |
-    sed -E "s,$PWD/,,g; s/[0-9a-f]{64}/../g; s/[0-9.]+ seconds/.. seconds/; s/20[0-9-]{8}T[0-9]{6}Z/../g; s/http:[^ ,]*/../g"
+    sed -E "s,$PWD/,,g; s/[0-9a-f]{64}/../g; s/[0-9a-f]{24}([.]{2})?/../g; s/[0-9.]+ seconds/.. seconds/; s/20[0-9-]{8}T[0-9]{6}Z/../g; s/http:[^ ,]*/../g"
 }
+
+# without_digits   archives' names without the digits of their checksums
+without_digits() { sed -E 's/-[0-9a-f]{24}/-../g'; }
 
 # ready            waits until the desk answers
 ready() {
@@ -24,6 +27,12 @@ ready() {
     sleep 0.05
   done
   echo "the desk does not answer"
+}
+
+# cut_off          kills the desk, and waits until it is gone: its port and its lock are free only then
+cut_off() {
+  kill -9 "$(cat pid)"
+  tail --pid="$(cat pid)" -f /dev/null
 }
 
 # ask TARGET       a report of the running desk
