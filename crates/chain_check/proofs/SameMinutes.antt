@@ -5,7 +5,7 @@ use Rattle.desk_types.proofs.Common.{now_of, Option, option_map, option_map_or, 
 use Rattle.desk_types.proofs.Common.{unwrap_or, ℕ}
 use Rattle.desk_laws.proofs.Common.{Minutes, Two, Unbaked, Unlimited}
 use Rattle.desk_laws.proofs.Judgements.{by-desk_minute}
-use Rattle.state_rows.proofs.{Exposed.since-by, ReelRows.used-then}
+use Rattle.desk_laws.proofs.Exposed.{since-by, used-then}
 
 -- Exposure grows minute by minute while the reel is out, and stays while it is in its bag.
 later : (H : History) (reel : Name) (minute : ℕ) (since : Option ℕ) → IsJudged Two H → out_since H reel ≡ since → now_of H ≤ minute

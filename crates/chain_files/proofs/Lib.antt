@@ -1,7 +1,5 @@
 pub mod Answered
-mod AskedPieces
-pub mod FirstMessage
-pub mod NextOfFirst
+pub mod KeptFiles
 pub mod OneFileMore
 pub mod ReadWords
 mod RefusedFiles

@@ -15,7 +15,8 @@ use Rattle.chain_files.specs.declared.chain.Taken.{Taken}
 use Rattle.chain_files.specs.declared.marks.Links.{Links}
 use Rattle.chain_files.specs.declared.marks.Wanted.{Wanted}
 use Rattle.chain_files.specs.Marks.{IsLinked, IsWanted, WantsNext}
-use Rattle.chain_files.specs.Look.{Says}
+use Rattle.chain_stores.specs.Look.{Says}
+use Rattle.chain_stores.specs.Begin.{IsBegunWith}
 use Rattle.desk_file.specs.Files.{HasOursFirst}
 use Rattle.desk_laws.specs.Chain.{DeskFile}
 use Rattle.chain_check.specs.declared.difference.Difference.{Difference}
@@ -27,7 +28,7 @@ use Rattle.chain_check.specs.Rows.{answer_over}
 use Rattle.chain_check.proofs.WrittenRows.{answer-next}
 use Rattle.chain_files.specs.declared.chain.Fault.{Fault}
 use Rattle.chain_files.specs.declared.chain.Fault.TheVariants.{Refused, BegunFrom, NotBegun, Differs}
-use Rattle.chain_files.specs.Files.{Adds, Answer, AreHonest, BreaksChain, Continues, HasWanted, HoldHistory, HoldsSaid, IsStop, Reaches, SoFar, Stops}
+use Rattle.chain_files.specs.Files.{Adds, Answer, AreHonest, BreaksChain, Continues, IsBegunBehind, HasWanted, HoldHistory, HoldsSaid, IsStop, Reaches, SoFar, Stops}
 use Rattle.chain_files.proofs.Answered.{are-chain}
 
 pub front : {X : Type 0} (P : X → Type 0) (xs : List X) (x : X) → AllByRecursion P (xs ++ x ∷ []) → AllByRecursion P xs × P x
@@ -39,11 +40,16 @@ last-clean {D} g old after f is all =
     let P : Files D → Type 0 = λ f. AreClean g f.log f.db in
     (front P old f (recursion_from_All P (old ++ f ∷ []) (subst (λ (fs : List (Files D)). All P fs) is all))).1
 
+-- A file whose begin is known, behind any others.
+pub behind : (files : List DeskFile) (H begun : History) → IsBegunWith H (length begun) → IsBegunBehind files H begun
+behind [] H begun is = tt
+behind (before ∷ older) H begun is = is
+
 -- A file that doesn't carry on the newest one.
-pub stops-next : (Wants : Option (List ℕ) → Type 0) (chain : Chain) (files : List DeskFile) (H B : History) (difference : Difference) → IsSoFar chain files → IsPrefix B H
+pub stops-next : (Wants : Option (List ℕ) → Type 0) (chain : Chain) (files : List DeskFile) (H B : History) (difference : Difference) → IsSoFar chain files → IsPrefix B H → IsBegunWith H (length B)
     → ((G : History) → IsState G chain.newest → IsReason G B difference) → Stops Wants files H (Differs difference)
-stops-next Wants chain [] H B difference is prefix why = absurd is.newest
-stops-next Wants chain (before ∷ older) H B difference is prefix why = (B, prefix, why before.whole is.newest)
+stops-next Wants chain [] H B difference is prefix begun why = absurd is.newest
+stops-next Wants chain (before ∷ older) H B difference is prefix begun why = (B, prefix, begun, why before.whole is.newest)
 
 -- A file that isn't wanted for one reason isn't for another that implies it.
 stops-for : (P Q : Option (List ℕ) → Type 0) → ((mark : Option (List ℕ)) → Q mark → P mark) → (files : List DeskFile) (H : History) (fault : Fault) → Stops P files H fault → Stops Q files H fault
@@ -93,6 +99,7 @@ module _ {D : Type 0} (g : disk.Ghosts D) (image : ℕ → Image) (question : Qu
         count = omega (arith, it.before.count);
         held = (subst (λ (k : ℕ). HoldHistory g (image k) f H) (sym it.before.count) it.said.1, it.before.held);
         chained = more.adds;
+        begun = (more.is_begin, it.before.begun);
         linked = ((mark.0, mark.1, (it.before.wants mark.0).0 mark.2), it.before.linked);
         wants = subst (λ (wanted : Wanted). (m : Option (List ℕ)) → IsWanted wanted m ↔ IsLinked links g (f ∷ it.before.newest_first) m) (sym same) (wants it.clean);
         written = subst (HasWritten answer') (answer-next question paths files file path (at ∙ ap (λ k. get_or paths k []) (sym it.before.count))) more.written;

@@ -1,5 +1,5 @@
 -- A command line has one meaning at most.
-use Rattle.std.proofs.Common.{◌≡◌, ◌≢◌, ◌∙◌, ◌+◌, ◌<◌, ℕ, get_or, Bool, true, false, Option, Some, None, List, [], ◌∷◌, ◌++◌, ap, append_assoc, arith, codes, inl, inr, length, map, refl, subst, sym}
+use Rattle.std.proofs.Common.{◌≡◌, ◌≢◌, ◌∙◌, ◌+◌, ℕ, get_or, Bool, true, false, Option, Some, None, List, [], ◌∷◌, ◌++◌, ap, append_assoc, arith, codes, inl, inr, length, map, refl, subst, sym}
 use Rattle.std.specs.Prelude.{IfSome, IsNone}
 use Rattle.chain_files.specs.declared.marks.Links.{Links}
 use Rattle.chain_files.specs.declared.words.Asked.{Asked}

@@ -20,14 +20,14 @@ use Rattle.line_tables.specs.Rows.{Tables}
 use Rattle.line_replay.specs.Rows.{ledger_tables}
 use Rattle.line_schema.specs.declared.fault.OpenFault.{OpenFault}
 use Rattle.line_schema.specs.declared.fault.OpenFault.TheVariants as open_fault
-use Rattle.chain_files.specs.declared.looking.Looked.{Looked}
+use Rattle.chain_stores.specs.declared.looking.Looked.{Looked}
 use Rattle.chain_files.specs.declared.chain.Older.{Older}
 use Rattle.chain_files.specs.declared.chain.Taken.{Taken}
 use Rattle.chain_files.specs.declared.marks.Links.{Links}
 use Rattle.chain_files.specs.declared.marks.Wanted.{Wanted}
-use Rattle.chain_files.specs.Begin.{IsMarkOf}
+use Rattle.chain_stores.specs.Begin.{IsBegunWith, IsMarkOf}
 use Rattle.chain_files.specs.Marks.{AreLinked, IsLinked, IsWanted, WantsNext}
-use Rattle.chain_files.specs.Look.{Says}
+use Rattle.chain_stores.specs.Look.{Says}
 use Rattle.desk_file.specs.Files.{HasOursFirst, HasTables, IsWhole}
 use Rattle.desk_file.specs.Refused.{IsFaultFor}
 use Rattle.desk_commands.specs.Closed.{Close, whole, failed, RefusesTo}
@@ -134,11 +134,22 @@ Continues (Some chain) files = IsSoFar chain files
 abbrev pub HasWanted : Wanted → History → Type 0
 HasWanted wanted H = (mark : Option (List ℕ)) × IsMarkOf H mark × IsWanted wanted mark
 
+-- A file behind these was begun with these commands of its history, by its UniqueIDs.
+abbrev pub IsBegunBehind : List DeskFile → History → History → Type 0
+IsBegunBehind [] H begun = ⊤
+IsBegunBehind (before ∷ older) H begun = IsBegunWith H (length begun)
+
+-- So was each of these files but the oldest.
+abbrev pub AreBegun : List DeskFile → Type 0
+AreBegun [] = ⊤
+AreBegun (file ∷ older) = IsBegunBehind older file.whole file.begun × AreBegun older
+
 -- A file with this history was added to the chain, and its rows to the text of the answer.
 pub record Adds (chain : Option Chain) (older : List DeskFile) (H : History) (question : Question)
     (path : List ℕ) (text : List ℕ) (answer : Answer) : Type 0 where
   pub begun : History
   pub adds : Continues chain (record { rules = Two; begun = begun; whole = H } ∷ older)
+  pub is_begin : IsBegunBehind older H begun
   pub written : HasWritten answer (text ++ rows_text (rows_in question path
       (facts_of (record { rules = Two; begun = begun; whole = H })) (asked_of question H)))
 
@@ -152,6 +163,7 @@ pub record SoFar {D : Type 0} (g : disk.Ghosts D) (image : ℕ → Image) (quest
   pub count : length files ≡ number
   pub held : HoldEach g image newest_first files
   pub chained : Continues older.chain files
+  pub begun : AreBegun files
   pub linked : AreLinked links g newest_first files
   pub wants : (mark : Option (List ℕ))
       → IsWanted older.wanted mark ↔ IsLinked links g newest_first mark
@@ -171,8 +183,8 @@ Recalled g image question links paths closed number answer =
 
 -- ---- why there is no answer
 
--- A file with history H is not added to these: its first UniqueID doesn't name what is wanted. Or it was begun with a history
--- that doesn't carry on the newest.
+-- A file with history H is not added to these: its first UniqueID doesn't name what is wanted. Or the history with which it
+-- was begun, by its UniqueIDs, doesn't carry on the newest.
 abbrev pub Stops : (Option (List ℕ) → Type 0) → List DeskFile → History → Fault → Type 0
 Stops Wants files H (Refused fault) = fault ≡ open_fault.Unavailable
 Stops Wants files H (BegunFrom mark) =
@@ -180,7 +192,7 @@ Stops Wants files H (BegunFrom mark) =
 Stops Wants files H NotBegun = IsMarkOf H None × ¬ Wants None
 Stops Wants [] H (Differs difference) = ⊥
 Stops Wants (before ∷ older) H (Differs difference) =
-    (B : History) × IsPrefix B H × IsReason before.whole B difference
+    (B : History) × IsPrefix B H × IsBegunWith H (length B) × IsReason before.whole B difference
 
 -- The closed files before this place are a chain, and begun as wanted. The one at it, the last that was closed, held a
 -- history that doesn't carry them on, or wasn't begun as wanted.

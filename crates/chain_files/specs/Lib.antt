@@ -1,9 +1,7 @@
-pub mod Begin
 pub mod Compared
 pub mod Files
-pub mod First
+pub mod Kept
 pub mod Listed
-pub mod Look
 pub mod Marks
 pub mod Opened
 pub mod Stops

@@ -9,7 +9,7 @@ use Rattle.sqlite.specs.Files.{image_of}
 use Rattle.sha2.specs.Sha256.{sha256}
 use Rattle.hex.specs.Hex.{encode_lower}
 use Rattle.desk_laws.specs.Chain.{DeskFile}
-use Rattle.chain_files.specs.Begin.{IsMarkOf}
+use Rattle.chain_stores.specs.Begin.{IsMarkOf}
 use Rattle.chain_files.specs.declared.marks.Links.{Links}
 use Rattle.chain_files.specs.declared.marks.Wanted.{Wanted}
 use Rattle.chain_files.specs.declared.marks.Wanted.TheVariants.{Anything, Nothing, Checksum}

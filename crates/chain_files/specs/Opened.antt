@@ -2,6 +2,7 @@
 use Rattle.std.specs.Prelude.{ℕ, None, true}
 use Rattle.sqlite_disk.specs.declared.Disk as disk
 use Rattle.sqlite_store.specs.declared.store.FileStore.{FileStore}
+use Rattle.sqlite_trees.specs.Tree.{Trees}
 use Rattle.sqlite_wal.specs.Recovery.{Image}
 use Rattle.sqlite.specs.Files.{over_files}
 use Rattle.sqlite.specs.State.{HasCleanDisk}
@@ -10,12 +11,16 @@ use Rattle.feeder_state.specs.declared.desk.StateDesk.{StateDesk}
 use Rattle.feeder_state.specs.contracts.desk.StateDeskDesk.TheImpl.{ghosts as state}
 use Rattle.line_schema.specs.declared.store.LineStore.{LineStore}
 use Rattle.line_schema.specs.Stands.{Stands, state_of}
+use Rattle.line_replay.specs.Rows.{ledger_tables}
+use Rattle.line_tables.specs.Rows.{HoldsAt}
 use Rattle.desk_file.specs.Files.{Begins, HasOursFirst}
 
--- The store is that of a history, whose tables the file held.
+-- The store is that of a history, whose tables the file held. A crash leaves only these.
 abbrev pub OpensDesk : {D : Type 0} {g : disk.Ghosts D} → Image
     → LineStore (FileStore D g) StateDesk → Type 0
 OpensDesk image store = HasCleanDisk (state_of over_files store) → HasOursFirst image
     → (greatest : ℕ) × (H : History) × Begins image None greatest H
     × Stands over_files state.Stands store
     (record { greatest = greatest; history = H; own = true })
+    × ((trees : Trees) → (state_of over_files store).may_leave trees
+    → HoldsAt (ledger_tables greatest H) trees)

@@ -15,7 +15,7 @@ use Rattle.chain_files.specs.declared.chain.Fault.{Fault}
 use Rattle.chain_files.specs.declared.compared.Compared.{Compared}
 use Rattle.chain_files.specs.Compared.{Finds, NoDesk, Shows, ShowsFront, placed_both}
 use Rattle.chain_files.specs.declared.marks.Links.{Links}
-use Rattle.chain_files.specs.Files.{AreHonest, HoldEach, IsStop, oldest_first, placed}
+use Rattle.chain_files.specs.Files.{AreBegun, AreHonest, HoldEach, IsStop, oldest_first, placed}
 use Rattle.chain_files.specs.Marks.{AreLinked}
 use Rattle.chain_files.specs.Stops.{status_of, stop_line, without_marks_line}
 use Rattle.chain_files.specs.Listed.{IsBadList, IsQuestion, list_fault_text}
@@ -36,6 +36,7 @@ pub record IsAnswer {D : Type 0} (g : disk.Ghosts D) (image : ℕ → Image) (cl
   pub files : List DeskFile
   pub count : length files ≡ length paths
   pub chain : IsChain files
+  pub begun : AreBegun files
   pub newest_first : List (Files D)
   pub order : closed ≡ oldest_first newest_first
   pub held : HoldEach g image newest_first files

@@ -11,22 +11,22 @@ ghost use Rattle.feeder_state.specs.contracts.desk.StateDeskDesk.TheImpl.{ghosts
 ghost use Rattle.desk_laws.specs.Chain.{DeskFile};
 ghost use Rattle.trace_reports.specs.Csv.{HasWritten};
 ghost use Rattle.chain_check.specs.Chained.{IsSoFar};
-ghost use Rattle.chain_files.specs.Look.{Says};
-ghost use Rattle.chain_files.specs.Begin.{IsMarkOf};
+ghost use Rattle.chain_stores.specs.Look.{Says};
+ghost use Rattle.chain_stores.specs.Begin.{IsMarkOf};
 ghost use Rattle.chain_files.specs.Marks.{IsWanted};
 ghost use Rattle.chain_files.specs.declared.marks.Wanted.{Wanted};
-ghost use Rattle.chain_files.specs.Files.{Adds, Continues, HasWanted, IsRefused, IsWhyStopped, Recalled, Stops, Takes, close_of, files_in};
+ghost use Rattle.chain_files.specs.Files.{Adds, Continues, HasWanted, IsRefused, IsWhyStopped, Recalled, Stops, Takes, close_of, files_in, placed};
+ghost use Rattle.chain_files.specs.Kept.{AddsKept, AreKept};
 
-use crate::begin::Begin;
 use crate::closed::{ClosedChain, add_closed};
 use crate::kept::desk_in;
-use crate::looking::{Looked, look};
-use crate::marks::{Links, Wanted, is_wanted, wanted_after, wanted_first};
+use crate::marks::{Links, Wanted, is_wanted, names_checksum, wanted_after, wanted_first};
 use crate::opener::Opener;
 use crate::paths::path_at;
 use chain_check::{
     Chain, ChainFile, Difference, Question, ShownDifference, begin_rows, write_rows,
 };
+use chain_stores::{Begin, Looked, look};
 use desk_commands::tell_line;
 use desk_file::{RefusedFile, close_file};
 use desk_types::{Desk, Wire};
@@ -110,13 +110,19 @@ pub fn look_at<O: Opener>(
     ensures refused { IfErr result
         (IsRefused ⟦<O::File as Disk>⟧ (O.image opener.now path.now place)
         (files_in closed.old) (files_in closed.new)) }
+    ensures kept { AddsKept ⟦<O::File as Disk>⟧ (O.image opener.now path.now place)
+        (files_in closed.old) (files_in closed.new) }
 {
     let files = opener.open(rt, place, path)?;
     match desk_in(rt, files) {
         Ok(store) => {
-            let (conn, looked) = look(rt.alloc(), store, question, place == 0);
-            let Ok(files) = close_file(conn) else {
-                return Err(OpenFault::Unavailable);
+            let (conn, looked) = look(rt.alloc(), store, question);
+            let files = match close_file(conn) {
+                Ok(files) => files,
+                Err((fault, files)) => {
+                    add_closed(closed, files);
+                    return Err(fault);
+                }
             };
             let (wanted, files) = wanted_after(rt.alloc(), files, without_marks);
             add_closed(closed, files);
@@ -134,8 +140,10 @@ pub fn look_at<O: Opener>(
 
 /// Closes a file that was refused. Returns its fault.
 fn shut<D: Disk + Drop>(refusal: RefusedFile<D>, closed: &mut ClosedChain<D>) -> OpenFault
-    ensures { (image : Image) → RefusesRun image None refusal
+    ensures refused { (image : Image) → RefusesRun image None refusal
         → IsRefused D.Disk image (files_in closed.old) (files_in closed.new) result }
+    ensures kept { (image : Image) → RefusesRun image None refusal
+        → AddsKept D.Disk image (files_in closed.old) (files_in closed.new) }
 {
     let RefusedFile { fault, file } = refusal;
     let Some(file) = file else {
@@ -323,6 +331,8 @@ pub fn recall_files<O: Opener, E: Write>(
     ensures stopped { IfErr result
         (IsWhyStopped ⟦<O::File as Disk>⟧ (O.image opener.now) links (map string_bytes paths.now)
         (files_in closed.new)) }
+    ensures kept { AreKept ⟦<O::File as Disk>⟧
+        (placed (O.image opener.now) (map string_bytes paths.now)) (files_in closed.new) }
     ensures few { failures_of errors.new < 2 ^ 63 }
 {
     let Ok(mut answer) = begin_rows(rt.alloc(), question) else {
@@ -335,6 +345,7 @@ pub fn recall_files<O: Opener, E: Write>(
         chain: None,
         wanted: wanted_first(links),
     };
+    let mut seen = Vec::new(rt.alloc());
     for place in 0..paths.len() {
         let number = place as u64;
         let path = path_at(paths, number);
@@ -356,9 +367,11 @@ pub fn recall_files<O: Opener, E: Write>(
             }
         };
         tell_file(rt.alloc(), path, &taken.looked, paths.len() - place, errors);
+        note_checksum(rt.alloc(), &taken.wanted, &mut seen);
         match add(rt.alloc(), older, taken, question, path, &mut answer) {
             Ok(longer) => older = longer,
             Err(fault) => {
+                tell_follows(rt.alloc(), paths, number, &fault, seen.as_slice(), errors);
                 return Err(Stopped {
                     place: number,
                     fault,
@@ -389,6 +402,52 @@ fn tell_file<E: Write>(
     if let Ok(line) = file_line(alloc, path, looked, left) {
         tell_line(errors, line.as_str());
     }
+}
+
+/// Adds the checksum that the next file has to name to those of the files so far. Without memory for it nothing is added.
+fn note_checksum(alloc: Global, wanted: &Wanted, seen: &mut Vec<String>) {
+    if let Wanted::Checksum(checksum) = wanted {
+        if let Ok(copy) = String::from_str(alloc, checksum.as_str()) {
+            let _ = seen.push(copy);
+        }
+    }
+}
+
+/// Prints which of the files so far this one was begun from, if it was begun from another than it should.
+fn tell_follows<E: Write>(
+    alloc: Global,
+    paths: &[String],
+    place: u64,
+    fault: &Fault,
+    seen: &[String],
+    errors: &mut Wire<E>,
+)
+    requires few { failures_of errors.old < 2 ^ 63 }
+    ensures few { failures_of errors.new < 2 ^ 63 }
+{
+    if errors.failures() >= MOST_FAILURES || seen.len() as u64 <= place {
+        return;
+    }
+    let Some(earlier) = named_by(fault, seen) else {
+        return;
+    };
+    let (path, its) = (path_at(paths, place), path_at(paths, earlier));
+    if let Ok(line) = format!(in alloc; "tracedesk-chain: {path}: follows {its}") {
+        tell_line(errors, line.as_str());
+    }
+}
+
+/// Returns the place of the file that a fault names.
+fn named_by(fault: &Fault, seen: &[String]) -> Option<u64> {
+    let Fault::BegunFrom(mark) = fault else {
+        return None;
+    };
+    for place in 0..seen.len() {
+        if names_checksum(seen[place].as_str(), mark.as_str()) {
+            return Some(place as u64);
+        }
+    }
+    None
 }
 
 fn file_line(

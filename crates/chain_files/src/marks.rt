@@ -67,7 +67,7 @@ pub fn is_wanted(wanted: &Wanted, mark: &Option<String>) -> bool
 }
 
 /// Returns whether a mark names a checksum: by its first digits, all of which are compared.
-fn names_checksum(checksum: &str, mark: &str) -> bool
+pub fn names_checksum(checksum: &str, mark: &str) -> bool
     ensures yes { result ≡ true → NamesChecksum checksum.now mark.now }
     ensures no { result ≡ false → ¬ NamesChecksum checksum.now mark.now }
 {

@@ -5,6 +5,7 @@ ghost use Rattle.desk_commands.specs.Told.{TellsUnwritten};
 ghost use Rattle.desk_commands.specs.Wires.{HaveFewFailures};
 ghost use Rattle.chain_files.specs.Compared.{Finds, NoDesk, Shows, ShowsFront, placed_both};
 ghost use Rattle.chain_files.specs.Files.{files_in};
+ghost use Rattle.chain_files.specs.Kept.{AreKept};
 
 use crate::chain::look_at;
 use crate::closed::ClosedChain;
@@ -38,10 +39,11 @@ pub fn alike<O: Opener, W: Write, E: Write>(
         (files_in result.1))
         E.contents output.old output.new errors.old errors.new }
     ensures failed { result.0 ≡ 4
-        → TellsUnwritten E.contents output.old output.new errors.old errors.new }
-    ensures front { result.0 ≡ 4
-        → ShowsFront (Finds ⟦<O::File as Disk>⟧ (placed_both (O.image opener.now) old.now new.now)
+        → TellsUnwritten E.contents output.old output.new errors.old errors.new
+        × ShowsFront (Finds ⟦<O::File as Disk>⟧ (placed_both (O.image opener.now) old.now new.now)
         (files_in result.1)) W.contents output.old output.new }
+    ensures kept { AreKept ⟦<O::File as Disk>⟧ (placed_both (O.image opener.now) old.now new.now)
+        (files_in result.1) }
 {
     let mut closed = ClosedChain::new();
     let found = compare_files(rt, opener, old, new, &mut closed);
@@ -58,8 +60,10 @@ fn compare_files<O: Opener>(
     closed: &mut ClosedChain<O::File>,
 ) -> Compared
     requires none { files_in closed.old ≡ [] }
-    ensures { Finds ⟦<O::File as Disk>⟧ (placed_both (O.image opener.now) old.now new.now)
+    ensures found { Finds ⟦<O::File as Disk>⟧ (placed_both (O.image opener.now) old.now new.now)
         (files_in closed.new) result }
+    ensures kept { AreKept ⟦<O::File as Disk>⟧ (placed_both (O.image opener.now) old.now new.now)
+        (files_in closed.new) }
 {
     let first = match look_at(rt, opener, 0, old, &Question::Chain, true, closed) {
         Ok(first) => first,

@@ -8,7 +8,8 @@ ghost use Rattle.desk_commands.specs.Told.{unavailable_line, TellsLine, TellsUnw
 ghost use Rattle.desk_commands.specs.Wires.{HaveFewFailures};
 ghost use Rattle.trace_reports.specs.Csv.{HasWritten};
 ghost use Rattle.chain_files.specs.Compared.{Shows};
-ghost use Rattle.chain_files.specs.Files.{files_in};
+ghost use Rattle.chain_files.specs.Files.{files_in, placed};
+ghost use Rattle.chain_files.specs.Kept.{AreKept, KeepsNamed};
 ghost use Rattle.chain_files.specs.Stops.{status_of, stop_line, without_marks_line};
 ghost use Rattle.chain_files.specs.Whole.{Answers, AnswersFront, Bad, Compares, Done, Fails, IsStopped, RefusesList, SaysLinks, Stops, StopsAt, Unlike, list_line};
 
@@ -40,7 +41,9 @@ pub fn program<O: Opener + Folder, W: Write, E: Write>(
     errors: &mut Wire<E>,
 ) -> (u8, ClosedChain<O::File>)
     requires few { HaveFewFailures output.old errors.old }
-    ensures status { result.0 ≤ 5 }
+    ensures ends { (result.0 ≤ 5)
+        × KeepsNamed ⟦<O::File as Disk>⟧ (O.image opener.now) (files_in result.1)
+        (map string_bytes words.now) }
     ensures done { result.0 ≡ 0
         → Done ⟦<O::File as Disk>⟧ (O.image opener.now) (O.holds opener.now) (files_in result.1)
         (map string_bytes words.now) W.contents E.contents output.old output.new errors.new
@@ -115,6 +118,8 @@ fn answer<O: Opener, W: Write, E: Write>(
         → AnswersFront ⟦<O::File as Disk>⟧ (O.image opener.now) (files_in result.1) question.now
         links (map string_bytes paths.now) W.contents E.contents output.old output.new
         errors.new }
+    ensures kept { AreKept ⟦<O::File as Disk>⟧
+        (placed (O.image opener.now) (map string_bytes paths.now)) (files_in result.1) }
 {
     let mut closed = ClosedChain::new();
     match recall_files(rt, opener, paths, question, links, errors, &mut closed) {

@@ -13,5 +13,6 @@ returns-in-Ok-clause-ok c H text says written =
     record {
       begun = [];
       adds = c.first.ensures H says.whole;
+      is_begin = tt;
       written = subst (HasWritten c.write_rows.new.writer) (λ j. text ++ rows_text (rows_in question c.args.path.now (file j) (pieces j))) (c.in-Ok.ensures text written);
     }

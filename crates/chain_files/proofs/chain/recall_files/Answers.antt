@@ -4,6 +4,7 @@ use Rattle.sqlite_wal.specs.Reads.{AreClean}
 use Rattle.chain_files.specs.Files.{HoldsSaid, IsRefused, files_in, placed}
 use Rattle.sqlite_disk.specs.declared.Files.{Files}
 use Rattle.chain_files.proofs.Answered.{are-chain}
+use Rattle.chain_files.proofs.KeptFiles.{kept-more, none-kept}
 use Rattle.chain_files.proofs.OneFileMore.{added, stopped}
 use Rattle.chain_files.proofs.RefusedFiles.{honest-before, to-fault}
 use Rattle.chain_files.proofs.chain.recall_files.Goals as goal
@@ -12,6 +13,7 @@ pub loop-place-init : goal.loop-place-init
 loop-place-init g c = record {
   few = c.requires.few;
   count = ap length c.requires.none;
+  kept = none-kept g.O.File.Disk (placed (g.O.Opener.image c.args.opener.now) (map string_bytes c.args.paths.now)) (files_in c.args.closed.now) c.requires.none;
   so_far = λ honest. record {
     newest_first = [];
     order = c.requires.none;
@@ -19,6 +21,7 @@ loop-place-init g c = record {
     count = refl;
     held = tt;
     chained = refl;
+    begun = tt;
     linked = tt;
     wants = c.wanted_first.ensures;
     written = c.in-Ok.ensures;
@@ -71,6 +74,7 @@ loop-place-preserved g c =
     record {
       few = c.tell_file.ensures.few;
       count = omega (arith, long, was.count);
+      kept = kept-more g.O.File.Disk image paths closed after c.loop-place.place _ c.path_at-path.ensures was.count was.kept c.look_at.ensures.kept;
       so_far = added g.O.File.Disk (placed image paths) c.args.question.now c.args.links (map string_bytes c.args.paths.now) c.loop-place.older c.loop-place.answer c.loop-place.place closed takes.0 c.in-Ok-look_at.taken after c.in-Ok-add.longer c.add.new.answer takes.1 was.count was.so_far said takes.3 _ c.path_at-path.ensures c.in-Ok-add.ensures.wanted c.in-Ok-add.ensures.next c.in-Ok-add.ensures.ok;
     }
 
@@ -85,3 +89,16 @@ returns-in_default-clause-stopped g c honest = inl (record {
   refused = (None, c.requires.none, inl refl);
   in_file = inl refl;
 })
+
+pub returns-in-Err-clause-kept : goal.returns-in-Err-clause-kept
+returns-in-Err-clause-kept g c =
+    let was = c.loop-place.invariant in
+    kept-more g.O.File.Disk (g.O.Opener.image c.args.opener.now) (map string_bytes c.args.paths.now) (files_in c.loop-place.closed) (files_in c.look_at.new.closed) c.loop-place.place _ c.path_at-path.ensures was.count was.kept c.look_at.ensures.kept
+
+pub returns-in-Err-add-clause-kept : goal.returns-in-Err-add-clause-kept
+returns-in-Err-add-clause-kept g c =
+    let was = c.loop-place.invariant in
+    kept-more g.O.File.Disk (g.O.Opener.image c.args.opener.now) (map string_bytes c.args.paths.now) (files_in c.loop-place.closed) (files_in c.look_at.new.closed) c.loop-place.place _ c.path_at-path.ensures was.count was.kept c.look_at.ensures.kept
+
+pub returns-in_default-clause-kept : goal.returns-in_default-clause-kept
+returns-in_default-clause-kept g c = none-kept g.O.File.Disk (placed (g.O.Opener.image c.args.opener.now) (map string_bytes c.args.paths.now)) (files_in c.args.closed.now) c.requires.none

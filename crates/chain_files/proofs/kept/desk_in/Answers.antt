@@ -1,5 +1,5 @@
 use Rattle.std.specs.Prelude.{⊤}
-use Rattle.std.proofs.Common.{Bool, Err, None, Some, arith, ◌∙◌, subst}
+use Rattle.std.proofs.Common.{Bool, Err, None, Some, arith, ◌∙◌, subst, inl, inr}
 use Rattle.sqlite.specs.Files.{file_state, image_of, over_files}
 use Rattle.sqlite.specs.State.{HasCleanDisk}
 use Rattle.desk_types.specs.declared.rules.Rules.TheVariants.{Two}
@@ -8,6 +8,8 @@ use Rattle.line_schema.specs.Stands.{Kept, Stands}
 use Rattle.desk_file.proofs.FirstLists.{opened_begins}
 use Rattle.desk_file.specs.Refused.{IsFaultIn}
 use Rattle.desk_file.proofs.RefusedFiles.{fault_in, refused, refuses}
+use Rattle.line_tables.proofs.Ours.{ours_is}
+use Rattle.sqlite_store.specs.Laws.{settled_at}
 use Rattle.chain_files.proofs.kept.desk_in.Goals as goal
 
 pub returns-in-Ok-open-clause-opens : goal.returns-in-Ok-open-clause-opens
@@ -26,6 +28,14 @@ returns-in-Ok-open-clause-opens g c = λ clean alone.
       begins.0,
       subst (λ (own : Bool). Stands over_files state.Stands c.in-Ok-open.store (kept own))
           (opens.own ∙ begins.1) opens.stands,
+      λ trees may.
+          let layout = ours_is (file_state conn).committed.schema begins.1 in
+          let held = (opens.tables clean).are (record { rules = Two; layout = layout.0; same = layout.1 }) in
+          let was : (file_state conn).may_leave trees = elim (opens.reads.survives.crash clean trees may) [
+            | inl old ↦ old
+            | inr none ↦ absurd none
+          ] in
+          ((file_state conn).committed, held, (opened.1 opened.0.is_open).1, settled_at conn.store g.met.D.Disk.seen_may_stay trees opened.0.is_open was),
     )
 
 pub returns-in-Err-clause-refused : goal.returns-in-Err-clause-refused

@@ -1,9 +1,6 @@
 use Rattle.chain_files.proofs.two_files.alike.Goals as goal
 
 pub returns-clause-failed : goal.returns-clause-failed
-returns-clause-failed g c four = (c.tell_found-status.ensures.failed four).0
-
-pub returns-clause-front : goal.returns-clause-front
-returns-clause-front g c four =
+returns-clause-failed g c four =
     let told = c.tell_found-status.ensures.failed four in
-    (c.compare_files-found.result, told.1, c.compare_files-found.ensures, told.2)
+    (told.0, (c.compare_files-found.result, told.1, c.compare_files-found.ensures.found, told.2))

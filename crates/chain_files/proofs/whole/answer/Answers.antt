@@ -21,6 +21,7 @@ module _ {D : Type 0} (g : disk.Ghosts D) (image : List ℕ → ℕ → Image) (
         files = so_far.files;
         count = so_far.count ∙ all-of;
         chain = are-chain recalled.0.chain so_far.files so_far.chained;
+        begun = so_far.begun;
         newest_first = so_far.newest_first;
         order = so_far.order;
         held = so_far.held;

@@ -1,4 +1,4 @@
-use Rattle.desk_types.proofs.Common.{◌∙◌, arith, inl, inr, map, refl, string_bytes}
+use Rattle.desk_types.proofs.Common.{[], ◌∷◌, ◌∙◌, arith, inl, inr, map, refl, string_bytes}
 use Rattle.chain_files.proofs.whole.program.Goals as goal
 
 pub returns-in-Ok-clause-done : goal.returns-in-Ok-clause-done
@@ -57,14 +57,27 @@ returns-in-Err-clause-stopped g c stopped =
       ),
     )
 
-pub returns-in-Alike-clause-status : goal.returns-in-Alike-clause-status
-returns-in-Alike-clause-status g c =
-    elim c.alike.ensures.status [
-      | inl is ↦ omega (arith, is)
-      | inr (inl is) ↦ omega (arith, is)
-      | inr (inr (inl is)) ↦ omega (arith, is)
-      | inr (inr (inr is)) ↦ omega (arith, is)
-    ]
+pub returns-in-Alike-clause-ends : goal.returns-in-Alike-clause-ends
+returns-in-Alike-clause-ends g c =
+    let asked = c.in-Alike in (
+      elim c.alike.ensures.status [
+        | inl is ↦ omega (arith, is)
+        | inr (inl is) ↦ omega (arith, is)
+        | inr (inr (inl is)) ↦ omega (arith, is)
+        | inr (inr (inr is)) ↦ omega (arith, is)
+      ],
+      inr (asked.old.now ∷ asked.new.now ∷ [], inr (asked.old.now, asked.new.now, asked.ensures, refl), c.alike.ensures.kept),
+    )
+
+pub returns-in-Ok-clause-ends : goal.returns-in-Ok-clause-ends
+returns-in-Ok-clause-ends g c =
+    let asked = c.in-Recall in (
+      elim c.answer.ensures.status [
+        | inl is ↦ omega (arith, is)
+        | inr is ↦ omega (arith, is.1)
+      ],
+      inr (map string_bytes asked.files.now, inl (asked.asked, asked.word.now, asked.links, asked.ensures), c.answer.ensures.kept),
+    )
 
 pub returns-in-Alike-clause-done : goal.returns-in-Alike-clause-done
 returns-in-Alike-clause-done g c zero =
@@ -114,8 +127,9 @@ returns-in-Alike-clause-bad g c two =
 pub returns-in-Alike-clause-failed : goal.returns-in-Alike-clause-failed
 returns-in-Alike-clause-failed g c four =
     let asked = c.in-Alike in
-    let front = c.alike.ensures.front four in
-    inr (inr (front.0, front.1, (asked.old.now, asked.new.now, asked.ensures, front.2), front.3), c.alike.ensures.failed four)
+    let failed = c.alike.ensures.failed four in
+    let front = failed.1 in
+    inr (inr (front.0, front.1, (asked.old.now, asked.new.now, asked.ensures, front.2), front.3), failed.0)
 
 pub returns-in-Version-clause-done : goal.returns-in-Version-clause-done
 returns-in-Version-clause-done g c zero =

@@ -1,6 +1,5 @@
-use Rattle.desk_types.proofs.Common.{◌++◌, ◌∙◌, codes, inl, List, subst, ℕ}
+use Rattle.desk_types.proofs.Common.{◌∙◌, inl, List, subst, ℕ}
 use Rattle.desk_commands.specs.Told.{TellsLine}
-use Rattle.chain_files.specs.Whole.{list_line}
 use Rattle.chain_files.proofs.whole.tell_list.Goals as goal
 
 pub returns-in-Ok-clause-told : goal.returns-in-Ok-clause-told

@@ -1,6 +1,6 @@
-use Rattle.std.proofs.Common.{◌≡◌, ◌∙◌, ◌∷◌, List, Option, ℕ, ap, codes, inl, inr, map, refl, string_bytes, subst, sym}
+use Rattle.std.proofs.Common.{◌≡◌, ◌∙◌, ◌∷◌, List, ℕ, ap, inl, inr, map, refl, string_bytes, subst, sym}
 use Rattle.chain_files.specs.declared.words.Chosen.{Chosen}
-use Rattle.chain_files.specs.Words.{Begins, HasOptions, IsSaid, NameFiles}
+use Rattle.chain_files.specs.Words.{HasOptions, IsSaid, NameFiles}
 use Rattle.chain_files.proofs.ReadWords.{behind-files, dashes-first}
 use Rattle.chain_files.proofs.words.named_in.Goals as goal
 

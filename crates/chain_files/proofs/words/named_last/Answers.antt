@@ -1,5 +1,5 @@
 use Rattle.std.proofs.Common.{◌≡◌, ◌∙◌, ◌∷◌, List, ℕ, ap, codes, map, string_bytes, subst, sym, rules}
-use Rattle.chain_files.specs.Words.{HasOptions, IsSaid}
+use Rattle.chain_files.specs.Words.{HasOptions}
 use Rattle.chain_files.proofs.ReadWords.{some-map}
 use Rattle.chain_files.proofs.words.named_last.Goals as goal
 

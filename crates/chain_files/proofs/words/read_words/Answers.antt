@@ -1,4 +1,4 @@
-use Rattle.std.proofs.Common.{◌≡◌, ◌∙◌, ◌∷◌, ℕ, List, ap, arith, codes, map, refl, string_bytes, subst, sym}
+use Rattle.std.proofs.Common.{◌≡◌, ◌∙◌, ◌∷◌, ℕ, List, ap, codes, map, refl, string_bytes, subst, sym}
 use Rattle.chain_files.specs.Words.{Asks}
 use Rattle.chain_files.proofs.ReadWords.{none-checked, none-compared}
 use Rattle.chain_files.proofs.words.read_words.Goals as goal

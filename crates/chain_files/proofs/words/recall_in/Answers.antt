@@ -1,4 +1,4 @@
-use Rattle.std.proofs.Common.{◌∷◌, List, ℕ, map, refl, string_bytes, subst}
+use Rattle.std.proofs.Common.{◌∷◌, map, refl, string_bytes, subst}
 use Rattle.chain_files.specs.declared.words.Kind.{Kind}
 use Rattle.chain_files.specs.Words.{Asks, kind_word}
 use Rattle.chain_files.proofs.ReadWords.{none-named}

@@ -1,0 +1,4 @@
+mod AskedPieces
+pub mod BegunParts
+pub mod FirstMessage
+pub mod NextOfFirst

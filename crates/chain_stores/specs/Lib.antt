@@ -1,0 +1,3 @@
+pub mod Begin
+pub mod First
+pub mod Look
