@@ -1,11 +1,12 @@
 -- The state tables of a history, each as a lookup by key.
-use Rattle.std.specs.Prelude.{ℕ, ◌+◌, ◌==◌, ◌&&◌, Bool, Option, Some, None, List, [], ◌∷◌, if◌then◌else◌}
+use Rattle.std.specs.Prelude.{ℕ, ◌+◌, ◌==◌, ◌&&◌, Bool, Option, Some, None, is_some, List, [], ◌∷◌, if◌then◌else◌}
 use Rattle.std.specs.Option.{option_and_then, option_map}
 use Rattle.std.specs.List.{find}
 use Rattle.desk_types.specs.declared.command.Command.{Command}
 use Rattle.desk_types.specs.declared.command.Command.TheVariants.{MaterialsLoaded, MaterialsSpliced}
 use Rattle.desk_types.specs.declared.placement.Placement.{Placement}
 use Rattle.desk_types.specs.declared.sheet.SheetRow.{SheetRow}
+use Rattle.desk_types.specs.declared.view.Left.{Left}
 use Rattle.desk_types.specs.declared.view.ReelView.{ReelView}
 use Rattle.desk_types.specs.Id.{Name, same}
 use Rattle.desk_types.specs.History.{History, latest}
@@ -48,6 +49,27 @@ columns_of view = record {
   used = view.used;
   open_since = view.open_since;
   baked = view.baked;
+}
+
+-- The view of a row, with what the row doesn't have.
+abbrev pub view_with : ReelRow → ℕ → Left → Bool → ReelView
+view_with row found left mounted = record {
+  reel = row.reel;
+  part = row.part;
+  lot = row.lot;
+  level = row.level;
+  label = row.label;
+  received = row.received;
+  found = found;
+  placed = row.placed;
+  scrapped = row.scrapped;
+  remaining = row.remaining;
+  left = left;
+  mounted = mounted;
+  is_open = is_some row.open_since;
+  used = row.used;
+  open_since = row.open_since;
+  baked = row.baked;
 }
 
 -- A received reel's row.

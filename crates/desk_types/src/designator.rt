@@ -51,6 +51,7 @@ impl Designator {
     /// Returns the designator's bytes.
     pub fn as_bytes(&self) -> &[u8]
         ensures value { result.now ≡ self.now }
+        // A `&` hides the type's invariant, so the bytes say it again.
         ensures is_designator { IsDesignator result.now }
     {
         &self.bytes[..self.len as usize]

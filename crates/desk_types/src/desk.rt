@@ -12,6 +12,7 @@ use crate::front::Fronts;
 use crate::id::Id;
 use crate::list::Listing;
 use crate::number::Minute;
+use crate::row::ReelRow;
 use crate::rules::Rules;
 use crate::sheet::SheetRows;
 use crate::view::{Mounts, ReelView, ReelViews};
@@ -48,6 +49,7 @@ pub trait Desk {
     ghost use Rattle.desk_types.specs.History.{Basis, basis, basis_after, desk_minute};
     ghost use Rattle.desk_types.specs.Setup.{selected_on, sheet_of};
     ghost use Rattle.desk_types.specs.View.{reel_view, mounts_on};
+    ghost use Rattle.desk_types.specs.Tables.{reel_row};
     ghost use Rattle.desk_types.specs.Free.{free_reels};
     ghost use Rattle.desk_types.specs.Desk.{HasRoom, IsChange, IsJudgement};
     ghost use Rattle.desk_types.specs.Judged.{IsJudged};
@@ -66,15 +68,19 @@ pub trait Desk {
     /// Judges the command without changing the desk. The desk's owner checks for repeats and for
     /// the greatest number.
     fn judge(&self, stamped: &Stamped) -> Result<Change, JudgeFault>
+        // One more entry must fit under the greatest number: a number of a command is at most that.
         requires room { HasRoom Stands self.now 1 }
+        // For every history that leads here: a desk without a history can't tell them apart.
         ensures { (B : Basis) → Stands self.now B
             → IsJudgement B.rules B.history stamped.now result };
 
     /// Accepts a judged command. After an `Err` the desk's state is unknown: drop it.
     fn settle(&mut self, change: Change) -> Result<(), AllocError>
         requires room { HasRoom Stands self.old 1 }
+        // What isn't judged is never settled: this is why `settle` refuses nothing.
         requires judged { (B : Basis) → Stands self.old B
             → IsChange B.rules B.history change.stamped change }
+        // After an `Err` nothing is said of the desk, so its owner makes it anew.
         ensures { (B : Basis) → Stands self.old B
             → OnOk result (Stands self.new (basis_after B change.stamped)) };
 
@@ -101,6 +107,10 @@ pub trait Desk {
     fn reel(&self, reel: &Id) -> Option<ReelView>
         ensures { (B : Basis) → Stands self.now B → result ≡ reel_view B.history reel.now };
 
+    /// Returns the reel's row, or none if it wasn't received. Takes no memory.
+    fn reel_row(&self, reel: &Id) -> Option<ReelRow>
+        ensures { (B : Basis) → Stands self.now B → result ≡ reel_row B.history reel.now };
+
     /// Returns the live reels on the machine's slots, by slot and position, or none if no sheet is
     /// for the machine. It includes slots that a later sheet no longer has.
     fn slots_of(&self, machine: &Id) -> Result<Option<Mounts>, AllocError>
@@ -124,9 +134,12 @@ pub fn run<D: Desk>(
     desk: &mut D,
     messages: &[Stamped],
 ) -> Result<Replies, AllocError>
+    // Asked once, for all of the messages: even if each is accepted, the numbers suffice.
     requires room { HasRoom D.Stands desk.old (length messages.now) }
+    // No word of what the desk keeps: two desks of one history give the same replies.
     ensures replies { (B : Basis) → D.Stands desk.old B
         → IfOk result (λ replies. replies ≡ replies_to B.rules B.history messages.now) }
+    // So a run can be followed by another one, whose replies are those of the longer history.
     ensures stands { (B : Basis) → D.Stands desk.old B → OnOk result (D.Stands desk.new
         (record B { history = after_commands B.rules B.history messages.now })) }
 {

@@ -20,6 +20,7 @@ pub fn with_zeros<const N: usize>(bytes: &[u8]) -> [u8; N]
 /// Compares two arrays of the same width by their bytes, eight at a time as one number.
 pub fn order(a: &[u8], b: &[u8]) -> Ordering
     requires one_width { length a.now ≡ length b.now }
+    // Eight bytes are read at once, and none is left over.
     requires whole_words { length a.now % 8 ≡ 0 }
     ensures { result ≡ slice_cmp nat_cmp a.now b.now }
 {

@@ -52,6 +52,7 @@ impl Id {
     /// Returns the id's bytes.
     pub fn as_bytes(&self) -> &[u8]
         ensures value { result.now ≡ self.now }
+        // A `&` hides the type's invariant, so the bytes say it again.
         ensures is_id { IsId result.now }
     {
         &self.bytes[..self.len as usize]

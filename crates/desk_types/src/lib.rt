@@ -61,7 +61,6 @@ pub use placement::Placement;
 pub use row::{BoardRow, MountRow, PlacementRow, ReelRow};
 pub use rules::Rules;
 pub use sheet::{Designators, SheetRow, SheetRows};
-pub use stored_command::Kept;
 pub use stored_law::texts_tell_commands_apart;
 pub use stored_word::Word;
 pub use take::{Pick, Purpose, Take};

@@ -102,6 +102,7 @@ impl<T> Bounded<T> {
     /// Returns the elements in order.
     pub fn as_slice(&self) -> &[T]
         ensures value { result.now ≡ self.now }
+        // A `&` hides the type's invariant, so the length says it again.
         ensures range { IsListLength (length result.now) }
     {
         self.items.as_slice()

@@ -37,6 +37,7 @@ impl Minute {
     /// Returns the minutes since 1970-01-01T00:00Z.
     pub fn get(self) -> u64
         ensures value { result ≡ self }
+        // Sums of minutes then fit a `u64` without a check.
         ensures range { IsMinute result }
     {
         self.0
@@ -74,6 +75,7 @@ impl Quantity {
     /// Returns the number of pieces.
     pub fn get(self) -> u64
         ensures value { result ≡ self }
+        // Sums of pieces then fit a `u64` without a check.
         ensures range { IsQuantity result }
     {
         u64::from(self.0)

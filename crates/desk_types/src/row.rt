@@ -1,7 +1,11 @@
 //! Rows of the state tables.
 
-ghost use Rattle.std.specs.Prelude.{◌≡◌, ℕ, ◌<◌, ◌^◌};
-ghost use Rattle.desk_types.specs.Row.{fresh_row, exposure_at, opened_row, sealed_row, baked_row};
+ghost use Rattle.std.specs.Prelude.{◌≡◌, ℕ, ◌<◌, ◌≤◌, ◌^◌, IfSome};
+ghost use Rattle.desk_types.specs.declared.limits.TheConstants.{GREATEST_LABEL};
+ghost use Rattle.desk_types.specs.Id.{Name};
+ghost use Rattle.desk_types.specs.History.{History, now_of};
+ghost use Rattle.desk_types.specs.FloorLife.{minutes_left, is_expired, is_unbaked};
+ghost use Rattle.desk_types.specs.Row.{fresh_row, exposure_at, opened_row, sealed_row, baked_row, minutes_left_at, is_expired_at, is_unbaked_row, IsRowOf};
 
 use crate::designator::Designator;
 use crate::id::Id;
@@ -65,6 +69,51 @@ impl ReelRow {
                 .saturating_add(minute.get().saturating_sub(since.get())),
             None => self.used,
         }
+    }
+
+    /// Returns the remaining minutes of floor life at this minute, 0 if expired, or none without a
+    /// limit.
+    pub fn minutes_left(&self, minute: Minute) -> Option<u64>
+        // Of the row alone, whatever history it is from.
+        ensures value { exposure_at self.now minute ≤ minute
+            → result ≡ minutes_left_at self.now minute }
+        // Of a history's row, what the definitions say: nothing of the reel is looked up again.
+        ensures left { (H : History) (name : Name) → IsRowOf H name self.now
+            → now_of H ≤ minute → result ≡ minutes_left H name minute }
+        // So an answer can write it as a number of a known width.
+        ensures bound { self.now.label ≤ GREATEST_LABEL
+            → IfSome result (λ left. left ≤ GREATEST_LABEL) }
+    {
+        let _ = minute.get();
+        let limit = self.level.limit(self.label)?;
+        Some(limit.saturating_sub(self.exposure(minute)))
+    }
+
+    /// Returns whether the exposure has reached its limit by this minute.
+    pub fn is_expired(&self, minute: Minute) -> bool
+        // Of the row alone, whatever history it is from.
+        ensures value { exposure_at self.now minute ≤ minute
+            → result ≡ is_expired_at self.now minute }
+        // Of a history's row, what the definitions say: nothing of the reel is looked up again.
+        ensures expired { (H : History) (name : Name) → IsRowOf H name self.now
+            → now_of H ≤ minute → result ≡ is_expired H name minute }
+    {
+        let _ = minute.get();
+        match self.level.limit(self.label) {
+            Some(limit) => self.exposure(minute) >= limit,
+            None => false,
+        }
+    }
+
+    /// Returns whether the reel waits for its bake: it has level 6 and wasn't baked since its
+    /// receipt.
+    pub fn is_unbaked(&self) -> bool
+        ensures value { result ≡ is_unbaked_row self.now }
+        // Of a history's row, what the definitions say: nothing of the reel is looked up again.
+        ensures unbaked { (H : History) (name : Name) → IsRowOf H name self.now
+            → result ≡ is_unbaked H name }
+    {
+        self.level == Level::Six && !self.baked
     }
 
     /// Returns the row with the reel out of its bag: since this minute, if it was in its bag.

@@ -9,7 +9,9 @@ use itoa::Buffer;
 
 /// Returns the decimal number in the text, which has no sign or leading zeros.
 pub fn number(text: &[u8]) -> Option<u64>
+    // Only the one text that the number is written as: no leading zero, no sign.
     ensures read { IfSome result (λ n. text.now ≡ decimal n) }
+    // No number that was stored is refused, so a refusal is a proof of damage.
     ensures refused { IfNone result ((n : ℕ) → n < 2 ^ 64 → ¬ (text.now ≡ decimal n)) }
 {
     let Ok(chars) = str::from_utf8(text) else {

@@ -50,6 +50,7 @@ impl Word {
     /// Returns the kind with this text, if there is one.
     pub fn read(text: &[u8]) -> Option<Word>
         ensures read { IfSome result (λ word. text.now ≡ word_text word) }
+        // No word that was stored is refused, so a refusal is a proof of damage.
         ensures refused { IfNone result ((word : Word) → ¬ (text.now ≡ word_text word)) }
     {
         first_named(&WORDS, text).copied()

@@ -1,9 +1,13 @@
 //! The reported state of reels and slots.
 
+ghost use Rattle.std.specs.Prelude.{◌≡◌};
+ghost use Rattle.desk_types.specs.Tables.{columns_of, view_with};
+
 use crate::id::Id;
 use crate::level::Level;
 use crate::list::Listing;
 use crate::number::Minute;
+use crate::row::ReelRow;
 
 /// The remaining floor life of a reel, ordered from fewer minutes to unlimited to waiting for a
 /// bake.
@@ -48,6 +52,53 @@ pub struct ReelView {
     pub open_since: Option<Minute>,
     /// Whether the reel was baked since its receipt.
     pub baked: bool,
+}
+
+impl ReelView {
+    /// Returns the view of a row, with the pieces that counts found, the floor life left and
+    /// whether the reel is mounted.
+    pub fn of_row(row: &ReelRow, found: u64, left: Left, mounted: bool) -> ReelView
+        ensures { result ≡ view_with row.now found left mounted }
+    {
+        ReelView {
+            reel: row.reel,
+            part: row.part,
+            lot: row.lot,
+            level: row.level,
+            label: row.label,
+            received: row.received,
+            found,
+            placed: row.placed,
+            scrapped: row.scrapped,
+            remaining: row.remaining,
+            left,
+            mounted,
+            is_open: row.open_since.is_some(),
+            used: row.used,
+            open_since: row.open_since,
+            baked: row.baked,
+        }
+    }
+
+    /// Returns the columns that don't change with the minute.
+    pub fn columns(&self) -> ReelRow
+        ensures { result ≡ columns_of self.now }
+    {
+        ReelRow {
+            reel: self.reel,
+            part: self.part,
+            lot: self.lot,
+            level: self.level,
+            label: self.label,
+            received: self.received,
+            placed: self.placed,
+            scrapped: self.scrapped,
+            remaining: self.remaining,
+            used: self.used,
+            open_since: self.open_since,
+            baked: self.baked,
+        }
+    }
 }
 
 /// Reels ordered by remaining floor life, then by name.

@@ -9,7 +9,8 @@ use Rattle.desk_laws.proofs.Common.{Command, CountsTaken, Entry, MaterialsInstal
 use Rattle.desk_laws.proofs.Common.{MaterialsScrapped, MaterialsSpliced, MaterialsUnloaded, mounted_after}
 use Rattle.desk_laws.proofs.Common.{Receipt, ReelReceived, ReelRow, Two}
 use Rattle.desk_laws.proofs.{Balance.some-next, Balance.unreceived-empty, Mounted.mounted-next, Mounts.has}
-use Rattle.feeder_state.proofs.RowReels.{mounts-row, reels-row, row-left, row-none}
+use Rattle.desk_laws.proofs.RowsOfReels.{row-none}
+use Rattle.feeder_state.proofs.RowReels.{mounts-row, reels-row, row-left}
 use Rattle.feeder_state.specs.{Noted.may_take, Resting.resting_after, Resting.rests, Resting.row_rests}
 use Rattle.feeder_state.specs.{Rows.AreRows}
 use Rattle.state_rows.specs.Kept.{KeptRows, row_at, tables_in}
@@ -92,19 +93,23 @@ others-rest left spent r new old none some out = by (same spent r) refl out
 
 -- ---- reels that have rows
 
-abbrev pub has_resting : KeptRows → Name → List (Name × ReelRow) → Bool
-has_resting rows r es = list_any (λ (e : Name × ReelRow). row_rests rows e.0 e.1 && same e.0 r) es
+-- Whether the reel has a row of `mount`.
+abbrev on_slot : KeptRows → Name → Bool
+on_slot rows name = is_some ((tables_in rows).mounts name)
 
-resting-there : (rows : KeptRows) (r : Name) (es : List (Name × ReelRow)) (row : ReelRow) → row_at by_name es r ≡ Some row → row_rests rows r row ≡ true → has_resting rows r es ≡ true
+abbrev pub has_resting : KeptRows → Name → List (Name × ReelRow) → Bool
+has_resting rows r es = list_any (λ (e : Name × ReelRow). row_rests (on_slot rows e.0) e.1 && same e.0 r) es
+
+resting-there : (rows : KeptRows) (r : Name) (es : List (Name × ReelRow)) (row : ReelRow) → row_at by_name es r ≡ Some row → row_rests (on_slot rows r) row ≡ true → has_resting rows r es ≡ true
 resting-there rows r [] row found is = cc
 resting-there rows r (e ∷ es) row found is =
     by (same e.0 r) refl (sym (ap (λ b. cond b (Some e.1) (lookup (is_at (by_name r)) es)) (is_at-by_name r e.0 ∙ same-sym r e.0)) ∙ found) (λ later. resting-there rows r es row later is)
   where
     by : (b : Bool) → same e.0 r ≡ b → cond b (Some e.1) (lookup (is_at (by_name r)) es) ≡ Some row → (row_at by_name es r ≡ Some row → has_resting rows r es ≡ true)
-        → ((row_rests rows e.0 e.1 && b) || has_resting rows r es) ≡ true
+        → ((row_rests (on_slot rows e.0) e.1 && b) || has_resting rows r es) ≡ true
     by true here found rest =
-        ap (λ b. (b && true) || has_resting rows r es) (ap (λ n. row_rests rows n e.1) (same-true e.0 r here) ∙ ap (λ o. option_map_or (row_rests rows r) o true) found ∙ is)
-    by false here found rest = ap (λ b. b || has_resting rows r es) (and-false (row_rests rows e.0 e.1)) ∙ rest found
+        ap (λ b. (b && true) || has_resting rows r es) (ap (λ n. row_rests (on_slot rows n) e.1) (same-true e.0 r here) ∙ ap (λ o. option_map_or (row_rests (on_slot rows r)) o true) found ∙ is)
+    by false here found rest = ap (λ b. b || has_resting rows r es) (and-false (row_rests (on_slot rows e.0) e.1)) ∙ rest found
 
 pub rests-rows : (H : History) (rows : KeptRows) (reel : Name) (es : List (Name × ReelRow)) → AreRows H rows → ((r : Name) → row_at by_name es r ≡ (tables_in rows).reels r)
     → rests H reel ≡ true → has_resting rows reel es ≡ true

@@ -11,7 +11,6 @@ pub mod PlacedDesignators
 pub mod ReelsOffTapes
 pub mod RestoredSheets
 pub mod RestoredWork
-pub mod RowFits
 pub mod RowReels
 pub mod SameStates
 pub mod SlotsOfMachines

@@ -4,61 +4,35 @@ use Rattle.desk_types.proofs.Common.{is_baked, is_mounted, is_six, is_some, IsJu
 use Rattle.desk_types.proofs.Common.{LevelWithLabel, limit_of, List, Name, None, not, now_of, Option}
 use Rattle.desk_types.proofs.Common.{option_and_then, option_map, option_map_or, receipt_of, refl, replies_to}
 use Rattle.desk_types.proofs.Common.{Some, sym, Tables, tables_of, unwrap_or}
-use Rattle.desk_laws.proofs.Common.{BoardRow, Stamped, Two}
+use Rattle.desk_laws.proofs.Common.{BoardRow, ReelRow, Stamped, Two}
 use Rattle.desk_laws.proofs.{AfterCommands.many-commands, Agreeing.Agree, Agreeing.IsSame, Agreeing.mark}
-use Rattle.desk_laws.proofs.{Agreeing.marked, Agreeing.marks_of, FloorNext.life-marked, FromAlike.same-absent}
-use Rattle.feeder_state.proofs.{AcceptedChanges.state-rows, AcceptedChanges.state-two, FloorTells.absent-left}
-use Rattle.feeder_state.proofs.{FloorTells.absent-mounted, RestoredWork.busy-row, RestoredWork.is_at_work}
-use Rattle.feeder_state.proofs.{RestoredWork.product-row, RowReels.both-held}
-use Rattle.feeder_state.specs.{Held.IsHeldOf, State.IsState, declared.desk.StateDesk.StateDesk}
-use Rattle.feeder_state.specs.{declared.held.Held.Held}
-use Rattle.reels.specs.Reel.{StandsFor}
-use Rattle.state_rows.specs.Kept.{unnumbered}
+use Rattle.desk_laws.proofs.{Agreeing.marks_of, FromAlike.same-absent}
+use Rattle.desk_types.specs.Row.{IsRowIfAny, IsRowOf}
+use Rattle.feeder_state.proofs.{AcceptedChanges.state-rows, AcceptedChanges.state-two, RestoredWork.busy-row}
+use Rattle.feeder_state.proofs.{RestoredWork.is_at_work, RestoredWork.product-row, RowReels.mounts-row}
+use Rattle.feeder_state.proofs.RowReels.{row-at, row-left}
+use Rattle.feeder_state.specs.{Rows.AreRows, State.IsState, declared.desk.StateDesk.StateDesk}
+use Rattle.state_rows.specs.Kept.{tables_in, unnumbered}
 
--- The facts of a state about a reel.
-record IsSameHeld (G H : History) (reel : Name) : Type 0 where
-  same : IsSame G H reel
-  left : left_of G reel ≡ left_of H reel
-  mounted : is_mounted G reel ≡ is_mounted H reel
+marks-row : (H : History) (reel : Name) (row : ReelRow) → IsRowOf H reel row
+    → marks_of H reel ≡ Some (row.part, (row.lot, record { level = row.level; label = row.label }))
+marks-row H reel row of =
+    ap (option_map mark) of.is
+    ∙ sym (ap (λ (r : ReelRow). Some (r.part, (r.lot, record { level = r.level; label = r.label }))) of.row_is)
 
-marks-held : (H : History) (reel : Name) (held : Held) → StandsFor H reel held.reel
-    → marks_of H reel ≡ Some (held.reel.row.part, (held.reel.row.lot, record { level = held.reel.row.level; label = held.reel.row.label }))
-marks-held H reel held stands =
-    let receipt = stands.receipt in
-    ap (option_map mark) receipt.is ∙ sym (λ j. Some (receipt.part j, (receipt.lot j, record { level = receipt.level j; label = receipt.label j })))
-
-same-held : (G H : History) (reel : Name) (held : Option Held) → now_of G ≡ now_of H → IsJudged Two G → IsJudged Two H → IsHeldOf G reel held → IsHeldOf H reel held
-    → IsSameHeld G H reel
-same-held G H reel None now of_G of_H in_G in_H = record {
-  same = same-absent G H reel of_G of_H in_G in_H;
-  left = sym (absent-left G reel of_G in_G) ∙ absent-left H reel of_H in_H;
-  mounted = sym (absent-mounted G reel of_G in_G) ∙ absent-mounted H reel of_H in_H;
+-- A reel with one row in both histories.
+same-row : (G H : History) (reel : Name) (said : Option ReelRow) → now_of G ≡ now_of H → IsJudged Two G → IsJudged Two H
+    → IsRowIfAny G reel said → IsRowIfAny H reel said → IsSame G H reel
+same-row G H reel None now of_G of_H in_G in_H = same-absent G H reel of_G of_H in_G in_H
+same-row G H reel (Some row) now of_G of_H in_G in_H = record {
+  marks = marks-row G reel row in_G ∙ sym (marks-row H reel row in_H);
+  unbaked = sym in_G.unbaked ∙ in_H.unbaked;
+  out = ap is_some (sym (ap (λ (r : ReelRow). r.open_since) in_G.row_is) ∙ ap (λ (r : ReelRow). r.open_since) in_H.row_is);
+  minutes = λ _ minute le.
+      let exposure = sym (in_G.exposure minute le).0 ∙ (in_H.exposure minute (omega (arith, now, le))).0 in
+      let life = sym in_G.limit ∙ in_H.limit in
+      (λ j. option_map (λ limit. limit - exposure j) (life j));
 }
-same-held G H reel (Some held) now of_G of_H in_G in_H = record {
-  same = record {
-    marks = marks;
-    unbaked =
-        ap (λ b. b && not (is_baked G reel)) (marked six false (receipt_of G reel))
-        ∙ (λ j. option_map_or six (marks j) false && not (baked j))
-        ∙ sym (ap (λ b. b && not (is_baked H reel)) (marked six false (receipt_of H reel)));
-    out = ap is_some (sym in_G.stands.open_since ∙ in_H.stands.open_since);
-    minutes = λ _ minute le.
-        let exposure = sym (in_G.stands.exposure minute (omega (arith, in_G.by_now, le))) ∙ in_H.stands.exposure minute (omega (arith, in_H.by_now, now, le)) in
-        let life = life-marked G reel ∙ ap (option_and_then (λ (m : Name × (Name × LevelWithLabel)). limit_of m.1.1.level m.1.1.label)) marks ∙ sym (life-marked H reel) in
-        (λ j. option_map (λ limit. limit - exposure j) (life j));
-  };
-  left = sym in_G.remaining ∙ in_H.remaining;
-  mounted = sym in_G.mounted ∙ in_H.mounted;
-}
-  where
-    six : Name × (Name × LevelWithLabel) → Bool
-    six m = is_six m.1.1.level
-
-    marks : marks_of G reel ≡ marks_of H reel
-    marks = marks-held G reel held in_G.stands ∙ sym (marks-held H reel held in_H.stands)
-
-    baked : is_baked G reel ≡ is_baked H reel
-    baked = sym in_G.stands.baked ∙ in_H.stands.baked
 
 -- No board and no reel is past.
 abbrev none_past : Name → Bool
@@ -75,12 +49,12 @@ state-agree G H desk of_G of_H = record {
   busy = λ j board. (sym (busy-row G board two_G) ∙ ap (λ (t : Tables). option_map_or is_at_work (t.boards board) false) same_rows ∙ busy-row H board two_H) j;
   products = λ board _. sym (product-row G board) ∙ ap (λ (t : Tables). option_and_then (λ (r : BoardRow). Some r.product) (t.boards board)) same_rows ∙ product-row H board;
   placed = λ board _. λ j d. (sym (of_G.work.placed board d) ∙ of_H.work.placed board d) j;
-  left = λ j reel. (of_reel reel).left j;
+  left = λ j reel. (sym (row-left G desk.rows rows_G reel) ∙ row-left H desk.rows rows_H reel) j;
   live = λ j machine slot. (sym (of_G.floor.tapes machine slot) ∙ of_H.floor.tapes machine slot) j;
-  mounted = λ j reel. (of_reel reel).mounted j;
+  mounted = λ j reel. (sym (mounts-row G desk.rows rows_G reel) ∙ mounts-row H desk.rows rows_H reel) j;
   started = λ board past. cc;
   spent = λ reel past. cc;
-  reels = λ reel _. (of_reel reel).same;
+  reels = λ reel _. of_reel reel;
 }
   where
     minute : desk_minute G ≡ desk_minute H
@@ -95,12 +69,15 @@ state-agree G H desk of_G of_H = record {
     same_rows : unnumbered (tables_of G) ≡ unnumbered (tables_of H)
     same_rows = sym of_G.rows ∙ of_H.rows
 
-    of_reel : (reel : Name) → IsSameHeld G H reel
+    rows_G : AreRows G desk.rows
+    rows_G = state-rows G desk of_G
+
+    rows_H : AreRows H desk.rows
+    rows_H = state-rows H desk of_H
+
+    of_reel : (reel : Name) → IsSame G H reel
     of_reel reel =
-        let held =
-        both-held G H desk.rows reel (unwrap_or desk.minute 0) (state-rows G desk of_G) (state-rows H desk of_H) (ap (λ o. unwrap_or o 0) (sym of_G.minute))
-        (ap (λ o. unwrap_or o 0) (sym of_H.minute)) in
-        same-held G H reel held.0 (ap (λ o. unwrap_or o 0) minute) two_G two_H held.1 held.2
+        same-row G H reel ((tables_in desk.rows).reels reel) (ap (λ o. unwrap_or o 0) minute) two_G two_H (row-at G desk.rows rows_G reel _ refl) (row-at H desk.rows rows_H reel _ refl)
 
 pub state-replies : (G H : History) (desk : StateDesk) (messages : List Stamped) → All IsStamped messages → IsState G desk → IsState H desk
     → replies_to desk.rules G messages ≡ replies_to desk.rules H messages

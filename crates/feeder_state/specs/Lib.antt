@@ -1,5 +1,4 @@
 pub mod Floor
-pub mod Held
 pub mod Laws
 pub mod Noted
 pub mod Resting

@@ -1,5 +1,5 @@
 -- Reels at rest: those that have pieces left and are on no slot.
-use Rattle.std.specs.Prelude.{Bool, false, not, is_some, ◌&&◌, ◌||◌, nat_lt, List, if◌then◌else◌}
+use Rattle.std.specs.Prelude.{Bool, false, not, ◌&&◌, ◌||◌, nat_lt, List, if◌then◌else◌}
 use Rattle.std.specs.List.{list_any}
 use Rattle.std.specs.BTreeSet.{BTreeSet, contains}
 use Rattle.desk_types.specs.declared.command.Command.{Command}
@@ -8,20 +8,14 @@ use Rattle.desk_types.specs.Id.{Name, same, by_name}
 use Rattle.desk_types.specs.History.{History}
 use Rattle.desk_types.specs.Pieces.{left_of, is_mounted}
 use Rattle.desk_types.specs.declared.row.ReelRow.{ReelRow}
-use Rattle.state_rows.specs.Kept.{KeptRows, tables_in}
-use Rattle.feeder_state.specs.declared.held.Held.{Held}
 
 -- Whether the reel has pieces left and is on no slot.
 abbrev pub rests : History → Name → Bool
 rests H reel = nat_lt 0 (left_of H reel) && not (is_mounted H reel)
 
--- The same of a reel that is held.
-abbrev pub held_rests : Held → Bool
-held_rests held = nat_lt 0 held.reel.row.remaining && not held.on_slot
-
--- The same of a reel's row.
-abbrev pub row_rests : KeptRows → Name → ReelRow → Bool
-row_rests rows name row = nat_lt 0 row.remaining && not (is_some ((tables_in rows).mounts name))
+-- The same of a reel's row, and whether the reel is on a slot.
+abbrev pub row_rests : Bool → ReelRow → Bool
+row_rests on_slot row = nat_lt 0 row.remaining && not on_slot
 
 -- Whether the reel is in the set of those that may be at rest.
 abbrev pub is_resting : BTreeSet Name → Name → Bool

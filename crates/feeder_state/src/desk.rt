@@ -14,18 +14,16 @@ ghost use Rattle.feeder_state.specs.State.{IsState, Represents};
 
 use crate::floor::{Floor, floor_of};
 use crate::free::free_reels;
-use crate::held::reel_now;
 use crate::setup::{Setup, setup_of};
 use crate::tapes::spends;
 use crate::views::{reel_view, slots_of};
 use crate::work::{Work, work_of};
 use desk_types::{
-    Change, Designator, Desk, Fronts, Id, JudgeFault, Minute, Mounts, ReelView, ReelViews, Rules,
-    SheetRow, SheetRows, Stamped,
+    Change, Designator, Desk, Fronts, Id, JudgeFault, Minute, Mounts, ReelRow, ReelView, ReelViews,
+    Rules, SheetRow, SheetRows, Stamped,
 };
 use judging::fronts::fronts;
 use judging::{Facts, judge};
-use reels::Reel;
 use setup_sheets::{Alternates, Parts, Sheet};
 use state_rows::{KeepsRows, RowEdit, RowSet, Views, edits_for};
 use std::alloc::{AllocError, Global};
@@ -87,6 +85,7 @@ impl StateDesk {
         rows: &RowSet,
         minute: Option<Minute>,
     ) -> Result<StateDesk, AllocError>
+        // Some history has these rows; which one, nobody needs to know.
         requires { (H : History) × AreRowsOf H rows.now × (minute ≡ desk_minute H) }
         ensures { (H : History) → AreRowsOf H rows.now → minute ≡ desk_minute H
             → IfOk result (λ desk. Represents desk (basis Two H)) }
@@ -206,9 +205,8 @@ impl Facts for StateDesk {
         sheet.slot(designator)
     }
 
-    fn reel(&self, reel: &Id) -> Option<Reel> {
-        let minute = self.minute?;
-        reel_now(&self.rows, minute, reel)
+    fn reel_row(&self, reel: &Id) -> Option<ReelRow> {
+        self.rows.reel(reel).copied()
     }
 
     fn left_of(&self, reel: &Id) -> u64 {
@@ -281,6 +279,10 @@ impl Views for StateDesk {
         reel_view(&self.rows, self.minute, reel)
     }
 
+    fn reel_row(&self, reel: &Id) -> Option<ReelRow> {
+        self.rows.reel(reel).copied()
+    }
+
     fn slots_of(&self, machine: &Id) -> Result<Option<Mounts>, AllocError> {
         slots_of(
             self.alloc,
@@ -336,6 +338,10 @@ impl Desk for StateDesk {
 
     fn reel(&self, reel: &Id) -> Option<ReelView> {
         Views::reel(self, reel)
+    }
+
+    fn reel_row(&self, reel: &Id) -> Option<ReelRow> {
+        self.rows.reel(reel).copied()
     }
 
     fn slots_of(&self, machine: &Id) -> Result<Option<Mounts>, AllocError> {

@@ -49,8 +49,10 @@ impl Floor {
         takes: &[Take],
         spends: bool,
     ) -> Result<(), AllocError>
+        // The floor was right before the command, for one history at least.
         requires { (H : History) × (e : Entry) × (at : ℕ) × IsNoted H e command.now at takes.now
             × IsFloor H self.old }
+        // For every such history, since the desk stands for all of them.
         ensures { (H : History) (e : Entry) (at : ℕ) → IsNoted H e command.now at takes.now
             → AreRows (e ∷ H) rows.now
             → NoneIsSpent spends H rows.now → IsFloor H self.old

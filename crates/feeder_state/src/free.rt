@@ -5,19 +5,19 @@ ghost use Rattle.std.specs.List.{filter, filter_map};
 ghost use Rattle.std.specs.Option.{option_map};
 ghost use Rattle.desk_types.specs.Id.{Name};
 ghost use Rattle.desk_types.specs.History.{History, now_of};
+ghost use Rattle.desk_types.specs.Pieces.{is_mounted};
+ghost use Rattle.desk_types.specs.Row.{IsRowOf};
 ghost use Rattle.desk_types.specs.View.{life_left, reel_view};
 ghost use Rattle.desk_types.specs.Free.{reels_received, is_free, by_turn, in_order, free_reels};
 ghost use Rattle.setup_sheets.specs.Alternates.{AreAlternates};
 ghost use Rattle.judging.specs.Turns.{turn_of, if_free};
-ghost use Rattle.feeder_state.specs.Held.{IsHeld};
 ghost use Rattle.feeder_state.specs.Rows.{AreRowsAt};
 ghost use Rattle.feeder_state.specs.Floor.{IsFloor};
 
 use crate::floor::Floor;
-use crate::held::{Held, find};
 use crate::resting::is_at_rest;
 use crate::views::reel_view_at;
-use desk_types::{Id, Left, Listing, Minute, ReelView, ReelViews};
+use desk_types::{Id, Left, Listing, Minute, ReelRow, ReelView, ReelViews};
 use judging::lives::{is_usable, life_left};
 use judging::sets::{insert_if, push_if};
 use setup_sheets::{Alternates, allowed};
@@ -26,32 +26,31 @@ use std::alloc::{AllocError, Global};
 use std::collections::BTreeSet;
 
 /// Returns whether a reel with this left could be loaded where a sheet requires the part.
-fn is_free(alternates: &Alternates, part: &Id, held: &Held, left: Left) -> bool
-    ensures { (H : History) (name : Name) → AreAlternates H alternates.now → IsHeld H name held.now
+fn is_free(alternates: &Alternates, part: &Id, row: &ReelRow, on_slot: bool, left: Left) -> bool
+    ensures { (H : History) (name : Name) → AreAlternates H alternates.now
+        → IsRowOf H name row.now → on_slot ≡ is_mounted H name
         → left ≡ life_left H name → result ≡ is_free H part.now name }
 {
-    allowed(alternates, part, &held.reel.row.part)
-        && !held.on_slot
-        && held.reel.row.remaining > 0
-        && is_usable(left)
+    allowed(alternates, part, &row.part) && !on_slot && row.remaining > 0 && is_usable(left)
 }
 
 fn turn_of(
-    held: &Held,
+    row: &ReelRow,
+    on_slot: bool,
     minute: Minute,
     alternates: &Alternates,
     part: &Id,
     name: &Id,
 ) -> Option<(Left, Id)>
-    ensures { (H : History) → IsHeld H name.now held.now → now_of H ≡ minute
-        → AreAlternates H alternates.now
+    ensures { (H : History) → IsRowOf H name.now row.now → on_slot ≡ is_mounted H name.now
+        → now_of H ≡ minute → AreAlternates H alternates.now
         → result ≡ option_map (turn_of H) (if_free H part.now name.now) }
 {
-    if !is_at_rest(held) {
+    if !is_at_rest(row, on_slot) {
         return None;
     }
-    let left = life_left(&held.reel, held.reel.not_before(minute));
-    if !is_free(alternates, part, held, left) {
+    let left = life_left(row, minute);
+    if !is_free(alternates, part, row, on_slot, left) {
         return None;
     }
     Some((left, *name))
@@ -67,10 +66,8 @@ fn turn_at(
     ensures { (H : History) → AreRowsAt H (Some minute) rows.now → AreAlternates H alternates.now
         → result ≡ option_map (turn_of H) (if_free H part.now name.now) }
 {
-    match find(rows, minute, name) {
-        Some(held) => turn_of(&held, minute, alternates, part, name),
-        None => None,
-    }
+    let row = rows.reel(name)?;
+    turn_of(row, rows.is_mounted(name), minute, alternates, part, name)
 }
 
 /// The turns of the free reels, which are among those that may be at rest. The set orders them,

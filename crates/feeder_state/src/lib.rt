@@ -6,7 +6,6 @@ mod floor;
 mod floor_facts;
 mod free;
 mod groups;
-mod held;
 mod placed;
 mod resting;
 mod same_state;

@@ -47,6 +47,7 @@ impl PlacedNames {
 
     /// The designators, in order.
     pub fn in_order(&self) -> &[Designator]
+        // So a caller that looks for many names goes through the list once.
         ensures order { IsSorted by_name result.now }
         ensures value { result.now ≡ self.now }
     {
@@ -56,10 +57,12 @@ impl PlacedNames {
     /// Inserts designators: all are copied into a new allocation of their size and sorted. The old ones are already in
     /// order, so the sort passes over them once. If memory is refused, nothing changes.
     pub fn add_all(&mut self, designators: &[Designator]) -> Result<(), AllocError>
+        // Of each name alone, since the order of a set says nothing.
         ensures ok { (d : Name)
             → OnOk result
             (list_any (same d) self.new
             ≡ (list_any (same d) designators.now || list_any (same d) self.old)) }
+        // The old allocation is kept until the new one is whole.
         ensures err { OnErr result (self.new ≡ self.old) }
     {
         let alloc = *self.names.allocator();

@@ -5,12 +5,12 @@ ghost use Rattle.std.specs.List.{list_any};
 ghost use Rattle.desk_types.specs.Id.{Name, same};
 ghost use Rattle.desk_types.specs.History.{History};
 ghost use Rattle.feeder_state.specs.Tape.{tape_at};
-ghost use Rattle.feeder_state.specs.Held.{IsHeld};
+ghost use Rattle.desk_types.specs.Pieces.{is_mounted};
+ghost use Rattle.desk_types.specs.Row.{IsRowOf};
 ghost use Rattle.feeder_state.specs.Restored.{AreRowsOf};
 ghost use Rattle.feeder_state.specs.Rows.{left_at};
-ghost use Rattle.feeder_state.specs.Resting.{rests, held_rests, row_rests, is_resting, resting_after};
+ghost use Rattle.feeder_state.specs.Resting.{rests, row_rests, is_resting, resting_after};
 
-use crate::held::Held;
 use crate::tape::Tape;
 use crate::tapes::is_spent;
 use desk_types::{Command, Id, ReelRow, Take};
@@ -18,13 +18,15 @@ use state_rows::RowSet;
 use std::alloc::{AllocError, Global};
 use std::collections::{BTreeMap, BTreeSet};
 
-/// Whether the reel has pieces left and is on no slot. Most reels of a line fail this, and it takes no
-/// look-up.
-pub fn is_at_rest(held: &Held) -> bool
-    ensures held { result ≡ held_rests held.now }
-    ensures listed { (H : History) (name : Name) → IsHeld H name held.now → result ≡ rests H name }
+/// Whether a reel has pieces left and is on no slot.
+pub fn is_at_rest(row: &ReelRow, on_slot: bool) -> bool
+    // Of the row alone, whatever history it is from.
+    ensures row { result ≡ row_rests on_slot row.now }
+    // Of a history's row, what the definitions say of the reel.
+    ensures listed { (H : History) (name : Name) → IsRowOf H name row.now
+        → on_slot ≡ is_mounted H name → result ≡ rests H name }
 {
-    held.reel.row.remaining > 0 && !held.on_slot
+    row.remaining > 0 && !on_slot
 }
 
 fn put_tape(resting: &mut BTreeSet<Id>, tape: &Tape) -> Result<(), AllocError>
@@ -110,12 +112,6 @@ pub fn end_rests(rows: &RowSet, resting: &mut BTreeSet<Id>, command: &Command, t
     }
 }
 
-fn row_rests(rows: &RowSet, name: &Id, row: &ReelRow) -> bool
-    ensures { result ≡ row_rests rows.now name.now row.now }
-{
-    row.remaining > 0 && !rows.is_mounted(name)
-}
-
 /// The reels at rest.
 pub fn resting_of(alloc: Global, rows: &RowSet) -> Result<BTreeSet<Id>, AllocError>
     ensures { (H : History) → AreRowsOf H rows.now → (r : Name)
@@ -123,7 +119,7 @@ pub fn resting_of(alloc: Global, rows: &RowSet) -> Result<BTreeSet<Id>, AllocErr
 {
     let mut resting = BTreeSet::new(alloc);
     for (name, row) in rows.reels() {
-        if row_rests(rows, name, row) {
+        if is_at_rest(row, rows.is_mounted(name)) {
             resting.insert(*name)?;
         }
     }

@@ -81,6 +81,7 @@ pub fn spends(edits: &[RowEdit]) -> bool
 
 /// Takes the reels that takes spent off their slots.
 pub fn drop_all_spent(rows: &RowSet, tapes: &mut BTreeMap<(Id, Id), Tape>, takes: &[Take])
+    // A reel that stood twice on a slot would be taken off once.
     requires { (m s : Name) → IsDistinct same (tape_at tapes.old m s) }
     ensures { (m s : Name)
         → tape_at tapes.new m s ≡ filter

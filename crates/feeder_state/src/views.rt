@@ -5,52 +5,24 @@ ghost use Rattle.std.specs.List.{flat_map, enumerate_from};
 ghost use Rattle.desk_types.specs.History.{History, now_of};
 ghost use Rattle.desk_types.specs.View.{has_sheet as is_on_sheet, reel_view, mount_of, slot_mounts, loaded_slots, mounts_on};
 ghost use Rattle.feeder_state.specs.Floor.{IsFloor};
+ghost use Rattle.desk_types.specs.Row.{IsRowOf};
 ghost use Rattle.desk_types.specs.Setup.{receipt_of};
-ghost use Rattle.feeder_state.specs.Held.{IsHeld};
 ghost use Rattle.feeder_state.specs.Rows.{AreRowsAt};
 
 use crate::floor::Floor;
-use crate::held::{Held, find};
 use crate::tape::Tape;
-use desk_types::{Id, Listing, Minute, Mount, Mounts, ReelView};
+use desk_types::{Id, Listing, Minute, Mount, Mounts, ReelRow, ReelView};
 use judging::lives::life_left;
 use state_rows::RowSet;
 use std::alloc::{AllocError, Global};
-
-fn view_of(held: &Held, minute: Minute, name: &Id) -> ReelView
-    ensures { (H : History) → IsHeld H name.now held.now → now_of H ≡ minute
-        → reel_view H name.now ≡ Some result }
-{
-    let reel = &held.reel;
-    let row = &reel.row;
-    ReelView {
-        reel: *name,
-        part: row.part,
-        lot: row.lot,
-        level: row.level,
-        label: row.label,
-        received: row.received,
-        found: reel.found,
-        placed: row.placed,
-        scrapped: row.scrapped,
-        remaining: row.remaining,
-        left: life_left(reel, reel.not_before(minute)),
-        mounted: held.on_slot,
-        is_open: row.open_since.is_some(),
-        used: row.used,
-        open_since: row.open_since,
-        baked: row.baked,
-    }
-}
 
 /// Returns the reel at this desk minute, if it was received.
 pub fn reel_view_at(rows: &RowSet, minute: Minute, name: &Id) -> Option<ReelView>
     ensures { (H : History) → AreRowsAt H (Some minute) rows.now → result ≡ reel_view H name.now }
 {
-    match find(rows, minute, name) {
-        Some(held) => Some(view_of(&held, minute, name)),
-        None => None,
-    }
+    let row = rows.reel(name)?;
+    let left = life_left(row, minute);
+    Some(ReelView::of_row(row, rows.found_on(name), left, rows.is_mounted(name)))
 }
 
 /// Returns the reel at the desk minute, if it was received. Takes no memory.
@@ -63,18 +35,18 @@ pub fn reel_view(rows: &RowSet, minute: Option<Minute>, name: &Id) -> Option<Ree
     }
 }
 
-fn mount_of(held: &Held, minute: Minute, slot: &Id, position: u64, name: &Id) -> Mount
-    ensures { (H : History) → IsHeld H name.now held.now → now_of H ≡ minute
+fn mount_of(row: &ReelRow, minute: Minute, slot: &Id, position: u64, name: &Id) -> Mount
+    ensures { (H : History) → IsRowOf H name.now row.now → now_of H ≡ minute
         → result ≡ mount_of H slot.now (position, name.now) }
 {
     Mount {
         slot: *slot,
         position,
         reel: *name,
-        part: held.reel.row.part,
-        lot: held.reel.row.lot,
-        remaining: held.reel.row.remaining,
-        left: life_left(&held.reel, held.reel.not_before(minute)),
+        part: row.part,
+        lot: row.lot,
+        remaining: row.remaining,
+        left: life_left(row, minute),
     }
 }
 
@@ -93,8 +65,8 @@ fn put_tape(
 {
     for index in 0..tape.reels.len() {
         let name = &tape.reels[index];
-        if let Some(held) = find(rows, minute, name) {
-            mounts.push(mount_of(&held, minute, slot, index as u64 + 1, name))?;
+        if let Some(row) = rows.reel(name) {
+            mounts.push(mount_of(row, minute, slot, index as u64 + 1, name))?;
         }
     }
     Ok(())

@@ -1,13 +1,11 @@
--- The minute of a judgement, the designators placed on a board, and a reel of a history.
-use Rattle.std.specs.Prelude.{◌≡◌, ℕ, ◌≤◌, true, is_some, Option, Some, None, List}
+-- The minute of a judgement, the designators placed on a board, and a received reel.
+use Rattle.std.specs.Prelude.{◌≡◌, ℕ, ◌≤◌, true, is_some, List}
 use Rattle.std.specs.List.{list_any}
 use Rattle.std.specs.List.Sorted.{IsSorted}
 use Rattle.desk_types.specs.Id.{Name, same, by_name}
 use Rattle.desk_types.specs.History.{History, now_of}
 use Rattle.desk_types.specs.Setup.{receipt_of}
 use Rattle.desk_types.specs.Work.{is_placed_on}
-use Rattle.reels.specs.declared.reel.Reel.{Reel}
-use Rattle.reels.specs.Reel.{StandsFor}
 
 -- The facts represent some history, and the minute is not before the desk minute of any that they
 -- represent.
@@ -23,8 +21,3 @@ ArePlacedOn H board names = IsSorted by_name names
 -- The reel was received.
 abbrev pub IsKnownReel : History → Name → Type 0
 IsKnownReel H reel = is_some (receipt_of H reel) ≡ true
-
--- The reel represents this name's history; there is no reel before its receipt.
-abbrev pub IsReelOf : History → Name → Option Reel → Type 0
-IsReelOf H name None = receipt_of H name ≡ None
-IsReelOf H name (Some reel) = StandsFor H name reel × (reel.last ≤ now_of H)

@@ -34,7 +34,7 @@ fn pieces_above<F: Facts>(
         → IfOk result (λ counted. IsCounted rules H before row.now counted seen.new) }
 {
     let reel = row.reel;
-    let Some(_) = facts.reel(&reel) else {
+    let Some(_) = facts.reel_row(&reel) else {
         return Ok(Err(Refusal::UnknownReel(reel)));
     };
     if !seen.insert(reel)? {

@@ -1,7 +1,6 @@
 //! The facts that judging needs about the accepted commands.
 
-use desk_types::{Designator, Id, Minute, SheetRow, SheetRows};
-use reels::Reel;
+use desk_types::{Designator, Id, Minute, ReelRow, SheetRow, SheetRows};
 use setup_sheets::{Alternates, Parts, Sheet};
 
 /// Access to the state after the accepted commands, by searching a history or from maps. No call
@@ -22,7 +21,8 @@ pub trait Facts {
     ghost use Rattle.desk_types.specs.Judged.{IsJudged};
     ghost use Rattle.setup_sheets.specs.Names.{is_among};
     ghost use Rattle.setup_sheets.specs.Alternates.{AreAlternates};
-    ghost use Rattle.judging.specs.Facts.{ArePlacedOn, IsReelOf};
+    ghost use Rattle.desk_types.specs.Row.{IsRowIfAny};
+    ghost use Rattle.judging.specs.Facts.{ArePlacedOn};
 
     /// The histories that the facts represent.
     ghost Stands: { Self → History → Type 0 };
@@ -32,6 +32,7 @@ pub trait Facts {
 
     /// Returns the desk minute, or none for an empty history.
     fn minute(&self) -> Option<Minute>
+        // Equal for every history that the facts stand for, as in all clauses below.
         ensures { (H : History) → Stands self.now H → result ≡ desk_minute H };
 
     /// Returns the defined parts.
@@ -55,6 +56,7 @@ pub trait Facts {
     /// Returns the selected product's sheet with indexes, for callers with many lookups, if the
     /// facts store it. None doesn't mean that there is no sheet.
     fn look_ups_on(&self, machine: &Id) -> Option<&Sheet>
+        // Says nothing of None: a caller then asks for the sheet without indexes.
         ensures { (H : History) → Stands self.now H → IsSome result
             → option_copied result ≡ sheet_on H machine.now }
     {
@@ -72,10 +74,10 @@ pub trait Facts {
         ensures { (H : History) → Stands self.now H
             → result ≡ slot_on H machine.now designator.now };
 
-    /// Returns the reel, or none if it wasn't received. Its piece counts may be out of date: use
-    /// `left_of`.
-    fn reel(&self, reel: &Id) -> Option<Reel>
-        ensures { (H : History) → Stands self.now H → IsReelOf H reel.now result };
+    /// Returns the reel's row, or none if it wasn't received.
+    fn reel_row(&self, reel: &Id) -> Option<ReelRow>
+        // Of this history: so its pieces add up, and its times are in range.
+        ensures { (H : History) → Stands self.now H → IsRowIfAny H reel.now result };
 
     /// Returns the pieces left on the reel, 0 if it wasn't received.
     fn left_of(&self, reel: &Id) -> u64
@@ -87,6 +89,7 @@ pub trait Facts {
 
     /// Returns the number of reels in `reels_on` for the slot.
     fn reel_count(&self, machine: &Id, slot: &Id) -> usize
+        // Of `reels_on`, with spent reels: to leave them out would need a search.
         ensures { result ≡ length (reels_on self.now machine.now slot.now) };
 
     /// Returns the slot's reel at this index, from 0.
@@ -108,6 +111,7 @@ pub trait Facts {
     /// Returns the designators placed on the board in order, for callers with many lookups, if the
     /// facts store them. None doesn't mean that none is placed.
     fn placed_on(&self, board: &Id) -> Option<&[Designator]>
+        // Says nothing of None: a caller then asks for each designator.
         ensures { (H : History) → Stands self.now H
             → IfSome result (λ names. ArePlacedOn H board.now names.now) }
     {

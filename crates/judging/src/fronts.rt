@@ -26,12 +26,11 @@ fn front_at<F: Facts>(facts: &F, minute: Minute, machine: &Id, slot: &Id) -> Opt
         → result ≡ option_map (front_reel H minute) (front_of H machine.now slot.now) }
 {
     let name = front(facts, machine, slot)?;
-    let found = facts.reel(&name)?;
-    let row = found.row;
+    let row = facts.reel_row(&name)?;
     Some(FrontReel {
         reel: name,
         part: row.part,
-        life: life(&found, found.not_before(minute)),
+        life: life(&row, minute),
     })
 }
 

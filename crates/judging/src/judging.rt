@@ -156,8 +156,8 @@ fn minutes_left<F: Facts>(facts: &F, minute: Minute, reel: &Id) -> Option<u64>
     requires { IsBy F.Stands facts.now minute }
     ensures { (H : History) → F.Stands facts.now H → result ≡ minutes_left H reel.now minute }
 {
-    let found = facts.reel(reel)?;
-    found.minutes_left(minute)
+    let row = facts.reel_row(reel)?;
+    row.minutes_left(minute)
 }
 
 fn is_too_far_ahead<F: Facts>(facts: &F, stamped: &Stamped) -> bool
@@ -188,7 +188,9 @@ pub fn judge<F: Facts>(
     facts: &F,
     stamped: &Stamped,
 ) -> Result<Change, JudgeFault>
+    // Facts that stand for no history could answer anything.
     requires stands { (H : History) × F.Stands facts.now H }
+    // One result for every history that the facts stand for: the change, or the first refusal.
     ensures { (H : History) → F.Stands facts.now H → IsJudgement rules H stamped.now result }
 {
     if is_too_far_ahead(facts, stamped) {

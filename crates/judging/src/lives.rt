@@ -6,36 +6,33 @@ ghost use Rattle.desk_types.specs.History.{History, now_of};
 ghost use Rattle.desk_types.specs.FloorLife.{is_unbaked, is_expired};
 ghost use Rattle.desk_types.specs.Front.{life_of};
 ghost use Rattle.desk_types.specs.View.{life_left};
-ghost use Rattle.reels.specs.Reel.{StandsFor};
+ghost use Rattle.desk_types.specs.Row.{IsRowOf};
 
-use desk_types::{Left, Life, Minute};
-use reels::Reel;
+use desk_types::{Left, Life, Minute, ReelRow};
 
 /// Returns how long a reel that stays out of its bag may still feed a slot.
-pub fn life(reel: &Reel, minute: Minute) -> Life
-    requires { reel.now.last ≤ minute }
-    ensures { (H : History) (name : Name) → StandsFor H name reel.now
+pub fn life(row: &ReelRow, minute: Minute) -> Life
+    ensures { (H : History) (name : Name) → IsRowOf H name row.now → now_of H ≤ minute
         → result ≡ life_of H minute name }
 {
-    if reel.is_unbaked() {
+    if row.is_unbaked() {
         return Life::Unbaked;
     }
-    match reel.minutes_left(minute) {
-        Some(left) => Life::Until(minute.get() + left),
+    match row.minutes_left(minute) {
+        Some(left) => Life::Until(minute.get().saturating_add(left)),
         None => Life::Unlimited,
     }
 }
 
 /// Returns the reel's remaining floor life at the desk minute.
-pub fn life_left(reel: &Reel, minute: Minute) -> Left
-    requires { reel.now.last ≤ minute }
-    ensures { (H : History) (name : Name) → StandsFor H name reel.now → now_of H ≡ minute
+pub fn life_left(row: &ReelRow, minute: Minute) -> Left
+    ensures { (H : History) (name : Name) → IsRowOf H name row.now → now_of H ≡ minute
         → result ≡ life_left H name }
 {
-    if reel.is_unbaked() {
+    if row.is_unbaked() {
         return Left::Unbaked;
     }
-    match reel.minutes_left(minute) {
+    match row.minutes_left(minute) {
         Some(minutes) => Left::Minutes(minutes),
         None => Left::Unlimited,
     }

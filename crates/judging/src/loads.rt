@@ -19,7 +19,7 @@ fn reel_refusal<F: Facts>(facts: &F, minute: Minute, row: &SheetRow, reel: &Id) 
     ensures { (H : History) → F.Stands facts.now H
         → result ≡ reel_refusal H minute row.now reel.now }
 {
-    let Some(found) = facts.reel(reel) else {
+    let Some(found) = facts.reel_row(reel) else {
         return Some(Refusal::UnknownReel(*reel));
     };
     if facts.is_mounted(reel) {
@@ -28,7 +28,7 @@ fn reel_refusal<F: Facts>(facts: &F, minute: Minute, row: &SheetRow, reel: &Id) 
     if facts.left_of(reel) == 0 {
         return Some(Refusal::ReelEmpty(*reel));
     }
-    if !allowed(facts.alternates(), &row.part, &found.row.part) {
+    if !allowed(facts.alternates(), &row.part, &found.part) {
         return Some(Refusal::WrongPart(*reel));
     }
     if found.is_unbaked() {

@@ -84,6 +84,7 @@ fn later_reel<F: Facts>(facts: &F, machine: &Id, slot: &Id, past: usize) -> Opti
 /// Returns the first reel with pieces left after the first `past` reels. That is mostly the next
 /// one, so the reels are counted only if it is spent.
 pub fn next_reel<F: Facts>(facts: &F, machine: &Id, slot: &Id, past: usize) -> Option<Feed>
+    // Spent reels are passed over, and what follows the one found is the rest of the tape.
     ensures live { (H : History) → F.Stands facts.now H
         → live_past (left_of H) (F.reels_on facts.now machine.now slot.now) past
         ≡ option_map_or
@@ -91,6 +92,7 @@ pub fn next_reel<F: Facts>(facts: &F, machine: &Id, slot: &Id, past: usize) -> O
         (F.reels_on facts.now machine.now slot.now) feed.passed) result [] }
     ensures pieces { (H : History) → F.Stands facts.now H
         → IfSome result (λ feed. feed.pieces ≡ left_of H feed.reel) }
+    // So a caller that takes what is there goes on by a piece at least.
     ensures some { IfSome result (λ feed. 0 < feed.pieces) }
 {
     if past == usize::MAX {

@@ -54,7 +54,7 @@ pub fn receipt_refusal<F: Facts>(facts: &F, reel: &Id, part: &Id) -> Option<Refu
     if !facts.parts().has(part) {
         return Some(Refusal::UnknownPart(*part));
     }
-    if facts.reel(reel).is_some() {
+    if facts.reel_row(reel).is_some() {
         return Some(Refusal::ReelExists(*reel));
     }
     None
@@ -64,7 +64,7 @@ pub fn receipt_refusal<F: Facts>(facts: &F, reel: &Id, part: &Id) -> Option<Refu
 pub fn opening_refusal<F: Facts>(facts: &F, reel: &Id) -> Option<Refusal>
     ensures { (H : History) → F.Stands facts.now H → result ≡ opening_refusal H reel.now }
 {
-    if facts.reel(reel).is_none() {
+    if facts.reel_row(reel).is_none() {
         return Some(Refusal::UnknownReel(*reel));
     }
     None
@@ -75,7 +75,7 @@ pub fn opening_refusal<F: Facts>(facts: &F, reel: &Id) -> Option<Refusal>
 pub fn closing_refusal<F: Facts>(facts: &F, reel: &Id) -> Option<Refusal>
     ensures { (H : History) → F.Stands facts.now H → result ≡ closing_refusal H reel.now }
 {
-    if facts.reel(reel).is_none() {
+    if facts.reel_row(reel).is_none() {
         return Some(Refusal::UnknownReel(*reel));
     }
     if facts.is_mounted(reel) {

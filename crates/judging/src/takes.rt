@@ -3,31 +3,29 @@
 ghost use Rattle.std.specs.Prelude.{◌≡◌, ◌≤◌, ◌^◌, ◌-◌, min, map, IfOk, OnOk, ◌∷◌, ◌++◌, []};
 ghost use Rattle.std.specs.List.{AllByRecursion};
 ghost use Rattle.desk_types.specs.declared.take.Pick.{Pick as Picking};
-ghost use Rattle.desk_types.specs.History.{History};
+ghost use Rattle.desk_types.specs.History.{History, now_of};
 ghost use Rattle.desk_types.specs.Outcome.{take_of, reels_of, pieces_of};
-ghost use Rattle.reels.specs.Reel.{StandsFor};
+ghost use Rattle.desk_types.specs.Row.{IsRowOf};
 ghost use Rattle.judging.specs.Facts.{IsBy, IsKnownReel};
 
 use crate::facts::Facts;
-use desk_types::{Id, IdList, Listing, Minute, Pick, Take, Takes};
-use reels::Reel;
+use desk_types::{Id, IdList, Listing, Minute, Pick, ReelRow, Take, Takes};
 use std::alloc::{AllocError, Global};
 
 fn put_take(
     takes: &mut Vec<Take>,
-    reel: &Reel,
+    row: &ReelRow,
     minute: Minute,
     pick: &Pick,
 ) -> Result<(), AllocError>
-    requires { reel.now.last ≤ minute }
-    ensures { (H : History) → StandsFor H pick.now.reel reel.now
+    ensures { (H : History) → IsRowOf H pick.now.reel row.now → now_of H ≤ minute
         → OnOk result (takes.new.items ≡ takes.old.items ++ take_of H minute pick.now ∷ []) }
 {
-    let overdue = pick.purpose.is_placed() && reel.is_expired(minute);
+    let overdue = pick.purpose.is_placed() && row.is_expired(minute);
     takes.push(Take {
         reel: pick.reel,
-        part: reel.row.part,
-        lot: reel.row.lot,
+        part: row.part,
+        lot: row.lot,
         quantity: pick.quantity,
         purpose: pick.purpose,
         overdue,
@@ -42,7 +40,9 @@ pub fn takes_for<F: Facts>(
     minute: Minute,
     picks: &[Pick],
 ) -> Result<Takes, AllocError>
+    // A take says whether the floor life is used up, which no minute before the desk's can tell.
     requires by { IsBy F.Stands facts.now minute }
+    // So each pick has a row, and there is no case for one without.
     requires known { (H : History) → F.Stands facts.now H
         → AllByRecursion (λ (p : Picking). IsKnownReel H p.reel) picks.now }
     ensures { (H : History) → F.Stands facts.now H
@@ -50,8 +50,8 @@ pub fn takes_for<F: Facts>(
 {
     let mut takes = Vec::with_capacity(alloc, picks.len())?;
     for pick in picks {
-        let found = facts.reel(&pick.reel).unwrap();
-        put_take(&mut takes, &found, minute, pick)?;
+        let row = facts.reel_row(&pick.reel).unwrap();
+        put_take(&mut takes, &row, minute, pick)?;
     }
     Ok(Listing::new(takes))
 }

@@ -40,7 +40,9 @@ pub fn read_tables<S: Alter, D: KeepsRows + Drop>(
         (state S.Store conn.old) rules r H
         × AreKept (D.kept_rows r.working.desk) H) }
     ensures named { IfOk result (λ _. IsNamedBy rules (state S.Store conn.old)) }
+    // Without a condition on the disk: what the fault names was there to be read.
     ensures told { IfErr result (IsToldBy rules (state S.Store conn.old)) }
+    // NotBlank is a fault of `create` alone.
     ensures never { IfErr result (λ f. f ≢ Fault.NotBlank) }
     ensures err { HasCleanDisk (state S.Store conn.new)
         → IfErr result (IsFaultBy rules (state S.Store conn.old)) }

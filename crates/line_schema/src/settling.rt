@@ -19,6 +19,7 @@ pub fn settle<D: KeepsRows + Drop>(
     change: Change,
     edits: &[RowEdit],
 )
+    // The edits are those that were committed: memory and file change alike.
     requires ready { IfSome working.old
         (λ w. CanSettle D.Stands change edits.now w.desk) }
     ensures works { (H : History) → WorksFor D.Stands working.old H

@@ -64,7 +64,9 @@ impl<S: Alter, D: KeepsRows + Drop> LineStore<S, D> {
         requires most { greatest ≤ MOST_ENTRIES }
         ensures made { IfOk result
             (MakesStore S.Store D.Stands D.kept_rows conn greatest) }
+        // The connection comes back, so a caller can close it or try again.
         ensures unmade { IfErr result (λ e. LeavesUnmade S.Store greatest conn e.0 e.1) }
+        // What the caller began must neither be committed nor undone here.
         ensures inside { IsTrue conn.in_transaction → result ≡ Err (Fault.Unavailable, conn) }
     {
         let mut conn = conn;
@@ -99,8 +101,10 @@ impl<S: Alter, D: KeepsRows + Drop> LineStore<S, D> {
     ) -> Result<LineStore<S, D>, (OpenFault, Connection<S>)>
         ensures opened { IfOk result (λ store. (L : Kept)
             × OpensStore S.Store D.Stands D.kept_rows conn store L) }
+        // Each fault is of the tables as they were: none is invented.
         ensures fault { IfErr result
             (λ e. IsReported Two (state S.Store conn) (state S.Store e.1) e.0) }
+        // A file that is refused isn't changed.
         ensures refused { IfErr result (λ e. ReadsOnly S.Store conn e.1) }
         ensures inside { IsTrue conn.in_transaction → result ≡ Err (Fault.Unavailable, conn) }
     {
@@ -171,12 +175,15 @@ impl<S: Alter, D: KeepsRows + Drop> LineStore<S, D> {
     /// Loads the working state from the tables if it isn't loaded.
     #[tactic(auto, using(crate::proofs::Others::let_be))]
     pub fn ready(&mut self) -> Result<(), Unavailable>
+        // A store that stands for no history has nothing to load.
         requires stands { (L : Kept) × Stands S.Store D.Stands self.old L }
         ensures ok { OnOk result (IsTrue (has_desk self.new)) }
+        // A loaded desk needs no memory and no disk.
         ensures at_hand { OnErr result (has_desk self.old ≡ false) }
         ensures makes_desk { MakesDesk S.Store D.Stands self.old self.new }
         ensures rows { ForKept S.Store D.Stands self.old self.new
             (λ L. HasRows D.kept_rows self.old L.history → HasRows D.kept_rows self.new L.history) }
+        // Tables of other people in the file stay as they are.
         ensures others { LetsOthersBe (state_of S.Store self.old) (state_of S.Store self.new) }
     {
         if self.working.is_some() {
@@ -218,10 +225,13 @@ impl<S: Alter, D: KeepsRows + Drop> LineStore<S, D> {
     /// sent again.
     pub fn command(&mut self, stamped: &Stamped) -> Answer
         requires stands { (L : Kept) × Stands S.Store D.Stands self.old L }
+        // Some history, also on a disk that lies: the next call needs one.
         ensures kept { (L : Kept) × Stands S.Store D.Stands self.new L }
+        // For each history that it stood for, on an honest disk and in tables of its own.
         ensures answers { ForKept S.Store D.Stands self.old self.new
             (λ L. Answers S.Store D.Stands D.kept_rows self.old self.new L
             stamped.now result) }
+        // A crash at any moment of the call leaves the rows of others.
         ensures file { LeavesFile (state_of S.Store self.old) (state_of S.Store self.new) (λ _. ⊤) }
     {
         match self.answer(stamped) {

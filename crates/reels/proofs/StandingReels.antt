@@ -1,7 +1,7 @@
 -- A reel keeps its ranges and keeps representing its history, command by command.
-use Rattle.desk_types.proofs.Common.{[], ◌+◌, ◌-◌, ◌∙◌, ◌∷◌, ◌≡◌, ◌≤◌, ap, arith, bake_by, baked_row, Bool}
+use Rattle.desk_types.proofs.Common.{◌+◌, ◌-◌, ◌∙◌, ◌∷◌, ◌≡◌, ◌≤◌, ap, arith, bake_by, baked_row, Bool}
 use Rattle.desk_types.proofs.Common.{exposure_of, exposure_starts, false, fresh_row, History, if◌then◌else◌}
-use Rattle.desk_types.proofs.Common.{is_baked, IsLabel, IsUntouched, last_bake, LevelWithLabel, Name, None}
+use Rattle.desk_types.proofs.Common.{is_baked, IsUntouched, last_bake, LevelWithLabel, Name, None}
 use Rattle.desk_types.proofs.Common.{open_by, opened_row, Option, option_map, option_map_or, option_or}
 use Rattle.desk_types.proofs.Common.{out_since, receipt_by, receipt_of, refl, same-refl, sealed_row}
 use Rattle.desk_types.proofs.Common.{since_after, Some, subst, sym, true, unwrap_or, ℕ}
@@ -9,22 +9,17 @@ use Rattle.desk_types.proofs.{Exposure.exposure-after, Exposure.exposure-anew, E
 use Rattle.desk_types.proofs.{Exposure.exposure-untouched, ReelCommands.exposure_starts-quiet}
 use Rattle.desk_types.proofs.{ReelCommands.is_baked-quiet, ReelCommands.IsQuiet, ReelCommands.IsQuiet-open}
 use Rattle.desk_types.proofs.{ReelCommands.IsQuiet-seal, ReelCommands.IsQuiet-untouched}
-use Rattle.desk_types.proofs.{ReelCommands.last_bake-quiet, ReelCommands.last_bake-untouched}
+use Rattle.desk_types.proofs.{ReelCommands.last_bake-untouched}
 use Rattle.desk_types.specs.{Row.exposure_at, declared.command.Command.TheVariants.ReelBaked}
 use Rattle.desk_types.specs.{declared.command.Command.TheVariants.ReelReceived}
 use Rattle.desk_types.specs.{declared.command.Command.TheVariants.ReelSealed, declared.command.Entry.Entry}
-use Rattle.desk_types.specs.{declared.command.Receipt.Receipt, declared.level.Level.Level}
-use Rattle.desk_types.specs.{declared.level.Level.TheVariants.Six}
-use Rattle.desk_types.specs.{declared.limits.TheConstants.GREATEST_LABEL, declared.row.ReelRow.ReelRow}
+use Rattle.desk_types.specs.{declared.command.Receipt.Receipt}
+use Rattle.desk_types.specs.{declared.row.ReelRow.ReelRow}
 use Rattle.reels.specs.{Fitting.IsFitting, Reel.HasReceipt, Reel.RowStandsFor, Reel.StandsFor}
 use Rattle.reels.specs.{declared.reel.Reel.Reel}
 use Rattle.std.specs.Option.{ForNone, ForSome}
 
 -- ---- ranges
-
-pub label-below : (level : Level) (label : ℕ) → IsLabel level label → label ≤ GREATEST_LABEL
-label-below Six label range = range.1
-label-below _ label range = omega (arith, range)
 
 pub exposure-within : (row : ReelRow) (found last at : ℕ) → IsFitting row found last → last ≤ at → exposure_at row at ≤ at
 exposure-within row found last at fits le = by row.open_since fits.opened fits.sealed

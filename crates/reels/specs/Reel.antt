@@ -1,31 +1,15 @@
 -- The state of a reel, and the history that it represents.
-use Rattle.std.specs.Prelude.{◌≡◌, ℕ, ◌+◌, ◌-◌, ◌≤◌, nat_le, Bool, true, false, not, ◌&&◌, Option, Some, unwrap_or, if◌then◌else◌}
-use Rattle.std.specs.Option.{option_map, option_map_or}
+use Rattle.std.specs.Prelude.{◌≡◌, ℕ, ◌+◌, ◌-◌, ◌≤◌, Bool, true, false, Option, Some, None, unwrap_or, if◌then◌else◌}
 use Rattle.desk_types.specs.declared.command.Receipt.{Receipt}
 use Rattle.desk_types.specs.declared.row.ReelRow.{ReelRow}
 use Rattle.desk_types.specs.Id.{Name}
-use Rattle.desk_types.specs.Level.{limit_of}
 use Rattle.desk_types.specs.Row.{exposure_at}
-use Rattle.desk_types.specs.History.{History}
+use Rattle.desk_types.specs.History.{History, now_of}
 use Rattle.desk_types.specs.Setup.{receipt_of}
-use Rattle.desk_types.specs.FloorLife.{out_since, exposure_of, exposure_starts, is_baked, is_six}
+use Rattle.desk_types.specs.FloorLife.{out_since, exposure_of, exposure_starts, is_baked}
 use Rattle.reels.specs.declared.reel.Reel.{Reel}
 use Rattle.reels.specs.declared.reel.Usage.{Usage}
 use Rattle.reels.specs.declared.reel.Usage.TheVariants.{Placed, Scrapped}
-
--- The reel's remaining minutes of floor life, 0 if expired; none without a limit.
-abbrev pub minutes_left_at : Reel → ℕ → Option ℕ
-minutes_left_at reel minute = option_map
-    (λ limit. limit - exposure_at reel.row minute) (limit_of reel.row.level reel.row.label)
-
--- Whether the reel's exposure has reached its limit, if it has one.
-abbrev pub is_expired_at : Reel → ℕ → Bool
-is_expired_at reel minute = option_map_or (λ limit. nat_le limit (exposure_at reel.row minute))
-    (limit_of reel.row.level reel.row.label) false
-
--- Whether the reel waits for its bake: it has level 6 and isn't baked.
-abbrev pub is_unbaked_reel : Reel → Bool
-is_unbaked_reel reel = is_six reel.row.level && not reel.row.baked
 
 abbrev pub is_placed_usage : Usage → Bool
 is_placed_usage Placed = true
@@ -76,3 +60,8 @@ pub record RowStandsFor (H : History) (name : Name) (row : ReelRow) (found last 
 -- The reel has the state of this name in the history.
 abbrev pub StandsFor : History → Name → Reel → Type 0
 StandsFor H name reel = RowStandsFor H name reel.row reel.found reel.last
+
+-- The reel represents this name's history; there is no reel before its receipt.
+abbrev pub IsReelOf : History → Name → Option Reel → Type 0
+IsReelOf H name None = receipt_of H name ≡ None
+IsReelOf H name (Some reel) = StandsFor H name reel × (reel.last ≤ now_of H)

@@ -2,7 +2,7 @@
 
 ghost use Rattle.reels.specs.Fitting.{IsFitting};
 
-use desk_types::{Id, Level, Minute, Moisture, Quantity, ReelRow};
+use desk_types::{Id, Minute, Moisture, Quantity, ReelRow};
 
 /// Why pieces left a reel.
 #[derive(Clone, Copy, PartialEq, Eq)]
@@ -37,10 +37,10 @@ impl Reel {
     ghost use Rattle.desk_types.specs.declared.command.Command.TheVariants.{ReelReceived, ReelSealed, ReelBaked};
     ghost use Rattle.desk_types.specs.declared.command.Entry.{Entry};
     ghost use Rattle.desk_types.specs.Id.{Name};
-    ghost use Rattle.desk_types.specs.Row.{fresh_row, exposure_at, opened_row, sealed_row, baked_row};
+    ghost use Rattle.desk_types.specs.Row.{fresh_row, exposure_at, opened_row, sealed_row, baked_row, minutes_left_at, is_expired_at, is_unbaked_row};
     ghost use Rattle.desk_types.specs.History.{History};
     ghost use Rattle.desk_types.specs.FloorLife.{open_by, IsUntouched, exposure_of, minutes_left, is_expired, is_unbaked};
-    ghost use Rattle.reels.specs.Reel.{StandsFor, minutes_left_at, is_expired_at, is_unbaked_reel, taken_row, counted_row, risen_row};
+    ghost use Rattle.reels.specs.Reel.{StandsFor, taken_row, counted_row, risen_row};
 
     /// Returns a sealed reel received at this minute.
     pub fn receive(
@@ -116,14 +116,6 @@ impl Reel {
         self.last = at;
     }
 
-    /// Returns the minute, or the reel's last one if that is later.
-    pub fn not_before(&self, at: Minute) -> Minute
-        ensures last { self.now.last ≤ result }
-        ensures value { result ≡ max at self.now.last }
-    {
-        if self.last > at { self.last } else { at }
-    }
-
     /// Returns how many minutes the reel was out of its bag before this one, since its last bake or
     /// its receipt.
     pub fn exposure(&self, at: Minute) -> u64
@@ -140,44 +132,39 @@ impl Reel {
     /// Returns the remaining minutes of floor life, 0 if expired, or none without a limit.
     pub fn minutes_left(&self, at: Minute) -> Option<u64>
         requires { self.now.last ≤ at }
-        ensures value { result ≡ minutes_left_at self.now at }
+        ensures value { result ≡ minutes_left_at self.now.row at }
         ensures bound { IfSome result (λ left. left ≤ GREATEST_LABEL) }
         ensures stands { (H : History) (name : Name) → StandsFor H name self.now
             → result ≡ minutes_left H name at }
     {
-        let exposure = self.exposure(at);
-        let limit = self.row.level.limit(self.row.label)?;
-        Some(limit.saturating_sub(exposure))
+        self.row.minutes_left(at)
     }
 
     /// Returns whether the reel waits for its bake: it has level 6 and wasn't baked since its
     /// receipt.
     pub fn is_unbaked(&self) -> bool
-        ensures value { result ≡ is_unbaked_reel self.now }
+        ensures value { result ≡ is_unbaked_row self.now.row }
         ensures stands { (H : History) (name : Name) → StandsFor H name self.now
             → result ≡ is_unbaked H name }
     {
-        self.row.level == Level::Six && !self.row.baked
+        self.row.is_unbaked()
     }
 
     /// Returns whether the reel has expired by this minute.
     pub fn is_expired(&self, at: Minute) -> bool
         requires { self.now.last ≤ at }
-        ensures value { result ≡ is_expired_at self.now at }
+        ensures value { result ≡ is_expired_at self.now.row at }
         ensures stands { (H : History) (name : Name) → StandsFor H name self.now
             → result ≡ is_expired H name at }
     {
-        match self.row.level.limit(self.row.label) {
-            Some(limit) => self.exposure(at) >= limit,
-            None => false,
-        }
+        self.row.is_expired(at)
     }
 
     /// Returns whether the reel can be used at this minute: it is neither unbaked nor expired.
     pub fn usable(&self, at: Minute) -> bool
         requires { self.now.last ≤ at }
         ensures value { result
-            ≡ (not (is_unbaked_reel self.now) && not (is_expired_at self.now at)) }
+            ≡ (not (is_unbaked_row self.now.row) && not (is_expired_at self.now.row at)) }
         ensures stands { (H : History) (name : Name) → StandsFor H name self.now
             → result ≡ (not (is_unbaked H name) && not (is_expired H name at)) }
     {

@@ -4,7 +4,6 @@ pub mod Counts
 pub mod DesksOfRows
 pub mod EditLists
 pub mod EditsLead
-pub mod Exposed
 pub mod GatheredPieces
 pub mod Installs
 pub mod KeptUnderNames

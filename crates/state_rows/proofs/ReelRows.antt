@@ -10,11 +10,11 @@ use Rattle.desk_types.proofs.Common.{used_of, view_of, ℕ}
 use Rattle.desk_laws.proofs.Common.{Entry, exposure-untouched, exposure_starts-quiet, Receipt, ReelRow, Two}
 use Rattle.desk_laws.proofs.Accepted.{received-once}
 use Rattle.desk_laws.proofs.Balance.{balance, left-next, left-received, unreceived-empty}
+use Rattle.desk_laws.proofs.Exposed.{exposure-in_bag, now-before, now-next, since-by, used-then}
 use Rattle.desk_laws.proofs.Judgements.{by-desk_minute, or-none, untouched}
 use Rattle.desk_laws.proofs.Totals.{placed-next, scrapped-next}
 use Rattle.desk_types.proofs.Exposure.{exposure-anew, exposure-before}
 use Rattle.desk_types.proofs.ReelCommands.{IsQuiet, last_bake-untouched}
-use Rattle.state_rows.proofs.Exposed.{exposure-in_bag, exposure-out, now-before, now-next, since-by}
 use Rattle.state_rows.proofs.ReelCommands.{IsBake-said, IsQuiet-said, IsReceipt, IsReceipt-said}
 use Rattle.state_rows.specs.After.{bakes, found_after, reel_after, step_row, used_after}
 
@@ -41,12 +41,6 @@ unreceived-unfound (e ∷ H) reel (next, judged) none =
     omega (arith, before, left, after, more)
 
 -- ---- exposure
-
-pub used-then : (H : History) (reel : Name) (minute : ℕ) (since : Option ℕ) → IsJudged Two H → out_since H reel ≡ since → now_of H ≤ minute
-    → exposure_of H reel minute ≡ exposure_of H reel (unwrap_or since (now_of H)) + option_map_or (λ from. minute - from) since 0
-used-then H reel minute None judged in_bag le = let still = exposure-in_bag H reel minute in_bag le in omega (arith, still)
-used-then H reel minute (Some from) judged out le =
-    let early = since-by H reel from (now_of H) (by-desk_minute H) out in exposure-out H reel from minute judged out (omega (arith, early, le))
 
 used-quiet : (H : History) (e : Entry) (reel : Name) (said : Option Bool) (since : Option ℕ) → IsJudged Two (e ∷ H) → IsQuiet reel e.effective e.stamped.command
     → open_by reel e.stamped.command ≡ said → out_since H reel ≡ since

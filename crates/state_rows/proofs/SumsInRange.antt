@@ -8,7 +8,8 @@ use Rattle.desk_laws.proofs.Common.{accepted-by-two, Entry, GREATEST_QUANTITY, M
 use Rattle.desk_laws.proofs.Common.{ReelView, Rules, Stamped, Two}
 use Rattle.desk_laws.{proofs.Balance.balance, proofs.Exposures.exposure-within, proofs.Ranges.received-range}
 use Rattle.desk_laws.{proofs.Totals.placed-next, proofs.Totals.scrapped-next}
-use Rattle.state_rows.{proofs.ReelRows.used-then, specs.EditsOf.ArePiecesFitting, specs.EditsOf.CountFits}
+use Rattle.desk_laws.proofs.Exposed.{used-then}
+use Rattle.state_rows.specs.EditsOf.{ArePiecesFitting, CountFits}
 
 -- ---- exposure
 

@@ -9,7 +9,6 @@ ghost use Rattle.desk_types.specs.Desk.{HasRoom};
 ghost use Rattle.desk_types.specs.Tables.{columns_of};
 ghost use Rattle.state_rows.specs.EditsOf.{counted_row, counted_edits, count_edits, CountFits};
 
-use crate::reels::columns;
 use crate::views::Views;
 use desk_types::{CountRow, ReelRow, ReelView, RowEdit};
 use std::alloc::{AllocError, Global};
@@ -18,7 +17,7 @@ fn counted_row(view: &ReelView, pieces: u64) -> ReelRow
     requires { CountFits pieces view.now }
     ensures { result ≡ counted_row pieces (columns_of view.now) }
 {
-    let row = columns(view);
+    let row = view.columns();
     let received = row
         .received
         .saturating_add(pieces.saturating_sub(row.remaining));
@@ -74,6 +73,7 @@ pub fn count<D: Views>(
     rows: &[CountRow],
 ) -> Result<Vec<RowEdit>, AllocError>
     requires room { HasRoom D.Stands desk.now 1 }
+    // The rows of a judged history add up, so those of the edits do.
     requires judged { (B : Basis) → D.Stands desk.now B → IsJudged Two B.history }
     ensures { (B : Basis) → D.Stands desk.now B
         → IfOk result (λ edits. edits.items ≡ flat_map (count_edits B.history) rows.now) }

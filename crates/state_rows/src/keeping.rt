@@ -23,6 +23,7 @@ pub trait KeepsRows: Desk {
     /// Returns the rows that the desk keeps. Takes no memory.
     fn rows(&self) -> &RowSet
         ensures kept { result.now ≡ kept_rows self.now }
+        // Without the numbers of mounts: a desk in memory settles under no number.
         ensures same { (B : Basis) → Self.Stands self.now B
             → unnumbered (tables_in result.now) ≡ unnumbered (tables_of B.history) };
 
@@ -30,13 +31,16 @@ pub trait KeepsRows: Desk {
     /// nothing is known of the desk: drop it.
     fn settle_edits(&mut self, change: Change, edits: &[RowEdit]) -> Result<(), AllocError>
         requires room { HasRoom Self.Stands self.old 1 }
+        // As `settle` of `Desk` requires; the edits alone don't tell the command.
         requires judged { (B : Basis) → Self.Stands self.old B
             → IsChange B.rules B.history change.stamped change }
+        // The edits were made for the file; this is what makes them right for the memory too.
         requires lead { (B : Basis) → Self.Stands self.old B
             → unnumbered (with_edits edits.now (tables_of B.history))
             ≡ unnumbered (tables_of (accept B.history change.stamped)) }
         ensures stands { (B : Basis) → Self.Stands self.old B
             → OnOk result (Self.Stands self.new (basis_after B change.stamped)) }
+        // Placements stay in the file: the desk's memory has no row for them.
         ensures rows { OnOk result (tables_in (kept_rows self.new)
             ≡ but_placements (with_edits edits.now (tables_in (kept_rows self.old)))
             (tables_in (kept_rows self.old))) };

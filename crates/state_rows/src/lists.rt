@@ -55,6 +55,7 @@ impl TraceLists {
     /// Reserves the memory that `note` needs for the change. The contents stay the same, even after
     /// an `Err`. Clauses see the room for minutes and overdue pieces, but not that under names.
     pub fn reserve(&mut self, change: &Change) -> Result<(), AllocError>
+        // Room alone is made: nothing is listed of a command that isn't committed yet.
         ensures same { (H : History) → IsListed self.old H → IsListed self.new H }
         ensures room { OnOk result (HasRoomFor (length change.now.takes) self.new) }
     {

@@ -51,10 +51,12 @@ pub fn note_install(
     command: &Command,
     install: Install,
 ) -> Result<(), AllocError>
+    // Each board at once: no other one's list changes.
     ensures keys { (n : Name)
         → OnOk result
         (keys_of_installs (kept_at boards.new n) ≡ keys_of_installs
         (kept_at boards.old n) ++ install_keys n command.now install) }
+    // An install of no piece would never be found by a piece.
     ensures pieces { (n : Name) → All HasPieces (kept_at boards.old n)
         → OnOk result (All HasPieces (kept_at boards.new n)) }
 {
@@ -76,10 +78,12 @@ pub fn note_pieces(
     takes: &[Take],
 ) -> Result<(), AllocError>
     requires { install.pieces ≡ length takes.now }
+    // Each lot at once: no other one's list changes.
     ensures lots { (n : Name) (minute : ℕ)
         → OnOk result
         (map key_of (kept_at lots.new n) ≡ map key_of (kept_at lots.old n) ++ keys_in
         (λ p. same p.lot n) install.number minute 1 takes.now) }
+    // Whether a piece is overdue was judged when it was taken, and isn't judged again.
     ensures overdue { (minute : ℕ)
         → OnOk result
         (map key_of overdue.new.items ≡ map key_of overdue.old.items ++ keys_in

@@ -4,44 +4,14 @@ ghost use Rattle.std.specs.Prelude.{◌≡◌, ◌≤◌, ◌∷◌, IfOk};
 ghost use Rattle.desk_types.specs.History.{Basis, now_of};
 ghost use Rattle.desk_types.specs.Judged.{IsJudged};
 ghost use Rattle.desk_types.specs.declared.rules.Rules.TheVariants.{Two};
-ghost use Rattle.desk_types.specs.Tables.{columns_of, reel_row};
+ghost use Rattle.desk_types.specs.Tables.{reel_row};
 ghost use Rattle.desk_types.specs.Row.{opened_row, sealed_row, baked_row};
 ghost use Rattle.state_rows.specs.EditsOf.{reel_edit};
 ghost use Rattle.desk_types.specs.declared.edit.RowEdit.TheVariants.{PutMount};
 
 use crate::views::Views;
-use desk_types::{Id, Minute, MountRow, ReelRow, ReelView, RowEdit};
+use desk_types::{Id, Minute, MountRow, RowEdit};
 use std::alloc::{AllocError, Global};
-
-/// What of a reel's view does not change with the minute.
-pub fn columns(view: &ReelView) -> ReelRow
-    ensures { result ≡ columns_of view.now }
-{
-    ReelRow {
-        reel: view.reel,
-        part: view.part,
-        lot: view.lot,
-        level: view.level,
-        label: view.label,
-        received: view.received,
-        placed: view.placed,
-        scrapped: view.scrapped,
-        remaining: view.remaining,
-        used: view.used,
-        open_since: view.open_since,
-        baked: view.baked,
-    }
-}
-
-/// The row of a received reel.
-pub fn row<D: Views>(desk: &D, reel: &Id) -> Option<ReelRow>
-    ensures { (B : Basis) → D.Stands desk.now B → result ≡ reel_row B.history reel.now }
-{
-    match desk.reel(reel) {
-        Some(view) => Some(columns(&view)),
-        None => None,
-    }
-}
 
 /// The edit of an opened reel.
 pub fn open<D: Views>(
@@ -55,7 +25,7 @@ pub fn open<D: Views>(
         ≡ reel_edit (opened_row minute) (reel_row B.history reel.now)) }
 {
     let mut edits = Vec::new(alloc);
-    match row(desk, reel) {
+    match desk.reel_row(reel) {
         Some(row) => {
             edits.push(RowEdit::PutReel(row.opened(minute)))?;
             Ok(edits)
@@ -77,7 +47,7 @@ pub fn seal<D: Views>(
 {
     let _ = minute.get();
     let mut edits = Vec::new(alloc);
-    match row(desk, reel) {
+    match desk.reel_row(reel) {
         Some(row) => {
             edits.push(RowEdit::PutReel(row.sealed(minute)))?;
             Ok(edits)
@@ -92,7 +62,7 @@ pub fn bake<D: Views>(alloc: Global, desk: &D, reel: &Id) -> Result<Vec<RowEdit>
         → IfOk result (λ edits. edits.items ≡ reel_edit baked_row (reel_row B.history reel.now)) }
 {
     let mut edits = Vec::new(alloc);
-    match row(desk, reel) {
+    match desk.reel_row(reel) {
         Some(row) => {
             edits.push(RowEdit::PutReel(row.baked()))?;
             Ok(edits)
@@ -114,7 +84,7 @@ pub fn mount<D: Views>(
 {
     let mut edits = Vec::new(alloc);
     edits.push(RowEdit::PutMount(put))?;
-    match row(desk, &put.reel) {
+    match desk.reel_row(&put.reel) {
         Some(row) => {
             edits.push(RowEdit::PutReel(row.opened(minute)))?;
             Ok(edits)

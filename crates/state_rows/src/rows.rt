@@ -124,15 +124,19 @@ pub fn edits_for<D: Views>(
     requires room { HasRoom D.Stands desk.now 1 }
     requires judged { (B : Basis) → D.Stands desk.now B
         → IsChange B.rules B.history change.now.stamped change.now }
+    // Of the number that the command gets: the tables that the definitions give.
     ensures lead { (B : Basis) → D.Stands desk.now B → number ≡ length B.history + 1
         → IfOk result (λ edits. with_edits edits (tables_of B.history)
         ≡ tables_of (accept B.history change.now.stamped)) }
+    // SQL's INSERT of a placement, a mount or a sheet's row meets no row with its key.
     ensures new { (B : Basis) → D.Stands desk.now B → number ≡ length B.history + 1
         → IfOk result (λ edits. AreNew edits (tables_of B.history)) }
+    // Under any other number all but the number is right, so a desk in memory settles by them.
     ensures same { (B : Basis) → D.Stands desk.now B
         → IfOk result
         (λ edits. unnumbered (with_edits edits (tables_of B.history))
         ≡ unnumbered (tables_of (accept B.history change.now.stamped))) }
+    // Rows go before others come, and sums are right, so SQL's checks hold after each edit.
     ensures in_order { IfOk result (λ edits. AreTakesFirst edits × AreBalanced edits) }
 {
     change.stamped.ranges_hold();
@@ -160,15 +164,19 @@ pub fn rows_of<D: Desk>(
     requires room { HasRoom D.Stands desk.now 1 }
     requires judged { (B : Basis) → D.Stands desk.now B
         → IsChange B.rules B.history change.now.stamped change.now }
+    // Of the number that the command gets: the tables that the definitions give.
     ensures lead { (B : Basis) → D.Stands desk.now B → number ≡ length B.history + 1
         → IfOk result (λ edits. with_edits edits (tables_of B.history)
         ≡ tables_of (accept B.history change.now.stamped)) }
+    // SQL's INSERT of a placement, a mount or a sheet's row meets no row with its key.
     ensures new { (B : Basis) → D.Stands desk.now B → number ≡ length B.history + 1
         → IfOk result (λ edits. AreNew edits (tables_of B.history)) }
+    // Under any other number all but the number is right, so a desk in memory settles by them.
     ensures same { (B : Basis) → D.Stands desk.now B
         → IfOk result
         (λ edits. unnumbered (with_edits edits (tables_of B.history))
         ≡ unnumbered (tables_of (accept B.history change.now.stamped))) }
+    // Rows go before others come, and sums are right, so SQL's checks hold after each edit.
     ensures in_order { IfOk result (λ edits. AreTakesFirst edits × AreBalanced edits) }
 {
     let views = DeskViews { desk };

@@ -14,7 +14,6 @@ ghost use Rattle.desk_types.specs.Tables.{reel_row};
 ghost use Rattle.state_rows.specs.After.{placed_row};
 ghost use Rattle.state_rows.specs.EditsOf.{pick_of, less_by, LessFits, ArePiecesFitting, picked_rows, take_spent, place_rows, AreTakeEdits};
 
-use crate::reels::row;
 use crate::views::Views;
 use desk_types::{Id, PlacementRow, Purpose, ReelRow, RowEdit, Take};
 use std::alloc::{AllocError, Global};
@@ -48,7 +47,7 @@ fn note<D: Views>(rows: &mut BTreeMap<Id, ReelRow>, desk: &D, take: &Take) -> Re
         lessen(row, take);
         return Ok(());
     }
-    if let Some(mut row) = row(desk, &take.reel) {
+    if let Some(mut row) = desk.reel_row(&take.reel) {
         lessen(&mut row, take);
         rows.insert(take.reel, row)?;
         return Ok(());
@@ -151,6 +150,7 @@ pub fn take<D: Views>(
     number: u64,
     takes: &[Take],
 ) -> Result<Vec<RowEdit>, AllocError>
+    // Judging took no more from a reel than it has, so no number falls below 0.
     requires fits { (B : Basis) × D.Stands desk.now B
         × ArePiecesFitting B.history (map pick_of takes.now) }
     ensures { (B : Basis) → D.Stands desk.now B

@@ -1,6 +1,6 @@
 //! The views that the edits of a command need.
 
-use desk_types::{Desk, Id, Mounts, ReelView, SheetRows};
+use desk_types::{Desk, Id, Mounts, ReelRow, ReelView, SheetRows};
 use std::alloc::AllocError;
 
 /// Views of the accepted commands, enough to make the edits of the next one.
@@ -13,6 +13,7 @@ pub trait Views {
     ghost use Rattle.desk_types.specs.Judged.{IsJudged};
     ghost use Rattle.desk_types.specs.Setup.{selected_on, sheet_of};
     ghost use Rattle.desk_types.specs.View.{reel_view, mounts_on};
+    ghost use Rattle.desk_types.specs.Tables.{reel_row};
 
     /// The bases for which the views are true.
     ghost Stands: { Self → Basis → Type 0 };
@@ -29,6 +30,11 @@ pub trait Views {
     /// Returns the reel at the desk minute, or none if no such reel was received. Takes no memory.
     fn reel(&self, reel: &Id) -> Option<ReelView>
         ensures { (B : Basis) → Stands self.now B → result ≡ reel_view B.history reel.now };
+
+    /// Returns the reel's row, or none if no such reel was received. Takes no memory.
+    fn reel_row(&self, reel: &Id) -> Option<ReelRow>
+        // The row as the tables have it: an edit changes it, and nothing else is made of it.
+        ensures { (B : Basis) → Stands self.now B → result ≡ reel_row B.history reel.now };
 
     /// Returns the live reels of the machine's slots, or none if no sheet names the machine.
     fn slots_of(&self, machine: &Id) -> Result<Option<Mounts>, AllocError>
@@ -58,6 +64,10 @@ impl<'a, D: Desk> Views for DeskViews<'a, D> {
 
     fn reel(&self, reel: &Id) -> Option<ReelView> {
         self.desk.reel(reel)
+    }
+
+    fn reel_row(&self, reel: &Id) -> Option<ReelRow> {
+        self.desk.reel_row(reel)
     }
 
     fn slots_of(&self, machine: &Id) -> Result<Option<Mounts>, AllocError> {

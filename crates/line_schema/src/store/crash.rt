@@ -40,6 +40,7 @@ impl<S: Alter, D: KeepsRows + Drop> LineStore<S, D> {
             → IsTrue L.own → GoUnanswered S.Store D.Stands self.now sent last.now
             → HasCleanDisk (state_of S.Store last.now)
             → Stands S.Store D.Stands last.now L }
+        // A command without an answer is in the file whole, or not at all.
         ensures crash { (L : Kept) (sent : List Stamped)
             → Stands S.Store D.Stands self.now L
             → IsTrue L.own → IsTrue (state_of S.Store self.now).is_open
@@ -47,6 +48,7 @@ impl<S: Alter, D: KeepsRows + Drop> LineStore<S, D> {
             → HasCleanDisk (state_of S.Store last.now) → (trees : Trees)
             → (state_of S.Store last.now).may_leave trees
             → HoldsWithAtMostOne L sent trees }
+        // So a sender without an answer sends again, and it acts once.
         ensures again { (greatest : ℕ) (H : History) (s : Stamped)
             → command_after Two greatest (accept H s) s ≡ accept H s }
     {

@@ -29,12 +29,15 @@ impl<S: Alter, D: KeepsRows + Drop> LineStore<S, D> {
             (Migrates (state S.Store conn.old) (state S.Store conn.new)) }
         ensures fault { IfErr result
             (IsReported One (state S.Store conn.old) (state S.Store conn.new)) }
+        // On an honest disk; a crash after a failed commit may still leave version 2, as below.
         ensures unchanged { HasCleanDisk (state S.Store conn.new)
             → IfErr result (λ _. KeepsCommit (state S.Store conn.old) (state S.Store conn.new)) }
+        // A crash at any moment leaves version 1 or version 2, and nothing between.
         ensures crash { Survives (state S.Store conn.old) (state S.Store conn.new)
             (LeavesMigrated (state S.Store conn.old)) }
         ensures inside { IsTrue conn.old.in_transaction
             → (result ≡ Err Fault.Unavailable) × (conn.new ≡ conn.old) }
+        // No transaction of its own is left open.
         ensures mode { conn.old.in_transaction ≡ false → conn.new.in_transaction ≡ false }
     {
         if !conn.is_autocommit() {

@@ -21,6 +21,7 @@ impl<S: Alter, D: KeepsRows + Drop> LineStore<S, D> {
     pub fn board_rows(&mut self, board: &Id) -> Result<Option<PlacedRows>, Unavailable>
         ensures trace { ForKept S.Store D.Stands self.old self.new
             (λ L. IfOk result (λ pieces. pieces ≡ board_trace L.history board.now)) }
+        // The two traces are each other's converse, so neither can miss what the other has.
         ensures converse { ForKept S.Store D.Stands self.old self.new
             (λ L. IfOk result
             (λ pieces. (lot : Name) → AreConverse board.now pieces lot

@@ -18,6 +18,7 @@ impl<S: Alter, D: KeepsRows + Drop> LineStore<S, D> {
     /// Borrows the desk, and rebuilds it from the tables first if it isn't loaded.
     pub fn view(&mut self) -> Result<&D, Unavailable>
         requires stands { (L : Kept) × Stands S.Store D.Stands self.old L }
+        // The desk is lent, so what it is after the loan is said of the moment when that ends.
         ensures* after_borrow { sem 𝓛 (Rests (the_row S.row D.row S.Store) self.entry (λ new.
             MakesDesk S.Store D.Stands self.old new
             × LetsOthersBe (state_of S.Store self.old) (state_of S.Store new)

@@ -1,6 +1,6 @@
 use Rattle.desk_types.proofs.Common.{◌&&◌, ◌||◌, ◌∙◌, ap, by_name, or-false, rules, same, subst, sym}
 use Rattle.feeder_state.proofs.{AtRest.has_resting, AtRest.rests-rows, FilledMaps.set-next, NameSets.put}
-use Rattle.feeder_state.specs.Resting.{is_resting}
+use Rattle.feeder_state.specs.Resting.{is_resting, row_rests}
 use Rattle.state_rows.specs.Kept.{Lists, tables_in, unnumbered}
 use Rattle.feeder_state.proofs.resting.resting_of.Goals as goal
 
@@ -10,7 +10,7 @@ loop-name-preserved-in_ok-insert c = λ r.
     let now = is_resting c.loop-name.resting r in
     let rest = has_resting c.args.rows.now r c.next.new.self in
     set-next now (is_resting c.insert.new.self r) (same name r) rest _ (put name r (is_resting c.insert.new.self r) now (c.in_ok-insert.ensures.updates.0 r)) (
-    ap (λ at_rest. now || ((at_rest && same name r) || rest)) (sym c.if-row_rests.true ∙ c.row_rests.ensures)
+    ap (λ at_rest. now || ((at_rest && same name r) || rest)) (sym c.if-is_at_rest.true ∙ c.is_at_rest.ensures.row ∙ ap (λ on_slot. row_rests on_slot c.in-Some.row.now) c.is_mounted.ensures)
     ∙ ap (λ es. now || has_resting c.args.rows.now r es) (sym c.in-Some.ensures.steps)
     ∙ c.loop-name.invariant r)
 

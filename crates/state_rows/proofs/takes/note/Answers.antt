@@ -11,13 +11,13 @@ returns-in-Some g c = λ B stands r.
     ∙ noted (get by_name c.args.rows.now) (reel_row B.history) reel (pick_of c.args.take.now) c.in-Some.row.now c.lessen.new.row
     (ap (λ o. option_or o (reel_row B.history reel)) (sym c.in-Some.ensures.value)) c.lessen.ensures r
 
-pub returns-in-Some-row : goal.returns-in-Some-row
-returns-in-Some-row g c = λ B stands r.
+pub returns-in-Some-reel_row : goal.returns-in-Some-reel_row
+returns-in-Some-reel_row g c = λ B stands r.
     let reel = c.args.take.now.reel in
     let none : get by_name c.args.rows.now reel ≡ None = search rules in
     let same_map = c.get_mut.follows.holds-at-none in
-    let row = c.lessen-in-Some-row.new.row in
+    let row = c.lessen-in-Some-reel_row.new.row in
     name-written _ (get by_name c.insert.new.self) reel (Some row) (λ o. o) c.in_ok-insert.ensures.updates.0 r
     ∙ ap (λ m. cond (same reel r) (Some row) (get by_name m r)) same_map
-    ∙ noted (get by_name c.args.rows.now) (reel_row B.history) reel (pick_of c.args.take.now) c.in-Some-row.row row
-    (ap (λ o. option_or o (reel_row B.history reel)) none ∙ sym (c.row.ensures B stands) ∙ c.in-Some-row.is) c.lessen-in-Some-row.ensures r
+    ∙ noted (get by_name c.args.rows.now) (reel_row B.history) reel (pick_of c.args.take.now) c.in-Some-reel_row.row row
+    (ap (λ o. option_or o (reel_row B.history reel)) none ∙ sym (c.reel_row.ensures B stands) ∙ c.in-Some-reel_row.is) c.lessen-in-Some-reel_row.ensures r

@@ -1,5 +1,6 @@
 use Rattle.desk_types.proofs.Common.{◌∷◌, arith, subst, sym}
-use Rattle.reels.proofs.StandingReels.{label-below, StandsFor-receive}
+use Rattle.desk_types.proofs.Lives.{label-below}
+use Rattle.reels.proofs.StandingReels.{StandsFor-receive}
 use Rattle.reels.specs.{Fitting.IsFitting, Reel.RowStandsFor}
 use Rattle.reels.proofs.reel.Reel.receive.Goals as goal
 
