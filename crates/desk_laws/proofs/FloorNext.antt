@@ -1,7 +1,7 @@
 -- The floor life of a reel after one entry more, as far as answers depend on it.
-use Rattle.desk_types.proofs.Common.{[], ◌&&◌, ◌+◌, ◌-◌, ◌∙◌, ◌∷◌, ◌≡◌, ◌≤◌, ap, arith, baked_by, Bool}
+use Rattle.desk_types.proofs.Common.{◌&&◌, ◌+◌, ◌-◌, ◌∙◌, ◌∷◌, ◌≡◌, ◌≤◌, ap, arith, baked_by, Bool}
 use Rattle.desk_types.proofs.Common.{exposure_of, exposure_starts, false, floor_life, History, if◌then◌else◌}
-use Rattle.desk_types.proofs.Common.{is_baked, is_six, is_some, is_unbaked, IsJudged, IsUntouched, last_bake}
+use Rattle.desk_types.proofs.Common.{is_baked, is_six, is_some, is_unbaked, IsJudged, last_bake}
 use Rattle.desk_types.proofs.Common.{latest, LevelWithLabel, limit_of, minutes_left, Name, None, not, now_of}
 use Rattle.desk_types.proofs.Common.{open_by, Option, option_and_then, option_map, option_map_or, option_or}
 use Rattle.desk_types.proofs.Common.{out_since, receipt_by, receipt_of, refl, same, since_after, Some, true}
@@ -13,7 +13,7 @@ use Rattle.desk_laws.proofs.{Accepted.received-once, Agreeing.mark, Agreeing.mar
 use Rattle.desk_laws.proofs.{Judgements.by-desk_minute, Judgements.by-later, Judgements.untouched}
 use Rattle.desk_laws.proofs.{Openings.starts-by}
 use Rattle.desk_types.proofs.{Exposure.exposure-after, Exposure.exposure-anew, ReelCommands.IsQuiet-open}
-use Rattle.desk_types.proofs.{ReelCommands.IsQuiet-seal, ReelCommands.last_bake-quiet}
+use Rattle.desk_types.proofs.{ReelCommands.IsQuiet-seal}
 use Rattle.desk_types.proofs.{ReelCommands.last_bake-untouched, Tests.if-none, Tests.if-some}
 
 -- ---- exposure

@@ -12,6 +12,7 @@ pub mod Chains
 pub mod CountedReels
 pub mod Designators
 pub mod Distinct
+pub mod Exposed
 pub mod Exposures
 pub mod FloorNext
 pub mod FromAlike
@@ -32,6 +33,7 @@ pub mod Places
 pub mod Prefixes
 pub mod Ranges
 pub mod ReelsLater
+pub mod RowsOfReels
 pub mod RulesOne
 pub mod SlotsLater
 pub mod Tapes

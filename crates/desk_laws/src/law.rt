@@ -24,11 +24,13 @@ ghost use Rattle.desk_laws.specs.Past.{NamesNothingPast};
 /// Repeats of a UniqueID and the greatest number are the owner's matter, so replies do not depend on them
 /// here.
 pub fn alike_desks_answer_alike()
+    // A line can go on with the new file, and no sender sees a difference.
     ensures replies { (rules : Rules) (H H' : History) (commands : List Stamped)
         → IsJudged rules H → IsJudged rules H'
         → AreAlike H H' → All IsStamped commands
         → All (λ (s : Stamped). NamesNothingPast H s.command) commands
         → replies_to rules H commands ≡ replies_to rules H' commands }
+    // So a third file can follow the second in the same way.
     ensures alike { (rules : Rules) (H H' : History) (commands : List Stamped)
         → IsJudged rules H → IsJudged rules H'
         → AreAlike H H' → All IsStamped commands
@@ -67,12 +69,15 @@ pub fn chain_keeps_receipts()
 /// those that some file names. So a board with pieces in two files has the lots of both. A board has a
 /// lot exactly if the lot has the board.
 pub fn chain_recalls_agree()
+    // To read one file after the other misses no board.
     ensures boards { (files : List DeskFile) (lot board : Name) → IsChain files
         → Contains (boards_over files lot) board
         ↔ Any (λ (f : DeskFile). Contains (boards_of f.whole lot) board) files }
+    // A board whose pieces lie in two files has the lots of both.
     ensures lots { (files : List DeskFile) (board lot : Name) → IsChain files
         → Contains (lots_over files board) lot
         ↔ Any (λ (f : DeskFile). Contains (lots_of f.whole board) lot) files }
+    // Asked from either end, a chain gives the same pairs.
     ensures converse { (files : List DeskFile) (board lot : Name)
         → Contains (lots_over files board) lot ↔ Contains (boards_over files lot) board }
 {}

@@ -26,6 +26,7 @@ pub fn placements_are_final()
 
 /// No designator of a board is placed twice.
 pub fn no_designator_twice()
+    // A spot of a board holds one piece, so a trace has one lot for it.
     ensures { (rules : Rules) (H : History) → IsJudged rules H
         → IsDistinct same_pair
         (map (λ (p : Placement). (p.board, p.designator)) (placements_of H)) }
@@ -34,18 +35,21 @@ pub fn no_designator_twice()
 /// An accepted install places one piece for each designator of its message, in order, and its reply
 /// names their reels. No designator appears twice. Holds for any history.
 pub fn installs_are_whole()
+    // No part of a message is placed without the rest.
     ensures spots { (rules : Rules) (H : History) (s : Stamped) (machine board : Name)
         (designators : List Name)
         → refusal_of rules H s ≡ None
         → s.command ≡ MaterialsInstalled machine board designators
         → (more : List Placement) × (placements_of (accept H s) ≡ placements_of H ++ more)
         × (map spot_of more ≡ spots_named machine board designators) }
+    // The reply is what was placed, so a sender can keep it as a record.
     ensures told { (rules : Rules) (H : History) (s : Stamped) (machine board : Name)
         (designators : List Name)
         (more : List Placement)
         → refusal_of rules H s ≡ None → s.command ≡ MaterialsInstalled machine board designators
         → placements_of (accept H s) ≡ placements_of H ++ more
         → reply_to rules H s ≡ Accepted (Reels (map (λ (p : Placement). p.reel) more)) }
+    // A message that names a spot twice is refused, not shortened.
     ensures once { (rules : Rules) (H : History) (s : Stamped) (machine board : Name)
         (designators : List Name)
         → refusal_of rules H s ≡ None

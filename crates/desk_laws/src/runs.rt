@@ -14,9 +14,11 @@ ghost use Rattle.desk_types.specs.Judged.{IsLawful};
 /// A run can be split in two: the second part gives the same replies and history when it starts
 /// from the history of the first. Holds for any history and either set of rules.
 pub fn run_in_parts()
+    // It doesn't matter to the answers where a program stopped and went on.
     ensures replies { (rules : Rules) (H : History) (first second : List Stamped)
         → replies_to rules H (first ++ second) ≡ replies_to rules H first
         ++ replies_to rules (after_commands rules H first) second }
+    // Nor does it matter to the history.
     ensures entries { (rules : Rules) (H : History) (first second : List Stamped)
         → after_commands rules H (first ++ second)
         ≡ after_commands rules (after_commands rules H first) second }
@@ -27,6 +29,7 @@ pub fn run_in_parts()
 pub fn accepted_under_both()
     ensures answers { (H : History) (s : Stamped)
         → refusal_of One H s ≡ None → reply_to Two H s ≡ reply_to One H s }
+    // So a file of version 1 can be migrated without a change of its history.
     ensures lawful { (greatest : ℕ) (H : History) → IsLawful One greatest H
         → IsLawful Two greatest H }
 {}

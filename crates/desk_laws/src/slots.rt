@@ -13,10 +13,12 @@ ghost use Rattle.desk_laws.specs.TapeOrder.{restarts};
 
 /// A reel is live on at most one slot, and only once there.
 pub fn one_place()
+    // Of any two slots on which it is live, one is the other.
     ensures one_slot { (rules : Rules) (H : History)
         (m s machine slot reel : Name) → IsJudged rules H
         → Contains (live_on H m s) reel
         → Contains (live_on H machine slot) reel → (m ≡ machine) × (s ≡ slot) }
+    // And it stands on the tape of that slot a single time.
     ensures once { (rules : Rules) (H : History) (machine slot : Name) → IsJudged rules H
         → IsDistinct same (live_on H machine slot) }
 {}

@@ -23,6 +23,7 @@ pub fn desk_minute_never_falls()
 pub fn exposure_never_falls()
     ensures minutes { (H : History) (reel : Name) (earlier later : ℕ) → earlier ≤ later
         → exposure_of H reel earlier ≤ exposure_of H reel later }
+    // A bake is the only thing that gives floor life back.
     ensures entries { (rules : Rules) (G : History) (more : List Entry)
         (reel : Name) (earlier later : ℕ)
         → IsJudged rules (more ++ G)
@@ -52,6 +53,7 @@ pub fn mounted_reels_are_out()
     ensures out { (rules : Rules) (H : History) (reel : Name) → IsJudged rules H
         → is_mounted H reel ≡ true
         → is_some (out_since H reel) ≡ true }
+    // So the floor life of a reel runs on while it stays on its slot.
     ensures exposure { (rules : Rules) (H : History) (reel : Name) (minute : ℕ) → IsJudged rules H
         → is_mounted H reel ≡ true → now_of H ≤ minute
         → exposure_of H reel minute ≡ exposure_of H reel (now_of H) + (minute - now_of H) }

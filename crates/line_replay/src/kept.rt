@@ -9,7 +9,7 @@ ghost use Rattle.line_tables.specs.Rows.{columns_of};
 ghost use Rattle.line_replay.specs.Rows.{columns, rows_of};
 
 use crate::row_fault::NoRow;
-use desk_types::{Change, Kept, Text};
+use desk_types::{Change, Text};
 use line_tables::Accepted;
 use std::alloc::Global;
 

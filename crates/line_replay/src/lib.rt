@@ -31,7 +31,7 @@ pub use edits::{Acceptance, prepare};
 pub use fault::ReplayFault;
 pub use judging::{Taken, accept_row};
 pub use kept::{row_of, rows_tell_lists_apart};
-pub use placements::has_placements;
+pub use placements::{FoundRows, has_placements};
 pub use reading::stamped_of;
 pub use repeated::answer_under;
 pub use replaying::{Replayed, rebuild, replay};

@@ -9,7 +9,7 @@ ghost use Rattle.line_tables.specs.Frames.{ReadsOnly};
 
 use crate::auditing::Placed;
 use crate::fault::ReplayFault;
-use crate::placements::has_placements;
+use crate::placements::{FoundRows, has_placements};
 use desk_types::{PlacementRow, RowEdit};
 use sqlite::{Alter, Connection};
 use std::alloc::{AllocError, Global};
@@ -31,8 +31,12 @@ pub fn look_up<S: Alter>(
     let placements = placements_by(alloc, edits)?;
     let rows = placements.as_slice();
     let count = sum(placed.count, rows.len())?;
-    let (all, end) = are_found(conn, *placed, number, rows)?;
-    *placed = Placed { all, count, end };
+    let found = are_found(conn, *placed, number, rows)?;
+    *placed = Placed {
+        all: found.all,
+        count,
+        end: found.end,
+    };
     Ok(())
 }
 
@@ -74,18 +78,24 @@ fn are_found<S: Alter>(
     before: Placed,
     number: u64,
     rows: &[PlacementRow],
-) -> Result<(bool, Option<u64>), ReplayFault>
+) -> Result<FoundRows, ReplayFault>
     ensures told { HasCleanDisk (state S.Store conn.new)
         → IfOk result (λ now. HoldsAsRead (state S.Store conn.old)
-        (λ db. ArePlacedToo db before now.0 now.1 rows.now)) }
+        (λ db. ArePlacedToo db before now.all now.end rows.now)) }
     ensures err { IfErr result (λ f. f ≡ Unavailable) }
     ensures reads { ReadsOnly S.Store conn.old conn.new }
 {
     if !before.all {
-        return Ok((false, None));
+        return Ok(FoundRows {
+            all: false,
+            end: None,
+        });
     }
     if rows.is_empty() {
-        return Ok((true, before.end));
+        return Ok(FoundRows {
+            all: true,
+            end: before.end,
+        });
     }
     Ok(has_placements(conn, before.end, number, rows)?)
 }

@@ -17,6 +17,15 @@ use line_tables::select::select;
 use line_tables::values::int;
 use sqlite::{Alter, Connection, Error, Row};
 
+/// What a query for the placements of one entry found.
+#[derive(Clone, Copy, Drop)]
+pub struct FoundRows {
+    /// Each row that was looked for is in the table.
+    pub all: bool,
+    /// The rowid that follows them, if it is known.
+    pub end: Option<u64>,
+}
+
 /// Returns whether each of the rows, all of this number, is in the table. In our files rowids follow
 /// from number and place, so one query shows them and all rows from the end of those before. Then it
 /// also returns their end. In any other file no end is known, and each may have to be looked up.
@@ -25,18 +34,21 @@ pub fn has_placements<S: Alter>(
     from: Option<u64>,
     entry: u64,
     rows: &[PlacementRow],
-) -> Result<(bool, Option<u64>), Error>
+) -> Result<FoundRows, Error>
     requires some { 0 < length rows.now }
     ensures found { HasCleanDisk (state S.Store conn.new)
         → IfOk result (λ r. Reads (state S.Store conn.old)
-        (λ db. ArePlaced db r.0 (map piece_of rows.now)
-        × HasMoreBefore from r.1 (length rows.now) db)) }
+        (λ db. ArePlaced db r.all (map piece_of rows.now)
+        × HasMoreBefore from r.end (length rows.now) db)) }
     ensures reads { ReadsOnly S.Store conn.old conn.new }
 {
     let end = entry.saturating_add(1).saturating_mul(65_536);
     match from {
         Some(first) => has_range(conn, first, end, rows),
-        None => Ok((has_own(conn, entry, end, rows)?, None)),
+        None => Ok(FoundRows {
+            all: has_own(conn, entry, end, rows)?,
+            end: None,
+        }),
     }
 }
 
@@ -53,8 +65,8 @@ fn has_own<S: Alter>(
         (λ db. ArePlaced db all (map piece_of rows.now))) }
     ensures reads { ReadsOnly S.Store conn.old conn.new }
 {
-    let (all, _) = has_range(conn, entry.saturating_mul(65_536), end, rows)?;
-    Ok(all)
+    let found = has_range(conn, entry.saturating_mul(65_536), end, rows)?;
+    Ok(found.all)
 }
 
 fn has_range<S: Alter>(
@@ -62,18 +74,24 @@ fn has_range<S: Alter>(
     first: u64,
     end: u64,
     rows: &[PlacementRow],
-) -> Result<(bool, Option<u64>), Error>
+) -> Result<FoundRows, Error>
     requires some { 0 < length rows.now }
     ensures found { HasCleanDisk (state S.Store conn.new)
         → IfOk result (λ r. Reads (state S.Store conn.old)
-        (λ db. ArePlaced db r.0 (map piece_of rows.now)
-        × HasMoreBefore (Some first) r.1 (length rows.now) db)) }
+        (λ db. ArePlaced db r.all (map piece_of rows.now)
+        × HasMoreBefore (Some first) r.end (length rows.now) db)) }
     ensures reads { ReadsOnly S.Store conn.old conn.new }
 {
     if are_in_a_row(conn, first, end, rows)? {
-        return Ok((true, Some(end)));
+        return Ok(FoundRows {
+            all: true,
+            end: Some(end),
+        });
     }
-    Ok((has_each(conn, rows)?, None))
+    Ok(FoundRows {
+        all: has_each(conn, rows)?,
+        end: None,
+    })
 }
 
 /// Returns whether the rows with rowids from the first one up to the end are exactly these.

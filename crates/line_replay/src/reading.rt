@@ -9,7 +9,7 @@ ghost use Rattle.desk_types.specs.Id.{IsId};
 ghost use Rattle.desk_types.specs.Number.{IsMinute};
 ghost use Rattle.line_replay.specs.Judging.{IsMessageOf};
 
-use desk_types::{Command, Id, Kept, Minute, Stamped, Text};
+use desk_types::{Command, Id, Minute, Stamped, Text};
 use sqlite::Row;
 use sqlite::types::ValueRef;
 use std::alloc::{AllocError, Global};

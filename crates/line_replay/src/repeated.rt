@@ -9,7 +9,7 @@ ghost use Rattle.line_tables.specs.Rows.{columns_of};
 ghost use Rattle.line_replay.specs.Rows.{entry_row};
 
 use desk_answers::Answer;
-use desk_types::{Kept, Listing, Stamped, Text};
+use desk_types::{Listing, Stamped, Text};
 use line_tables::Accepted;
 use std::alloc::{AllocError, Global};
 

@@ -1,10 +1,10 @@
--- The piece that a row of `placement` describes, with its reel's view and its entry's minute.
-use Rattle.desk_types.proofs.Common.{[], ◌++◌, ◌+◌, ◌==◌, ◌∙◌, ◌∷◌, ◌≡◌, AllByRecursion, ap, arith, Bool}
+-- The piece that a row of `placement` describes, with its reel's row and its entry's minute.
+use Rattle.desk_types.proofs.Common.{[], ◌++◌, ◌+◌, ◌==◌, ◌∙◌, ◌∷◌, ◌≡◌, AllByRecursion, ap, arith, Bool, columns_of}
 use Rattle.desk_types.proofs.Common.{eq-eqb, false, find, History, if◌then◌else◌, inl, inr, IsJudged, length}
 use Rattle.desk_types.proofs.Common.{length-append, List, ne_eqb, None, Option, option_map, option_to_list}
-use Rattle.desk_types.proofs.Common.{placement_row, placements_of, recursion_from_All, reel_view, refl, Some}
+use Rattle.desk_types.proofs.Common.{placement_row, placements_of, recursion_from_All, reel_row, refl, Some}
 use Rattle.desk_types.proofs.Common.{subst, sym, true, view_of, ℕ}
-use Rattle.desk_laws.proofs.Common.{Entry, IsRightlyPlaced, Placement, ReelView, Two}
+use Rattle.desk_laws.proofs.Common.{Entry, IsRightlyPlaced, Placement, ReelRow, Two}
 use Rattle.line_tables.proofs.Common.{Database, flag, Has, has_piece, placement_columns, rows_in}
 use Rattle.desk_laws.proofs.InstalledPieces.{rightly-placed}
 use Rattle.desk_types.specs.{Tables.placement_columns as columns_of_piece}
@@ -83,7 +83,7 @@ minute-there H judged p right =
 -- ---- the piece
 
 -- A row of the table, with its reel's part and lot and its entry's minute.
-abbrev pub piece_with : PlacementRow → ReelView → ℕ → Placement
+abbrev pub piece_with : PlacementRow → ReelRow → ℕ → Placement
 piece_with row reel effective = record {
   number = row.number;
   place = row.place;
@@ -98,16 +98,16 @@ piece_with row reel effective = record {
   overdue = row.overdue;
 }
 
-one-piece : (H : History) → IsJudged Two H → (p : Placement) → IsRightlyPlaced H p → (row : PlacementRow) → columns_of_piece p ≡ row → (reel : ReelView) → Some reel ≡ reel_view H row.reel
+one-piece : (H : History) → IsJudged Two H → (p : Placement) → IsRightlyPlaced H p → (row : PlacementRow) → columns_of_piece p ≡ row → (reel : ReelRow) → Some reel ≡ reel_row H row.reel
     → (effective : ℕ) → Some effective ≡ minute_of H row.number → p ≡ piece_with row reel effective
 one-piece H judged p right row is reel seen effective at =
-    let view : reel_view H row.reel ≡ Some (view_of H p.reel right.receipt) =
-    ap (λ (r : PlacementRow). reel_view H r.reel) (sym is) ∙ ap (option_map (view_of H p.reel)) (receipt-there H judged p right) in
-    let its : reel ≡ view_of H p.reel right.receipt = cc in
+    let view : reel_row H row.reel ≡ Some (columns_of (view_of H p.reel right.receipt)) =
+    ap (λ (r : PlacementRow). reel_row H r.reel) (sym is) ∙ ap (λ o. option_map columns_of (option_map (view_of H p.reel) o)) (receipt-there H judged p right) in
+    let its : reel ≡ columns_of (view_of H p.reel right.receipt) = cc in
     let minute : minute_of H row.number ≡ Some p.effective = ap (λ (r : PlacementRow). minute_of H r.number) (sym is) ∙ minute-there H judged p right in
     let when : p.effective ≡ effective = cc in
-    let part : p.part ≡ reel.part = right.part ∙ ap (λ (v : ReelView). v.part) (sym its) in
-    let lot : p.lot ≡ reel.lot = right.lot ∙ ap (λ (v : ReelView). v.lot) (sym its) in
+    let part : p.part ≡ reel.part = right.part ∙ ap (λ (r : ReelRow). r.part) (sym its) in
+    let lot : p.lot ≡ reel.lot = right.lot ∙ ap (λ (r : ReelRow). r.lot) (sym its) in
     λ j. record {
       number = (is j).number;
       place = (is j).place;
@@ -122,7 +122,7 @@ one-piece H judged p right row is reel seen effective at =
       overdue = (is j).overdue;
     }
 
-pub row-tells : (db : Database) (H : History) → HoldsList db H → (row : PlacementRow) → Has (rows_in line.placement db) (placement_columns row) → (reel : ReelView) → Some reel ≡ reel_view H row.reel
+pub row-tells : (db : Database) (H : History) → HoldsList db H → (row : PlacementRow) → Has (rows_in line.placement db) (placement_columns row) → (reel : ReelRow) → Some reel ≡ reel_row H row.reel
     → (effective : ℕ) → Some effective ≡ minute_of H row.number → piece_at H (row.number, row.place) ≡ Some (piece_with row reel effective)
 row-tells db H held row here reel seen effective at = by (find (has_key (row.number, row.place)) (placements_of H)) refl (row-there db H held row here)
   where

@@ -99,7 +99,7 @@ fn piece_of<D: Desk>(
     if placed.number != u64::from(key.number) || placed.place != u64::from(key.place) {
         return Ok(None);
     }
-    let Some(reel) = working.desk.reel(&placed.reel) else {
+    let Some(reel) = working.desk.reel_row(&placed.reel) else {
         return Ok(None);
     };
     let Some(effective) = working.lists.minute(key.number) else {

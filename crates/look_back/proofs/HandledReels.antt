@@ -7,7 +7,7 @@ use Rattle.desk_types.proofs.Common.{same, same-true, Some, sym, take, take-appe
 use Rattle.desk_laws.proofs.Common.{Command, Entry, MaterialsLoaded, MaterialsSpliced, Receipt, ReelOpened}
 use Rattle.desk_laws.proofs.Common.{ReelReceived, ReelSealed, Two}
 use Rattle.desk_laws.{proofs.Accepted.received-once, proofs.Judgements.judged-prefix}
-use Rattle.judging.specs.Facts.{IsReelOf}
+use Rattle.reels.specs.Reel.{IsReelOf}
 use Rattle.look_back.{proofs.ReelsLater.reverse-last, specs.Life.is_bake}
 use Rattle.reels.specs.declared.reel.Reel.{Reel}
 

@@ -7,8 +7,7 @@ ghost use Rattle.desk_types.specs.History.{History};
 ghost use Rattle.desk_types.specs.Setup.{receipt_of};
 ghost use Rattle.desk_types.specs.FloorLife.{open_by};
 ghost use Rattle.desk_types.specs.Judged.{IsJudged};
-ghost use Rattle.reels.specs.Reel.{StandsFor};
-ghost use Rattle.judging.specs.Facts.{IsReelOf};
+ghost use Rattle.reels.specs.Reel.{IsReelOf, StandsFor};
 ghost use Rattle.look_back.specs.Life.{is_bake};
 
 use crate::setup::receipt_by;
@@ -61,6 +60,7 @@ fn is_bake(command: &Command) -> bool
 }
 
 pub fn reel_after(reel: Option<Reel>, name: &Id, entry: &Entry) -> Option<Reel>
+    // Minutes of one reel never fall, so no time is taken off twice.
     requires { ForSome reel (λ r. r.last ≤ entry.now.effective) }
     ensures { (H : History) → IsJudged Two (entry.now ∷ H) → IsReelOf H name.now reel
         → IsReelOf (entry.now ∷ H) name.now result }
@@ -74,6 +74,7 @@ pub fn reel_after(reel: Option<Reel>, name: &Id, entry: &Entry) -> Option<Reel>
 
 /// Returns the reel, or none if it wasn't received. Takes no memory.
 pub fn reel_of(entries: &[Entry], name: &Id) -> Option<Reel>
+    // In a judged history minutes never fall, and pieces add up.
     requires { IsJudged Two (reverse entries.now) }
     ensures { IsReelOf (reverse entries.now) name.now result }
 {

@@ -90,8 +90,10 @@ pub fn free_reels(
     takes: &[Takes],
     part: &Id,
 ) -> Result<ReelViews, AllocError>
+    // So a count of entries fits 32 bits, as in all searches here.
     requires most { length entries.now ≤ MOST_ENTRIES }
     requires judged { IsJudged Two (reverse entries.now) }
+    // The takes are kept beside the entries, since to make them again is a search for each.
     requires takes { AreTakes (reverse entries.now) (reverse takes.now) }
     ensures { IfOk result (λ reels. reels ≡ free_reels (reverse entries.now) part.now) }
 {

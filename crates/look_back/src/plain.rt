@@ -14,10 +14,10 @@ use crate::free::free_reels;
 use crate::searched::{Searched, search};
 use crate::setup::{desk_minute, selected_on, sheet_of};
 use crate::slots::slots_of;
-use crate::views::reel_view;
+use crate::views::{reel_row, reel_view};
 use desk_types::{
-    Change, Desk, Entry, Fronts, Id, JudgeFault, Minute, Mounts, ReelView, ReelViews, Rules,
-    SheetRows, Stamped, Takes,
+    Change, Desk, Entry, Fronts, Id, JudgeFault, Minute, Mounts, ReelRow, ReelView, ReelViews,
+    Rules, SheetRows, Stamped, Takes,
 };
 use judging::fronts::fronts;
 use judging::judge;
@@ -96,9 +96,12 @@ impl PlainDesk {
     /// Accepts a judged command. Out of memory leaves the desk unchanged.
     pub fn append(&mut self, change: Change) -> Result<(), AllocError>
         requires room { length self.old.history + 1 ≤ MOST_ENTRIES }
+        // As `settle` of `Desk` requires: a change isn't judged again.
         requires judged { IsChange self.old.rules self.old.history change.stamped change }
         ensures ok { OnOk result (self.new ≡ basis_after self.old change.stamped) }
+        // A `&mut` hides the type's invariant, so the call says it again.
         ensures judged { OnOk result (IsJudged self.new.rules self.new.history) }
+        // This desk may be used on: it takes its memory before it changes anything.
         ensures err { OnErr result (self.new ≡ self.old) }
     {
         let entry = Entry {
@@ -166,6 +169,10 @@ impl Desk for PlainDesk {
 
     fn reel(&self, reel: &Id) -> Option<ReelView> {
         reel_view(self.entries.as_slice(), self.takes.as_slice(), reel)
+    }
+
+    fn reel_row(&self, reel: &Id) -> Option<ReelRow> {
+        reel_row(self.entries.as_slice(), self.takes.as_slice(), reel)
     }
 
     fn slots_of(&self, machine: &Id) -> Result<Option<Mounts>, AllocError> {

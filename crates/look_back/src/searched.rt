@@ -1,21 +1,21 @@
 //! The facts for judging, found by searching the history.
 
-ghost use Rattle.std.specs.Prelude.{◌≡◌, reverse, IfOk};
+ghost use Rattle.std.specs.Prelude.{◌≡◌, ◌≤◌, length, reverse, IfOk};
+ghost use Rattle.desk_types.specs.declared.limits.TheConstants.{MOST_ENTRIES};
 ghost use Rattle.desk_types.specs.declared.rules.Rules.TheVariants.{Two};
 ghost use Rattle.desk_types.specs.Judged.{IsJudged};
 ghost use Rattle.look_back.specs.Kept.{AreTakes};
 
 use crate::alternates::alternates_of;
-use crate::floor_life::reel_of;
 use crate::mounts::is_mounted;
 use crate::parts::parts_of;
 use crate::pieces::left_of;
 use crate::setup::{desk_minute, row_on, selected_on, sheet_of, slot_on};
 use crate::tapes::{reel_at, reel_count};
+use crate::views::reel_row;
 use crate::work::{in_work_on, is_in_work, is_placed_on, product_of};
-use desk_types::{Designator, Entry, Id, Minute, SheetRow, SheetRows, Takes};
+use desk_types::{Designator, Entry, Id, Minute, ReelRow, SheetRow, SheetRows, Takes};
 use judging::Facts;
-use reels::Reel;
 use setup_sheets::{Alternates, Parts};
 use std::alloc::{AllocError, Global};
 use std::marker::Model;
@@ -49,6 +49,7 @@ pub fn search<'a>(
     entries: &'a [Entry],
     takes: &'a [Takes],
 ) -> Result<Searched<'a>, AllocError>
+    requires most { length entries.now ≤ MOST_ENTRIES }
     requires judged { IsJudged Two (reverse entries.now) }
     requires takes { AreTakes (reverse entries.now) (reverse takes.now) }
     ensures { IfOk result (λ found. found ≡ reverse entries.now) }
@@ -100,8 +101,8 @@ impl<'a> Facts for Searched<'a> {
         slot_on(self.entries, machine, designator)
     }
 
-    fn reel(&self, reel: &Id) -> Option<Reel> {
-        reel_of(self.entries, reel)
+    fn reel_row(&self, reel: &Id) -> Option<ReelRow> {
+        reel_row(self.entries, self.takes, reel)
     }
 
     fn left_of(&self, reel: &Id) -> u64 {

@@ -16,5 +16,5 @@ returns-then-is_empty-clause-told g c clean =
 pub returns-clause-told : goal.returns-clause-told
 returns-clause-told g c clean =
     let r = c.in_ok-has_placements.field-0 in
-    inr (reads_as (state g.S.Store c.args.conn.now) (λ (db : Database). ArePlaced db r.0 (map piece_of c.args.rows.now) × HasMoreBefore c.args.before.end r.1 (length c.args.rows.now) db) (λ (db : Database). ArePlacedToo db c.args.before r.0 r.1 c.args.rows.now)
-    (λ db placed. too_found db c.args.before r.0 r.1 c.args.rows.now c.if-not-before.false placed) (c.in_ok-has_placements.ensures.found clean))
+    inr (reads_as (state g.S.Store c.args.conn.now) (λ (db : Database). ArePlaced db r.all (map piece_of c.args.rows.now) × HasMoreBefore c.args.before.end r.end (length c.args.rows.now) db) (λ (db : Database). ArePlacedToo db c.args.before r.all r.end c.args.rows.now)
+    (λ db placed. too_found db c.args.before r.all r.end c.args.rows.now c.if-not-before.false placed) (c.in_ok-has_placements.ensures.found clean))

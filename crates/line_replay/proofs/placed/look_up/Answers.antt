@@ -9,6 +9,6 @@ returns-clause-ok g c =
     let same = c.as_slice-rows.ensures.value ∙ c.in_ok-placements.ensures in record {
       count = c.in_ok-count.ensures.ok ∙ ap (λ n. c.args.placed.now.count + n) (ap length same);
       told = λ clean.
-          subst (λ (rows : List PlacementRow). HoldsAsRead (state g.S.Store c.args.conn.now) (λ (db : Database). ArePlacedToo db c.args.placed.now c.in_ok-all.all c.in_ok-all.end rows))
-          same (c.in_ok-all.ensures.told clean);
+          subst (λ (rows : List PlacementRow). HoldsAsRead (state g.S.Store c.args.conn.now) (λ (db : Database). ArePlacedToo db c.args.placed.now c.in_ok-found.found.all c.in_ok-found.found.end rows))
+          same (c.in_ok-found.ensures.told clean);
     }

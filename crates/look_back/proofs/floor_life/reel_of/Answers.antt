@@ -1,5 +1,5 @@
 use Rattle.desk_types.proofs.Common.{reverse, subst, sym, take}
-use Rattle.judging.specs.Facts.{IsReelOf}
+use Rattle.reels.specs.Reel.{IsReelOf}
 use Rattle.look_back.proofs.HandledReels.{by-then, judged-next, so-far}
 use Rattle.look_back.proofs.floor_life.reel_of.Goals as goal
 

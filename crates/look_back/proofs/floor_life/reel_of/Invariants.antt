@@ -1,5 +1,5 @@
 use Rattle.desk_types.proofs.Common.{reverse, take}
-use Rattle.judging.specs.Facts.{IsReelOf}
+use Rattle.reels.specs.Reel.{IsReelOf}
 use Rattle.look_back.proofs.floor_life.reel_of.Given as goal
 
 abbrev pub invariant-loop-entry : goal.invariant-loop-entry

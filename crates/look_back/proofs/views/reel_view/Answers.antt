@@ -1,33 +1,40 @@
-use Rattle.desk_types.proofs.Common.{◌-◌, ◌∙◌, ap, arith, reverse, sym, unwrap_or}
+use Rattle.desk_types.proofs.Common.{◌-◌, ◌∙◌, ◌≡◌, ap, arith, option_map, received_of, reverse, Some, sym}
+use Rattle.desk_types.proofs.Common.{unwrap_or, view_of}
+use Rattle.desk_laws.proofs.Common.{ReelRow}
+use Rattle.desk_laws.proofs.RowsOfReels.{row-none, row-told, row-view}
+use Rattle.desk_types.specs.Tables.{view_with}
 use Rattle.judging.proofs.EmptyHistory.{no-reel}
-use Rattle.look_back.proofs.{Ranges.few-reversed, ReelViews.found-is, ReelViews.viewed}
+use Rattle.look_back.proofs.ReelViews.{found-is}
 use Rattle.look_back.proofs.views.reel_view.Goals as goal
 
 pub returns-in_err-minute : goal.returns-in_err-minute
 returns-in_err-minute c = c.from_residual.ensures ∙ sym (no-reel (reverse c.args.entries.now) c.args.name.now (sym c.desk_minute.ensures ∙ c.in_err-minute.was))
 
-pub overflow_sub-result : goal.overflow_sub-result
-overflow_sub-result c =
-    let told = (found-is (reverse c.args.entries.now) c.args.name.now c.in_ok-told.told c.received_of-received.result
-    (sym c.receipt.ensures ∙ c.in_ok-told.was) c.received_of-received.ensures).0 in
+pub returns-in_err-row : goal.returns-in_err-row
+returns-in_err-row c =
+    let H = reverse c.args.entries.now in
+    let name = c.args.name.now in
+    c.from_residual-in_err-row.ensures ∙ sym (ap (option_map (view_of H name)) (row-none H name (sym c.reel_row.ensures ∙ c.in_err-row.was)))
+
+pub overflow_sub-found : goal.overflow_sub-found
+overflow_sub-found c =
+    let H = reverse c.args.entries.now in
+    let name = c.args.name.now in
+    let row = c.in_ok-row.row in
+    let of = row-told H name (Some row) c.requires.judged (sym c.in_ok-row.was ∙ c.reel_row.ensures) in
+    let received : row.received ≡ received_of H name = ap (λ (r : ReelRow). r.received) of.row_is in
+    let told = (found-is H name c.in_ok-told.told row.received (sym c.receipt.ensures ∙ c.in_ok-told.was) received).0 in
     omega (arith, told, c.get.ensures.value)
 
 pub returns : goal.returns
 returns c =
     let H = reverse c.args.entries.now in
     let name = c.args.name.now in
-    let judged = c.requires.judged in
-    let few = few-reversed c.args.entries.now c.requires.most in
-    let stands = c.in_ok-reel.ensures in
+    let row = c.in_ok-row.row in
+    let of = row-told H name (Some row) c.requires.judged (sym c.in_ok-row.was ∙ c.reel_row.ensures) in
+    let received : row.received ≡ received_of H name = ap (λ (r : ReelRow). r.received) of.row_is in
     let minute = ap (λ m. unwrap_or m 0) (sym c.desk_minute.ensures ∙ c.in_ok-minute.was) in
-    let new = (found-is H name c.in_ok-told.told c.received_of-received.result (sym c.receipt.ensures ∙ c.in_ok-told.was) c.received_of-received.ensures).1 in
-    viewed H name c.in_ok-reel.reel c.received_of-received.result _ c.total.result c.total-2.result c.left_of.result c.life_left.result c.is_mounted.result c.is_some.result
-    stands.0 stands.1
-    c.received_of-received.ensures
-    (ap (λ n. c.received_of-received.result - n) c.get.ensures.value ∙ new)
-    (c.total.ensures H judged few c.requires.takes)
-    (c.total-2.ensures H judged few c.requires.takes)
-    c.left_of.ensures
-    (c.life_left.ensures H name stands.0 minute)
-    c.is_mounted.ensures
-    c.is_some.ensures
+    let told = (found-is H name c.in_ok-told.told row.received (sym c.receipt.ensures ∙ c.in_ok-told.was) received).1 in
+    let found = ap (λ n. row.received - n) c.get.ensures.value ∙ told in
+    ap Some (c.of_row.ensures ∙ (λ j. view_with row (found j) (c.life_left.ensures H name of minute j) (c.is_mounted-mounted.ensures j)))
+    ∙ sym (row-view H name row of)
