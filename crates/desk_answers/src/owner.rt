@@ -22,9 +22,12 @@ pub trait Owner {
     fn command(&mut self, stamped: &Stamped) -> Answer
         requires ready { Ready self.old }
         ensures ready { Ready self.new }
+        // A disk that has lied is never trusted again: nothing that is said of an honest one holds.
         ensures trusts { Trusts self.new → Trusts self.old }
+        // Said of an honest disk alone: a disk that lies can give back another history.
         ensures answer { (L : Ledger) → Stands self.old L → Trusts self.new
             → IsAnswer L stamped.now result }
+        // After Unavailable the owner goes on as if the command had not been sent.
         ensures stands { (L : Ledger) → Stands self.old L → Trusts self.new
             → Stands self.new (ledger_after L stamped.now result) };
 

@@ -18,10 +18,12 @@ pub trait Clients {
     /// Opens a port of this machine.
     fn listen(&mut self, port: u16) -> Result<(), NoClient>
         ensures ok { OnOk result (Sees Saw self.old self.new (opened port ∷ [])) }
+        // A port that can't be had is seen too, so the reason why nobody was served is known.
         ensures err { OnErr result (Sees Saw self.old self.new (unopened port ∷ [])) };
 
     /// Waits for the next client, and returns its reader and its writer.
     fn accept(&mut self) -> Result<(Self::Reader, Self::Writer), NoClient>
+        // Each client is one event, with what it will send: so answers are told for each client.
         ensures ok { IfOk result (λ pair. Sees Saw self.old self.new
             (came (Self.Reader.remaining pair.0) (Self.Writer.contents pair.1) ∷ [])) }
         ensures err { OnErr result (Sees Saw self.old self.new (none_came ∷ [])) };

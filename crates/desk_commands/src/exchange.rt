@@ -34,11 +34,13 @@ pub fn feed_in_memory<R: Read, W: Write, E: Write>(
 ) -> u8
     requires least { 1 ≤ greatest }
     requires most { greatest ≤ MOST_ENTRIES }
+    // Counts of reads and failures are numbers of the program, which must not overflow.
     requires few { HaveFewCounts input.old output.old errors.old }
     ensures ends { FeedEnds R.remaining W.contents E.contents
         input.old input.new output.old output.new errors.old errors.new
         (RunsInMemory greatest)
         (TellsLine E.contents errors.old errors.new (refusal_line Unavailable)) result }
+    // The bound by which a caller shows that the count of reads didn't overflow.
     ensures few_reads { reads_of input.new ≤ reads_of input.old + MOST_READS }
 {
     match in_memory::<StateDesk>(alloc, greatest) {
@@ -67,11 +69,13 @@ pub fn feed_in_file<T: Start, R: Read, W: Write, E: Write>(
     requires least { 1 ≤ greatest }
     requires most { greatest ≤ MOST_ENTRIES }
     requires few { HaveFewCounts input.old output.old errors.old }
+    // Each way to end, with what was read, written and told, and the status that belongs to it.
     ensures ends { FeedEnds R.remaining W.contents E.contents
         input.old input.new output.old output.new errors.old errors.new
         (RunsOn T.Start (Some greatest) result.1)
         (HasNoDesk (Refuses T.Start (Some greatest) result.1) ⊥
         (TellsLine E.contents errors.old errors.new)) result.0 }
+    // The desk isn't closed here: its caller does it, and tells when that fails.
     ensures left { LeavesDesk result.1 }
     ensures few_reads { reads_of input.new ≤ reads_of input.old + MOST_READS }
 {
@@ -105,6 +109,7 @@ pub fn import_in_file<T: Start, F: Folder, W: Write, E: Write>(
         (RunsOn T.Start None result.1)
         (HasNoDesk (Refuses T.Start None result.1) (RunsOn T.Start None result.1 StaysSame)
         (TellsLine E.contents errors.old errors.new)) result.0 }
+    // The desk isn't closed here: its caller does it, and tells when that fails.
     ensures left { LeavesDesk result.1 }
 {
     let opened = open_desk::<T, StateDesk>(rt, file, start, None);

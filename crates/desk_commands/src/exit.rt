@@ -26,6 +26,7 @@ pub enum Exit {
 
 /// Prints why the input was not answered to its end.
 pub fn tell_failure<E: Write>(fault: &ServeFault, errors: &mut Wire<E>) -> u8
+    // The count of failures must not overflow.
     requires error_failures { failures_of errors.old < 2 ^ 63 }
     ensures status { result ≡ 4 }
     ensures told { TellsLine E.contents errors.old errors.new (fault_line fault.now) }

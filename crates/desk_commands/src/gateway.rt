@@ -34,10 +34,12 @@ pub fn serve_in_file<T: Start, C: Clients, W: Write, E: Write>(
     output: &mut Wire<W>,
     errors: &mut Wire<E>,
 ) -> (u8, ToClose<FileFrom<T>>)
+    // To serve nobody is a fault of the command line, which is read before.
     requires some { 1 ≤ connections }
     requires least { 1 ≤ greatest }
     requires most { greatest ≤ MOST_ENTRIES }
     requires few { HaveFewFailures output.old errors.old }
+    // Each way to end; where the desk was refused no client was waited for.
     ensures ends { ServingEnds W.contents E.contents output.old output.new errors.old errors.new
         connections (request_rule report_of) (ServesAt C.Saw clients.old clients.new port)
         (RunsOn T.Start (Some greatest) result.1)
@@ -77,6 +79,7 @@ pub fn report_in_file<T: Start, W: Write, E: Write>(
     errors: &mut Wire<E>,
 ) -> (u8, ToClose<FileFrom<T>>)
     requires few { HaveFewFailures output.old errors.old }
+    // The answer is a GET's, byte for byte, of the history that the file holds.
     ensures ends { ReportEnds W.contents E.contents output.old output.new errors.old errors.new
         (λ answer. RunsOn T.Start None result.1 (AnswersReport report_of target.now answer))
         (HasNoDesk (Refuses T.Start None result.1) ⊥

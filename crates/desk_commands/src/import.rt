@@ -25,8 +25,10 @@ pub fn import_rows<F: Folder, W: Write, E: Write, L: Owner>(
     errors: &mut Wire<E>,
 ) -> u8
     requires few { HaveFewFailures output.old errors.old }
+    // An owner that isn't ready has no history to answer by.
     requires ready { L.Ready owner.old }
     ensures ready { L.Ready owner.new }
+    // A disk that has lied is never trusted again: nothing that is said of an honest one holds.
     ensures trusts { L.Trusts owner.new → L.Trusts owner.old }
     ensures ends { ImportEnds W.contents E.contents output.old output.new errors.old errors.new
         import.now (F.holds folder.now from.now) (F.may_fail folder.now from.now)

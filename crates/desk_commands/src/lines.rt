@@ -24,7 +24,9 @@ pub fn feed_lines<R: Read, W: Write, E: Write, L: Owner>(
 ) -> u8
     requires few { HaveFewCounts input.old output.old errors.old }
     requires ready { L.Ready owner.old }
+    // The owner can be asked on, whatever went wrong with the lines.
     ensures ready { L.Ready owner.new }
+    // A disk that has lied is never trusted again: nothing that is said of an honest one holds.
     ensures trusts { L.Trusts owner.new → L.Trusts owner.old }
     ensures ends { FeedEnds R.remaining W.contents E.contents
         input.old input.new output.old output.new errors.old errors.new

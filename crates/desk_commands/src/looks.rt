@@ -26,6 +26,7 @@ pub fn audit_file<T: Start, W: Write, E: Write>(
     errors: &mut Wire<E>,
 ) -> (u8, ToClose<FileFrom<T>>)
     requires few { HaveFewFailures output.old errors.old }
+    // Only a history that was judged whole is called lawful; status 4: it could not be printed.
     ensures ends { (count : ℕ)
         × PrintEnds W.contents E.contents output.old output.new errors.old errors.new
         (lawful_line count)
@@ -59,6 +60,7 @@ pub fn migrate_file<T: Start, W: Write, E: Write>(
     ensures ends { PrintEnds W.contents E.contents output.old output.new errors.old errors.new
         version_line (HasNoDesk (RefusesToMigrate T.Start result.1) ⊥
         (TellsLine E.contents errors.old errors.new)) result.0 }
+    // Status 4 too: the file is migrated, and only the line about it could not be printed.
     ensures migrates { (result.0 ≡ 0) ⊎ (result.0 ≡ 4) → Migrates T.Start result.1 }
     ensures left { LeavesFile result.1 }
 {

@@ -35,6 +35,7 @@ pub fn serve_listener<L: ReportedOwner, C: Clients, W: Write>(
     requires ready { L.Ready owner.old }
     ensures ready { L.Ready owner.new }
     ensures trusts { L.Trusts owner.new → L.Trusts owner.old }
+    // One line for each connection, in order, with what it was answered by the rules.
     ensures told { (serving : Serving)
         × TellsConnections connections (ends_of serving.exchanges) serving.stop result
         (W.contents (inner_of output.old)) (W.contents (inner_of output.new))

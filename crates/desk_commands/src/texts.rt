@@ -39,6 +39,7 @@ pub fn send_text<W: Write, E: Write>(text: &str, output: &mut Wire<W>, errors: &
         → Appends (W.contents (inner_of output.old)) (W.contents (inner_of output.new)) text.now }
     ensures failed { result ≡ 4
         → TellsUnwritten E.contents output.old output.new errors.old errors.new }
+    // So a reader that sees a part of the text sees its beginning.
     ensures front { result ≡ 4
         → SendsFront (W.contents (inner_of output.old)) (W.contents (inner_of output.new))
         text.now }

@@ -37,12 +37,15 @@ pub fn program<T: Start, R: Read, W: Write, E: Write>(
     errors: &mut Wire<E>,
 ) -> (u8, ClosedFiles<FileFrom<T>>)
     requires room { HaveRoom input.old output.old errors.old }
+    // One of the ways to end, which `specs/Program.antt` lists by the words of the command line.
     ensures runs { ClosesAs
         (λ how. ways_when_closed how T.Start ⟦<FileFrom<T> as Disk>⟧ (files_in result.1))
         any_bytes any_failure any_clients
         R.remaining W.contents E.contents (map string_bytes words.now)
         input.old input.new output.old output.new errors.old errors.new result.0 }
+    // No file is opened that the command line doesn't name.
     ensures opened { OnSome (files_in result.1) (NamesFile (map string_bytes words.now)) }
+    // No more of the input is read than the command needs, and a feed that ends well reads it all.
     ensures reads { ReadsAsked R.remaining (map string_bytes words.now)
         input.old input.new result.0 }
 {

@@ -39,9 +39,11 @@ pub fn whole_run<T: Start, F: Folder, C: Clients, R: Read, W: Write, E: Write>(
         (F.holds folder.now) (F.may_fail folder.now) (ServesAt C.Saw clients.old clients.new)
         R.remaining W.contents E.contents (map string_bytes words.now)
         input.old input.new output.old output.new errors.old errors.new result.0 }
+    // No file is opened that the command line doesn't name.
     ensures opened { OnSome result.1 (NamesFile (map string_bytes words.now)) }
     ensures reads { ReadsAsked R.remaining (map string_bytes words.now)
         input.old input.new result.0 }
+    // Only `serve` waits for clients.
     ensures unserved { (result.0 ≡ 2) ⊎ AsksForNoServing (map string_bytes words.now)
         → clients.new ≡ clients.old }
 {

@@ -2,7 +2,7 @@
 
 use super::id;
 use cfx_profile::{Member, MessageFault, Said, read_message};
-use desk_types::{Command, Kept};
+use desk_types::Command;
 use imports::{ImportFault, read_counts, read_setup};
 use std::alloc::Global;
 use std::process::Abort;

@@ -1,7 +1,7 @@
 //! Messages of worked cases. A line has a minute, a tab and the stored text of a command.
 
 use super::id;
-use desk_types::{Command, Kept, Minute, Stamped};
+use desk_types::{Command, Minute, Stamped};
 use std::alloc::Global;
 use std::test::Fail;
 

@@ -1,7 +1,7 @@
 //! Commands of worked cases, and a store's answers to them.
 
 use desk_answers::{Answer, Owner};
-use desk_types::{Command, Desk, Id, Kept, Minute, ReelView, Stamped};
+use desk_types::{Command, Desk, Id, Minute, ReelView, Stamped};
 use feeder_state::StateDesk;
 use line_schema::{LineStore, OpenFault};
 use sqlite::{Alter, Connection};
