@@ -1,6 +1,7 @@
 -- Takes out the pieces of archives whose last command is from before a day; their rows of file stay, as dropped, and each recall says so.
 -- Or takes out one file, that was loaded by mistake or put aside by a restore: it is missing until the same bytes are loaded by another
 -- name, or tracedesk-plant-load loads a catalogue of its line without it. What was missing by that name is missing no more.
+-- If the name of a line was wrong, no answer needs it: DELETE FROM plant.line WHERE name = ..
 -- usage: psql -v before=2027-01-01 -f drop.sql      or -v line=L1 -v name=L1-20260302T0600Z-20260302T0712Z-12
 \set ON_ERROR_STOP on
 \set QUIET on
@@ -13,7 +14,8 @@ CREATE TEMPORARY TABLE going (id integer, line text, name text, stays boolean); 
     INSERT INTO going SELECT id, line, name, false FROM file WHERE line = :'line' AND name = :'name';
     DELETE FROM lacking WHERE line = :'line' AND name = :'name';
     INSERT INTO lacking SELECT line, name, 'it was taken out', sha256 FROM file JOIN going USING (id, line, name)
-    WHERE NOT dropped AND NOT EXISTS (SELECT FROM file other WHERE other.sha256 = file.sha256 AND other.id <> file.id AND NOT other.dropped);
+    WHERE NOT dropped AND NOT (name = 'running desk' AND EXISTS (SELECT FROM line WHERE line.name = file.line AND oldest IS NOT NULL))  -- its line says that
+      AND NOT EXISTS (SELECT FROM file other WHERE other.sha256 = file.sha256 AND other.id <> file.id AND NOT other.dropped);
 \endif
 -- one transaction a file: all in one would take a lock for each of their tables
 DO $$ DECLARE it record; BEGIN

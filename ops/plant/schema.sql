@@ -18,45 +18,43 @@ CREATE TABLE IF NOT EXISTS file (
     pieces       bigint NOT NULL,
     taken        text NOT NULL,                 -- when the copy of a running desk was made; empty of an archive
     dropped      boolean NOT NULL DEFAULT false, -- its pieces were taken out, by drop.sql
-    copy_number  bigint NOT NULL DEFAULT 0,     -- of the copy of a running desk; copies are in this order
+    epochs       text[] NOT NULL DEFAULT '{}',  -- of a running desk, one for each restore, the newest last
     said         bigint NOT NULL DEFAULT 0,     -- commands in the table command
     desk         text NOT NULL DEFAULT '',      -- the desk's name; empty where it had none yet
+    mark         text NOT NULL DEFAULT '',      -- the first digits of the checksum of the archive from which it was begun
     UNIQUE (line, name)
 );
-ALTER TABLE file ADD COLUMN IF NOT EXISTS copy_number bigint NOT NULL DEFAULT 0, ADD COLUMN IF NOT EXISTS said bigint NOT NULL DEFAULT 0,
-    ADD COLUMN IF NOT EXISTS desk text NOT NULL DEFAULT '';
+ALTER TABLE file ADD COLUMN IF NOT EXISTS mark text NOT NULL DEFAULT '';
+CREATE INDEX IF NOT EXISTS file_digits ON file (left(sha256, 24));
 -- each accepted command but a ClockSet, by the MD5 of all that its sender said: two files of a line that have one which places pieces would count them twice
 CREATE TABLE IF NOT EXISTS command (
     file     integer NOT NULL REFERENCES file ON DELETE CASCADE,
     identity uuid NOT NULL,
-    places   boolean NOT NULL DEFAULT true      -- whether it places pieces; of files loaded up to 0.3.0 nothing says so
+    places   boolean NOT NULL DEFAULT true      -- whether it places pieces
 );
-ALTER TABLE command ADD COLUMN IF NOT EXISTS places boolean NOT NULL DEFAULT true;
 CREATE INDEX IF NOT EXISTS command_identity ON command (identity);
 CREATE INDEX IF NOT EXISTS command_file ON command (file);
 -- lines that an answer has to have files of, and how old the newest copy of a running desk may be; none where that is not looked at
 CREATE TABLE IF NOT EXISTS line (
     name   text PRIMARY KEY,
-    oldest interval
+    oldest interval DEFAULT '2 days'
 );
--- what a catalogue or a copy names and is not loaded, and why; up to 0.3.0 this was the table missing
-DO $$ BEGIN
-    IF EXISTS (SELECT FROM pg_class WHERE oid = to_regclass('plant.missing') AND relkind = 'r') THEN
-        ALTER TABLE missing RENAME TO lacking;
-    END IF;
-END $$;
+-- what a folder or a copy has and is not loaded, and why
 CREATE TABLE IF NOT EXISTS lacking (
     line text NOT NULL,
     name text NOT NULL,
     why  text NOT NULL,
+    taken_out text NOT NULL DEFAULT '',  -- the checksum of a file that drop.sql took out
     PRIMARY KEY (line, name)
 );
-ALTER TABLE lacking ADD COLUMN IF NOT EXISTS taken_out text NOT NULL DEFAULT '';  -- the checksum of a file that drop.sql took out
 CREATE OR REPLACE FUNCTION moment(taken text) RETURNS timestamptz LANGUAGE sql STABLE SET timezone = 'UTC' AS
 $$ SELECT to_timestamp(nullif(taken, ''), 'YYYY-MM-DD"T"HH24MISS') $$;
 -- all that keeps an answer from having every piece, but files that were dropped
 CREATE OR REPLACE VIEW missing AS
     SELECT line, name, why FROM lacking
+    UNION ALL SELECT '', 'expected lines', 'the table line is empty, so nothing says which lines an answer needs' WHERE NOT EXISTS (SELECT FROM line)
+    UNION ALL SELECT line, 'archive ' || mark, format('%s was begun from it, and it is not loaded', name) FROM file
+        WHERE mark <> '' AND NOT dropped AND NOT EXISTS (SELECT FROM file older WHERE left(older.sha256, 24) = file.mark)
     UNION ALL SELECT name, 'all of it', 'no file of the line is loaded' FROM line WHERE NOT EXISTS (SELECT FROM file WHERE file.line = line.name)
     UNION ALL SELECT line.name, 'newer pieces', CASE WHEN taken IS NULL THEN 'no copy of its running desk is loaded' ELSE 'the newest copy of its running desk is of ' || taken END
         FROM line LEFT JOIN file ON file.line = line.name AND file.name = 'running desk'
@@ -155,7 +153,6 @@ $$ SELECT to_char(to_timestamp(minute * 60) AT TIME ZONE 'UTC', 'YYYY-MM-DD"T"HH
 -- The pieces of a lot or a reel, or on a board. Two small tables name the files that have some, and only their parts are read: a
 -- statement over all parts would lock and plan each of them. A file that the snapshot has, and that was taken out since, is an error:
 -- ask again. kind is 'lot', 'reel' or 'board'.
-DROP VIEW IF EXISTS board_piece;
 CREATE OR REPLACE FUNCTION pieces_of(kind text, wanted text)
 RETURNS TABLE (board text, designator text, part text, lot text, reel text, machine text, slot text, overdue text, minute bigint, line text, file text, as_of bigint, id integer)
 LANGUAGE plpgsql STABLE SET search_path FROM CURRENT SET jit = off AS $$
@@ -190,7 +187,7 @@ $$;
 
 -- What keeps an answer from being exact, in the same snapshot: files that are not loaded, work that is in no trace, pieces in doubt. A piece
 -- in doubt may be of any reel of its part: one that the desk refused may have been on the slot all the same. If the line knows no reel
--- of the name, it may be on each machine on which such a reel was refused.
+-- of the name, it may be on each machine on which such a reel was refused. A machine's reel that no desk knows may be of any lot and part.
 CREATE OR REPLACE FUNCTION faults(kind text, wanted text) RETURNS SETOF text LANGUAGE sql STABLE SET search_path FROM CURRENT AS $$
     WITH own AS (
         SELECT line, part FROM reel JOIN file ON file.id = reel.file WHERE kind = 'lot' AND lot = wanted
@@ -205,6 +202,7 @@ CREATE OR REPLACE FUNCTION faults(kind text, wanted text) RETURNS SETOF text LAN
     UNION ALL SELECT format('doubtful piece of %s: %s of board %s, %s, may not be of %s of lot %s%s: %s', line, designator, board, spelled(minute), reel, lot,
         CASE other_reels WHEN '{}' THEN '' ELSE format(', but of %s of lot %s', array_to_string(other_reels, ' or '), array_to_string(other_lots, ' or ')) END, why)
         FROM doubt WHERE CASE kind WHEN 'board' THEN board = wanted ELSE wanted = ANY (CASE kind WHEN 'lot' THEN lot || other_lots ELSE reel || other_reels END) OR part = ANY (parts)
+            OR kind = 'lot' AND '' = ANY (other_lots) AND why LIKE 'the machine names another reel%'
             OR parts = '{}' AND EXISTS (SELECT FROM refused WHERE refused.line = doubt.line AND refused.machine = doubt.machine AND (kind = 'lot' OR refused.reel = wanted)) END
 $$;
 
@@ -212,7 +210,6 @@ $$;
 -- says that the plant answered, whether it knows the name, when the running desk was copied whose copy is the oldest, which state the
 -- tables have, and whether they had one of the states that the company saw.
 CREATE TABLE IF NOT EXISTS own_name (name text PRIMARY KEY);  -- of the plant, by which a company knows it: one row
-DROP FUNCTION IF EXISTS answer(text, text, integer);
 CREATE OR REPLACE FUNCTION answer(kind text, wanted text, schema_wanted integer, seen uuid[])
 RETURNS TABLE (plant text, fault text, known boolean, copied timestamptz, state uuid, went_on boolean, board text, designator text, part text, lot text, reel text, machine text,
                slot text, overdue text, minute bigint, line text, file text, as_of bigint)

@@ -1,11 +1,8 @@
 """Copies that tracedesk-backup makes, keeps and checks."""
-import contextlib
 import json
 import os
 import pathlib
-import re
 import shutil
-import sqlite3
 import time
 from typing import Callable
 
@@ -15,7 +12,7 @@ from lab import programs
 from lab.line import Line, NewLine
 from lab.tools import run, run_tool
 from lab.waits import wait_for
-from tracedesk_ops import backups, catalogue
+from tracedesk_ops import backups, store
 
 UNREADABLE = "/proc/self/mem"  # reading its first bytes fails with EIO
 
@@ -33,7 +30,7 @@ def test_age_of_copies(line: Line) -> None:
     line.backup("--age").expect(1, "was taken in the future")
     line.backup().expect()
     line.backup("--age").expect(0, f"{line.newest()}: lawful")
-    line.backup("--age", "--hours", 0).expect(1)
+    wait_for("it is older", lambda: line.backup("--age", "--hours", 0).status == 1)
 
 
 def test_archive_is_one_file_in_all_copies(line: Line) -> None:
@@ -45,7 +42,7 @@ def test_archive_is_one_file_in_all_copies(line: Line) -> None:
 
 
 def test_last_copies_of_days_and_months_are_kept(line: Line, folder: pathlib.Path) -> None:
-    """And each without a whole catalogue, since nothing says which archives are in it."""
+    """And each that can't be read, since nobody knows what is in it."""
     line.rollover().expect()
     line.backup().expect()
     made = line.newest()
@@ -54,8 +51,8 @@ def test_last_copies_of_days_and_months_are_kept(line: Line, folder: pathlib.Pat
             for hour in ("05", "17"):
                 shutil.copytree(made, named(line, f"2025-{month:02}-{day:02}T{hour}"))
     spoilt = [named(line, "2025-09-01T05"), named(line, "2025-09-01T17")]
-    (spoilt[0] / backups.INDEX).unlink()
-    (spoilt[1] / backups.INDEX).write_text(f"{','.join(catalogue.HEADER)}\n")
+    (spoilt[0] / backups.ABOUT).unlink()
+    (spoilt[1] / backups.ABOUT).write_text("{}\n")
     elsewhere = folder / "elsewhere"
     linked = named(line, "2025-11-01T17").rename(elsewhere)
     named(line, "2025-11-01T17").symlink_to(linked)  # as where it was moved to another disk
@@ -95,24 +92,26 @@ def test_copies_after_the_catalogue_was_made_anew(line: Line) -> None:
     line.backup().expect()
     archive = line.archive_file()
     archive.rename(archive.with_name("renamed"))
-    line.settle("--catalogue").expect()
     line.backup().expect()
 
 
-def test_newest_whole_copy_of_an_archive_is_kept(line: Line) -> None:
-    """A restored desk has an archive no more, and the newest copy that has it is damaged."""
+def test_newest_whole_copy_with_a_lost_command_is_kept(line: Line, folder: pathlib.Path) -> None:
+    """A restored desk lacks a command, nobody sends it again, and the newest copy that has it is
+    damaged.
+    """
     line.backup().expect()
     first = line.newest()
-    line.rollover().expect()
+    line.more("A")
     for day in ("01", "02", "03"):
         line.backup().expect()
         line.newest().rename(named(line, f"2025-01-{day}T00"))
-    line.backup("--restore", first.name).expect(4)
-    (damaged,) = (named(line, "2025-01-03T00") / "archive").glob("L1-*")
-    content = damaged.read_bytes()
-    damaged.unlink()
-    damaged.write_bytes(content[:-1])
-    line.backup("--days", 1, "--months", 0).expect()
+    line.backup("--restore", first.name).expect()
+    (line.archive / "aside").rename(folder / "elsewhere")
+    damaged = named(line, "2025-01-03T00") / "desk"
+    with open(damaged, "r+b") as file:
+        file.seek(4096)
+        file.write(bytes(damaged.stat().st_size - 4096))
+    line.backup("--days", 1, "--months", 0).expect(4, "2025-01-03", "2025-01-02")
     kept = sorted(copy.name for copy in line.copies.glob("2025*"))
     assert kept == [named(line, f"2025-01-{day}T00").name for day in ("02", "03")]
 
@@ -204,7 +203,7 @@ def test_checksums_that_are_cut_are_not_those_of_a_whole_copy(line: Line) -> Non
 def sum_anew(copy: pathlib.Path) -> None:
     """Writes the checksums of a copy whose files were changed."""
     names = list(backups.sums_of(copy))
-    lines = [f"{catalogue.sha256_of(copy / name)}  {name}\n" for name in names]
+    lines = [f"{store.sha256_of(copy / name)}  {name}\n" for name in names]
     (copy / "SHA256SUMS").write_text("".join(lines))
 
 
@@ -222,7 +221,7 @@ def test_check_and_restore_say_that_files_are_no_chain(line: Line) -> None:
     run([line.program, "feed", "--db", desk], given=said)
     (copy / "desk-wal").unlink()
     about = json.loads((copy / "backup.json").read_text())
-    about["commands"] = backups.commands(desk)
+    about["commands"] = store.Reader().desk(desk).commands
     (copy / "backup.json").write_text(json.dumps(about))
     sum_anew(copy)
     fault = "whether its archives and its desk are a chain: desk: differs "
@@ -246,7 +245,7 @@ def test_name_of_no_copy(line: Line) -> None:
 
 def as_it_was(line: Line) -> None:
     """The desk goes on with its one copy, and nothing else is there."""
-    assert not (line.folder / "aside").exists()
+    assert not (line.archive / "aside").exists()
     assert list(line.copies.glob("2*")) == [line.newest()]
     line.expect_tidy()
 
@@ -290,18 +289,8 @@ def test_file_that_somebody_put_into_a_copy(line: Line) -> None:
 # --- Several desks
 
 
-def as_of_0_2_0(copy: pathlib.Path) -> None:
-    """Makes a copy one of the versions up to 0.2.0, which didn't say of which desk it is."""
-    about = json.loads((copy / "backup.json").read_text())
-    kept = {name: about[name] for name in ("commands", "seconds_stopped", "missing")}
-    (copy / "backup.json").write_text(json.dumps(kept))
-    sums = copy / "SHA256SUMS"
-    sha256 = catalogue.sha256_of(copy / "backup.json")
-    sums.write_text(re.sub("[0-9a-f]{64}(?=  backup.json)", sha256, sums.read_text()))
-
-
 def test_copy_of_another_desk_is_refused(new_line: NewLine, folder: pathlib.Path) -> None:
-    """By its name, or by its first command."""
+    """By its first command."""
     one, two = new_line(folder / "line"), new_line(folder / "line", "L2", "other")
     two.backup().expect()
     one.backup("--restore").expect(1, "there is no copy of", "name it, and say --of-another")
@@ -313,12 +302,6 @@ def test_copy_of_another_desk_is_refused(new_line: NewLine, folder: pathlib.Path
     one.backup("--restore").expect(0, f"of {first};")
     said = f", of {two.file}, and not of", "--of-another"
     one.backup("--restore", second.name).expect(1, *said)
-    for copy in (first, second):
-        as_of_0_2_0(copy)
-    with one.stopped():  # what it began with is in its log until then
-        with contextlib.closing(sqlite3.connect(one.file)) as database:
-            database.execute("PRAGMA wal_checkpoint(TRUNCATE)")
-    one.backup("--restore", second.name).expect(1, "is a copy of a desk without a name")
     one.backup("--restore", second.name, "--of-another").expect()
 
 

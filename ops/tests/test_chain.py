@@ -153,21 +153,31 @@ def test_what_a_roll_over_left_is_known_by_the_desk_that_has_all_of_it() -> None
     assert chain.left_by_a_roll_over(desk, [archive, left, fork], memory) == [left]
 
 
-def test_the_newest_copy_is_the_one_that_has_what_the_others_have() -> None:
+def test_copies_are_in_the_order_of_what_they_contain() -> None:
+    """Their names, which a clock made, say another order; and one lacks its archive."""
     memory = Memory()
     archive = memory.file("archive", work("a", "b"))
-    first = copy_of("1", memory.file("d1", work("a")))
+    first = dataclasses.replace(copy_of("1", memory.file("d1", work("a"))), day="2027-01-01")
     second = copy_of("2", begun(memory, "d2", archive, work("c")), archive)
-    third = copy_of("3", begun(memory, "d3", archive, work("c", "d")), archive)
-    assert chain.newest([third, first, second], memory) == [third]
+    third = copy_of("3", begun(memory, "d3", archive, work("c", "d")))
+    assert chain.ordered([third, first, second]) == [first, second, third]
 
 
-def test_two_newest_copies_are_a_fork_that_a_person_decides() -> None:
+def test_a_fork_of_copies_is_what_the_newest_does_not_hold() -> None:
     memory = Memory()
     first = copy_of("1", memory.file("d1", work("a")))
     here = copy_of("2", memory.file("d2", work("a", "b")))
-    there = copy_of("3", memory.file("d3", work("a", "c")))
-    assert chain.newest([first, here, there], memory) == [here, there]
+    there = copy_of("3", memory.file("d3", work("a", "c", "d")))
+    assert chain.ordered([here, there, first]) == [first, here, there]
+    assert chain.not_held(Chain((there.desk,)), [first, here], memory) == [here]
+
+
+def test_two_desks_have_two_roots() -> None:
+    memory = Memory()
+    archive = memory.file("archive", work("a", "b"))
+    desk = begun(memory, "desk", archive, work("c"))
+    assert chain.root_of(desk, [archive]) == work("a")[0]
+    assert chain.root_of(memory.file("other", work("z")), [archive]) == work("z")[0]
 
 
 def test_a_copy_from_before_a_snapshot_is_never_superfluous() -> None:

@@ -66,13 +66,17 @@ MADE_FOUND = declared.TABLES[declared.TABLES.index("CREATE TABLE found") :]
         ("", ""),
         (OTHER_LAYOUT, ""),
         (
-            "CREATE TABLE note (words TEXT); CREATE INDEX by_source ON accepted (source); "
-            "CREATE VIEW boards AS SELECT board FROM board",
+            (
+                "CREATE TABLE note (words TEXT); CREATE INDEX by_source ON accepted (source); "
+                "CREATE VIEW boards AS SELECT board FROM board"
+            ),
             "",
         ),
         (
-            "CREATE TABLE note (words TEXT PRIMARY KEY); "
-            "CREATE TABLE more (words TEXT REFERENCES note); VACUUM",
+            (
+                "CREATE TABLE note (words TEXT PRIMARY KEY); "
+                "CREATE TABLE more (words TEXT REFERENCES note); VACUUM"
+            ),
             "",
         ),
         (
@@ -84,10 +88,14 @@ MADE_FOUND = declared.TABLES[declared.TABLES.index("CREATE TABLE found") :]
             "the table board is declared otherwise than the program declares it",
         ),
         (
-            "CREATE TABLE note (n INTEGER); CREATE TABLE kept AS SELECT * FROM found; "
-            f"DROP TABLE found; {MADE_FOUND} INSERT INTO found SELECT * FROM kept; DROP TABLE kept",
-            "the desk's tables and indexes don't come first in it, in the order in which the "
-            "program makes them",
+            (
+                "CREATE TABLE note (n INTEGER); CREATE TABLE kept AS SELECT * FROM found; DROP"
+                f" TABLE found; {MADE_FOUND} INSERT INTO found SELECT * FROM kept; DROP TABLE kept"
+            ),
+            (
+                "the desk's tables and indexes don't come first in it, in the order in which the "
+                "program makes them"
+            ),
         ),
     ],
 )
@@ -288,8 +296,10 @@ def test_disk_that_fails(checked: Checked) -> None:
         (
             "audit ] || ulimit -v 6000",
             "",
-            "no cause found: the program's audit says 'Unavailable', "
-            "and stock SQLite finds nothing wrong: memory may",
+            (
+                "no cause found: the program's audit says 'Unavailable', "
+                "and stock SQLite finds nothing wrong: memory may"
+            ),
         ),
         ("feed ] || ulimit -f 20", "DELETE FROM found", "not compared: a new desk in "),
         ("feed ] || ulimit -v 6000", "DELETE FROM found", "not compared: a new desk in "),

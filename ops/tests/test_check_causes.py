@@ -27,8 +27,10 @@ DECLARATION = """PRAGMA writable_schema = ON;
     [
         (
             f"{UNCHECKED} UPDATE reel SET remaining = remaining + 1 WHERE reel = 'K1'",
-            "reel: the row of reel 'K1' breaks CHECK (received = placed + scrapped + remaining): "
-            "it has received 12, placed 2, scrapped 0, remaining 11",
+            (
+                "reel: the row of reel 'K1' breaks CHECK (received = placed + scrapped +"
+                " remaining): it has received 12, placed 2, scrapped 0, remaining 11"
+            ),
         ),
         (
             f"{UNCHECKED} UPDATE found SET pieces = 0",
@@ -36,12 +38,16 @@ DECLARATION = """PRAGMA writable_schema = ON;
         ),
         (
             "INSERT INTO placement VALUES (99, 1, 'B9', 'R1', 'M', '1', 'K9', 0)",
-            "placement: the row of number 99, place 1 has reel 'K9', which reel doesn't have "
-            "(REFERENCES)",
+            (
+                "placement: the row of number 99, place 1 has reel 'K9', which reel doesn't have "
+                "(REFERENCES)"
+            ),
         ),
         (
-            "CREATE TABLE note (n INTEGER CHECK (n > 0)); "
-            f"{UNCHECKED} INSERT INTO note VALUES (-1)",
+            (
+                "CREATE TABLE note (n INTEGER CHECK (n > 0)); "
+                f"{UNCHECKED} INSERT INTO note VALUES (-1)"
+            ),
             "CHECK constraint failed in note",
         ),
         (
@@ -116,8 +122,10 @@ def test_unique_text_of_two_rows(checked: Checked, old: bytes, new: bytes, text:
             "the trigger t on accepted;",
         ),
         (
-            "CREATE VIEW v AS SELECT 1 AS x; "
-            "CREATE TRIGGER t INSTEAD OF INSERT ON v BEGIN SELECT 1; END",
+            (
+                "CREATE VIEW v AS SELECT 1 AS x; "
+                "CREATE TRIGGER t INSTEAD OF INSERT ON v BEGIN SELECT 1; END"
+            ),
             "Unavailable",
             "the trigger t on v;",
         ),
@@ -132,8 +140,10 @@ def test_unique_text_of_two_rows(checked: Checked, old: bytes, new: bytes, text:
             "the index lower_lot on reel;",
         ),
         (
-            "DROP INDEX IF EXISTS placement_reel; "
-            "CREATE INDEX placement_reel ON placement (reel) WHERE overdue",
+            (
+                "DROP INDEX IF EXISTS placement_reel; "
+                "CREATE INDEX placement_reel ON placement (reel) WHERE overdue"
+            ),
             "Unavailable",
             "the index placement_reel on placement;",
         ),
@@ -198,8 +208,10 @@ def test_texts_in_utf_16(checked: Checked, folder: pathlib.Path) -> None:
             """'{"Answer":"Faulty","Fault":"EnvelopeMember","Member":"Source"}'""",
         ),
         (
-            "UPDATE accepted SET effective = 1 WHERE number = 4; "
-            "DELETE FROM accepted WHERE number = 9",
+            (
+                "UPDATE accepted SET effective = 1 WHERE number = 4; "
+                "DELETE FROM accepted WHERE number = 9"
+            ),
             "NotLawful 4",
             "accepted: the row of number 4 has effective 1, and the commands make effective 0",
         ),
@@ -227,8 +239,10 @@ def test_command_that_is_not_lawful(checked: Checked, sql: str, audit: str, text
         (
             "UPDATE sheet_row SET designators = 'R2 R1'",
             "sheet_row",
-            "sheet_row: the row of product 'PR', machine 'M', place 1 has designators 'R2 R1', "
-            "and the commands make designators 'R1 R2'",
+            (
+                "sheet_row: the row of product 'PR', machine 'M', place 1 has designators 'R2 R1', "
+                "and the commands make designators 'R1 R2'"
+            ),
         ),
         (
             "UPDATE selected SET product = 'X'",
@@ -238,8 +252,10 @@ def test_command_that_is_not_lawful(checked: Checked, sql: str, audit: str, text
         (
             "UPDATE reel SET scrapped = 1, remaining = 9",
             "reel",
-            "reel: the row of reel 'K1' has scrapped 1, remaining 9, "
-            "and the commands make scrapped 0, remaining 10",
+            (
+                "reel: the row of reel 'K1' has scrapped 1, remaining 9, "
+                "and the commands make scrapped 0, remaining 10"
+            ),
         ),
         (
             "UPDATE mount SET slot = '2'",
@@ -254,8 +270,10 @@ def test_command_that_is_not_lawful(checked: Checked, sql: str, audit: str, text
         (
             "UPDATE placement SET overdue = 1 WHERE place = 2",
             "placement",
-            "placement: the row of number 10, place 2 has overdue 1, "
-            "and the commands make overdue 0",
+            (
+                "placement: the row of number 10, place 2 has overdue 1, "
+                "and the commands make overdue 0"
+            ),
         ),
         (
             "DELETE FROM found",
@@ -263,8 +281,10 @@ def test_command_that_is_not_lawful(checked: Checked, sql: str, audit: str, text
             "found: the row of reel 'K1' is missing, and the commands make it",
         ),
         (
-            "WITH RECURSIVE n(x) AS (SELECT 1 UNION ALL SELECT x + 1 FROM n LIMIT 9) "
-            "INSERT INTO part SELECT 'X' || x FROM n",
+            (
+                "WITH RECURSIVE n(x) AS (SELECT 1 UNION ALL SELECT x + 1 FROM n LIMIT 9) "
+                "INSERT INTO part SELECT 'X' || x FROM n"
+            ),
             "part",
             "table differs: part: 6 more rows differ",
         ),
@@ -376,3 +396,14 @@ def test_damaged_file_that_is_refused_has_a_cause(checked: Checked, number: int)
     assert done.status in (0, 1), done.said
     assert findings.UNKNOWN not in done.out
     assert (done.status == 0) == ("copy: lawful" in done.out), done.out
+
+
+@pytest.mark.parametrize("page", range(1, 25))
+def test_zeros_across_two_pages_have_a_cause(checked: Checked, page: int) -> None:
+    """A page that stops any look at the file is a fault of it, and no reason to judge nothing."""
+    whole = checked.whole
+    at = page * int.from_bytes(whole[16:18], "big") - 60
+    checked.new(whole[:at] + bytes(64) + whole[at + 64 :])
+    done = checked.check()
+    assert (done.status == 0) == ("copy: lawful" in done.out), done.said
+    assert done.status in (0, 1) and findings.UNKNOWN not in done.out, done.said

@@ -7,12 +7,11 @@ import concurrent.futures
 import contextlib
 import dataclasses
 import os
-import tarfile
 from typing import Iterator, Sequence
 
 import pytest
 from lab import databases
-from lab.databases import SQL, Database, Queried
+from lab.databases import Database, Queried
 from lab.waits import wait_for
 
 pytestmark = [pytest.mark.xdist_group("company")]
@@ -25,6 +24,7 @@ GRANTS = "GRANT USAGE ON SCHEMA plant TO recall; GRANT EXECUTE ON FUNCTION plant
 FILES = f"""CREATE ROLE recall LOGIN; {GRANTS}
 SET search_path TO plant;
 INSERT INTO own_name VALUES ('NAME');
+INSERT INTO line VALUES ('LINE');
 DO $$ BEGIN FOR it IN 1 .. 3 LOOP
     INSERT INTO file VALUES (it, 'LINE',
         CASE it WHEN 3 THEN 'running desk' ELSE 'archive-' || it END,
@@ -65,10 +65,12 @@ class Company:
         )
         self.database.psql(
             "-c",
-            "DROP SERVER IF EXISTS plants CASCADE;"
-            " CREATE SERVER plants FOREIGN DATA WRAPPER plproxy"
-            f" OPTIONS ({options}, query_timeout '60', modular_mapping '1');"
-            " CREATE USER MAPPING FOR PUBLIC SERVER plants",
+            (
+                "DROP SERVER IF EXISTS plants CASCADE;"
+                " CREATE SERVER plants FOREIGN DATA WRAPPER plproxy"
+                f" OPTIONS ({options}, query_timeout '60', modular_mapping '1');"
+                " CREATE USER MAPPING FOR PUBLIC SERVER plants"
+            ),
         )
 
     def recall(self, status: int = 0, lot: str = "LOT", **values: object) -> Queried:
@@ -164,19 +166,23 @@ LACKS = {
         "plant-1: without L1 archive-7",
     ),
     "a line": (
-        "INSERT INTO line VALUES ('L1'), ('L9')",
-        "DELETE FROM line",
+        "INSERT INTO line VALUES ('L9')",
+        "DELETE FROM line WHERE name = 'L9'",
         "plant-1: without L9 all of it",
     ),
     "untraced work": (
-        "INSERT INTO untraced VALUES ('L1', 'ab12', 'then', 'M', 'B7', 'WorkStarted', 'Expired',"
-        " '1', 'S', 'R1', '', '', '', '')",
+        (
+            "INSERT INTO untraced VALUES ('L1', 'ab12', 'then', 'M', 'B7', 'WorkStarted',"
+            " 'Expired', '1', 'S', 'R1', '', '', '', '')"
+        ),
         "DELETE FROM untraced",
         "of board B7 on M was refused, Expired",
     ),
     "a doubtful piece": (
-        "INSERT INTO doubtful VALUES ('L1', 'B8', 'C1', 'M', '1', 5, 'R9', 'NEW', '{S1}',"
-        " '{OTHER}', 'late', 'archive-1', 'P')",
+        (
+            "INSERT INTO doubtful VALUES ('L1', 'B8', 'C1', 'M', '1', 5, 'R9', 'NEW', '{S1}',"
+            " '{OTHER}', 'late', 'archive-1', 'P')"
+        ),
         "DELETE FROM doubtful",
         "C1 of board B8",
     ),
@@ -265,36 +271,3 @@ def test_a_plant_in_an_older_state_is_named_until_somebody_says_so(company: Comp
     company.expect_named(said)
     company.forget(plant.plant)
     company.recall()
-
-
-@pytest.fixture
-def upgraded(company: Company) -> Iterator[Plant]:
-    """In place of the last plant, one with the tables that 0.3.0 made and filled."""
-    last = company.plants[-1]
-    plant = Plant(last.server, "upgraded", last.plant)
-    databases.create(plant.server, plant.name, schema="")
-    with tarfile.open(databases.OLDER) as packed:
-        text = packed.extractfile("plant.sql")
-        assert text
-        (plant.server.folder / "plant.sql").write_bytes(text.read())
-    plant.psql("-f", plant.server.folder / "plant.sql")
-    company.forget(plant.plant)
-    company.ask([*company.plants[:-1], plant])
-    yield plant
-    company.forget(plant.plant)
-    company.database.psql("-c", "UPDATE company.plant SET oldest = DEFAULT")
-    company.ask(company.plants)
-
-
-def test_a_plant_with_tables_of_0_3_0_answers_once_they_are_upgraded(
-    company: Company, upgraded: Plant
-) -> None:
-    refused = f"[{upgraded.name}] REMOTE ERROR"
-    company.expect_named(refused)
-    upgraded.psql("-f", SQL / "schema.sql")
-    company.expect_named(refused)  # nobody may ask yet
-    upgraded.psql("-c", f"{GRANTS} INSERT INTO plant.own_name VALUES ('{upgraded.plant}')")
-    company.expect_named(f"{upgraded.plant}: its newest copy of a running desk is of 2026-03-0")
-    company.database.psql("-c", "UPDATE company.plant SET oldest = '100 years'")
-    rows = company.recall(lot="L1", pieces=1).rows
-    assert {row["board"] for row in rows} == {"B1", "B2"}

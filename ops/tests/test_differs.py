@@ -1,12 +1,15 @@
-"""A machine that names another reel than the desk has: from its report to the recalls that name the board, and to a decision."""
+"""A machine that names another reel than the desk has: from its report to the recalls that name the
+board, and to a decision.
+"""
 import json
 import pathlib
 from typing import Any, Iterator
 
 import pytest
 from lab.line import Line, table
+from lab.tools import run_tool
 from test_untraced_line import FIRST, LATER, Plant
-from tracedesk_ops import untraced
+from tracedesk_ops import inboxes, untraced
 
 NOW = "2026-03-02T06:05:00Z"
 
@@ -17,7 +20,7 @@ def plant(program: pathlib.Path, folder: pathlib.Path) -> Iterator[Plant]:
     line.serve()
     (line.folder / "decided").mkdir(parents=True)
     made = Plant(line)
-    made.make_ready(("R-1", "P", "1", 9), ("R-2", "P", "1", 9), ("R-3", "P", "1", 9))
+    made.make_ready(*((f"R-{number}", "P", "1", 9) for number in (1, 2, 3)), ("R-4", "Q", "1", 9))
     made.on_slot(FIRST, "MaterialsLoaded", Reel="R-1")
     yield made
     line.end()
@@ -63,8 +66,11 @@ def test_a_reel_that_the_desk_does_not_know_is_said_so(plant: Plant) -> None:
     build(plant, "R-9")
     (row,) = table(plant.recall("L-R-1", 5, "doubtful"))
     assert "which the desk doesn't know" in row["why"]
-    # it may be of any lot of the part
-    assert len(table(plant.recall("L-R-3", 5, "doubtful"))) == 1
+    # it may be of any lot, of this part or another, and of one that the desk doesn't know
+    for lot in ("L-R-3", "L-R-4", "L-R-9"):
+        assert len(table(plant.recall(lot, 5, "doubtful"))) == 1
+    several = [*("lot", "L-R-4", "L-R-9"), *plant.line.recall_words(), "--show", "doubtful"]
+    assert len(table(run_tool("recall", *several).expect(5).out)) == 1
     (told,) = json.loads((plant.status / "m1.json").read_text())["Machines"]["M1"]["Differs"]
     assert (told["Known"], told["Slot"], told["Desk"], told["Machine"]) == (
         False,
@@ -105,7 +111,9 @@ def test_a_decision_in_the_inbox_is_none(plant: Plant) -> None:
 
 
 def test_half_a_letter_holds_nothing_up(plant: Plant) -> None:
-    """A code that was cut in the middle of a letter of two parts is no text that a file can have."""
+    """A code that was cut in the middle of a letter of two parts is no text that a file can
+    have.
+    """
     plant.send_refused(
         plant.message(NOW, "WorkStarted", Machine="M1", Board="SN-\ud83d"),
         plant.message(NOW, "WorkStarted", Machine="M2", Board="SN-200"),
@@ -124,9 +132,28 @@ def test_a_report_that_nobody_can_read_is_listed(plant: Plant) -> None:
 
 
 def test_where_too_much_waits_nginx_is_told(plant: Plant, monkeypatch: pytest.MonkeyPatch) -> None:
-    odd = plant.inbox / f"{'0' * 32}.json"
-    odd.write_bytes(b"x" * 1000)
-    for most, is_full in ((999, True), (1001, False)):
-        monkeypatch.setattr(untraced, "MOST_WAITING", most)
-        untraced.collect(plant.line.archive)
-        assert (plant.inbox / untraced.FULL).exists() is is_full
+    """Of one log-in, and of all."""
+    for owner in ("", "m1~", "m2~"):
+        (plant.inbox / f"{owner}{'0' * 32}.json").write_bytes(b"x" * 1000)
+    (plant.inbox / "m2~0.json").write_bytes(b"x" * 9)  # is none
+    marks_of: list[tuple[int, int, list[str]]] = [
+        (999, 2999, ["full", "m1~full", "m2~full"]),
+        (1000, 2999, ["full"]),
+        (999, 3000, ["m1~full", "m2~full"]),
+        (1000, 3000, []),
+    ]
+    for of_one, of_all, marks in marks_of:
+        monkeypatch.setattr(inboxes, "MOST_OF_ONE", of_one)
+        monkeypatch.setattr(inboxes, "MOST_WAITING", of_all)
+        faults = untraced.collect(plant.line.archive)[2]
+        assert sorted(it.name for it in plant.inbox.glob("*full")) == marks
+        assert len([it for it in faults if "the proxy takes no more" in it]) == len(marks)
+
+
+def test_a_record_of_two_log_ins_has_one_row(plant: Plant) -> None:
+    plant.send_refused(plant.message(NOW, "WorkStarted", Machine="M2", Board="SN-1"))
+    (file,) = plant.inbox.glob("*.json")
+    for owner in ("m1", "m2"):
+        file.with_name(f"{owner}~{file.name}").write_bytes(file.read_bytes())
+    assert untraced.collect(plant.line.archive)[1:] == (1, [])
+    assert [it.name for it in plant.inbox.glob("*.json")] == [untraced.COLLECTED]

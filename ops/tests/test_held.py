@@ -1,4 +1,6 @@
-"""A copy of a running desk: it ends in its marker, has each acknowledged command, and a tool that hangs doesn't hold the line."""
+"""A copy of a running desk: it ends in its marker, has each acknowledged command, and a tool that
+hangs doesn't hold the line.
+"""
 import itertools
 import json
 import os
@@ -16,7 +18,7 @@ from lab import ROOT, messages
 from lab.desk import Desk
 from lab.tools import run
 from lab.waits import wait_for
-from tracedesk_ops import copies, held, plant
+from tracedesk_ops import copies, held, plant, service
 
 TRY = """
 import pathlib, sys, time
@@ -27,6 +29,18 @@ def slow(*_):
     time.sleep(60)
 held.copy_bytes = slow
 held.copy(pathlib.Path(sys.argv[2]), int(sys.argv[3]), sys.argv[4].encode(), pathlib.Path(sys.argv[5]))
+"""
+
+
+IMPATIENT = """
+import pathlib, sys
+sys.path.insert(0, sys.argv[1])
+from tracedesk_ops import held
+held.ANSWER = 1.0
+try:
+    held.copy(pathlib.Path(sys.argv[2]), int(sys.argv[3]), sys.argv[4].encode(), pathlib.Path(sys.argv[5]))
+except held.NoCopy as why:
+    print(why)
 """
 
 
@@ -91,9 +105,11 @@ def test_a_copy_under_load_ends_in_its_marker_and_has_what_was_acknowledged(
         assert acknowledged.items() <= there.items()
 
 
-def tried(served: Desk, folder: pathlib.Path) -> "subprocess.Popen[bytes]":
-    """A tool that holds the connection and hangs; its process group is its own, as in a terminal."""
-    words = [sys.executable, "-c", TRY, str(ROOT / "ops"), str(served.file), str(served.port)]
+def tried(served: Desk, folder: pathlib.Path, script: str = TRY) -> "subprocess.Popen[bytes]":
+    """A tool that holds the connection and hangs; its process group is its own, as in a
+    terminal.
+    """
+    words = [sys.executable, "-c", script, str(ROOT / "ops"), str(served.file), str(served.port)]
     words += [marker().decode(), str(folder / "copy")]
     return subprocess.Popen(words, stdout=subprocess.PIPE, start_new_session=True)
 
@@ -119,11 +135,24 @@ def test_a_tool_that_is_stopped_before_it_reads_the_answer_holds_nobody(
 ) -> None:
     link = served.begin_post(messages.part("P"))
     with tried(served, folder) as tool:
-        wait_for("the tool waits for the desk", lambda: plant.connections(served.port)[0] == 2)
+        wait_for("the tool waits for the desk", lambda: service.connections(served.port)[0] == 2)
         os.killpg(tool.pid, signal.SIGSTOP)
         link.close()
         assert served.say("PartDefined", PartNumber="AFTER")["Answer"] == "Accepted"
         assert tool.wait() == -signal.SIGKILL
+
+
+@pytest.mark.gate
+def test_a_sender_that_holds_the_desk_ends_a_copy_and_not_the_tool(
+    served: Desk, folder: pathlib.Path
+) -> None:
+    link = served.begin_post(messages.part("P"))
+    try:
+        with tried(served, folder, IMPATIENT) as tool:
+            said = tool.communicate()[0].decode()
+            assert tool.returncode == 0 and "could not be copied while it runs: timed out" in said
+    finally:
+        link.close()
 
 
 @pytest.mark.gate

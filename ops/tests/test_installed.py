@@ -18,7 +18,8 @@ KEPT = "/var/lib/tracedesk /var/lib/tracedesk-send /var/backups/tracedesk /etc/t
 SUMS = f"find {KEPT} -type f -print0 | sort -z | xargs -0 sha256sum"
 BROUGHT = (
     "/usr/bin/tracedesk* /usr/lib/tracedesk* /lib/systemd/system/tracedesk*"
-    " /etc/nginx/sites-*/tracedesk /usr/share/doc/tracedesk* /usr/lib/python3/dist-packages/tracedesk /usr/share/man/man1/tracedesk*"
+    " /etc/nginx/sites-*/tracedesk /usr/share/doc/tracedesk*"
+    " /usr/lib/python3/dist-packages/tracedesk /usr/share/man/man1/tracedesk*"
 )
 PLACES = "find /usr/local /etc/nginx /etc/systemd /usr/lib/tracedesk -printf '%p %C@\\n'"
 TARBALL = """rm -rf /tmp/package; mkdir /tmp/package
@@ -177,8 +178,10 @@ def test_a_desk_that_is_missing_is_not_begun_anew(machine: Machine) -> None:
         ("nginx -t 2>&1", "successful"),
         ("findmnt --target /var/lib/tracedesk", "/"),
         (
-            f"chown tracedesk:tracedesk {DESK}*; systemctl reset-failed tracedesk;"
-            " systemctl daemon-reload; ls /var/backups/tracedesk",
+            (
+                f"chown tracedesk:tracedesk {DESK}*; systemctl reset-failed tracedesk;"
+                " systemctl daemon-reload; ls /var/backups/tracedesk"
+            ),
             "20",
         ),
     ],

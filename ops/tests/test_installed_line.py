@@ -39,8 +39,11 @@ psql --csv -v lot=L-77 -f /usr/share/tracedesk/plant/pieces.sql
 
 
 def sums(machine: Machine, folder: str) -> set[str]:
-    """The checksum of each file in a folder but of logs, of which each run writes the head anew."""
-    find = f"find {folder} -type f ! -name '*-wal' -print0 | sort -z | xargs -0 sha256sum"
+    """The checksum of each file in a folder but of logs, of which each run writes the head anew,
+    and of desks that a restore put aside.
+    """
+    but = "! -name '*-wal' ! -path '*/aside/*'"
+    find = f"find {folder} -type f {but} -print0 | sort -z | xargs -0 sha256sum"
     return set(machine.shell(find).splitlines())
 
 
@@ -78,7 +81,7 @@ def test_timers_copy_and_roll_over_once_it_is_due(machine: Machine) -> None:
         "[Service]",
         "ExecStart=",
         f"ExecStart={call}",
-        "Environment=TRACEDESK_KILL_AFTER=plan",
+        "Environment=TRACEDESK_KILL_AFTER=placed",
     )
     assert machine.post("T1") == "200"
     machine.write("\n".join(lines) + "\n", f"{at}/now.conf")
@@ -114,13 +117,10 @@ def test_a_restore_brings_archives_and_a_desk_back(machine: Machine) -> None:
     machine.shell(f"rm -r {ARCHIVE}/*; systemctl stop tracedesk")
     machine.shell(f"echo no desk > /var/lib/tracedesk/desk; {start}")
     machine.restart(block_with("tracedesk-backup --restore"))
-    back = {line for line in sums(machine, ARCHIVE) if "/lacks-" not in line}
-    assert back == kept  # an entry says that nobody can read what was there
+    assert sums(machine, ARCHIVE) == kept
     said = machine.shell(f"{LOT} 2>&1 > /dev/null && exit 1 || test $? = 3")
     assert "a restore put it aside" in said
-    machine.shell(
-        f"rm -rf /root/aside; mv /var/lib/tracedesk/aside /root; rm {ARCHIVE}/lacks-*.json"
-    )
+    machine.shell(f"rm -rf /root/aside; mv {ARCHIVE}/aside /root")
     machine.shell(f"{LOT} > /dev/null 2>&1")
     newest = machine.shell(f"ls -d {COPIES}/2* | tail -n 1").strip()
     archive = f"$(ls {newest}/archive/L1-* | head -n 1)"

@@ -16,8 +16,10 @@ MESSAGES, KILLS = 1000, 20  # of each
 # how each is killed as by a power cut, and started if nothing else does it
 KILLED = {
     "sender": "kill -KILL $(cat /tmp/sender.pid) || true",
-    "proxy": "systemctl kill --kill-whom=all --signal=KILL nginx; sleep 1;"
-    " systemctl reset-failed nginx; systemctl start nginx",
+    "proxy": (
+        "systemctl kill --kill-whom=all --signal=KILL nginx; sleep 1;"
+        " systemctl reset-failed nginx; systemctl start nginx"
+    ),
     "desk": "systemctl kill --signal=KILL tracedesk",
 }
 FOLLOWER = f"""
@@ -30,12 +32,12 @@ done
 """
 ACCEPTED = """
 import pathlib
-from tracedesk_ops import catalogue, copies
-path = pathlib.Path("{archive}/catalogue.csv")
+from tracedesk_ops import around, copies
+path = pathlib.Path("{archive}")
 query = "SELECT uid FROM accepted WHERE uid LIKE '{uids}' AND command LIKE 'PartDefined%'"
 found = []
-files = [catalogue.path_of(path, archive) for archive in catalogue.read(path)]
-for file in [*files, path.parent.parent / "desk"]:
+files = [path / archive.file for archive in around.survey(path).archives]
+for file in [*files, path.parent / "desk"]:
     with copies.opened(file) as database:
         found += [uid for (uid,) in database.execute(query)]
 print(len(found), len(set(found)))

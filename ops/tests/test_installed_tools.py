@@ -10,6 +10,7 @@ pytestmark = [pytest.mark.root, pytest.mark.xdist_group("machine")]
 AT, INSTALLED = "/root/tests", "/usr/lib/tracedesk"
 GIVEN = (  # what the tests are given of the repository
     *(
+        "conftest.py",
         "pyproject.toml",
         "examples/first-line.jsonl",
         "packaging",

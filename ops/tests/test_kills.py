@@ -17,6 +17,7 @@ from lab import files
 from tracedesk_ops import model, store
 
 CALLS = ("link", "rename", "replace", "unlink", "mkdir", "rmdir", "fsync", "open")
+CALLS_OF = [("rollover", 10), ("restore", 13), ("mend", 16)]  # tools, and how many they make
 WRITES = os.O_CREAT | os.O_WRONLY | os.O_RDWR
 Call = Callable[[], None]
 
@@ -77,9 +78,17 @@ def settle(line: model.Line) -> None:
     store.settled(line, store.Reader(believes_names=True))
 
 
+def look_at_gap(line: model.Line, acknowledged: set[str]) -> None:
+    """The same of a line whose first archive is gone: it is missing, or the copy's is in place."""
+    try:
+        look(line, acknowledged)
+    except store.Broken:
+        assert files.first_is_missing(line)
+
+
 def story(folder: pathlib.Path, killer: Killer, tool: str, at: int, second: int) -> bool:
     """A line with two archives and a copy from before the second. Its tool is killed, settling is
-    killed, and all goes on.
+    killed, and all goes on. Before `mend` its first archive was lost, which the copy has.
     Returns whether the tool was killed."""
     folder.mkdir()
     line = files.line(folder, ["a", "b"])
@@ -92,12 +101,19 @@ def story(folder: pathlib.Path, killer: Killer, tool: str, at: int, second: int)
     tools: dict[str, Call] = {
         "rollover": lambda: files.roll_over(line),
         "restore": lambda: files.restore(line, copied),
+        "mend": lambda: files.restore(line, copied),
     }
+    looked = look_at_gap if tool == "mend" else look
+    if tool == "mend":
+        os.unlink(line.archive / next((copied / "archive").iterdir()).name)
     was_killed = killer.was_killed(tools[tool], at)
-    look(line, acknowledged)
+    looked(line, acknowledged)
     killer.was_killed(lambda: settle(line), second)
-    look(line, acknowledged)
+    looked(line, acknowledged)
     settle(line)
+    looked(line, acknowledged)
+    if tool == "mend" and was_killed:
+        tools[tool]()
     look(line, acknowledged)
     files.accept(line.desk, sorted(acknowledged - set(files.taken(line))))
     look(line, acknowledged)
@@ -123,7 +139,7 @@ def killed_everywhere(folder: pathlib.Path, killer: Killer, tool: str, seconds: 
     raise AssertionError("the tool never ended")
 
 
-@pytest.mark.parametrize("tool, calls", [("rollover", 8), ("restore", 15)])
+@pytest.mark.parametrize("tool, calls", CALLS_OF)
 def test_a_kill_at_each_call_loses_nothing(
     tmp_path: pathlib.Path, killer: Killer, tool: str, calls: int
 ) -> None:
@@ -131,7 +147,7 @@ def test_a_kill_at_each_call_loses_nothing(
 
 
 @pytest.mark.whole
-@pytest.mark.parametrize("tool, calls", [("rollover", 8), ("restore", 15)])
+@pytest.mark.parametrize("tool, calls", CALLS_OF)
 def test_a_kill_at_each_call_twice_in_a_row_loses_nothing(
     tmp_path: pathlib.Path, killer: Killer, tool: str, calls: int
 ) -> None:
@@ -141,12 +157,18 @@ def test_a_kill_at_each_call_twice_in_a_row_loses_nothing(
 def test_the_kills_notice_a_desk_that_goes_before_its_archive_comes(
     tmp_path: pathlib.Path, killer: Killer, monkeypatch: pytest.MonkeyPatch
 ) -> None:
-    def archived(line: model.Line, old: pathlib.Path, new: pathlib.Path, name: str) -> None:
-        line.archive.mkdir(exist_ok=True)
-        store.placed(line.desk, new)
-        os.link(old, line.archive / name)
+    filed: list[tuple[pathlib.Path, pathlib.Path]] = []
 
-    monkeypatch.setattr(store, "archived", archived)
+    def later(line: model.Line, old: pathlib.Path, name: str) -> None:
+        line.archive.mkdir(exist_ok=True)
+        filed.append((old, line.archive / name))
+
+    def placed(desk: pathlib.Path, new: pathlib.Path) -> None:
+        os.rename(new, desk)
+        os.link(*filed.pop())
+
+    monkeypatch.setattr(store, "filed", later)
+    monkeypatch.setattr(store, "placed", placed)
     with pytest.raises(store.Broken):
         killed_everywhere(tmp_path, killer, "rollover", 1)
 
@@ -157,6 +179,8 @@ def restore_without_its_log(line: model.Line, copied: pathlib.Path) -> None:
     files.restore(line, copied)
 
 
+# a killed reader leaves its copies of a log where temporary files are
+@pytest.mark.filterwarnings("ignore::pytest.PytestUnraisableExceptionWarning")
 def test_the_log_of_a_desk_is_never_apart_from_it(tmp_path: pathlib.Path, killer: Killer) -> None:
     """After each kill and a settling the old desk has its log, in its place or aside."""
     was_killed, at = True, 0
@@ -169,7 +193,7 @@ def test_the_log_of_a_desk_is_never_apart_from_it(tmp_path: pathlib.Path, killer
         was_killed = killer.was_killed(lambda: restore_without_its_log(line, copied), at)
         killer.was_killed(lambda: settle(line), at % 5)
         settle(line)
-        old = line.desk if was_old(line) else line.aside / "2026-11-25T061203Z" / "desk"
+        old = line.desk if was_old(line) else next(line.aside.iterdir()) / "desk"
         assert pathlib.Path(f"{old}-wal").read_bytes() == b"0" * 100
         at += 1
     assert at > 10

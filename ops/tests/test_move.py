@@ -286,8 +286,10 @@ def two(program: pathlib.Path, folder: pathlib.Path) -> Two:
         (
             "sealed",
             "ClockAhead",
-            "out for 60 minutes, so it has to begin at 1970-01-01 15:40 UTC, "
-            "and the new desk is at 1970-01-01 16:10 UTC: bake it",
+            (
+                "out for 60 minutes, so it has to begin at 1970-01-01 15:40 UTC, "
+                "and the new desk is at 1970-01-01 16:10 UTC: bake it"
+            ),
         ),
         ("sealed", "ClockAhead", "until 1970-01-01T17:10:00Z, and say that by --at"),
         ("sealed --at 1970-01-01T17:09:00Z", "ClockAhead", "bake it"),

@@ -1,4 +1,6 @@
-"""A chain of files that is read in parts says what it says if it is read at once; a nightly check reads a file once."""
+"""A chain of files that is read in parts says what it says if it is read at once; a nightly check
+reads a file once.
+"""
 import json
 import pathlib
 import subprocess
@@ -9,7 +11,7 @@ import pytest
 from lab import ROOT, messages
 from lab.desk import log_into_file
 from lab.tools import Word, run
-from tracedesk_ops import catalogue, chains, judged, parts, plant
+from tracedesk_ops import chains, judged, model, parts, plant, store
 
 FILES = 9  # of the chain
 LOT = ["lot", "L1", "--pieces"]
@@ -48,12 +50,9 @@ def files(
     yield made
 
 
-def archive(file: pathlib.Path) -> catalogue.Archive:
-    return catalogue.Archive(file.name, catalogue.sha256_of(file), "L1", 0, 0, 0, 0)
-
-
 def asked(chain: pathlib.Path, words: list[str], files: list[pathlib.Path]) -> chains.Answer:
-    return chains.asked(str(chain), words, files, [archive(file) for file in files])
+    digits = [store.sha256_of(file)[: model.DIGITS] for file in files]
+    return chains.asked(str(chain), words, files, digits)
 
 
 @pytest.mark.parametrize("sizes", [[1] * 4, [1] * 33, [9, 1, 1, 1, 1, 1, 1, 9], [0] * 12])
@@ -124,7 +123,7 @@ class Counting:
     def check(self, files: list[pathlib.Path], record: pathlib.Path) -> list[str]:
         """The names of the files that a check reads."""
         self.log.write_text("")
-        judged.check(str(self.file), files, [archive(file) for file in files], record)
+        judged.check(str(self.file), files, record)
         return [pathlib.Path(line).name for line in self.log.read_text().splitlines()]
 
 

@@ -15,7 +15,7 @@ SetUp = Callable[..., None]
 def set_up(tmp_path: pathlib.Path, monkeypatch: pytest.MonkeyPatch) -> SetUp:
     """Writes a set-up file of these words."""
     monkeypatch.setattr(places, "FOLDER", tmp_path)
-    places.lines.cache_clear()
+    places.files.cache_clear()
 
     def write(name: str, **words: object) -> None:
         text = "".join(f"{word} = {value}\n" for word, value in words.items())

@@ -4,18 +4,17 @@ import re
 import shutil
 import signal
 import subprocess
-import tarfile
 from typing import Iterator
 
 import pytest
 from lab import databases, messages, plants
 from lab.databases import SQL, Database
+from lab.line import NewLine
 from lab.plants import WorkedLine, missing, parts, pieces
 from lab.tools import tool
 from lab.waits import wait_for
 from lab.world import RUNNING
 from tracedesk_dev import postgres, shift
-from tracedesk_ops import backups, catalogue
 
 pytestmark = [pytest.mark.xdist_group("plant_load")]
 
@@ -90,10 +89,9 @@ def expect_three(database: Database) -> None:
 
 # what is altered, and what is said of it
 ALTERED = {
-    "a damaged archive": "its checksum is",
-    "a missing archive": "No such file",
-    "an archive with a log": "-wal lies beside it",
-    "another number of pieces": "and in the catalogue",
+    "a damaged archive": "it is not the file of its checksum",
+    "a missing archive": "was begun",
+    "an archive with a log": "-wal is next to it",
     "a damaged desk": "it is not the file of its checksum",
 }
 
@@ -102,15 +100,6 @@ def damage(file: pathlib.Path) -> None:
     content = bytearray(file.read_bytes())
     content[len(content) // 2] ^= 1
     file.write_bytes(content)
-
-
-def another_count(copy: pathlib.Path) -> None:
-    """The catalogue has another number of pieces, and the copy the catalogue's new checksum."""
-    path = copy / "archive/catalogue.csv"
-    count = catalogue.read(path)[0].pieces
-    path.write_text(path.read_text().replace(f",{count},", f",{count + 1},", 1))
-    sums = [f"{catalogue.sha256_of(copy / name)}  {name}\n" for name in backups.sums_of(copy)]
-    (copy / backups.SUMS).write_text("".join(sums))
 
 
 def altered(line: WorkedLine, folder: pathlib.Path, name: str) -> pathlib.Path:
@@ -124,10 +113,8 @@ def altered(line: WorkedLine, folder: pathlib.Path, name: str) -> pathlib.Path:
         damage(copy / "desk")
     elif name == "a missing archive":
         archive.unlink()
-    elif name == "an archive with a log":
-        archive.with_name(f"{archive.name}-wal").write_bytes(bytes(5_000))
     else:
-        another_count(copy)
+        archive.with_name(f"{archive.name}-wal").write_bytes(bytes(5_000))
     return copy
 
 
@@ -137,11 +124,12 @@ def test_a_file_that_is_refused_is_missing_until_it_comes_whole(
 ) -> None:
     file = RUNNING if name == "a damaged desk" else line.archived[0].name
     said = database.refuse(ALTERED[name], altered(line, folder, name))
-    assert ("/desk" if file == RUNNING else file) in said
+    digits = "/desk" if file == RUNNING else file.rpartition("-")[2]  # which say what is missing
+    assert digits in said
     assert said.count(" pieces\n") == 2  # of the others
     for query in ("pieces", "recall"):
         told = database.query(query, 3, lot=wanted.lot)
-        assert told.rows and f"without L1 {file}: " in told.said
+        assert told.rows and re.search(f"without .*({file}|{digits})", told.said)
     database.load(line.copies)
     expect_three(database)
 
@@ -154,28 +142,13 @@ def test_a_gap_in_a_chain_is_missing_until_it_is_filled(
     table = here / "catalogue.csv"
     first, second = line.archived
     (here / first.name).unlink()
-    rows = [row for row in catalogue.read(table) if row.file == second.name]
-    catalogue.write(table, [row._replace(went_on_from="") for row in rows])
     database.refuse(f"from which {second.name} was begun", table)
     assert "no archive has the checksum" in database.query("pieces", 3, lot=wanted.lot).said
     shutil.copytree(line.archive, here, dirs_exist_ok=True)
     database.load(table)
+    assert missing(database) == ["newer pieces"]  # of the running desk
+    database.change("UPDATE line SET oldest = NULL")
     assert missing(database) == []
-
-
-def test_a_copy_with_another_catalogue_is_missing_until_somebody_drops_it(
-    line: WorkedLine, database: Database, wanted: Wanted, folder: pathlib.Path
-) -> None:
-    database.load(line.copies)
-    copy = shutil.copytree(line.newest(), folder / "other/2026-03-09T060000Z")
-    index = copy / backups.INDEX
-    index.write_text(index.read_text().replace(",L1,", ",L3,"))
-    database.refuse("archive/catalogue.csv is not the file of its checksum", copy.parent)
-    assert database.rows("SELECT DISTINCT line FROM file") == [("L1",)]
-    said = database.query("pieces", 3, lot=wanted.lot).said
-    (remedy,) = re.findall(r"drop.sql with line= and name=(\S+)", said)
-    database.drop(line="", name=remedy)
-    database.query("pieces", lot=wanted.lot)
 
 
 # --- Lines
@@ -210,6 +183,9 @@ def test_a_line_that_was_mistyped_is_dropped(line: WorkedLine, database: Databas
     database.load("--line", "L11", line.kept()[0])
     database.refuse("whose running desk is loaded, and not of L1", line.copies)
     database.drop(line="L11", name=RUNNING)
+    its = database.rows("SELECT name FROM missing WHERE line = 'L11' ORDER BY 1")
+    assert its == [("all of it",), ("newer pieces",)]
+    database.change("DELETE FROM line WHERE name = 'L11'")
     database.load(line.copies)
     expect_three(database)
 
@@ -217,12 +193,12 @@ def test_a_line_that_was_mistyped_is_dropped(line: WorkedLine, database: Databas
 # what is expected of lines, what takes it back, and what is said
 EXPECTED = {
     "a line that was never loaded": (
-        "INSERT INTO line VALUES ('L1'), ('L7')",
+        "INSERT INTO line VALUES ('L7')",
         "DELETE FROM line WHERE name = 'L7'",
         "without L7 all of it: no file",
     ),
     "a newer copy": (
-        "INSERT INTO line VALUES ('L1', '1 day')",
+        "UPDATE line SET oldest = '1 day'",
         "UPDATE line SET oldest = '100 years'",
         "without L1 newer pieces: the newest copy of its running desk is of 2026-",
     ),
@@ -252,6 +228,57 @@ def test_a_line_of_the_set_up_without_a_copy_is_missing(
     assert ("L8",) in database.rows("SELECT line FROM missing")
 
 
+def test_a_copy_of_other_days_is_stale(line: WorkedLine, server: postgres.Server) -> None:
+    """If nobody says how old it may be."""
+    made = databases.create(server, "stale", schema="")
+    made.psql("-f", SQL / "schema.sql")
+    made.load(line.copies)
+    said = made.query("pieces", 3, lot="any").said
+    assert "without L1 newer pieces: the newest copy of its running desk is of 2026-03-" in said
+
+
+def test_each_line_has_the_copies_of_its_own_in_a_folder_of_several(
+    new_line: NewLine, database: Database, folder: pathlib.Path
+) -> None:
+    lines = [new_line(folder / name, name) for name in ("L1", "L2")]
+    for made in lines:
+        made.copies = folder / "copies"
+        made.backup("--line", made.name).expect()
+        text = f"line = {made.name}\ndb = {made.file}\ncopies = {made.copies}\n"
+        (folder / f"{made.name}.conf").write_text(text)
+    for _ in range(2):
+        database.load(TRACEDESK_SET_UP=str(folder))
+    assert [row[:2] for row in plants.files(database)] == [("L1", RUNNING), ("L2", RUNNING)]
+
+
+@pytest.mark.whole
+def test_tables_that_were_put_back_to_an_older_state_are_named(line: WorkedLine) -> None:
+    """A reader who saw the newer state knows it, until all is loaded again and the reader says
+    so.
+    """
+    with databases.server() as server:
+        made = databases.create(server, "put_back")
+        made.load("--line", line.name, line.kept()[0])
+        ((lot,),) = made.rows(MANY)
+        made.query("recall", lot=lot)
+        server.stop()
+        server.copy("data", "dump")
+        server.start()
+        made.load(line.copies)
+        newer = made.query("recall", lot=lot).rows
+        server.stop()
+        server.copy("dump", "data")
+        server.start()
+        for name in ("recall", "pieces", "recall"):
+            assert (
+                "in an older state than at the last question" in made.query(name, 3, lot=lot).said
+            )
+        made.load(line.copies)
+        made.query("recall", 3, lot=lot)
+        pathlib.Path(made.environment["TRACEDESK_SEEN"]).unlink()
+        assert made.query("recall", lot=lot).rows == newer
+
+
 # --- Files that are taken out
 
 
@@ -261,7 +288,8 @@ def test_a_file_that_is_taken_out_is_missing_until_it_is_loaded_again(
     database.load(line.copies)
     name = line.archived[0].name
     database.drop(line="L1", name=name)
-    assert (parts(database), missing(database)) == (2, [name])
+    link = f"archive {name.rpartition('-')[2]}"  # the next one was begun from it
+    assert (parts(database), set(missing(database))) == (2, {name, link})
     database.load(line.copies)
     expect_three(database)
 
@@ -294,31 +322,6 @@ def test_a_file_that_is_taken_out_amid_a_recall_is_an_error(
     )
     done = database.psql("-f", folder / "amid.sql", status=3)
     assert "was taken out or replaced meanwhile: ask again" in done.err
-
-
-# --- Tables of 0.3.0
-
-
-def test_tables_of_0_3_0_are_upgraded(server: postgres.Server, folder: pathlib.Path) -> None:
-    """Nothing is lost or counted twice, and what it had not looked at is missing."""
-    with tarfile.open(databases.OLDER) as packed:
-        packed.extractall(folder / "older")
-    upgraded = databases.create(server, "upgraded", schema="")
-    upgraded.psql("-f", folder / "older/plant.sql")
-    before = plants.files(upgraded)
-    for _ in range(2):  # again, it changes nothing
-        upgraded.psql("-f", SQL / "schema.sql")
-    assert plants.files(upgraded) == before
-    assert boards(upgraded) == {"B1", "B2"}
-    anew = databases.create(server, "anew")
-    for database in (upgraded, anew):
-        database.load(folder / "older/copies")
-        assert (boards(database), missing(database)) == ({"B1", "B2", "B3", "B4"}, [])
-    assert pieces(upgraded) == pieces(anew)
-
-
-def boards(database: Database) -> set[str]:
-    return {row["board"] for row in database.query("pieces", lot="L1").rows}
 
 
 # --- Kills, and a full disk

@@ -23,7 +23,7 @@ def copy_of(
     with sqlite3.connect(copy / "desk") as database:
         database.execute("CREATE TABLE accepted (number, uid, source, own, effective, command)")
         database.execute("INSERT INTO accepted VALUES (1, ?, 'S', 0, 0, 'PartDefined\tP')", [first])
-    about = {"desk": desk, "name": name, "number": 1, "commands": 1, "missing": []}
+    about = {"desk": desk, "host": "", "name": name, "line": "", "commands": 1, "missing": []}
     (copy / backups.ABOUT).write_text(json.dumps(about))
     sums = [
         f"{hashlib.sha256((copy / file).read_bytes()).hexdigest()}  {file}\n"
@@ -40,12 +40,5 @@ def test_the_newest_copy_of_each_desk_is_loaded(
     older = copy_of(tmp_path, "2026-03-02T060000Z", "a1", "/a/desk", names[0])
     newer = copy_of(tmp_path, "2026-03-02T070000Z", "a1", "/a/desk", names[0])
     other = copy_of(tmp_path, "2026-03-02T080000Z", "b1", "/b/desk", names[1])
-    assert list(plant_load.newest_of([older, newer, other]).values()) == [newer, other]
-
-
-def test_a_copy_without_a_name_is_older_than_one_of_the_same_desk_with_a_name(
-    tmp_path: pathlib.Path,
-) -> None:
-    unnamed = copy_of(tmp_path, "2026-03-02T060000Z", "a1")
-    named = copy_of(tmp_path, "2026-03-02T070000Z", "a1", name=NAMED)
-    assert list(plant_load.newest_of([unnamed, named]).values()) == [named]
+    newest = plant_load.newest_of(backups.Copies(tmp_path)).values()
+    assert older not in newest and {copy.path for copy in newest} == {newer, other}

@@ -19,7 +19,7 @@ from tracedesk_ops import untraced
 pytestmark = [pytest.mark.xdist_group("plant_load_lines")]
 
 SEED, BOARDS = 9, 12
-JUMPED = "2036-01-01T000000Z"  # the name of a copy by a clock that had jumped
+OLDER = "2026-03-02T060000Z"  # the copy that is loaded before the desk goes back
 SAYS = r"doubtful piece of D1: (\w+) of board B1, \S+, may not be of K1"
 
 
@@ -49,9 +49,9 @@ class Restored:
         parts = messages.parts_of(shift.Shift(SEED, BOARDS, "R1").lines, 3)
         self.sent = [part.splitlines() for part in parts]
 
-    def go_on(self, *said: bytes) -> None:
+    def go_on(self, *said: bytes, status: int = 0) -> pathlib.Path:
         self.line.post(said)
-        self.line.copy()
+        return self.line.copy(status)
 
     def go_back(self, status: int = 0) -> None:
         self.line.backup("--restore", self.line.kept()[0].name).expect(status)
@@ -69,10 +69,6 @@ class Restored:
 
     def roll_over(self) -> None:
         self.line.rollover("--with-board-in-work").expect()
-
-    def hand_in(self) -> None:
-        """The newest copy has the name of a later day."""
-        self.line.newest().rename(self.line.copies / JUMPED)
 
 
 @pytest.fixture
@@ -97,32 +93,38 @@ def test_the_same_messages_behind_another_one_are_counted_once(restored: Restore
     expect_whole(restored.database)
 
 
-def give_way(its: Restored) -> None:
-    """The tables have a copy of a later day; then the desk went back to half of the second part."""
+def give_way(its: Restored) -> pathlib.Path:
+    """The desk goes back to half of the second part. Returns the copy of that, which a person has
+    to name."""
     its.go_back()
-    its.go_on(its.other(), *its.sent[1])
-    its.hand_in()
-    its.load()
-    its.go_back()
-    its.go_on(its.other(), *its.sent[1][: len(its.sent[1]) // 2])
-    its.refuse(f"the copy of {JUMPED} gave way", its.line.copies)
+    newest = its.go_on(its.other(), *its.sent[1][: len(its.sent[1]) // 2], status=4)
+    its.refuse(f"the copy of {OLDER} gave way", newest)
+    return newest
 
 
 def test_a_copy_that_gave_way_is_missing_until_it_is_dropped(restored: Restored) -> None:
-    give_way(restored)
+    newest = give_way(restored)
     database, line = restored.database, restored.line
-    restored.load()
-    assert missing(database) == [f"desk of {JUMPED}"]
+    database.load("--line", "R1", newest)
+    assert missing(database) == [f"desk of {OLDER}"]
     expect_whole(database, 3)
     before = pieces(database)
-    restored.refuse("which is loaded and newer", line.copies / JUMPED)
+    restored.refuse("which is loaded, and lacks", line.copies / OLDER)
     assert pieces(database) == before
-    database.drop(line="R1", name=f"desk of {JUMPED}")
+    database.drop(line="R1", name=f"desk of {OLDER}")
     line.post(restored.sent[1][len(restored.sent[1]) // 2 :])
     restored.roll_over()
     line.copy()
     database.load(line.copies)
     expect_whole(database)
+
+
+def test_copies_of_a_desk_that_was_set_back_are_a_fork(restored: Restored) -> None:
+    """Which of them is the line's, nobody says but a person."""
+    restored.go_back()
+    restored.go_on(restored.other(), status=4)
+    restored.refuse("lacks: the desk was set back", restored.line.copies)
+    assert str(restored.line.copies) in missing(restored.database)
 
 
 def test_a_desk_from_before_its_archive_is_missing_until_that_is_dropped(
@@ -133,18 +135,20 @@ def test_a_desk_from_before_its_archive_is_missing_until_that_is_dropped(
     line.copy()
     restored.load()
     restored.go_back(4)
-    shutil.rmtree(line.folder / "aside")
-    restored.go_on(restored.other(), *restored.sent[1], *restored.sent[2][:40])
-    restored.refuse("are in R1-", line.copies)
+    shutil.rmtree(line.archive / "aside")
+    newest = restored.go_on(restored.other(), *restored.sent[1], *restored.sent[2][:40])
+    restored.refuse("are in R1-", newest)
     assert RUNNING in missing(database)
     expect_whole(database, 3)
     restored.roll_over()
-    restored.go_on(restored.other())
-    database.load(line.copies, status=1)
+    newest = restored.go_on(restored.other())
+    database.load("--line", "R1", newest, status=1)
     assert line.archives()[0].file in missing(database)
     ((archive, *_), *_) = database.rows("SELECT name FROM file WHERE taken = ''")
     database.drop(line="R1", name=archive)
-    database.load(line.copies)
+    database.load("--line", "R1", newest)
+    for _ in range(2):  # the desk that had gone on from that archive, and then that it is missing
+        database.drop(line="R1", name="desk of 2026-03-03T060000Z")
     assert missing(database) == []
     expect_whole(database)
 
@@ -244,8 +248,8 @@ def test_a_copy_without_a_record_is_refused(doubted: Doubted, folder: pathlib.Pa
     doubted.line.copy()
     copy = shutil.copytree(doubted.line.newest(), folder / "without/2026-03-09T060000Z")
     (copy / f"untraced/{name}.json").unlink()
-    said = f"untraced/{name}.json is not the file of its checksum"
-    doubted.database.refuse(said, "--line", "D1", copy)
+    said = doubted.database.refuse("can't be read", "--line", "D1", copy)
+    assert f"untraced/{name}.json" in said
     doubted.database.drop(line="", name=copy)
     doubted.load()
 

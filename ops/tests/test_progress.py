@@ -1,4 +1,6 @@
-"""How far a question over many files is goes to a terminal alone: what a pipe or a page compares has no such line."""
+"""How far a question over many files is goes to a terminal alone: what a pipe or a page compares
+has no such line.
+"""
 import os
 import pathlib
 import pty

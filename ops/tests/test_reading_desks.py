@@ -1,11 +1,13 @@
 """Tools that read a desk's file: its log is read too, nothing is changed, and a file that a run has
 open is refused."""
+import contextlib
 import itertools
 import multiprocessing
 import pathlib
 import shutil
 import signal
-from typing import Any
+import sqlite3
+from typing import Any, Iterator
 
 import pytest
 
@@ -14,7 +16,7 @@ from lab.desk import Desk
 from lab.line import Line, NewLine
 from lab.messages import FIRST_LINE
 from lab.tools import Ended, Word, run, run_changed, run_tool, tool
-from tracedesk_ops import copies, plant
+from tracedesk_ops import catalogue, copies, doubtful, plant
 
 TARGET = "/slots?machine=M"
 SLOTS_HEADER = "slot,position,reel,part,lot,remaining,minutes_left\n"
@@ -154,3 +156,28 @@ def test_what_cannot_be_printed_is_told(line: Line) -> None:
     with open("/dev/full", "w") as full:
         done = run([tool("begin"), line.file], out=full)
     assert done.status == 1 and "standard output" in done.err and "Traceback" not in done.err
+
+
+def test_one_archive_is_open_at_a_time(
+    desk: Desk, folder: pathlib.Path, monkeypatch: pytest.MonkeyPatch
+) -> None:
+    """A line has hundreds of them, and a process may have few files open."""
+    desk.feed(FIRST_LINE)
+    archives = folder / "archive"
+    archives.mkdir()
+    rows = []
+    for number in range(4):
+        file = shutil.copy(desk.file, archives / f"L1-{number}")
+        rows.append(catalogue.Archive(file.name, "", "L1", 0, 0, 1, 0))
+    counts, opened = [0], catalogue.opened
+
+    @contextlib.contextmanager
+    def counted(file: pathlib.Path) -> Iterator[sqlite3.Connection]:
+        with opened(file) as database:
+            counts.append(counts[-1] + 1)
+            yield database
+        counts.append(counts[-1] - 1)
+
+    monkeypatch.setattr(catalogue, "opened", counted)
+    assert doubtful.look(archives / catalogue.FILE_NAME, rows).faults == []
+    assert max(counts) == 1 and len(counts) > 2 * len(rows)

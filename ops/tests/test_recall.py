@@ -3,17 +3,17 @@ import concurrent.futures
 import os
 import pathlib
 import shutil
-from typing import Any, Callable, Iterator
+from typing import Any, Callable
 
 import pytest
 from lab.recalls import Asking, lot_of, recall, recalled, state_of
 from lab.world import World
-from tracedesk_ops import catalogue, firstlook
+from tracedesk_ops import firstlook, store
 
 pytestmark = [pytest.mark.xdist_group("recall")]
 
 CHANGED = (
-    "it was changed meanwhile, or what lies around it, as by a roll-over or a restore: ask again"
+    "it was changed meanwhile, or what is around it, as by a roll-over or a restore: ask again"
 )
 ALL = [pytest.param(24, id="some"), pytest.param(1, id="all", marks=pytest.mark.whole)]
 # a tracedesk-chain that ends otherwise: how, and what a recall says then
@@ -56,7 +56,8 @@ def test_each_end_of_the_chain_program_has_its_answer(
 ) -> None:
     said, told = ENDS[end]
     words = ["lot", lot_of(world), *world.first.recall_words()]
-    by_sql = recalled(*words, "--quick", "--show", "pieces", status=3)
+    monkeypatch.setenv("CHAIN", str(folder / "none"))
+    by_sql = recalled(*words, "--show", "pieces", status=3)
     stub = folder / "tracedesk-chain"
     stub.write_text(f"#!/bin/sh\necho 'tracedesk-chain: L1-1: {said}' >&2\n{end}\n")
     stub.chmod(0o755)
@@ -92,37 +93,22 @@ def faults(asking: Asking, world: World) -> Callable[..., list[str]]:
     return of
 
 
-@pytest.fixture
-def table(world: World) -> Iterator[pathlib.Path]:
-    """The first line's catalogue, which is put back."""
-    file = world.first.catalogue
-    text = file.read_bytes()
-    yield file
-    file.write_bytes(text)
-
-
 def test_nothing_changes_meanwhile(faults: Callable[..., list[str]]) -> None:
     assert faults() == []
 
 
-def test_a_catalogue_that_changes_meanwhile_is_named(
-    faults: Callable[..., list[str]], table: pathlib.Path
-) -> None:
-    text = table.read_bytes() + b"\n"
-    assert faults(lambda: table.write_bytes(text)) == [f"{table}: {CHANGED}"]
-
-
 def test_a_desk_that_is_put_aside_meanwhile_is_named(
-    faults: Callable[..., list[str]], table: pathlib.Path
+    faults: Callable[..., list[str]], world: World
 ) -> None:
-    aside = table.parent.parent / "aside/2026-03-02T060000Z"
+    archive = world.first.archive
+    aside = archive / "aside/2026-03-02T060000Z"
 
     def put_aside() -> None:
         aside.mkdir(parents=True, exist_ok=True)
         (aside / "desk").touch()
 
     try:
-        assert faults(put_aside) == [f"{table}: {CHANGED}"]
+        assert faults(put_aside) == [f"{archive}: {CHANGED}"]
     finally:
         shutil.rmtree(aside.parent)
 
@@ -150,4 +136,4 @@ def test_a_log_that_is_gone_by_now_is_no_database(folder: pathlib.Path) -> None:
         def is_file(self) -> bool:
             return True
 
-    assert not catalogue.is_database(Gone(folder / "gone"))
+    assert not store.is_database(Gone(folder / "gone"))

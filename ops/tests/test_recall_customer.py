@@ -34,7 +34,7 @@ def recall(line: Line, folder: pathlib.Path, shipped: str, *more: Word) -> Ended
     (folder / "shipped.csv").write_text(shipped)
     words: list[Word] = ["lot", "240131", *line.recall_words(), "--evidence", folder / "to"]
     words += ["--shipped", folder / "shipped.csv", "--customer", "Customer A", *more]
-    return run_tool("recall", *words, env=small.chain_of_sets(line.program))
+    return run_tool("recall", *words)
 
 
 def test_a_customer_gets_their_serials_alone(line: Line, folder: pathlib.Path) -> None:

@@ -10,7 +10,6 @@ from lab.recalls import Rows, files_of, last_minute, lot_of, recall, recalled
 from lab.tools import Word
 from lab.world import RUNNING, ArchivedLine, World
 from tracedesk_dev import shift
-from tracedesk_ops import catalogue
 
 pytestmark = [pytest.mark.xdist_group("recall_lines")]
 
@@ -103,7 +102,7 @@ def test_a_folder_that_may_not_be_mounted_is_named(young: Young) -> None:
     table = young.line.folder / "no/archive/catalogue.csv"
     table.parent.parent.mkdir()
     done = recall("lot", young.lot, "--line", "L1", young.line.url, table)
-    done.expect(3, "No such file")
+    done.expect(3, "there is no such folder")
 
 
 def test_two_lines_may_share_a_folder(
@@ -183,43 +182,20 @@ def test_a_copy_of_the_desks_file_is_named(around: Around, folder: pathlib.Path)
         copy.end()
 
 
-def test_a_roll_over_that_was_cut_off_is_named(whole: Around) -> None:
-    plan = whole.folder / "rollover-desk/plan.json"
-    aside = whole.folder / "aside/2026-03-02T060000Z"
-    for made in (aside, plan.parent):
-        made.mkdir(parents=True)
-    plan.write_text("{}")
-    told = whole.expect(3, f"{plan}: a roll-over is on its way or was cut off")
-    assert "aside" not in told
-    plan.unlink()
-    whole.expect(0)
-
-
-@pytest.mark.parametrize(
-    ("text", "status"),
-    [
-        ("", 3),
-        ('{"archives": [], "commands": 1}', 3),
-        ('{"archives": ["L1-3"], "commands": 0}', 3),
-        ("[]", 3),
-        ('{"archives": [], "commands": 0}', 0),
-    ],
-)
-def test_a_desk_that_a_restore_put_aside_is_named_if_it_has_more(
-    whole: Around, text: str, status: int
-) -> None:
-    aside = whole.folder / "aside/2026-03-02T060000Z"
+def test_a_desk_that_a_restore_put_aside_is_named_if_it_has_more(whole: Around) -> None:
+    """One that can't be read may have more."""
+    aside = whole.archive / "aside/2026-03-02T060000Z"
     aside.mkdir(parents=True)
     (aside / "desk").write_text("a desk")
-    (aside / "restore.json").write_text(text)
-    told = whole.expect(status)
-    assert (f"{aside}: a restore put it aside" in told) == (status == 3)
+    assert f"{aside}/desk: a restore put it aside" in whole.expect(3)
+    for path in whole.line.paths():
+        shutil.copy(path, aside / path.name.replace(whole.line.file.name, "desk"))
+    assert "a restore put it aside" not in whole.expect(0)
 
 
 def test_pieces_that_are_there_twice_are_named(whole: Around, folder: pathlib.Path) -> None:
     shutil.copy(whole.line.archived[0], whole.archive / "L1-9")
-    first = catalogue.read(whole.table)[0]
-    catalogue.add(whole.table, first._replace(file="L1-9", went_on_to=""))
+    (whole.folder / "desk").unlink()  # else the desk says which archives are its own
     page = folder / "twice.html"
     recall(*whole.words(), "--html", page).expect(3, "TWICE: L1: ")
     assert "PIECES ARE COUNTED TWICE" in page.read_text()

@@ -5,8 +5,11 @@ import csv
 import html
 import importlib
 import io
+import multiprocessing
 import pathlib
 import re
+import shutil
+import types
 import zipfile
 from typing import Any, Iterator
 
@@ -14,6 +17,7 @@ import pytest
 from lab import small
 from lab.line import Line
 from lab.tools import KILL_AFTER, KILLED, Word, run, tool
+from lab.waits import wait_for
 from tracedesk_ops.recallpage import jobs, papers, view
 from tracedesk_ops.recallpage.jobs import Queue
 from tracedesk_ops.recallpage.worker import Worker
@@ -45,7 +49,7 @@ class Site:
 
     def worker(self) -> Worker:
         more = [str(word) for word in self.more()]
-        return Worker(self.queue, tool("recall"), more, small.own_environment(self.line.program))
+        return Worker(self.queue, tool("recall"), more)
 
     def get(self, target: str, reader: str = "anna") -> Any:
         return self.client.get(target, headers={"X-Reader": reader} if reader else {})
@@ -149,7 +153,7 @@ def test_without_the_libraries_the_other_papers_are_there(
     monkeypatch.setattr(importlib, "import_module", missing)
     site.worker().work(is_once=True)
     page = site.page(at)
-    assert "python3-weasyprint is not installed" in page
+    assert "weasyprint is not installed" in page
     assert "python3-xlsxwriter is not installed" in page
     assert site.get(at + papers.PDF).status_code == 404
     assert site.get(at + papers.BOARDS).status_code == 200
@@ -158,11 +162,42 @@ def test_without_the_libraries_the_other_papers_are_there(
 def test_a_kill_amid_a_recall_loses_nothing(site: Site) -> None:
     at = site.asked("lot", "L-3")
     words: list[Word] = [tool("recall-page"), "work", "--once", "--queue", site.queue.folder, "--"]
-    env = small.chain_of_sets(site.line.program)
-    killed = run([*words, *site.more()], env={**env, KILL_AFTER: "recalled"})
+    killed = run([*words, *site.more()], env={KILL_AFTER: "recalled"})
     assert killed.status == KILLED and "are being read" in site.page(at)
-    run([*words, *site.more()], env=env).expect()
+    run([*words, *site.more()]).expect()
     assert "Complete: 1 board" in site.page(at)
+
+
+SLOW = """import os, pathlib, time
+new = pathlib.Path({!r} + ".new")
+new.write_text(str(os.getpid()))
+new.rename(new.with_suffix(""))
+time.sleep(600)
+"""
+
+
+def test_a_recall_ends_with_its_worker(site: Site) -> None:
+    """Else two would write the same evidence."""
+    site.asked("lot", "L-3")
+    slow, file = site.folder / "slow", site.folder / "number"
+    slow.write_text(SLOW.format(str(file)))
+    worker = multiprocessing.get_context("fork").Process(
+        target=Worker(site.queue, slow).run, args=site.queue.waiting()
+    )
+    worker.start()
+    wait_for("the recall runs", file.exists)
+    running = pathlib.Path("/proc", file.read_text(), "cmdline")
+    assert str(slow) in running.read_text()
+    worker.kill()
+    worker.join()
+    wait_for("its end", lambda: not running.exists() or not running.read_text())
+
+
+def test_a_full_disk_begins_no_recall(site: Site, monkeypatch: pytest.MonkeyPatch) -> None:
+    monkeypatch.setattr(shutil, "disk_usage", lambda _: types.SimpleNamespace(free=0))
+    at = site.asked("lot", "L-3")
+    site.worker().work(is_once=True)
+    assert "nearly full: make room." in site.page(at)
 
 
 # --- Who asks, and what
@@ -181,6 +216,34 @@ def test_a_name_with_markup_is_text(site: Site, name: str) -> None:
     for page in (site.page(site.asked("lot", name)), site.page("/recall/")):
         assert html.escape(name, quote=False) in page.replace("&#34;", '"')
         assert name == "a&b" or name in ("{{ 7 * 7 }}",) or name not in page
+
+
+def test_a_customer_with_markup_is_text(site: Site) -> None:
+    pytest.importorskip("weasyprint")
+    shipped = b"board,customer,date\nSN-3,<script>alert(1)</script>,=1+1\n"
+    at = site.asked("lot", "L-3", shipped=(io.BytesIO(shipped), "<b>.csv"))
+    site.worker().work(is_once=True)
+    page = site.page(at)
+    assert "&lt;script&gt;alert(1)&lt;/script&gt;: 1 board" in page and "<script>" not in page
+    (site.folder / "a.pdf").write_bytes(site.get(at + papers.PDF).data)
+    text = run(["pdftotext", site.folder / "a.pdf", "-"]).expect().out
+    assert "<script>alert(1)</script>" in text
+
+
+@pytest.mark.parametrize("text", [b"a,b\n1,2\n", b"\xff\xfe", b"board\n", b'"'])
+def test_a_list_that_is_none_is_named(site: Site, text: bytes) -> None:
+    at = site.asked("lot", "L-3", shipped=(io.BytesIO(text), "s.csv"))
+    site.worker().work(is_once=True)
+    page = site.page(at)
+    assert "The question was not understood." in page and "shipped.csv" in page
+    site.expect_no_inside(page)
+
+
+def test_a_list_that_is_too_large_is_refused(site: Site) -> None:
+    most = importlib.import_module("tracedesk_ops.recallpage.app").MOST_BYTES
+    told = site.ask("lot", "L-3", shipped=(io.BytesIO(bytes(most)), "s.csv"))
+    assert told.status_code == 413 and "The file is too large." in told.get_data(as_text=True)
+    assert not site.queue.all()
 
 
 BAD = (
@@ -231,9 +294,12 @@ def test_the_same_question_waits_once(site: Site) -> None:
     assert site.asked("lot", "L-3", reader="anna") == site.asked("lot", "L-3", reader="ben")
 
 
-def test_half_a_question_is_none(site: Site) -> None:
-    """What a killed page left of a question is not in the queue."""
-    (site.queue.folder / f"{jobs.NEW}20260302T060000.000000Z-00000000").mkdir()
+@pytest.mark.parametrize("begins", [jobs.NEW, ""])
+def test_half_a_question_is_none(site: Site, begins: str) -> None:
+    """What a killed page left of a question is not in the queue, nor a folder that is being
+    deleted.
+    """
+    (site.queue.folder / f"{begins}20260302T060000.000000Z-00000000").mkdir()
     assert not site.queue.all() and "None." in site.page("/recall/")
 
 

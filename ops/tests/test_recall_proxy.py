@@ -8,10 +8,12 @@ from typing import Any, Iterator
 
 import pytest
 import station_site
-from lab import small
+from lab import records, small
 from lab.line import Line
 from lab.site import Site
 from lab.tools import tool
+from tracedesk_ops import untraced
+from tracedesk_ops.recallpage import papers
 from tracedesk_ops.recallpage.jobs import Queue
 from tracedesk_ops.recallpage.worker import Worker
 
@@ -23,6 +25,25 @@ pytestmark = [
 SOCKET = "/run/tracedesk-recall/socket"  # packaging/nginx.conf
 RECALLER = "qm"  # of the people of a site; its password is its name
 FORM = "application/x-www-form-urlencoded"
+KINDS = {  # of the files that an answer offers
+    papers.PDF: "application/pdf",
+    papers.SHEET: "application/vnd.openxmlformats-officedocument.spreadsheetml",
+    papers.BOARDS: "text/csv",
+    papers.PACKED: "application/zip",
+}
+BROKEN_WORDS = """
+const broken = [];
+for (const heading of document.querySelectorAll("th")) {
+  for (const word of heading.textContent.matchAll(/\\S+/g)) {
+    const range = document.createRange();
+    range.setStart(heading.firstChild, word.index);
+    range.setEnd(heading.firstChild, word.index + word[0].length);
+    if (range.getClientRects().length > 1) broken.push(word[0]);
+  }
+}
+return broken;
+"""
+SHIPPED = "board,customer,date\nSN-3,Customer A,2026-03-09\n"
 
 
 class RecallSite(Site):
@@ -80,10 +101,11 @@ def line(program: pathlib.Path, tmp_path_factory: pytest.TempPathFactory) -> Ite
 @pytest.mark.parametrize("user", ["", "op", "office"])
 def test_who_is_no_recaller_gets_nothing(site: RecallSite, user: str) -> None:
     """A log-in that may send, or ask for reports, is none of a recaller; nor is a header."""
+    before = site.queue.all()
     for method in ("GET", "POST"):
         status, headers, _ = site.ask(method, user, "kind=lot", X_Reader=RECALLER)
         assert status == 401 and 'realm="recalls"' in headers["WWW-Authenticate"]
-    assert not site.queue.all()
+    assert site.queue.all() == before
 
 
 def test_a_certificate_is_no_recaller(site: RecallSite) -> None:
@@ -93,8 +115,9 @@ def test_a_certificate_is_no_recaller(site: RecallSite) -> None:
 def test_a_page_elsewhere_asks_for_no_recall(site: RecallSite) -> None:
     body = urllib.parse.urlencode({"kind": "lot", "names": "L-3"})
     foreign = {"Origin": "https://elsewhere.example", "Sec_Fetch_Site": "cross-site"}
+    before = site.queue.all()
     assert site.ask("POST", RECALLER, body, Content_Type=FORM, **foreign)[0] == 403
-    assert not site.queue.all()
+    assert site.queue.all() == before
 
 
 def test_the_proxy_names_the_reader(site: RecallSite) -> None:
@@ -113,28 +136,158 @@ def test_each_answer_may_load_nothing_from_elsewhere(site: RecallSite) -> None:
     assert headers["Cache-Control"] == "no-store"
 
 
-@pytest.mark.browser
-@pytest.mark.needs("chromium", "python:selenium")
-def test_a_recaller_finds_the_boards_in_a_browser(site: RecallSite, line: Line) -> None:
-    """By a log-in alone, from an empty form to the sentence in the frame."""
+# --- In a browser
+
+
+class Reader:
+    """A recaller at a browser, who has a log-in and nothing else."""
+
+    def __init__(self, site: RecallSite, page: Any, worker: Worker) -> None:
+        self.site, self.page, self.worker = site, page, worker
+
+    def opens(self, path: str = "") -> None:
+        log_in = f"://{RECALLER}:{RECALLER}@"
+        self.page.get(f"{self.site.url.replace('://', log_in)}/recall/{path}")
+
+    def asks(self, names: str, kind: str = "lot", shipped: str = "") -> str:
+        """Fills the form in, and returns what the page of the new recall says."""
+        self.page.find_element("id", "kind").send_keys(kind)
+        self.page.find_element("id", "names").send_keys(names)
+        if shipped:
+            file = self.site.room / "shipped.csv"
+            file.write_text(shipped)
+            self.page.find_element("id", "shipped").send_keys(str(file))
+        self.page.find_element("id", "ask").click()
+        station_site.wait_for("it waits", lambda: self.page.find_elements("id", "wait"))
+        return str(self.page.find_element("id", "wait").text)
+
+    def goes_back(self) -> None:
+        self.page.find_element("link text", "Another recall").click()
+        station_site.wait_for("the form", lambda: self.page.find_elements("id", "ask"))
+
+    def waits(self) -> str:
+        """The sentence in the frame of the answer, for which the page renews itself."""
+        station_site.wait_for("an answer", lambda: self.page.find_elements("id", "answer"))
+        return str(self.page.find_element("id", "answer").text)
+
+    @property
+    def text(self) -> str:
+        return str(self.page.find_element("tag name", "body").text)
+
+    def expect_well_shown(self) -> None:
+        """Nothing is wider than the screen, no heading of a column has a broken word, and the
+        browser refused nothing that the page asks.
+        """
+        width, screen = self.page.execute_script(
+            "return [document.documentElement.scrollWidth, innerWidth]"
+        )
+        assert width <= screen, (width, screen)
+        assert not self.page.execute_script(BROKEN_WORDS)
+        faults = [entry for entry in self.page.get_log("browser") if entry["level"] == "SEVERE"]
+        assert not faults
+
+
+@pytest.fixture(scope="module")
+def chromium(site: RecallSite) -> Iterator[Any]:
     if why := station_site.missing() or station_site.why_no_browser():
         pytest.skip(str(why))
+    page = station_site.browser(site.room, "profile-recall")
+    try:
+        yield page
+    finally:
+        page.quit()
+
+
+@pytest.fixture
+def reader(site: RecallSite, line: Line, chromium: Any) -> Reader:
+    """Who recalls over a small line."""
     lines = site.room / "lines.csv"
     lines.write_text(f"line,url,catalogue\nL1,{line.url},{line.catalogue}\n")
     more = ["--program", str(line.program), "--lines", str(lines)]
-    worker = Worker(site.queue, tool("recall"), more, small.own_environment(line.program))
-    page = station_site.browser(site.room, "profile-recall")
+    worker = Worker(site.queue, tool("recall"), more)
+    made = Reader(site, chromium, worker)
+    made.opens()
+    return made
+
+
+@pytest.mark.browser
+@pytest.mark.gate
+@pytest.mark.needs("chromium", "python:selenium")
+def test_a_recaller_finds_the_boards_in_a_browser(reader: Reader) -> None:
+    """From an empty form to the sentence in the frame, while a second recall waits."""
+    assert reader.asks("L-3, L-4", shipped=SHIPPED) == "Is next."
+    first = reader.page.current_url
+    reader.goes_back()
+    assert reader.asks("240131") == "Waits behind 1 other."
+    reader.page.get(first)
+    reader.worker.run(reader.site.queue.waiting()[0])
+    assert reader.waits().startswith("Complete: 2 boards hold a piece of the lots L-3, L-4")
+    for text in ("Customer A: 1 board", "Not shipped, or not on the list: 1 board", "SN-3", "SN-4"):
+        assert text in reader.text, text
+    reader.expect_well_shown()
+    reader.goes_back()
+    rows = [row.text for row in reader.page.find_elements("css selector", "tbody tr")[:2]]
+    assert rows[0].endswith("is next") and rows[1].endswith("complete"), rows
+    reader.worker.work(is_once=True)
+    reader.page.find_element("link text", "lot 240131").click()
+    assert reader.waits().startswith("Complete: 2 boards hold a piece of lot 240131, and no other")
+
+
+@pytest.mark.browser
+@pytest.mark.needs("chromium", "python:selenium")
+def test_a_desk_that_is_away_is_named_in_a_browser(reader: Reader, line: Line) -> None:
+    """The boards of its archives are there, in red, and the answer is not complete."""
+    line.end()
     try:
-        page.get(site.url.replace("://", f"://{RECALLER}:{RECALLER}@") + "/recall/")
-        page.find_element("id", "names").send_keys("L-3, L-4")
-        page.find_element("id", "ask").click()
-        station_site.wait_for("it waits", lambda: page.find_elements("id", "wait"))
-        worker.work(is_once=True)
-        station_site.wait_for("an answer", lambda: page.find_elements("id", "answer"))
-        told = page.find_element("id", "answer").text
-        assert told.startswith("Complete: 2 boards hold a piece of the lots L-3, L-4")
-        assert {"SN-3", "SN-4"} <= set(page.find_element("tag name", "body").text.split())
-        assert page.execute_script("return document.documentElement.scrollWidth") <= 1920
-        assert not [entry for entry in page.get_log("browser") if entry["level"] == "SEVERE"]
+        reader.asks("240131")
+        reader.worker.work(is_once=True)
     finally:
-        page.quit()
+        line.serve()
+    assert reader.waits().startswith("NOT COMPLETE: 2 boards hold a piece of lot 240131")
+    assert "L1: the running desk: Connection refused" in reader.text
+    assert "Mend what is named, then ask again." in reader.text and "SN-1" in reader.text
+    colour = reader.page.find_element("id", "answer").value_of_css_property("color")
+    assert colour == "rgba(183, 28, 28, 1)"
+    reader.expect_well_shown()
+
+
+@pytest.mark.browser
+@pytest.mark.needs("chromium", "python:selenium")
+def test_work_about_which_nobody_decided_is_named_in_a_browser(reader: Reader, line: Line) -> None:
+    """A board whose report the desk refused: its pieces are in no trace."""
+    body = {"Machine": "M1", "Board": "SN-8", "Designators": ["C1"]}
+    message = small.say("MaterialsInstalled", "refused", **body)
+    name, text = records.refused(message, "NotInWork")
+    inbox = untraced.inbox_of(line.archive)
+    inbox.mkdir(exist_ok=True)
+    (inbox / f"{name}.json").write_bytes(text)
+    try:
+        reader.asks("L-3")
+        reader.worker.work(is_once=True)
+    finally:
+        (inbox / f"{name}.json").unlink()
+    assert reader.waits().startswith("NOT COMPLETE: 1 board holds a piece of lot L-3")
+    table = reader.page.find_elements("css selector", "table")[-2].text
+    assert "SN-8" in table and "MaterialsInstalled" in table, table
+    assert "nobody decided" in reader.text
+    reader.expect_well_shown()
+
+
+@pytest.mark.browser
+@pytest.mark.needs("chromium", "python:selenium")
+def test_the_papers_are_downloads_in_a_browser(reader: Reader, folder: pathlib.Path) -> None:
+    """A click on each link of the answer saves its file; the PDF is shown."""
+    reader.asks("L-4")
+    reader.worker.work(is_once=True)
+    reader.waits()
+    how = {"behavior": "allow", "downloadPath": str(folder)}
+    reader.page.execute_cdp_cmd("Page.setDownloadBehavior", how)
+    for link in reader.page.find_elements("css selector", ".downloads a"):
+        target = urllib.parse.urlsplit(link.get_attribute("href")).path
+        name = target.split("/")[-1]
+        status, headers, _ = reader.site.asked("HEAD", target, RECALLER)
+        assert status == 200 and headers["Content-Type"].startswith(KINDS[name]), headers
+        if name != papers.PDF:
+            link.click()
+            station_site.wait_for(f"{name} is saved", lambda: [*folder.glob(f"recall-*-{name}")])
+    assert {path.name.split("-")[-1] for path in folder.iterdir()} == {*papers.FILES} - {papers.PDF}

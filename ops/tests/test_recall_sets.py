@@ -2,6 +2,7 @@
 from __future__ import annotations
 
 import json
+import os
 import pathlib
 import shutil
 from typing import Any, Iterator
@@ -14,6 +15,7 @@ from tracedesk_ops import attributes, plant
 
 pytestmark = pytest.mark.xdist_group("recall_sets")
 
+NOBODY = (65534, 65534)
 ATTRIBUTES = """reel,part,date_code,supplier,colour
 K-1,CAP,2614,Maker One,red
 K-3,CAP,2609,Maker Two,red
@@ -40,12 +42,11 @@ def book(line: Line, folder: pathlib.Path) -> Iterator[pathlib.Path]:
     file.write_text(ATTRIBUTES)
     yield file
     (line.archive / attributes.FILE_NAME).unlink(missing_ok=True)
-    attributes.head_of(line.archive).unlink(missing_ok=True)
+    attributes.note_of(line.archive).unlink(missing_ok=True)
 
 
 def recall(line: Line, *words: Word) -> Ended:
-    env = small.chain_of_sets(line.program)
-    return run_tool("recall", *words, *line.recall_words(), env=env)
+    return run_tool("recall", *words, *line.recall_words())
 
 
 def boards(done: Ended) -> dict[str, dict[str, str]]:
@@ -89,8 +90,7 @@ def test_the_evidence_of_a_set_names_its_reels(line: Line, folder: pathlib.Path)
     assert (to / "asked-reels.txt").read_text() == "K-2\nK-4\n"
     chain = json.loads((to / "certificate.json").read_text())["lines"][0]["chain"]
     assert chain["words"] == ["reels", "asked-reels.txt", "--pieces"]
-    env = small.chain_of_sets(line.program)
-    again = run_tool("verify", to, "--archives", line.archive, env=env)
+    again = run_tool("verify", to, "--archives", line.archive)
     again.expect(3, "the answer comes again from its 1 archives")
 
 
@@ -126,6 +126,22 @@ def test_a_later_row_takes_the_place_of_the_one_before(line: Line, book: pathlib
     assert [row["reel"] for row in table(done.out)] == ["K-1", "K-3", "K-4"]
 
 
+@pytest.mark.root
+@pytest.mark.gate
+def test_roots_book_belongs_to_the_line(folder: pathlib.Path) -> None:
+    """Else the recalls of the page, which are run by the line's user, could not read it."""
+    archive, inbox = folder / "archive", folder / "untraced"
+    for path in (archive, inbox):
+        path.mkdir()
+        os.chown(path, *NOBODY)
+    file = folder / "own.csv"
+    file.write_text(ATTRIBUTES)
+    file.chmod(0o600)
+    run_tool("reels", "add", file, "--by", "erp", "--archive", archive).expect()
+    made = (archive / attributes.FILE_NAME, inbox / attributes.NOTE)
+    assert [(path.stat().st_uid, path.stat().st_gid) for path in made] == [NOBODY, NOBODY]
+
+
 BAD_FILES = (
     "part\nCAP\n",
     "reel,part\nK-1\n",
@@ -144,7 +160,7 @@ def test_a_file_that_is_no_table_of_reels_gives_nothing(
 
 
 def damage(kind: str, line: Line, older: bytes) -> None:
-    book, head = line.archive / attributes.FILE_NAME, attributes.head_of(line.archive)
+    book, head = line.archive / attributes.FILE_NAME, attributes.note_of(line.archive)
     if kind == "changed":
         book.write_bytes(book.read_bytes().replace(b"2609", b"2614"))
     if kind == "gone":
@@ -216,12 +232,11 @@ def test_a_reel_that_moved_is_followed_under_its_other_name(
     moved("K-3b", lines[0], lines[1], folder)
     lines[1].accept(*small.board("K-3b", "L2-2", "CAP"))
     words: list[Word] = [word for line in lines for word in line.recall_words()]
-    env = small.chain_of_sets(lines[0].program)
     for name in ("K-3", "K-3b"):
-        done = run_tool("recall", "reel", name, *words, env=env)
+        done = run_tool("recall", "reel", name, *words)
         found = [row["board"] for row in table(done.expect(0, "under other names too").out)]
         assert found == ["L1-1", "L2-1", "L2-2"]
-    alone = run_tool("recall", "reel", "K-3b", *lines[1].recall_words(), env=env)
+    alone = run_tool("recall", "reel", "K-3b", *lines[1].recall_words())
     alone.expect(3, "K-3b came from a line that is not asked")
 
 

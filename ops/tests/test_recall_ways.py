@@ -1,94 +1,153 @@
-"""The boards of a set of reels of random chains, in three ways: by tracedesk-chain, by SQL over the
+"""The boards of questions over random chains, in three ways: by tracedesk-chain, by SQL over the
 files, and by the page of recalls.
 
-    /usr/bin/python3 -m pytest ops/tests/test_recall_ways.py -m whole -n 4
+    /usr/bin/python3 -m pytest ops/tests/test_recall_ways.py -m whole -n 2 --seed 7
 """
 from __future__ import annotations
 
+import concurrent.futures
 import csv
+import dataclasses
+import os
 import pathlib
 import random
 import shutil
+import tempfile
+from typing import Iterator
 
 import pytest
 from lab import small
 from lab.desk import rows_of_archive
-from lab.tools import run, tool
+from lab.tools import Word, call_tool, run
 from lab.world import ArchivedLine
 from tracedesk_ops.recallpage import view
-from tracedesk_ops.recallpage.jobs import Asked, Queue
-from tracedesk_ops.recallpage.worker import Worker
 
-pytestmark = pytest.mark.needs("python:flask")
-
-CHAINS = 1_000
-SEEDS = [pytest.param(seed, marks=pytest.mark.whole) for seed in range(1, CHAINS + 1)]
+MEMORY = "/dev/shm" if os.access("/dev/shm", os.W_OK) else None  # a disk would keep each write
+CHAINS, BATCHES = 20, 50  # of a batch; one batch is in the gate
+OTHERS = [pytest.param(number, marks=pytest.mark.whole) for number in range(1, BATCHES)]
+AT_ONCE = 8  # chains, most of whose time is a wait
+MOST_FILES, MOST_BOARDS = 4, 5
+PIECES = 8  # of a reel, which is received with one more
 PLACED = "SELECT DISTINCT board, reel FROM placement"
 REELS = [*small.REELS]
+LOTS = sorted({lot for _, lot in small.REELS.values()})
+
+
+@dataclasses.dataclass(frozen=True)
+class Asked:
+    """A question: what tracedesk-recall is asked, and the reels that it means."""
+
+    words: tuple[str, ...]
+    reels: tuple[str, ...]
+
+    @classmethod
+    def random(cls, rng: random.Random) -> "Asked":
+        kind = rng.choice(("reels", "lots", "a lot of a part"))
+        if kind == "reels":
+            reels = sorted(rng.sample(REELS, rng.randint(2, len(REELS))))
+            return cls(("reel", *reels), tuple(reels))
+        lots = sorted(rng.sample(LOTS, 1 if kind == "a lot of a part" else 2))
+        part = rng.choice([*small.MACHINES]) if kind == "a lot of a part" else ""
+        reels = [
+            reel
+            for reel, (its_part, lot) in small.REELS.items()
+            if lot in lots and part in ("", its_part)
+        ]
+        return cls(("lot", *lots, *(("--part", part) if part else ())), tuple(reels))
 
 
 class Chain:
     """A line with up to three archives, whose boards have pieces of random reels."""
 
     def __init__(self, program: pathlib.Path, folder: pathlib.Path, rng: random.Random) -> None:
-        self.line = ArchivedLine(program, folder / "L1", "L1")
+        self.room, self.line = folder, ArchivedLine(program, folder / "L1", "L1")
         self.line.feed(small.set_up(), statuses=(0,))
         self.placed: set[tuple[str, str]] = set()
-        left = dict.fromkeys(REELS, 8)
-        for part in range(rng.randint(1, 4)):
+        left = dict.fromkeys(REELS, PIECES)
+        for part in range(rng.randint(1, MOST_FILES)):
             if part:
                 self.line.archive_it()
-            for number in range(rng.randint(0, 5)):
+            lines: list[bytes] = []
+            for number in range(rng.randint(0, MOST_BOARDS)):
                 reel = rng.choice([reel for reel in REELS if left[reel]])
                 left[reel] -= 1
-                name = f"SN-{part}-{number}"
-                self.line.feed(small.board(reel, name), statuses=(0,))
+                name = self.half_made(reel, rng) or f"SN-{part}-{number}"
+                lines += small.board(reel, name, uid=f"{name}-{reel}")
                 self.placed.add((name, reel))
+            self.line.feed(lines, statuses=(0,))
         self.line.serve()
+
+    def half_made(self, reel: str, rng: random.Random) -> str:
+        """A board that has been on the other machine alone, at times, and perhaps in another
+        file.
+        """
+        machine_of = {name: small.REELS[name][0] for name in REELS}
+        been = {board: set[str]() for board, _ in self.placed}
+        for board, its in self.placed:
+            been[board].add(machine_of[its])
+        half = sorted(board for board, machines in been.items() if machine_of[reel] not in machines)
+        return rng.choice(half) if half and rng.random() < 0.5 else ""
 
     def files(self) -> list[pathlib.Path]:
         return [*self.line.archived, self.line.last]
 
+    def by_chain(self, asked: Asked) -> set[str]:
+        """tracedesk-chain over copies of the files, which it opens for writing."""
+        listed = self.room / "listed.txt"
+        listed.write_text("".join(f"{reel}\n" for reel in asked.reels))
+        words: list[Word] = [*asked.words] if "--part" in asked.words else ["reels", listed]
+        copies = [
+            shutil.copy(file, self.room / f"file-{number}")
+            for number, file in enumerate(self.files())
+        ]
+        chain = os.environ.get("CHAIN") or self.line.program.with_name("tracedesk-chain")
+        done = run([chain, *words, *copies]).expect()
+        return {row["board"] for row in csv.DictReader(done.out.splitlines())}
 
-def by_chain(chain: Chain, reels: list[str], room: pathlib.Path) -> set[str]:
-    """tracedesk-chain over copies of the files, which it opens for writing."""
-    listed, env = room / "listed.txt", small.own_environment(chain.line.program)
-    listed.write_text("".join(f"{reel}\n" for reel in reels))
-    copies = [shutil.copy(file, room / f"file-{n}") for n, file in enumerate(chain.files())]
-    done = run([env["CHAIN"], "reels", listed, *copies], env=env).expect()
-    return {row["board"] for row in csv.DictReader(done.out.splitlines())}
+    def by_sql(self, asked: Asked) -> set[str]:
+        rows = [row for file in self.files() for row in rows_of_archive(file, PLACED)]
+        return {board for board, reel in rows if reel in asked.reels}
+
+    def by_page(self, asked: Asked) -> set[str]:
+        """The boards in the table that the page makes of the evidence."""
+        evidence = self.room / "evidence"
+        words = [*asked.words, *self.line.recall_words(), "--unsigned", "--evidence", evidence]
+        done = call_tool("recall", *words)
+        if done.status == 1 and not asked.reels:
+            return set()
+        done.expect(0)
+        answer = view.answer_of(evidence)
+        assert answer.is_complete, answer.reasons
+        return {row[0] for row in answer.tables[0].rows}
 
 
-def by_sql(chain: Chain, reels: list[str]) -> set[str]:
-    rows = [row for file in chain.files() for row in rows_of_archive(file, PLACED)]
-    return {board for board, reel in rows if reel in reels}
+@pytest.fixture
+def room() -> Iterator[pathlib.Path]:
+    with tempfile.TemporaryDirectory(prefix="ways-", dir=MEMORY) as name:
+        yield pathlib.Path(name)
 
 
-def by_page(chain: Chain, reels: list[str], room: pathlib.Path) -> set[str]:
-    """The boards in the table of the page."""
-    line, queue = chain.line, Queue(room / "queue")
-    queue.folder.mkdir()
-    lines = room / "lines.csv"
-    lines.write_text(f"line,url,catalogue\nL1,{line.url},{line.catalogue}\n")
-    job = queue.add(Asked("reel", tuple(reels), "", "anna", "2026-03-02 06:00 UTC"))
-    words = ["--program", str(line.program), "--lines", str(lines)]
-    environment = small.own_environment(line.program)
-    Worker(queue, tool("recall"), words, environment).run(job)
-    answer = view.answer_of(job.evidence)
-    assert answer.is_complete, answer.reasons
-    return {row[0] for row in answer.tables[0].rows}
-
-
-@pytest.mark.parametrize("seed", SEEDS)
-def test_the_boards_of_a_set_are_the_same_in_each_way(
-    program: pathlib.Path, folder: pathlib.Path, seed: int
-) -> None:
-    rng = random.Random(seed)
+def difference(program: pathlib.Path, folder: pathlib.Path, rng: random.Random) -> str:
+    """What the ways say of a question over a chain, if it isn't the same."""
     chain = Chain(program, folder, rng)
     try:
-        reels = sorted(rng.sample(REELS, rng.randint(2, len(REELS))))
-        wanted = {board for board, reel in chain.placed if reel in reels}
-        found = by_chain(chain, reels, folder), by_sql(chain, reels), by_page(chain, reels, folder)
-        assert found == (wanted, wanted, wanted), reels
+        asked = Asked.random(rng)
+        wanted = {board for board, reel in chain.placed if reel in asked.reels}
+        found = chain.by_chain(asked), chain.by_sql(asked), chain.by_page(asked)
     finally:
         chain.line.end()
+    if found != (wanted, wanted, wanted):
+        return f"{asked}: {found}, and not {wanted}"
+    shutil.rmtree(folder)
+    return ""
+
+
+@pytest.mark.parametrize("batch", [0, *OTHERS])
+def test_the_boards_of_a_question_are_the_same_in_each_way(
+    program: pathlib.Path, room: pathlib.Path, seed: int, batch: int
+) -> None:
+    def differs(number: int) -> str:
+        return difference(program, room / str(number), random.Random(f"{seed} {batch} {number}"))
+
+    with concurrent.futures.ThreadPoolExecutor(AT_ONCE) as pool:
+        assert not [text for text in pool.map(differs, range(CHAINS)) if text]

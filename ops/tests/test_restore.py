@@ -1,57 +1,22 @@
 """Copies that tracedesk-backup puts back: what they lack is named, until somebody has seen to
 it."""
 import fcntl
-import json
 import os
 import pathlib
 import re
 import shutil
-import tarfile
 from typing import Any
 
 import pytest
 
-from lab import TESTS
 from lab.desk import TAILS
-from lab.line import Line, NewLine, table
+from lab.line import Line, NewLine
 from lab.messages import FIRST_LINE
 from lab.tools import run, run_changed, started, strings, tool
 from lab.waits import PATIENCE
-from tracedesk_ops import backups, plant
+from tracedesk_ops import around, plant
 
 LACKS = "is from before the archive L1-"
-
-
-def told_aside(line: Line) -> tuple[pathlib.Path, dict[str, Any]]:
-    """The folder in which a restore put something aside, and what it says of that."""
-    (aside,) = (line.folder / "aside").iterdir()
-    return aside, json.loads((aside / "restore.json").read_text())
-
-
-def test_what_an_older_copy_lacks_is_named(line: Line, folder: pathlib.Path) -> None:
-    """And a recall ends with status 3 until what lies aside and the entry in the archive's folder
-    are gone."""
-    line.backup().expect()
-    line.more("A")
-    line.rollover().expect()
-    line.recall_archives().expect()
-    line.more("B")
-    lacks = "2 commands lie aside that the copy lacks", "with 0 archives"
-    line.backup("--restore").expect(4, LACKS, *lacks)
-    aside, told = told_aside(line)
-    assert len(told["archives"]) == 1 and told["commands"] == 2
-    line.more("A")
-    line.rollover().expect()
-    line.recall_archives().expect(3, f"{aside}: a restore put it aside")
-    aside.rename(folder / "elsewhere")
-    (entry,) = line.lacks()
-    line.recall_archives().expect(3, f"{entry}: a copy was restored that lacks")
-    entry.unlink()
-    line.recall_archives().expect()
-    line.backup().expect()
-    line.backup("--restore").expect()
-    line.recall_archives().expect()
-    assert not line.lacks(), "there is an entry of a copy that lacks nothing"
 
 
 def test_lost_catalogue_and_an_older_copy(line: Line) -> None:
@@ -61,7 +26,7 @@ def test_lost_catalogue_and_an_older_copy(line: Line) -> None:
     line.rollover().expect()
     line.catalogue.unlink()
     line.backup("--restore").expect(4, LACKS, "1 commands lie aside that the copy lacks")
-    line.recall_archives().expect(3, "a restore put it aside")
+    line.recall_archives().expect(3, "1 of its commands are nowhere else")
 
 
 def restore_words(line: Line) -> list[Any]:
@@ -81,8 +46,8 @@ def test_restored_desk_that_does_not_start(line: Line) -> None:
     words[words.index("--start") + 1] = "false"
     said = "is from before the archive", "'false' ended with status 1"
     run([tool("backup"), *words]).expect(3, *said)
-    assert told_aside(line)
     line.serve()
+    line.recall().expect(3, "are nowhere else")
 
 
 def test_restore_that_is_stopped_once_the_copy_is_in_place(line: Line) -> None:
@@ -105,17 +70,18 @@ def test_lost_desk_gets_its_copy(line: Line) -> None:
 
 
 def test_restore_brings_its_own_archives(new_line: NewLine, folder: pathlib.Path) -> None:
-    """A copy has the archives of all desks of the folder; one that gave way by a restore of its own
-    desk doesn't come back by that of another's."""
+    """An archive that a restored desk has not gone on from is asked no more, also once the desk of
+    another line in the folder was restored."""
     one, two = new_line(folder / "line"), new_line(folder / "line", "L2", "other")
     one.backup().expect()
     first = one.newest()
     one.rollover().expect()
     two.rollover().expect()
     two.backup().expect()
-    one.backup("--restore", first.name).expect(4)
+    one.backup("--restore", first.name).expect()
     two.backup("--restore").expect()
-    assert [archive.desk for archive in two.archives()] == ["L2"]
+    asked = around.survey(one.archive, ["L1", "L2"], [one.file, two.file]).archives
+    assert [archive.desk for archive in asked] == ["L2"]
 
 
 def copy_files(line: Line, old: pathlib.Path, new: pathlib.Path) -> None:
@@ -137,7 +103,6 @@ def test_older_file_in_a_desks_place(line: Line, folder: pathlib.Path) -> None:
     said = "2025-01-01T000000Z has commands", "the desk was set back to before it"
     line.backup("--days", 1, "--months", 0).expect(4, *said)
     assert newer.exists(), "the copy that it says to restore is gone"
-    line.backup().expect()
     line.more("A")
     line.backup().expect()
 
@@ -157,81 +122,17 @@ def test_uids_that_look_like_those_of_a_beginning(new_line: NewLine) -> None:
         line.more(name)
 
 
-# --- Files of 0.3.0
-
-
-@pytest.fixture
-def old_line(new_line: NewLine, program: pathlib.Path, folder: pathlib.Path) -> "Any":
-    """A desk with an archive and two copies, made by the tools of 0.3.0."""
-    with tarfile.open(TESTS / "line-0.3.0.tar.gz") as made:
-        made.extractall(folder / "line")
-    for path in (folder / "line").rglob("*"):
-        os.chown(path, os.geteuid(), os.getegid())
-    line = Line(program, folder / "line")
-    line.serve()
-    try:
-        yield line
-    finally:
-        line.end()
-
-
-def boards(line: Line) -> list[str]:
-    done = line.recall(lot="LOT").expect()
-    return [row["board"] for row in table(done.out)]
-
-
-def test_files_of_0_3_0_are_restored_copied_and_rolled_over(old_line: Line) -> None:
-    line = old_line
-    assert boards(line) == ["B-1", "B-2", "B-3"]
-    line.backup("--check").expect(0, "lawful 18, with 1 archives")
-    lacks = "3 commands lie aside that the copy lacks", "2026-11-26T060000Z"
-    line.backup("--restore").expect(0, *lacks)
-    for entry in line.lacks():
-        entry.unlink()
-    shutil.rmtree(line.folder / "aside")
-    assert boards(line) == ["B-1", "B-2"]
-    line.backup().expect()
-    assert backups.about(line.newest())["name"]
-    assert len(backups.kept_in(line.copies, line.file)) == 3, "its copies are not known again"
-    line.more("A")
-    line.rollover().expect()
-    assert boards(line) == ["B-1", "B-2"]
-
-
-def test_catalogue_of_0_3_0_is_made_anew(old_line: Line) -> None:
-    """Not while there is a second copy of a file; and it is the same as before."""
-    line = old_line
-    line.backup("--restore").expect()
-    shutil.rmtree(line.folder / "aside")
-    line.backup().expect()
-    line.more("A")
-    line.rollover().expect()
-    before = line.catalogue.read_text()
-    names = {file.name for file in line.archive.iterdir()}
-    again = line.archive / "again"
-    for file, said in (
-        (line.file, "were both begun from one archive"),
-        (line.archive_file(0), "are the same file"),
-    ):
-        shutil.copy(file, again)
-        line.settle("--catalogue").expect(1, said, "again")
-        again.unlink()
-    assert names == {file.name for file in line.archive.iterdir()}, "something was written"
-    line.catalogue.unlink()
-    line.settle("--catalogue", "--line", "L1").expect()
-    assert line.catalogue.read_text() == before
-
-
 def test_tool_waits_for_another_one_in_the_folder(line: Line) -> None:
     line.rollover().expect()
     folder = os.open(line.folder, os.O_RDONLY)
     fcntl.flock(folder, fcntl.LOCK_EX)
-    words = strings([tool("settle"), *line.service(), "--catalogue", "--line", "L1"])
-    with started(words) as run_of_settle:
-        assert run_of_settle.stderr
-        assert "it is waited for" in run_of_settle.stderr.readline()
+    line.more("A")
+    with started(strings(line.rollover_words())) as waiting:
+        assert waiting.stderr
+        assert "it is waited for" in waiting.stderr.readline()
         os.close(folder)
-        assert run_of_settle.wait(PATIENCE) == 0
+        waiting.communicate(timeout=PATIENCE)
+        assert waiting.returncode == 0
 
 
 # --- Links that the service's user lays
@@ -269,7 +170,7 @@ def test_archive_of_another_user(users_line: Line) -> None:
     """As root's cp makes it."""
     line = users_line
     line.backup("--restore").expect(0, "lawful")
-    shutil.rmtree(line.folder / "aside")
+    shutil.rmtree(line.archive / "aside")
     line.rollover().expect()
     line.backup().expect()
     archive = line.archive_file()
@@ -283,19 +184,20 @@ def test_archive_of_another_user(users_line: Line) -> None:
 
 @pytest.mark.root
 @pytest.mark.gate
-@pytest.mark.parametrize("name", ["aside", ".archive-desk.restored", ".desk.restored"])
+@pytest.mark.parametrize("name", ["archive/aside", ".desk.work"])
 def test_restore_writes_nothing_behind_a_link(
     users_line: Line, folder: pathlib.Path, name: str
 ) -> None:
     line, secret = users_line, folder / "secret"
     secret.mkdir(mode=0o700)
     link = line.folder / name
+    link.parent.mkdir(exist_ok=True)
     link.symlink_to(secret / ("file" if "desk" in name else ""))
     done = line.backup("--restore")
     assert not list(secret.iterdir()) and secret.stat().st_uid == 0, done.said
     if link.is_symlink():
         link.unlink()
-    shutil.rmtree(line.folder / "aside", ignore_errors=True)
+    shutil.rmtree(line.archive / "aside", ignore_errors=True)
     line.expect_tidy()
     assert line.file.stat().st_uid == line.folder.stat().st_uid, "the desk is not its owner's"
 
@@ -310,5 +212,5 @@ def test_catalogue_that_is_a_link_is_not_read(users_line: Line, folder: pathlib.
     secret.chmod(0o600)
     line.catalogue.unlink()
     line.catalogue.symlink_to(secret)
-    done = line.backup().expect(1)
+    done = line.backup().expect(4, f"{line.catalogue}: it can't be read")
     assert "a secret" not in done.said and line.answers()

@@ -160,25 +160,6 @@ def test_board_in_work_is_a_reason_to_refuse(half: Line, shifted: Shifted) -> No
     half.expect_tidy()
 
 
-def test_file_of_the_archives_name_stays(half: Line, shifted: Shifted) -> None:
-    with half.stopped():
-        query = "SELECT min(effective), max(effective), count(*) FROM accepted"
-        ((first, last, commands),) = half.rows(query)
-
-    def stamp(minute: int) -> str:
-        return str(catalogue.spelled(minute)).replace("-", "").replace(":", "")[:13] + "Z"
-
-    other = half.archive / f"L1-{stamp(first)}-{stamp(last)}-{commands}"
-    other.parent.mkdir()
-    other.write_text("another file", encoding="utf-8")
-    half.rollover().expect()
-    assert other.read_text(encoding="utf-8") == "another file"
-    (made,) = half.archives()
-    assert made.file == f"{other.name}-2"
-    other.unlink()
-    shifted.expect_rolled_over(half)
-
-
 def test_desk_that_has_taken_nothing_is_not_archived(line: Line) -> None:
     line.rollover().expect()
     line.rollover().expect(1, "has taken no command")
@@ -230,11 +211,11 @@ def test_sheet_that_is_longer_than_a_message(half: Line, shifted: Shifted) -> No
 
 
 def test_message_on_its_way_is_answered(half: Line, shifted: Shifted) -> None:
-    """It is taken before the service is stopped, and is in the archive; new ones see the flag."""
-    line = part("D", half.time)
-    link = half.begin_post(line)
-    tool = started(half.rollover_words("--drain-seconds", PATIENCE))
+    """It is taken before the service is stopped, and is in the new desk; new ones see the flag."""
+    line, words = part("D", half.time), half.rollover_words("--drain-seconds", PATIENCE)
+    tool = started(words, env={"TRACEDESK_QUIET": "10"})
     wait_for("the flag for senders", half.drained.exists)
+    link = half.begin_post(line)
     stays("the roll-over waits", lambda: tool.poll() is None, 1)
     link.sendall(line[10:])
     answer = link.makefile("rb").read()

@@ -1,6 +1,5 @@
 """Roll-overs that fail, are stopped or are killed: the old desk is as it was, and what is not the
 tool's stays."""
-import argparse
 import os
 import pathlib
 import shutil
@@ -14,9 +13,9 @@ from lab.line import Line
 from lab.messages import part
 from lab.programs import wrapped
 from lab.shifted import Shifted
-from lab.tools import KILLED, run, started
+from lab.tools import run, started
 from lab.waits import PATIENCE, free_port, stays, wait_for
-from tracedesk_ops import catalogue, plant, unfinished
+from tracedesk_ops import service
 
 AS_IT_WAS = "the old desk is as it was"
 FAULTS = {
@@ -90,7 +89,7 @@ def test_disk_that_gets_full(
 
 def test_sigterm_puts_all_back(half: Line, shifted: Shifted) -> None:
     tool = started(half.rollover_words())
-    messages = half.folder / "rollover-desk/messages"
+    messages = half.folder / ".desk.work/messages"
     wait_for("the new desk is begun", lambda: messages.exists() or tool.poll() is not None)
     tool.terminate()
     _, said = tool.communicate(timeout=PATIENCE)
@@ -114,38 +113,6 @@ def test_what_a_killed_call_runs_ends_with_it(
     wait_for("the program's run has ended", lambda: not running.exists())
     half.rollover().expect()
     shifted.expect_rolled_over(half)
-
-
-def cut_after_the_plan(line: Line) -> None:
-    line.rollover(kill_after="plan").expect(KILLED)
-    plant.wait_until_closed(line.file, PATIENCE)
-
-
-def test_another_desk_in_the_place_of_one_that_was_to_be_archived(half: Line) -> None:
-    """The copy that was to be the archive stays."""
-    cut_after_the_plan(half)
-    kept = half.folder / "rollover-desk/archive"
-    before = catalogue.sha256_of(kept)
-    half.remove()
-    half.feed([part("O")])
-    half.rollover().expect(1, "is another desk")
-    assert catalogue.sha256_of(kept) == before and not half.archives()
-
-
-def test_line_of_another_archive_in_the_catalogue_stays(half: Line) -> None:
-    """It got the file name that a roll-over had planned, which is put back."""
-    cut_after_the_plan(half)
-    asked = argparse.Namespace(db=half.file, archive=half.archive, program=str(half.program))
-    planned = unfinished.Rolling(asked).read_plan()
-    assert planned
-    other = planned._replace(sha256="0" * 64, desk="L2")
-    half.archive.mkdir()
-    catalogue.add(half.catalogue, other)
-    half.serve()
-    half.more("A")
-    half.end()
-    half.settle().expect()
-    assert half.archives() == [other] and not (half.folder / "rollover-desk").exists()
 
 
 # --- The proxy, and another user
@@ -187,7 +154,7 @@ def front(half: Line, folder: pathlib.Path) -> Iterator[int]:
     nginx = shutil.which("nginx", path=os.environ["PATH"] + ":/usr/sbin") or "nginx"
     proxy = started([nginx, "-c", conf, "-g", "daemon off;"])
     try:
-        wait_for("nginx answers", lambda: plant.get(half.proxy_port, "/requests") is not None)
+        wait_for("nginx answers", lambda: service.get(half.proxy_port, "/requests") is not None)
         yield port
     finally:
         proxy.terminate()
@@ -198,7 +165,7 @@ def front(half: Line, folder: pathlib.Path) -> Iterator[int]:
 def test_message_whose_head_came_through_the_proxy_is_answered(
     half: Line, shifted: Shifted, front: int
 ) -> None:
-    """However late its body comes; the old desk takes it."""
+    """However late its body comes; the new desk has it, as the archive was copied before."""
     line = part("D", half.time)
     link = half.begin_post(line, front)
     wait_for("the proxy counts the request", lambda: writing(half.proxy_port) > 1)
@@ -212,12 +179,12 @@ def test_message_whose_head_came_through_the_proxy_is_answered(
     _, said = tool.communicate(timeout=PATIENCE)
     assert tool.returncode == 0, said
     shifted.expect_rolled_over(half, "D")
-    assert half.uids_of(half.files()[0])["x-D"], "the old desk did not take it"
+    assert half.uids_of(half.file)["x-D"]
 
 
 def writing(port: int) -> int:
     """How many requests an nginx has, this one among them."""
-    said = str(plant.get(port, "/requests"))
+    said = str(service.get(port, "/requests"))
     return int(said.partition("Writing: ")[2].split()[0])
 
 
@@ -244,7 +211,7 @@ def users(shifted: Shifted, folder: pathlib.Path) -> Iterator[Line]:
 @pytest.mark.gate
 @pytest.mark.parametrize(
     "name, target",
-    [("archive/catalogue.csv.new", "plan.json"), ("rollover-desk", "."), ("archive", ".")],
+    [("archive/catalogue.csv.new", "plan.json"), (".desk.work", "."), ("archive", ".")],
 )
 def test_links_of_the_services_user_lead_root_to_nothing(
     users: Line, folder: pathlib.Path, name: str, target: str

@@ -1,6 +1,7 @@
 """The files of a line on disk: tracedesk_ops.store. Kills are in test_kills.py."""
 from __future__ import annotations
 
+import contextlib
 import os
 import pathlib
 import sqlite3
@@ -9,17 +10,17 @@ import time
 import pytest
 
 from lab import files
-from tracedesk_ops import copies, model, store
+from tracedesk_ops import model, store
 
 
 def test_a_file_is_read_from_its_ends(tmp_path: pathlib.Path) -> None:
     archive = files.desk(tmp_path / "one", ["desk-a", "line-L1", "u1"])
     mark = store.sha256_of(archive)[: model.DIGITS]
     desk = files.desk(tmp_path / "desk", ["desk-a", "line-L1", "untraced-5", "u2"], mark)
-    found = store.Reader().file(desk)
+    found = store.Reader().desk(desk)
     assert (found.mark, found.begun, found.commands) == (mark, 1, 5)
     assert found.last == model.Said("u2", "S", 0, "PartDefined\tu2")
-    assert found.heads == model.Heads(desk="a", line="L1", untraced="5")
+    assert found.heads == model.Heads(desk="a", line="L1", untraced="5", books=("untraced-5",))
     assert (found.first_minute, found.last_minute) == (0, 5)
 
 
@@ -28,11 +29,11 @@ def test_a_sender_makes_no_head(tmp_path: pathlib.Path) -> None:
     with sqlite3.connect(desk) as database:
         database.execute(files.INSERT, [2, "line-L2", "mes", 0, "ClockSet"])
         database.execute(files.INSERT, [3, "copy-1", model.SOURCE, 0, "PartDefined\tcopy-1"])
-    assert store.Reader().file(desk).heads == model.Heads()
+    assert store.Reader().desk(desk).heads == model.Heads()
 
 
 def test_an_empty_desk_is_a_file_without_ends(tmp_path: pathlib.Path) -> None:
-    found = store.Reader().file(files.desk(tmp_path / "desk"))
+    found = store.Reader().desk(files.desk(tmp_path / "desk"))
     assert (found.commands, found.first, found.last) == (0, None, None)
 
 
@@ -44,28 +45,32 @@ def test_a_name_is_believed_at_a_start_and_not_in_a_recall(tmp_path: pathlib.Pat
         file.seek(archive.stat().st_size - 1)
         file.write(b"\1")
     assert not store.Reader(believes_names=True).chain(line).missing
-    with pytest.raises(store.Broken, match="no archive has the checksum"):
+    with pytest.raises(store.Unreadable, match="its name has another one"):
         store.Reader().chain(line)
 
 
 def test_what_cannot_be_read_is_a_fault(tmp_path: pathlib.Path) -> None:
     (tmp_path / "desk").write_bytes(store.MAGIC + b"and nothing else")
     with pytest.raises(store.Unreadable, match="it can't be read"):
-        store.Reader().file(tmp_path / "desk")
+        store.Reader().desk(tmp_path / "desk")
 
 
-def test_a_file_with_a_log_is_read_with_it(tmp_path: pathlib.Path) -> None:
+def test_a_running_desk_is_read_with_its_log(tmp_path: pathlib.Path) -> None:
+    """Its newest commands are in the log alone, and nothing is locked or written next to it."""
     desk = files.desk(tmp_path / "desk", ["u1"])
-    database = sqlite3.connect(desk)
-    database.execute("PRAGMA journal_mode = WAL")
-    database.execute(files.INSERT, [2, "u2", "S", 0, "PartDefined\tu2"])
-    database.commit()
-    (tmp_path / "there").mkdir()
-    copies.copy(desk, tmp_path / "there/desk")
-    database.close()
-    found = store.Reader().file(tmp_path / "there/desk")
-    assert found.commands == 2
-    assert [it.name for it in store.logs_of(tmp_path / "there/desk")] == ["desk-wal"]
+    with contextlib.closing(sqlite3.connect(desk)) as database:
+        database.execute("PRAGMA journal_mode = WAL")
+        database.execute("PRAGMA locking_mode = EXCLUSIVE")
+        reader = store.Reader()
+        for number in (2, 3):
+            database.execute(
+                files.INSERT, [number, f"u{number}", "S", 0, f"PartDefined\tu{number}"]
+            )
+            database.commit()
+            found = reader.desk(desk)
+            assert found.commands == number
+            assert len(reader.taken(found)) == number
+        assert [path.name for path in store.logs_of(desk)] == ["desk-wal"]
 
 
 def test_roll_overs_and_a_restore_lose_nothing(tmp_path: pathlib.Path) -> None:
@@ -90,7 +95,7 @@ def test_a_desk_that_was_gone_is_said_until_a_person_decides(tmp_path: pathlib.P
     files.restore(line, copied)
     with pytest.raises(store.Unreadable, match="nobody knows what the desk lacks"):
         store.Reader().off_chain(line)
-    (line.aside / "2026-11-25T061203Z").rename(tmp_path / "elsewhere")
+    next(line.aside.iterdir()).rename(tmp_path / "elsewhere")
     assert files.lacking(line) == 0
 
 
@@ -110,7 +115,19 @@ def test_the_log_of_the_desk_that_gives_way_goes_with_it(tmp_path: pathlib.Path)
     wal.write_bytes(b"0" * 100)
     files.restore(line, copied)
     assert not wal.exists()
-    assert (line.aside / "2026-11-25T061203Z/desk-wal").read_bytes() == b"0" * 100
+    assert (next(line.aside.iterdir()) / "desk-wal").read_bytes() == b"0" * 100
+
+
+@pytest.mark.parametrize("content", [b"another file", None])
+def test_a_file_of_the_archives_name_stays(tmp_path: pathlib.Path, content: "bytes | None") -> None:
+    """And the desk too; it may be a link that leads to nothing."""
+    line = files.line(tmp_path, ["a"])
+    line.archive.mkdir()
+    there = line.archive / "L1-named"
+    there.write_bytes(content) if content else there.symlink_to("nothing")
+    with pytest.raises(store.LineFault, match="is not the file that its name says"):
+        files.roll_over(line, there.name)
+    assert files.taken(line) == ["a"]
 
 
 def test_settling_leaves_another_lines_archives(tmp_path: pathlib.Path) -> None:

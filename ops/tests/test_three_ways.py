@@ -187,10 +187,14 @@ def test_boards_of_a_lot_are_the_same(asking: Asking, whole: Database, lot: str)
 @pytest.mark.parametrize(
     "change",
     [
-        "DELETE FROM placement WHERE ctid = (SELECT placement.ctid FROM placement"
-        " JOIN reel USING (file, reel) WHERE lot = '{}' LIMIT 1)",
-        "UPDATE placement SET slot = slot || 'x'"
-        " WHERE reel IN (SELECT reel FROM reel WHERE lot = '{}')",
+        (
+            "DELETE FROM placement WHERE ctid = (SELECT placement.ctid FROM placement"
+            " JOIN reel USING (file, reel) WHERE lot = '{}' LIMIT 1)"
+        ),
+        (
+            "UPDATE placement SET slot = slot || 'x'"
+            " WHERE reel IN (SELECT reel FROM reel WHERE lot = '{}')"
+        ),
     ],
     ids=["a row is taken out", "another slot"],
 )

@@ -19,7 +19,7 @@ from typing import Any, Iterator
 from unittest import mock
 
 import pytest
-from tracedesk import asking, interlock, witness
+from tracedesk import asking, interlock, machine, witness
 
 from truth.batch import Batch
 from truth.world import simulated
@@ -52,7 +52,7 @@ def test_planted_fault_is_found(program: pathlib.Path, room: pathlib.Path, seed:
     assert faults_of(Batch(program, room, seed, 0, runs=10, planted=True))
 
 
-def mends_all(states: interlock.Interlock, it: interlock.Machine, *_: object) -> None:
+def mends_all(states: interlock.Interlock, it: machine.Machine, *_: object) -> None:
     """An accepted scan of one slot closes the faults of all."""
     it.slots.clear()
 

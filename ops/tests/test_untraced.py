@@ -1,14 +1,15 @@
 """The line's file of untraced work, and the pieces that a refused load or splice makes doubtful."""
 import contextlib
-import os
 import pathlib
 import sqlite3
-from typing import Any, Callable, Iterator
+from typing import Any, Callable
 
 import pytest
 from lab import messages
+from lab.killed import killed_at
 from lab.records import a_record, boards, make_inbox, refused
-from tracedesk_ops import catalogue, doubtful, plant, untraced
+from tracedesk_ops import catalogue, plant, story, untraced
+from tracedesk_ops.backups import untraced_work
 
 ALL = ["B0", "B1", "B2"]
 MOST_WRITES = 100  # of a collect
@@ -24,30 +25,6 @@ DAMAGES: dict[str, Callable[[bytes], bytes]] = {
 
 
 # --- The file
-
-
-class Killed(BaseException):
-    """The tool was killed."""
-
-
-@contextlib.contextmanager
-def killed_at(number: int) -> Iterator[list[str]]:
-    """Kills what is called before its write of this number; the list has its writes."""
-    writes: list[str] = []
-
-    def counted(name: str, call: Callable[..., Any]) -> Callable[..., Any]:
-        def write(*words: Any, **more: Any) -> Any:
-            writes.append(name)
-            if len(writes) == number:
-                raise Killed
-            return call(*words, **more)
-
-        return write
-
-    with pytest.MonkeyPatch.context() as patch, contextlib.suppress(Killed):
-        for name in ("rename", "replace", "fsync", "unlink", "ftruncate"):
-            patch.setattr(os, name, counted(name, getattr(os, name)))
-        yield writes
 
 
 def test_each_record_has_one_row_wherever_collect_is_killed(folder: pathlib.Path) -> None:
@@ -94,9 +71,9 @@ def test_a_copy_has_all_records_and_a_restore_brings_back_what_is_lacking(
     """Whether they have a row or not."""
     name, text = a_record(9)
     (untraced.inbox_of(archive) / f"{name}.json").write_bytes(text)
-    assert untraced.copy(archive, folder / "copy", lambda file: open(file, "rb")) == []
+    assert untraced_work.copy(archive, folder / "copy", lambda file: open(file, "rb")) == []
     for its in (make_inbox(folder / "new", 0), archive):
-        untraced.take_back(its, untraced.records_of(folder / "copy"))
+        untraced_work.take_back(its, untraced_work.records_of(folder / "copy"))
         assert boards(its) == [*ALL, "B9"]
 
 
@@ -165,10 +142,10 @@ STORIES: dict[str, tuple[str, str, list[Accepted], list[tuple[str, str]]]] = {
 
 def story_of(
     word: str, refusal: str, accepted: list[Accepted], known: tuple[str, ...] = KNOWN
-) -> doubtful.Story:
+) -> story.Story:
     """What is doubtful after this of R2 was refused on slot 1 in minute 5."""
     said = messages.message(word, "refused", REFUSED_AT, Machine="M", Slot="1", Reel="R2")
-    story = doubtful.Story([], [untraced.record_of(refused(said, refusal, REFUSED_AT)[1])])
+    told = story.Story([], [untraced.record_of(refused(said, refusal, REFUSED_AT)[1])])
     with contextlib.closing(sqlite3.connect(":memory:")) as file:
         file.executescript(TABLES)
         reels = [(reel, "P", f"L-{reel}") for reel in known]
@@ -179,9 +156,9 @@ def story_of(
             if reel:
                 piece = "INSERT INTO placement VALUES (?, 1, ?, 'C1', 'M', '1', ?)"
                 file.execute(piece, (number, command[2], reel))
-        story.read("running", file)
-        story.place(0, file)
-    return story
+        told.read("running", file)
+        told.place(0, file)
+    return told
 
 
 def other_reel(piece: Any) -> str:
@@ -210,4 +187,4 @@ def test_whom_a_reel_concerns_that_the_desk_does_not_know(
 
 @pytest.mark.parametrize("text", ["0001-01-01T00:00:00+14:00", "9999-12-31T23:59:59-14:00"])
 def test_a_time_that_utc_does_not_have_has_no_minute(text: str) -> None:
-    assert doubtful.minute_of(text) is None
+    assert story.minute_of(text) is None

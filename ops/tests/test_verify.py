@@ -1,4 +1,6 @@
-"""The evidence of a recall: who signed it, that nothing was changed, and that its answer comes again."""
+"""The evidence of a recall: who signed it, that nothing was changed, and that its answer comes
+again.
+"""
 from __future__ import annotations
 
 import contextlib

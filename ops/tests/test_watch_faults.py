@@ -144,7 +144,7 @@ def test_what_is_no_desk_is_not_up(its: Watched, name: str) -> None:
 
 SOURCES = {
     "backup": "backups/2026-03-09T050000Z/backup.json",
-    "archive": "archive/catalogue.csv",
+    "archive": f"archive/L1-{'0' * 24}",
     "clock": "clock.json",
     "reports": "etc/station/setup.json",
 }

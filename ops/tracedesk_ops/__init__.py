@@ -5,7 +5,8 @@ import argparse
 import pathlib
 import sys
 
-# In the repository the package of clients has a folder of its own; installed below a prefix it lies in that of Debian's Python.
+# In the repository the package of clients has a folder of its own; installed below a prefix it lies
+# in that of Debian's Python.
 HERE = pathlib.Path(__file__).resolve()
 for clients in (HERE.parents[2] / "clients/python", HERE.parents[2] / "python3/dist-packages"):
     if clients.exists():

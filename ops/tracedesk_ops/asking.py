@@ -1,4 +1,5 @@
-"""A running desk that a tool asks, by the client of the package tracedesk: once, and on a connection of its own.
+"""A running desk that a tool asks, by the client of the package tracedesk: once, and on a
+connection of its own.
 
     asking.Once("http://127.0.0.1:8080", 10).rows("/slots", machine="M1")
 """
@@ -6,6 +7,7 @@ from __future__ import annotations
 
 import csv
 import http.client
+import secrets
 import ssl
 import urllib.parse
 from collections.abc import Callable, Mapping
@@ -13,7 +15,7 @@ from typing import Any
 
 from tracedesk import Desk, NotTaken, NotThere, Refused
 
-from tracedesk_ops import identity, plant
+from tracedesk_ops import model, plant, stored
 
 REFUSED = (NotTaken, ValueError, csv.Error)  # the last two of a report that is none
 
@@ -31,7 +33,8 @@ class Whole(http.client.HTTPResponse):
 
 
 class Once(Desk):
-    """A running desk. Nothing is asked twice, and no connection is kept: so nobody waits for a tool.
+    """A running desk. Nothing is asked twice, and no connection is kept: so nobody waits for a
+    tool.
 
     `answers` are pairs of what was asked and the answer, for who keeps them.
     """
@@ -84,7 +87,7 @@ class Once(Desk):
         """Whether the desk has accepted a UniqueID, by a message that it refuses in any case."""
         place = f"{self.name}/messages"
         try:
-            answer = self.ask(identity.question(uid))
+            answer = self.ask(question(uid))
             if isinstance(answer, Refused):
                 return answer.refusal == "IdReused"
         except NotTaken:
@@ -106,3 +109,12 @@ class Once(Desk):
         """The last answer, as a Fault names it."""
         status, _, text = self.answers[-1][1].partition("\n")
         return f"status {status}: {text[:100].strip()}"
+
+
+def question(uid: str) -> bytes:
+    """A message that every desk refuses, and which tells whether the desk has accepted the
+    UniqueID:
+    it unloads a slot that no sheet names.
+    """
+    body = {"Machine": f"none-{secrets.token_hex(16)}", "Slot": "-"}
+    return stored.line(uid, model.SOURCE, 0, "MaterialsUnloaded", body).encode()

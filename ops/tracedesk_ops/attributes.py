@@ -2,27 +2,31 @@
 
     reel,part,lot,date_code,supplier,maker_part,order,at,by,chain
 
-A row is never changed: a later one of the same reel takes the place of the one before it. `chain` is the
-SHA-256 of the row's other columns and of the chain of the row before it. How many rows there are, and the
-last chain, are also in the line's inbox (`reels.json`): so a file that was cut, replaced by an older one,
-or is gone is noticed.
+A row is never changed: a later one of the same reel takes the place of the one before it. `chain`
+is the SHA-256 of the row's other columns and of the chain of the row before it. How many rows there
+are, and the last chain, are also in the line's inbox (`reels.json`), and the line's desk records
+that chain: so a file that was cut, replaced by an older one, or is gone is noticed, also if its
+note went with it.
 """
 from __future__ import annotations
 
+import argparse
+import contextlib
 import csv
 import hashlib
 import io
 import json
 import os
 import pathlib
-from collections.abc import Iterable, Sequence
-from typing import NamedTuple
+from collections.abc import Callable, Iterable, Sequence
+from typing import BinaryIO, NamedTuple
 
-from tracedesk_ops import files, places, plant
+from tracedesk_ops import carry, files, heads, places, plant
 
-FILE_NAME, HEAD = "reels.csv", "reels.json"
+FILE_NAME, NOTE = "reels.csv", "reels.json"
 ASKED = ("reel", "part", "lot", "date_code", "supplier", "maker_part", "order")
 HEADER = (*ASKED, "at", "by", "chain")
+KIND = "reels"  # of the book's heads, which the line's desk records
 BEGIN = "0" * 64
 LONGEST = 200  # letters of a value
 
@@ -48,6 +52,19 @@ class Row(NamedTuple):
     chain: str
 
 
+def fault_of(its: Reel) -> str:
+    """Why a book takes no row of these values; empty if it does."""
+    try:
+        carry.identifier(its.reel)
+    except argparse.ArgumentTypeError as fault:
+        return str(fault)
+    if long := [value for value in its if len(value) > LONGEST]:
+        return f"{long[0][:20]}.. has too many letters"
+    if any(not value.isprintable() for value in its):
+        return "a letter can't be printed"
+    return ""
+
+
 def csv_line(values: Iterable[str]) -> str:
     text = io.StringIO()
     csv.writer(text, lineterminator="\n").writerow(values)
@@ -58,16 +75,18 @@ def chained(before: str, its: Reel, at: str, by: str) -> str:
     return hashlib.sha256(f"{before}\n{csv_line([*its, at, by])}".encode()).hexdigest()
 
 
-def head_of(archive: pathlib.Path) -> pathlib.Path:
+def note_of(archive: pathlib.Path) -> pathlib.Path:
     """The file that names how many rows a line's book has."""
-    return places.of_archive(archive).inbox / HEAD
+    return places.of_archive(archive).inbox / NOTE
 
 
 def read(archive: pathlib.Path) -> list[Row]:
-    """The rows of a line's book; none if it was never begun. A Fault if it is not as it was written."""
-    path, head = archive / FILE_NAME, head_of(archive)
+    """The rows of a line's book; none if it was never begun. A Fault if it is not as it was
+    written.
+    """
+    path, noted = archive / FILE_NAME, note_of(archive)
     try:
-        count, chain = said_by(head)
+        count, chain = said_by(noted)
         text = path.read_bytes().decode() if path.exists() else ""
         found = parsed(path, text)
     except (OSError, ValueError, csv.Error) as fault:
@@ -75,28 +94,30 @@ def read(archive: pathlib.Path) -> list[Row]:
     chains = [BEGIN, *(row.chain for row in found)]
     if len(found) < count or chains[count] != chain:
         raise plant.Fault(
-            f"{path}: {head} names {count} rows and another last one: take both from a copy"
+            f"{path}: {noted} names {count} rows and another last one: take both from a copy"
         )
-    if found and not head.exists():
+    if found and not noted.exists():
         raise plant.Fault(
-            f"{head}: it is gone, so rows of {path} may be missing: take it from a copy"
+            f"{noted}: it is gone, so rows of {path} may be missing: take it from a copy"
         )
     return found
 
 
-def said_by(head: pathlib.Path) -> tuple[int, str]:
+def said_by(noted: pathlib.Path) -> tuple[int, str]:
     """How many rows the book has, and the chain of the last one."""
     try:
-        told = json.loads(head.read_text(encoding="ascii"))
+        told = json.loads(noted.read_text(encoding="ascii"))
         return int(told["Rows"]), str(told["Chain"])
     except FileNotFoundError:
         return 0, BEGIN
     except (KeyError, TypeError) as fault:
-        raise ValueError(f"{head} is damaged: {fault!r}") from fault
+        raise ValueError(f"{noted} is damaged: {fault!r}") from fault
 
 
 def parsed(path: pathlib.Path, text: str) -> list[Row]:
-    """The rows of a book's whole lines; a last line without its end was cut off, and is none yet."""
+    """The rows of a book's whole lines; a last line without its end was cut off, and is none
+    yet.
+    """
     rows = csv.reader(io.StringIO(text[: text.rfind("\n") + 1], newline=""), strict=True)
     found: list[Row] = []
     before = BEGIN
@@ -114,6 +135,28 @@ def parsed(path: pathlib.Path, text: str) -> list[Row]:
     return found
 
 
+def head_of(archive: pathlib.Path) -> str:
+    """The head of the line's book, which its desk records; empty if it has no row, or is not as it
+    was written. A row without a note may not be on disk yet.
+    """
+    with contextlib.suppress(plant.Fault, OSError, ValueError):
+        rows = read(archive)[: said_by(note_of(archive))[0]]
+        return heads.book_head(KIND, rows[-1].chain) if rows else ""
+    return ""
+
+
+def rows_of(archive: pathlib.Path, recorded: Iterable[str]) -> tuple[list[Row], list[str]]:
+    """The rows of a line's book, and what is wrong with it: it is not as it was written, or lacks a
+    row whose head its desk has recorded.
+    """
+    try:
+        rows = read(archive)
+    except plant.Fault as fault:
+        return [], [str(fault)]
+    chains = (row.chain for row in rows)
+    return rows, heads.missing(archive / FILE_NAME, KIND, chains, recorded)
+
+
 def newest(rows: Iterable[Row]) -> dict[str, Reel]:
     """What is known of each reel."""
     return {row.its.reel: row.its for row in rows}
@@ -124,22 +167,47 @@ def add(archive: pathlib.Path, new: Sequence[Reel], at: str, by: str) -> int:
     with files.held(archive):
         rows = read(archive)
         known = newest(rows)
-        wanted = [its for its in dict.fromkeys(new) if known.get(its.reel) != its]
-        before = rows[-1].chain if rows else BEGIN
-        text = "" if rows else csv_line(HEADER)
-        for its in wanted:
-            before = chained(before, its, at, by)
-            text += csv_line([*its, at, by, before])
-        if wanted:
-            if not rows:
-                note(archive, 0, BEGIN)
-            append(archive / FILE_NAME, text, bool(rows))
-            note(archive, len(rows) + len(wanted), before)
+        wanted = [(its, by) for its in dict.fromkeys(new) if known.get(its.reel) != its]
+        extend(archive, rows, wanted, at)
     return len(wanted)
 
 
+def fill(archive: pathlib.Path, received: Iterable[tuple[Reel, str]], at: str) -> int:
+    """Appends what receipts say of reels and nobody gave, with who sent them; how many rows these
+    are. What somebody gave stays, also if a receipt says otherwise.
+    """
+    with files.held(archive):
+        rows = read(archive)
+        known = newest(rows)
+        wanted = []
+        for its, by in received:
+            given = known.get(its.reel, Reel(its.reel))._asdict()
+            more = {name: value for name, value in its._asdict().items() if not given[name]}
+            if any(more.values()):
+                known[its.reel] = Reel(**{**given, **more})
+                wanted.append((known[its.reel], by))
+        extend(archive, rows, wanted, at)
+    return len(wanted)
+
+
+def extend(
+    archive: pathlib.Path, rows: Sequence[Row], new: Sequence[tuple[Reel, str]], at: str
+) -> None:
+    """Appends reels to a book that has these rows, each with who gave its attributes."""
+    before = rows[-1].chain if rows else BEGIN
+    text = "" if rows else csv_line(HEADER)
+    for its, by in new:
+        before = chained(before, its, at, by)
+        text += csv_line([*its, at, by, before])
+    if len(rows) + len(new) != said_by(note_of(archive))[0]:  # a killed call noted nothing
+        if not rows:
+            note(archive, 0, BEGIN)
+        append(archive / FILE_NAME, text, bool(rows))
+        note(archive, len(rows) + len(new), before)
+
+
 def note(archive: pathlib.Path, count: int, chain: str) -> None:
-    files.put(head_of(archive), json.dumps({"Rows": count, "Chain": chain}) + "\n", 0o640)
+    files.put(note_of(archive), json.dumps({"Rows": count, "Chain": chain}) + "\n", 0o640)
 
 
 def append(path: pathlib.Path, text: str, is_begun: bool) -> None:
@@ -151,3 +219,41 @@ def append(path: pathlib.Path, text: str, is_begun: bool) -> None:
         file.flush()
         os.fsync(file.fileno())
     files.keep(path.parent)
+
+
+def in_copy(copy: pathlib.Path) -> list[pathlib.Path]:
+    """The note and the book in a copy of the line. The note is read first: rows that are written
+    meanwhile are behind those that it counts.
+    """
+    return [copy / "untraced" / NOTE, copy / "archive" / FILE_NAME]
+
+
+def copy(
+    archive: pathlib.Path,
+    to: pathlib.Path,
+    opened: Callable[[pathlib.Path], contextlib.AbstractContextManager[BinaryIO]],
+) -> None:
+    """Copies the book into a copy of the line."""
+    for file, copied in zip((note_of(archive), archive / FILE_NAME), in_copy(to)):
+        with contextlib.suppress(FileNotFoundError), opened(file) as source:
+            copied.parent.mkdir(mode=0o700, parents=True, exist_ok=True)
+            copied.write_bytes(source.read())
+
+
+def put_back(
+    archive: pathlib.Path,
+    copy: pathlib.Path,
+    as_caller: Callable[[], contextlib.AbstractContextManager[None]],
+) -> None:
+    """Puts the book of a copy of the line in its place, if the line has none. One that the line has
+    is newer, since no row of it is ever changed.
+    """
+    its = [note_of(archive), archive / FILE_NAME]
+    if any(path.exists() for path in its):
+        return
+    with as_caller():
+        texts = [path.read_text(encoding="utf-8") for path in in_copy(copy) if path.exists()]
+    if len(texts) == len(its):
+        for path, text in zip(its, texts):
+            path.parent.mkdir(exist_ok=True)
+            files.put(path, text, 0o640)

@@ -1,8 +1,10 @@
-"""What one desk's file says, told as messages to another desk: for ops/tracedesk-begin and ops/tracedesk-move.
+"""What one desk's file says, told as messages to another desk: for ops/tracedesk-begin and
+ops/tracedesk-move.
 
-An exposure counts the minutes in which a reel was open. So a reel that lay open for e minutes in all is told as one
-that was opened e minutes before the end, and is sealed at the end if it was sealed. A reel at level 6 that was baked is
-baked before that. An exposure above the floor life is told as the floor life: the reel is expired by either.
+An exposure counts the minutes in which a reel was open. So a reel that lay open for e minutes in
+all is told as one that was opened e minutes before the end, and is sealed at the end if it was
+sealed. A reel at level 6 that was baked is baked before that. An exposure above the floor life is
+told as the floor life: the reel is expired by either.
 """
 from __future__ import annotations
 
@@ -19,7 +21,7 @@ import sqlite3
 from collections.abc import Callable, Container, Iterable, Iterator
 from typing import Any, NamedTuple
 
-from tracedesk_ops import catalogue, copies, identity, plant, stored
+from tracedesk_ops import catalogue, copies, model, plant, store, stored
 
 FLOOR_LIFE = {
     "1": None,
@@ -35,9 +37,12 @@ FARTHEST_AHEAD = (
     20_160  # a message may be so many minutes after the desk's, if it doesn't set the clock
 )
 LONGEST_MESSAGE = 1_048_576
-KNOWN = 1_000  # UniqueIDs of each source that a new desk knows of the archive: those that a sender may still send again
+# UniqueIDs of each source that a new desk knows of the archive: those that a sender may still send
+# again
+KNOWN = 1_000
 KNOWN_IN_ALL = 20_000  # of all sources, the newest ones
 TABLES = ("accepted", "part", "alternate", "sheet_row", "selected", "reel", "mount", "board")
+OWN = "SELECT uid, number FROM accepted WHERE source = ? AND command = 'ClockSet'"
 COLUMNS = "reel, part, lot, level, label, remaining, used, open_since, baked"
 
 
@@ -120,7 +125,8 @@ class Archive:
         )
         self.sheets: dict[tuple[str, str], list[SheetRow]] = {}
         for product, machine, slot, part, designators in rows(
-            "SELECT product, machine, slot, part, designators FROM sheet_row ORDER BY product, machine, place"
+            "SELECT product, machine, slot, part, designators FROM sheet_row ORDER BY product,"
+            " machine, place"
         ):
             self.sheets.setdefault((product, machine), []).append(
                 (slot, part, designators.split(" "))
@@ -137,8 +143,10 @@ class Archive:
         ):
             self.tapes.setdefault((machine, slot), []).append(self.reels[reel])
         self.in_work = rows("SELECT machine, board FROM board WHERE machine <> '' ORDER BY machine")
-        self.identity = identity.read(database)
-        self.known = known(database, self.identity)
+        file = store.read(pathlib.Path(), database, "")
+        self.heads = file.heads
+        self.numbers = dict(rows(OWN, model.SOURCE))  # of its heads, by their UniqueIDs
+        self.known = known(database, file.begun)
         self.unknown = 0  # older ones
         its = [
             name
@@ -151,7 +159,9 @@ class Archive:
     def of_one_reel(
         self, name: str, called: str, known_parts: Container[str], minute: int
     ) -> Archive:
-        """A desk that has nothing but this reel, as it is at that minute, under the name by which it is called there."""
+        """A desk that has nothing but this reel, as it is at that minute, under the name by which
+        it is called there.
+        """
         it = copy.copy(self)
         reel = self.reels[name]._replace(reel=called)
         if not reel.runs():  # so there are no minutes to tell
@@ -166,26 +176,29 @@ class Archive:
         return it
 
 
-def known(database: sqlite3.Connection, desk: identity.Identity) -> list[Known]:
-    """The last UniqueIDs of each source, the newest first: their number, source and own minute. What the desk was begun with, and its
-    name, are left out, but not the UniqueIDs of its own archive that it was told then: those are older than the rest, the newest first.
+def known(database: sqlite3.Connection, begun: int) -> list[Known]:
+    """The last UniqueIDs of each source, the newest first: their number, source and own minute.
+    What the desk was begun with, and its heads, are left out, but not the UniqueIDs of its own
+    archive that it was told then: those are older than the rest, the newest first.
     """
     ((first, source),) = database.execute(
         "SELECT max(uid), max(source) FROM accepted WHERE number = 1"
     ).fetchall()
-    numbered = f"{first[:-1]}%" if desk.begun else ""
+    numbered = f"{first[:-1]}%" if begun else ""
     return database.execute(
         """
         WITH those AS (SELECT *, iif(number > ?1, number, -number) AS turn FROM accepted
-            WHERE NOT (number <= ?1 AND source = ?2 AND uid LIKE ?3) AND uid NOT IN (?4, ?5))
+            WHERE NOT (number <= ?1 AND source = ?2 AND uid LIKE ?3) AND NOT (source = ?4 AND command = 'ClockSet'))
         SELECT number, uid, source, own FROM (SELECT *, row_number() OVER (PARTITION BY source ORDER BY turn DESC) AS place FROM those)
-        WHERE place <= ?6 ORDER BY turn DESC""",
-        [desk.begun, source, numbered, desk.name, identity.BEGUN, KNOWN],
+        WHERE place <= ?5 ORDER BY turn DESC""",
+        [begun, source, numbered, model.SOURCE, KNOWN],
     ).fetchall()
 
 
 def judged(path: pathlib.Path, program: str) -> Archive:
-    """What the tables of a desk's file say, once an audit has found its copy lawful: else a changed bit would go to another desk."""
+    """What the tables of a desk's file say, once an audit has found its copy lawful: else a changed
+    bit would go to another desk.
+    """
     with copies.copied(path) as copy_of_it:
         archive = Archive(copy_of_it, copies.database)
         plant.Program(program, copy_of_it).audit(copy_of_it)
@@ -193,7 +206,9 @@ def judged(path: pathlib.Path, program: str) -> Archive:
 
 
 class Messages:
-    """The messages of a new desk, in the order in which they are sent, and the minute that they have led it to."""
+    """The messages of a new desk, in the order in which they are sent, and the minute that they
+    have led it to.
+    """
 
     def __init__(self, prefix: str, source: str) -> None:
         self.prefix, self.source = prefix, source
@@ -215,8 +230,9 @@ class Messages:
         )
 
     def say_known(self, known: list[Known]) -> None:
-        """Says the UniqueIDs of an archive, each as a ClockSet of its own minute, which changes nothing: so a message that is sent again
-        is refused as IdReused. None has the number that it has in the archive: by a command of that number a file is known again.
+        """Says the UniqueIDs of an archive, each as a ClockSet of its own minute, which changes
+        nothing: so a message that is sent again is refused as IdReused. None has the number that it
+        has in the archive: by a command of that number a file is known again.
         """
         if not known or self.minute is None:
             return
@@ -251,8 +267,9 @@ class Carrier:
         self.mounted = {reel.reel: before for before, _, _, reel, _ in self.mounts}
 
     def mounts_in_turn(self) -> list[Mount]:
-        """Each load and splice: how many minutes before the end, machine, slot, reel, and whether it is a splice. It is at the latest opening
-        of the reels up to it on the tape: the reel before it is on the tape by then, and it had not expired, since it was put there in truth.
+        """Each load and splice: how many minutes before the end, machine, slot, reel, and whether
+        it is a splice. It is at the latest opening of the reels up to it on the tape: the reel
+        before it is on the tape by then, and it had not expired, since it was put there in truth.
         """
         mounts = []
         for (machine, slot), tape in self.archive.tapes.items():
@@ -274,7 +291,9 @@ class Carrier:
             self.messages.say(self.end, "ClockSet")
 
     def set_up(self, minute: int) -> None:
-        """What has no time of its own; receipts, and bakes of reels that may be opened only after one."""
+        """What has no time of its own; receipts, and bakes of reels that may be opened only after
+        one.
+        """
         say, archive = self.messages.say, self.archive
         for part in archive.parts:
             say(minute, "PartDefined", PartNumber=part)
@@ -300,7 +319,9 @@ class Carrier:
                 say(minute, "ReelBaked", Reel=reel.reel)
 
     def moves(self) -> list[tuple[int, Callable[[int], None]]]:
-        """Openings, mounts and seals in their order, each with how many minutes before the end it is."""
+        """Openings, mounts and seals in their order, each with how many minutes before the end it
+        is.
+        """
         told = []
         for name, reel in self.archive.reels.items():
             # of a reel with no floor life that runs it is told only whether it is open
@@ -344,41 +365,63 @@ class Carrier:
         """What the new desk knows and what it doesn't, and where a reel has less than it had."""
         archive = self.archive
         begins = spelled(self.messages.minute or self.end)
-        yield f"{archive.commands} commands, until {spelled(archive.minute)}; the new desk begins at {begins}"
+        yield (
+            f"{archive.commands} commands, until {spelled(archive.minute)}; the new desk begins at"
+            f" {begins}"
+        )
         carried = f"{len(archive.reels)} reels are carried over"
-        yield f"{carried}, {len(archive.spent)} spent ones are not: the new desk takes a new reel of their names"
-        yield f"{len(archive.known)} UniqueIDs are known to the new desk, the last {KNOWN:,} of each source: a message that the archive has is refused as IdReused"
+        yield (
+            f"{carried}, {len(archive.spent)} spent ones are not: the new desk takes a new reel of"
+            " their names"
+        )
+        yield (
+            f"{len(archive.known)} UniqueIDs are known to the new desk, the last {KNOWN:,} of each"
+            " source: a message that the archive has is refused as IdReused"
+        )
         if archive.unknown:
-            yield f"{archive.unknown:,} older UniqueIDs are not: {KNOWN_IN_ALL:,} are known at most, and these messages would act again. Let each sender keep one Source"
+            yield (
+                f"{archive.unknown:,} older UniqueIDs are not: {KNOWN_IN_ALL:,} are known at most,"
+                " and these messages would act again. Let each sender keep one Source"
+            )
         if archive.of_others:
-            yield f"the tables {', '.join(archive.of_others)} are not the desk's: they stay in the archive, and the new desk is without them"
+            yield (
+                f"the tables {', '.join(archive.of_others)} are not the desk's: they stay in the"
+                " archive, and the new desk is without them"
+            )
         for machine, board in archive.in_work:
-            yield f"board {board} is in work on {machine}: the new desk doesn't know what is placed on it"
+            yield (
+                f"board {board} is in work on {machine}: the new desk doesn't know what is placed"
+                " on it"
+            )
         if not self.mounts:
             for (machine, slot), tape in archive.tapes.items():
                 for reel in tape:
                     gone = reel.level != "1" and self.exposure[reel.reel] >= (reel.limit() or 0)
-                    yield f"reel {reel.reel} is to be loaded on {machine}, slot {slot}{', after a bake' if gone else ''}"
+                    yield (
+                        f"reel {reel.reel} is to be loaded on {machine}, slot"
+                        f" {slot}{', after a bake' if gone else ''}"
+                    )
 
 
 def begun(
-    archive: Archive, checksum: str, at: int | None = None, loads: bool = True, name: str = ""
+    archive: Archive,
+    checksum: str,
+    at: int | None = None,
+    loads: bool = True,
+    heads: Iterable[str] = (),
 ) -> tuple[list[str | Setup], Carrier]:
-    """The messages of a new desk that begins where an archived one with this checksum ended, and who tells what is not in them. It has the archived desk's name, or else this one."""
+    """The messages of a new desk that begins where an archived one with this checksum ended, and
+    who tells what is not in them. It has the archived desk's newest heads, and these."""
     if archive.minute is None:
         raise NotCarried("it has accepted no command, so there is nothing to carry over")
     end = archive.minute if at is None else min(at, archive.minute)
-    messages = Messages(f"begin-{checksum[:identity.CHECKSUM]}", "begin")
+    messages = Messages(f"begin-{checksum[:model.DIGITS]}", "begin")
     carrier = Carrier(archive, messages, end, loads)
     carrier.all()
     if at is not None and at > end:
         messages.say(at, "ClockSet")
-    its = {uid: number for number, uid, _, _ in archive.identity.rows}
-    names = [
-        (its.get(uid, 0), uid, identity.SOURCE, end)
-        for uid in (archive.identity.name or name, identity.BEGUN)
-        if uid
-    ]
+    uids = dict.fromkeys([*archive.heads.uids(), *heads, model.BEGUN])
+    names = [(archive.numbers.get(uid, 0), uid, model.SOURCE, 0) for uid in uids]
     room = (
         max(0, archive.greatest - len(messages.lines)) // 2
     )  # a desk of few commands has room for its own

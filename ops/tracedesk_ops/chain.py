@@ -13,7 +13,7 @@ import enum
 from collections.abc import Iterable, Sequence
 from typing import Protocol
 
-from tracedesk_ops.model import DIGITS, Copy, File, Said
+from tracedesk_ops.model import Copy, File, Said
 
 
 class Contents(Protocol):
@@ -57,7 +57,7 @@ class Order(enum.Enum):
 
 def behind(desk: File, files: Iterable[File]) -> Chain:
     """The chain from a desk backwards, by the marks."""
-    by_digits = {file.sha256[:DIGITS]: file for file in files}
+    by_digits = {file.digits: file for file in files if file.sha256}
     found, mark = [desk], desk.mark
     while mark:
         archive = by_digits.pop(mark, None)
@@ -83,7 +83,7 @@ def is_beginning(older: File, newer: File, contents: Contents) -> bool:
 
 def holds(chain: Chain, file: File, contents: Contents) -> bool:
     """Whether a chain has all that a file has, in its order."""
-    if any(member.is_named_by(file.sha256[:DIGITS]) for member in chain.files):
+    if any(member.is_named_by(file.digits) for member in chain.files):
         return True
     return any(
         member.mark == file.mark and is_beginning(file, member, contents) for member in chain.files
@@ -128,18 +128,24 @@ def off_chain(chain: Chain, files: Iterable[File], contents: Contents) -> list[O
     return [OffChain(file, len(lacking(chain, [file], contents))) for file in others]
 
 
-def left_by_a_roll_over(chain: Chain, files: Iterable[File], contents: Contents) -> list[File]:
+def left_by_a_roll_over(
+    chain: Chain, files: Iterable[File], contents: Contents, aside: Iterable[File] = ()
+) -> list[File]:
     """Archives that a roll-over linked before it was cut off: the running desk still has all of
-    each of them.
+    each of them, and no other file was begun from it.
     """
+    files = list(files)
     reached = {member.path for member in chain.files}
+    marks = {file.mark for file in (*files, *aside)}
     return [
         file
         for file in files
         if file.path not in reached
+        and file.digits not in marks
         and file.commands > file.begun
         and file.mark == chain.desk.mark
         and is_beginning(file, chain.desk, contents)
+        and contents.taken(file) <= contents.taken(chain.desk)  # it is about to be deleted
     ]
 
 
@@ -150,18 +156,24 @@ def chain_of(copy: Copy) -> Chain:
     return behind(copy.desk, copy.archives)
 
 
-def newest(copies: Sequence[Copy], contents: Contents) -> list[Copy]:
-    """The copies that no other copy is newer than: several of them are a fork, or the same."""
-    chains = {copy.path: chain_of(copy) for copy in copies}
-    found: list[Copy] = []
-    for copy in copies:
-        if not any(
-            compare(chains[other.path], chains[copy.path], contents) is Order.NEWER
-            for other in copies
-            if other is not copy
-        ):
-            found.append(copy)
-    return found
+def ordered(copies: Iterable[Copy], pool: Sequence[File] = ()) -> list[Copy]:
+    """The copies from the oldest to the newest. Of two of one history the later one has more
+    archives behind it, or more commands. Archives that a copy lacks are looked for in `pool`.
+    """
+    copies = list(copies)
+    pool = [*pool, *(file for copy in copies for file in copy.archives)]
+
+    def place(copy: Copy) -> tuple[int, int, str]:
+        return len(behind(copy.desk, pool).archives), copy.desk.commands, copy.day
+
+    return sorted(copies, key=place)
+
+
+def root_of(desk: File, files: Iterable[File]) -> Said | None:
+    """The first command of a history, as far as the chain is there: two histories with another
+    one are of different desks.
+    """
+    return behind(desk, files).files[-1].first
 
 
 def not_held(chain: Chain, copies: Iterable[Copy], contents: Contents) -> list[Copy]:

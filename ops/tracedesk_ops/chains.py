@@ -1,14 +1,18 @@
-"""The proved program over the files of a line, tracedesk-chain: for ops/tracedesk-recall and ops/tracedesk-backup.
+"""The proved program over the files of a line, tracedesk-chain: for ops/tracedesk-recall and
+ops/tracedesk-backup.
 
-It opens each file as an audit does: for writing, under a lock, with a log beside it, as the file's owner where root calls.
-It refuses a file that has several hard links. So what has those, is locked, or can't be written is copied first.
+It opens each file as an audit does: for writing, under a lock, with a log beside it, as the file's
+owner where root calls. It refuses a file that has several hard links. So what has those, is locked,
+or can't be written is copied first.
 
     chains.asked(chain, ["check"], [path for path in archives], archives).ends
 
-Each desk names the file from which it was begun, by its checksum. After a roll-over with an option it doesn't carry that on
-as it was. Then the program is asked about the files before and behind this link, which is known by the checksum alone.
+Each desk names the file from which it was begun, by its checksum. After a roll-over with an option
+it doesn't carry that on as it was. Then the program is asked about the files before and behind this
+link, which is known by the checksum alone.
 
-Many files are read in parts, side by side: the last file of a part is the first of the next one, and both say the same of it.
+Many files are read in parts, side by side: the last file of a part is the first of the next one,
+and both say the same of it.
 """
 from __future__ import annotations
 
@@ -25,13 +29,11 @@ import tempfile
 from collections.abc import Iterable, Iterator, Sequence
 from typing import Any
 
-from tracedesk_ops import catalogue, copies, identity, parts, plant
+from tracedesk_ops import copies, parts, plant, store
+from tracedesk_ops.files import Room
 
-NO_CHAIN, REFUSED, BEGUN = (
-    1,
-    3,
-    5,
-)  # statuses of the program: no chain; a file was refused; the first one was begun from another
+# statuses of the program: no chain; a file was refused; the first one was begun from another
+NO_CHAIN, REFUSED, BEGUN = (1, 3, 5)
 OPTION = re.compile(
     ": differs (minute|slot|board .* in work old)"
 )  # what --at, --no-loads and --with-board-in-work make
@@ -83,7 +85,7 @@ class NoAnswer(Exception):
 
 
 Files = Sequence[pathlib.Path]
-Archives = Sequence[catalogue.Archive]
+Digits = Sequence[str]  # of files, by which marks name them
 
 
 class Asker:
@@ -92,24 +94,27 @@ class Asker:
     def __init__(self, program: str, question: Iterable[str]) -> None:
         self.program, self.words = plant.chain_of(program), [*question, "--pieces"]
 
-    def ask(self, files: Files, archives: Archives, about: str) -> Answer:
-        """What it answers about files, from the oldest on; a NoAnswer or a Fault where it has no answer."""
+    def ask(self, files: Files, digits: Digits, about: str) -> Answer:
+        """What it answers about files, from the oldest on; a NoAnswer or a Fault where it has no
+        answer.
+        """
         if not self.program:
             raise NoAnswer("there is no tracedesk-chain next to tracedesk: CHAIN names it")
-        return asked(self.program, self.words, files, archives, about)
+        return asked(self.program, self.words, files, digits, about)
 
 
 def asked(
     chain: str,
     words: list[str],
     files: Files,
-    archives: Archives,
+    digits: Digits,
     about: str = "",
     is_middle: bool = False,
 ) -> Answer:
-    """What the program answers to these words about files, from the oldest on, of which these are the lines of the catalogue; the last may
-    have none. A NoAnswer where there is none, a Fault where a file changes meanwhile. Long runs are told about. With `is_middle` the first
-    file may be one that was begun from another, which isn't named.
+    """What the program answers to these words about files, from the oldest on, that have these
+    digits; the last may have none. A NoAnswer if there is none, a Fault if a file changes
+    meanwhile. Long runs are told about. With `is_middle` the first file may have been begun from
+    another, which isn't named.
     """
     sizes = [os.stat(file).st_size for file in files]
     spans = parts.spans(sizes, parts.jobs(sizes))
@@ -118,7 +123,7 @@ def asked(
     def of(span: parts.Span) -> Answer:
         first, end = span[0], span[1] + 1
         middle = ["--from-middle"] * (is_middle or first > 0)
-        its = files[first:end], archives[first:end]
+        its = files[first:end], digits[first:end]
         return in_turn(chain, words, middle, *its, progress, first > 0)
 
     with concurrent.futures.ThreadPoolExecutor(len(spans)) as threads:
@@ -148,27 +153,26 @@ def in_turn(
     words: list[str],
     middle: list[str],
     files: Files,
-    archives: Archives,
+    digits: Digits,
     progress: parts.Progress,
     is_shared: bool,
 ) -> Answer:
-    """What the program answers about files that it reads one after the other; the first may be another part's last."""
+    """What the program answers about files that it reads one after the other; the first may be
+    another part's last.
+    """
     runs: list[tuple[int, Answer]] = []
     options: list[str] = []
     first, last = 0, len(files)
-    links: list[str] = []
     while first < len(files):
         try:
-            asks = [*words, *middle, *links]
-            shared = is_shared and first == 0
+            asks, shared = [*words, *middle], is_shared and first == 0
             runs.append((first, asked_of(chain, asks, files[first:last], progress, shared)))
             first, last, middle = last, len(files), ["--from-middle"]
         except NoAnswer as fault:
-            if fault.status == BEGUN and len(fault.ends) > 1 and not links:
-                links = ["--without-marks"]  # marks of older tools are compared below alone
-                continue
             if (
-                fault.status == BEGUN and not middle and not identity.mark_of(files[0])
+                fault.status == BEGUN
+                and not middle
+                and not store.Reader(without_logs=True).desk(files[0]).mark
             ):  # a sender's UniqueIDs begin as those of a beginning do
                 middle = ["--from-middle"]
                 continue
@@ -177,15 +181,15 @@ def in_turn(
                 fault.status != NO_CHAIN
                 or not OPTION.search(str(fault))
                 or last <= first
-                or not identity.follows(fault.ends[-1].mark, archives[last - 1])
+                or fault.ends[-1].mark != digits[last - 1]
             ):
                 raise
             options.append(str(fault))
     ends = [end for _, its in runs for end in its.ends]
-    for file, end, before in zip(files[1:], ends[1:], archives):
-        if not identity.follows(end.mark, before):
+    for before, named, file, end in zip(files, digits, files[1:], ends[1:]):
+        if end.mark != named:
             raise NoAnswer(
-                f"{file.name} doesn't say that it was begun from {before.file}", NO_CHAIN
+                f"{file.name} doesn't say that it was begun from {before.name}", NO_CHAIN
             )
     rows = [{**row, "file": first + row["file"]} for first, its in runs for row in its.rows]
     printed = runs[0][1].printed[:1] + [text for _, its in runs for text in its.printed[1:]]
@@ -195,8 +199,9 @@ def in_turn(
 def asked_of(
     chain: str, words: list[str], files: Files, progress: parts.Progress, is_shared: bool
 ) -> Answer:
-    """The same of files without such links. If one can't be opened where it is, as another call has it, copies of all are asked.
-    A first file that is shared is copied, since another part has it open."""
+    """The same of files without such links. If one can't be opened where it is, as another call has
+    it, copies of all are asked. A first file that is shared is copied, since another part has it
+    open."""
     run = plant.Program(chain, files[0])
     here = [can_be_opened(run, it) for it in files]
     here[0] = here[0] and not is_shared
@@ -212,7 +217,7 @@ def asked_once(
     run: plant.Program, words: list[str], files: Files, progress: parts.Progress, here: list[bool]
 ) -> Answer:
     before = [state_of(it) for it in files]
-    with tempfile.TemporaryDirectory(prefix="tracedesk-") as room:
+    with Room() as room:
         plant.want_room(
             room,
             sum(os.stat(it).st_size for it, stays in zip(files, here) if not stays),
@@ -267,7 +272,8 @@ def said_of(run: plant.Program, words: list[str], files: Files, progress: parts.
     header, *rows = [fields for fields, _ in printed] or [[]]
     if ",".join(header) != (CHECKED if words[0] == "check" else PIECES) or len(ends) != len(files):
         raise NoAnswer(
-            f"it answers {words[0]} with {','.join(header)} about {len(ends)} of {len(files)} files: it is another version"
+            f"it answers {words[0]} with {','.join(header)} about {len(ends)} of"
+            f" {len(files)} files: it is another version"
         )
     place = {str(it): number for number, it in enumerate(files)}
     return Answer(

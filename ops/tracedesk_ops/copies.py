@@ -1,8 +1,9 @@
 """A copy of a desk's file with its log: for tools that read a desk's tables.
 
-The newest commands of a desk may be in its log alone: after SIGTERM, by which the service stops, and after a kill. Who
-reads the file without its log misses them, and gets no error. So tools read a copy of both, in a folder of its own, and
-the desk's own file and log stay as they are. A file that a run has open is refused.
+The newest commands of a desk may be in its log alone: after SIGTERM, by which the service stops,
+and after a kill. Who reads the file without its log misses them, and gets no error. So tools read a
+copy of both, in a folder of its own, and the desk's own file and log stay as they are. A file that
+a run has open is refused.
 
     with copies.opened("/var/lib/tracedesk/archive/desk-1") as database:
         database.execute("SELECT count(*) FROM accepted")
@@ -16,14 +17,32 @@ import pathlib
 import shutil
 import sqlite3
 import struct
-import tempfile
 from collections.abc import Iterator
 from typing import Any, BinaryIO
+
+from tracedesk_ops.files import Room
 
 # beside a desk's file, and part of it; the second only if its making was cut off
 LOGS = ("-wal", "-journal")
 LOCKED_FROM, LOCKED = 1 << 30, 512  # the bytes of a file that SQLite locks
+LONGEST_EMPTY_LOG = 56  # bytes: the head of a log and that of a page, without the page
+TRIES = 5  # of a copy of a running desk
 FLOCK = "hhqqi0q"  # Linux' struct flock of 64 bits: type, whence, start, length, process
+
+
+def log_of(path: pathlib.Path) -> pathlib.Path | None:
+    """The log next to a file that may hold commands, or none. A run leaves an empty one."""
+    for tail in LOGS:
+        with contextlib.suppress(FileNotFoundError):
+            if os.stat(f"{path}{tail}").st_size > LONGEST_EMPTY_LOG:
+                return pathlib.Path(f"{path}{tail}")
+    return None
+
+
+def logs_of(path: pathlib.Path) -> list[pathlib.Path]:
+    """The logs next to a file, empty ones too."""
+    there = (pathlib.Path(f"{path}{tail}") for tail in LOGS)
+    return [log for log in there if log.exists()]
 
 
 class InUse(Exception):
@@ -43,8 +62,8 @@ def is_locked(file: BinaryIO, kind: int = fcntl.F_RDLCK) -> bool:
 
 
 def copy(file: str | os.PathLike[str], to: pathlib.Path) -> None:
-    """Copies a desk's file and its log; the log's copy has the same ending. No run can open the file
-    meanwhile.
+    """Copies a desk's file and its log; the log's copy has the same ending. No run can open the
+    file meanwhile.
     """
     file = os.path.realpath(file)  # a link has no log of its own
     with open(file, "rb") as source:
@@ -60,14 +79,46 @@ def copy(file: str | os.PathLike[str], to: pathlib.Path) -> None:
                 shutil.copyfile(file + log, f"{to}{log}")
 
 
+class Changing(Exception):
+    """A running desk's file was changed again and again while it was copied."""
+
+    def __init__(self) -> None:
+        super().__init__(f"it was changed while it was copied, {TRIES} times: ask again")
+
+
+def copy_live(file: pathlib.Path, to: pathlib.Path) -> None:
+    """Copies the file and the log of a desk that may run, as they are now. Nobody else may open
+    them. A log is written to its end while the file stays, until the file takes the log in: a copy
+    during which the file changed, or the log began anew, is made again.
+    """
+    log = pathlib.Path(f"{file}-wal")
+    for _ in range(TRIES):
+        before = state_of(file, log)
+        shutil.copyfile(file, to)
+        pathlib.Path(f"{to}-wal").unlink(missing_ok=True)
+        with contextlib.suppress(FileNotFoundError):
+            shutil.copyfile(log, f"{to}-wal")
+        if state_of(file, log) == before:
+            return
+    raise Changing()
+
+
+def state_of(file: pathlib.Path, log: pathlib.Path) -> tuple[int, int, int, bytes]:
+    """What stays the same of a file and its log while a log is only added to."""
+    its, head = os.stat(file), b""
+    with contextlib.suppress(FileNotFoundError), open(log, "rb") as it:
+        head = it.read(32)
+    return its.st_ino, its.st_size, its.st_mtime_ns, head
+
+
 @contextlib.contextmanager
 def copied(
     file: str | os.PathLike[str], within: pathlib.Path | None = None
 ) -> Iterator[pathlib.Path]:
-    """The path of a copy with its log, in a new folder below `within` or the temporary files' folder;
-    the folder is gone afterwards.
+    """The path of a copy with its log, in a new folder below `within` or the temporary files'
+    folder; the folder is gone afterwards.
     """
-    with tempfile.TemporaryDirectory(prefix="tracedesk-", dir=within) as room:
+    with Room(dir=within) as room:
         to = pathlib.Path(room, "copy")
         copy(file, to)
         yield to
@@ -84,8 +135,8 @@ def database(name: str | os.PathLike[str], **how: Any) -> Iterator[sqlite3.Conne
 
 
 def fold(file: pathlib.Path) -> None:
-    """Puts the log of a desk's file that no run has open into the file, as an audit does at its end.
-    If that is cut off, nothing is lost.
+    """Puts the log of a desk's file that no run has open into the file, as an audit does at its
+    end. If that is cut off, nothing is lost.
     """
     with database(file, isolation_level=None) as connection:
         busy, *_ = connection.execute("PRAGMA wal_checkpoint(TRUNCATE)").fetchone()

@@ -1,7 +1,8 @@
 """What the tables of a desk's file declare, and which rows break it: for ops/tracedesk-check.
 
-The declarations are those of docs/definitions.md, "The tables of a desk's file", as the program writes them. A file
-of the older layout has two indexes on `placement` beside them, and a file of version 1 has no table `found`.
+The declarations are those of docs/definitions.md, "The tables of a desk's file", as the program
+writes them. A file of the older layout has two indexes on `placement` beside them, and a file of
+version 1 has no table `found`.
 """
 from __future__ import annotations
 
@@ -42,7 +43,9 @@ LONGEST = 160  # of a value that is told
 
 
 class Table(NamedTuple):
-    """What a table declares: each column with its type and whether it is NOT NULL; the others are tuples of columns."""
+    """What a table declares: each column with its type and whether it is NOT NULL; the others are
+    tuples of columns.
+    """
 
     name: str
     columns: dict[str, tuple[str, bool]]
@@ -90,7 +93,10 @@ def table_of(database: sqlite3.Connection, name: str, text: str) -> Table:
 
 def tables_in(database: sqlite3.Connection) -> dict[str, Table]:
     """Each table of a database that is no view and no virtual one, by its name."""
-    query = "SELECT name, sql FROM sqlite_schema WHERE type = 'table' AND name NOT LIKE 'sqlite\\_%' ESCAPE '\\' AND sql NOT LIKE 'CREATE VIRTUAL%'"
+    query = (
+        "SELECT name, sql FROM sqlite_schema WHERE type = 'table' AND name NOT LIKE 'sqlite\\_%'"
+        " ESCAPE '\\' AND sql NOT LIKE 'CREATE VIRTUAL%'"
+    )
     return {
         name: table_of(database, name, text) for name, text in database.execute(query).fetchall()
     }
@@ -107,7 +113,9 @@ def expected(version: int = 2) -> dict[str, Table]:
 
 
 def orders() -> Iterator[list[Any]]:
-    """The rows of sqlite_schema of a new file and of one of the older layout: rowid, type and name of each."""
+    """The rows of sqlite_schema of a new file and of one of the older layout: rowid, type and name
+    of each.
+    """
     older = "".join(
         f"CREATE INDEX {name} ON placement ({', '.join(columns)});"
         for name, columns in OLDER_LAYOUT.items()
@@ -190,7 +198,8 @@ def values(row: sqlite3.Row, columns: Iterable[str]) -> str:
 def broken(
     database: sqlite3.Connection, table: Table
 ) -> Iterator[tuple[sqlite3.Cursor, Callable[[sqlite3.Row], str]]]:
-    """Each rule that rows of a table break: how many, and the rows with the rule in words, as an iterator.
+    """Each rule that rows of a table break: how many, and the rows with the rule in words, as an
+    iterator.
 
     No index is asked, since it may be the one that is damaged."""
     rows = f"SELECT rowid, {table.listed()} FROM {quoted(table.name)} NOT INDEXED"
@@ -239,15 +248,22 @@ def without_its_row(table: Table, column: str, other: str, row: sqlite3.Row) -> 
 def differences(
     database: sqlite3.Connection, table: Table, other: str, most: int
 ) -> tuple[int, list[str]]:
-    """How many rows of a table differ in a file and another database, attached by this name; and the first of them in words.
+    """How many rows of a table differ in a file and another database, attached by this name; and
+    the first of them in words.
 
     A row that differs is one of the file's, or one of the other's of whose key the file has none.
     """
     key = " AND ".join(f"{quoted(it)} IS :{it}" for it in table.by())
     ours, theirs = f"main.{quoted(table.name)}", f"{other}.{quoted(table.name)}"
-    changed = f"SELECT {table.listed()} FROM {ours} NOT INDEXED EXCEPT SELECT {table.listed()} FROM {theirs}"
+    changed = (
+        f"SELECT {table.listed()} FROM {ours} NOT INDEXED EXCEPT SELECT {table.listed()} FROM"
+        f" {theirs}"
+    )
     by = ", ".join(map(quoted, table.by()))
-    gone = f"SELECT {table.listed()} FROM {theirs} WHERE ({by}) IN (SELECT {by} FROM {theirs} EXCEPT SELECT {by} FROM {ours} NOT INDEXED)"
+    gone = (
+        f"SELECT {table.listed()} FROM {theirs} WHERE ({by}) IN (SELECT {by} FROM {theirs} EXCEPT"
+        f" SELECT {by} FROM {ours} NOT INDEXED)"
+    )
     count = sum(
         database.execute(f"SELECT count(*) FROM ({it})").fetchone()[0] for it in (changed, gone)
     )
@@ -269,6 +285,12 @@ def unlike(table: Table, row: sqlite3.Row, made: sqlite3.Row | None) -> str:
     """Of a row that differs, in which columns; made is the one that the commands make, or none."""
     if made is None:
         beside = [it for it in table.columns if it not in table.by()]
-        return f"{of_row(table, row)}{', with ' if beside else ''}{values(row, beside)} is none that the commands make"
+        return (
+            f"{of_row(table, row)}{', with ' if beside else ''}{values(row, beside)} is none that"
+            " the commands make"
+        )
     columns = [it for it in table.columns if row[it] != made[it]]
-    return f"{of_row(table, row)} has {values(row, columns)}, and the commands make {values(made, columns)}"
+    return (
+        f"{of_row(table, row)} has {values(row, columns)}, and the commands make"
+        f" {values(made, columns)}"
+    )

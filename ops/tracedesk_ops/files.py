@@ -7,13 +7,58 @@ from __future__ import annotations
 import contextlib
 import fcntl
 import glob
+import hashlib
 import os
 import pathlib
 import secrets
+import signal
+import tempfile
+import threading
 import time
 from collections.abc import Iterator
+from typing import BinaryIO
 
+CHUNK = 1 << 20
 ABANDONED = 3600  # seconds after which an unfinished file is one of a call that was killed
+
+
+@contextlib.contextmanager
+def unstopped() -> Iterator[None]:
+    """A signal that ends a tool waits for the end of the block."""
+    came: list[int] = []
+    numbers = (signal.SIGTERM, signal.SIGHUP) if is_main_thread() else ()
+    was = {it: signal.signal(it, lambda number, _: came.append(number)) for it in numbers}
+    try:
+        yield
+    finally:
+        for number, handler in was.items():
+            signal.signal(number, handler)
+        if came:
+            signal.raise_signal(came[0])
+
+
+def is_main_thread() -> bool:
+    """Python calls what handles a signal in this thread alone."""
+    return threading.current_thread() is threading.main_thread()
+
+
+class Room(tempfile.TemporaryDirectory[str]):
+    """A folder for the time of a block, which a tool that is stopped removes too."""
+
+    def __init__(self, prefix: str = "tracedesk-", dir: pathlib.Path | None = None) -> None:
+        is_made = False
+        try:
+            with unstopped():
+                super().__init__(prefix=prefix, dir=dir)
+                is_made = True
+        except BaseException:
+            if is_made:
+                self.cleanup()
+            raise
+
+    def cleanup(self) -> None:
+        with unstopped():
+            super().cleanup()
 
 
 def put(path: pathlib.Path, text: str, mode: int | None = None) -> None:
@@ -59,3 +104,17 @@ def held(folder: pathlib.Path) -> Iterator[None]:
         yield
     finally:
         os.close(number)
+
+
+def sha256_of(path: pathlib.Path) -> str:
+    """The checksum of a file, as sha256sum prints it."""
+    with open(path, "rb") as file:
+        return sha256_within(file)
+
+
+def sha256_within(file: BinaryIO) -> str:
+    """The checksum of what is left of an open file."""
+    checksum = hashlib.sha256()
+    while part := file.read(CHUNK):
+        checksum.update(part)
+    return checksum.hexdigest()

@@ -1,4 +1,4 @@
-"""A first look at an archive for ops/tracedesk-recall, by SQL: what tracedesk-chain doesn't print, and all of it by `--quick`."""
+"""A first look at an archive for tracedesk-recall, by SQL: what tracedesk-chain doesn't print."""
 from __future__ import annotations
 
 import pathlib
@@ -9,7 +9,8 @@ from typing import NamedTuple, Protocol
 from tracedesk_ops import catalogue, copies
 
 KNOWN = "SELECT 1 FROM {} WHERE {}"
-# without an index by reel this is one scan of placement, in the order in which it lies: so nothing is ordered here
+# without an index by reel this is one scan of placement, in the order in which it lies: so nothing
+# is ordered here
 PIECES = """SELECT board, designator, part, lot, reel.reel, placement.machine, slot, overdue, effective
     FROM placement CROSS JOIN reel USING (reel) CROSS JOIN accepted USING (number) WHERE {}"""
 THOSE_OF = "placement.reel IN (SELECT reel FROM reel WHERE {})"
@@ -84,7 +85,7 @@ class Told(NamedTuple):
 def at(
     line: Line, archive: catalogue.Archive, question: Question, wants_pieces: bool = True
 ) -> Told:
-    """Whether an archive of a line knows the name, once its checksum is that of its catalogue; and its pieces."""
+    """Whether an archive of a line knows the name, and its pieces."""
     with catalogue.unchanged(line.catalogue, archive) as database:
         return told_by(database, line, archive, question, wants_pieces)
 
@@ -135,7 +136,9 @@ def with_minutes(database: sqlite3.Connection, pieces: list[Piece]) -> list[Piec
 def left_in(
     database: sqlite3.Connection, line: Line, question: Question, minute: int | None = None
 ) -> tuple[list[Reel], set[str]]:
-    """What is left of the lot or reel by the tables of a desk, as of a minute, none being now; and the machines of its sheets."""
+    """What is left of the lot or reel by the tables of a desk, as of a minute, none being now; and
+    the machines of its sheets.
+    """
     where, values = question.sql()
     left = [] if question.kind == "board" else copies.rows(database, LEFT.format(where), *values)
     return [Reel._make((*row, line.name, minute)) for row in left], {

@@ -1,15 +1,16 @@
 """A copy of a running desk's file, without a stop.
 
-`tracedesk serve` answers one connection at a time. So the tool that has the connection is alone: while it copies, no command
-can come between. It posts a marker, whose answer has the number of the copy's last command, and keeps the connection open
-until file and log are copied. The caller then has the proved audit judge the copy: it is good if that finds just so many
-commands. A copy that fails is never kept.
+`tracedesk serve` answers one connection at a time. So the tool that has the connection is alone:
+while it copies, no command can come between. It posts a marker, whose answer has the number of the
+copy's last command, and keeps the connection open until file and log are copied. The caller then
+has the proved audit judge the copy: it is good if that finds just so many commands. A copy that
+fails is never kept.
 
     copied = held.lawful(desk, 8080, held.new_marker, folder / "desk", program.audit)
 
-The line waits while the connection is held. So a copy that takes too long, as on a slow disk, is given up. A watchdog, a process
-in a session of its own, ends the connection of a tool that hangs, or that somebody stopped, and kills the tool. A tool that is
-killed holds nothing either.
+The line waits while the connection is held. So a copy that takes too long, as on a slow disk, is
+given up. A watchdog, a process in a session of its own, ends the connection of a tool that hangs,
+or that somebody stopped, and kills the tool. A tool that is killed holds nothing either.
 """
 from __future__ import annotations
 
@@ -78,9 +79,9 @@ def lawful(
     to: pathlib.Path,
     audit: Callable[[pathlib.Path], int],
 ) -> Copied:
-    """A copy that the proved audit found lawful, with just the commands until its marker, after some
-    tries; each has a marker of its own, by its UniqueID. A copy that fails goes away. `audit` is
-    called when nothing waits for it.
+    """A copy that the proved audit found lawful, with just the commands until its marker, after
+    some tries; each has a marker of its own, by its UniqueID. A copy that fails goes away. `audit`
+    is called when nothing waits for it.
     """
     for left in reversed(range(TRIES)):
         try:
@@ -124,7 +125,9 @@ def remove(copied: pathlib.Path) -> None:
 
 
 def copy(desk: pathlib.Path, port: int, marker: bytes, to: pathlib.Path) -> Copied:
-    """Copies the file and the log of the desk that runs on this port of this machine. `marker` is a message that it accepts."""
+    """Copies the file and the log of the desk that runs on this port of this machine. `marker` is a
+    message that it accepts.
+    """
     log, log_to = beside(desk), beside(to)
     for file in (desk, log):
         warm(file)
@@ -189,7 +192,9 @@ def warm(file: pathlib.Path) -> None:
 
 
 def copy_bytes(file: pathlib.Path, to: pathlib.Path, until: float) -> None:
-    """Copies a file; an OSError where that takes longer than until this time of the monotonic clock."""
+    """Copies a file; an OSError where that takes longer than until this time of the monotonic
+    clock.
+    """
     with open(file, "rb", buffering=0) as source, open(to, "xb", buffering=0) as target:
         room = memoryview(bytearray(BLOCK))
         while count := source.readinto(room):
@@ -211,7 +216,7 @@ def notes(desk: pathlib.Path, log: pathlib.Path) -> tuple[bytes, ...]:
 @contextlib.contextmanager
 def watchdog() -> Iterator["Said"]:
     """Starts the watchdog, before there is a connection that it could inherit."""
-    limits = [str(ANSWER), str(LONGEST)]
+    limits = [str(ANSWER + LONGEST), str(LONGEST)]  # a tool that goes on gives up before
     words = [sys.executable, "-I", "-S", "-c", WATCHDOG, str(os.getpid()), *limits]
     own, other = socket.socketpair()
     with own:

@@ -1,11 +1,12 @@
 """What tracedesk-chain has found to be a chain, so that the nightly check reads a file once.
 
-A link is a file with the one that it was begun from, both by their checksums; the oldest file has none before it. Links are
-kept in one file, with the checksum of the program that judged them. A check compares the checksums of all files, and has the
-program read those from the first link on that isn't known. Another program, or a file of links that is missing or damaged,
-means that all are read.
+A link is a file with the one that it was begun from, both by their checksums; the oldest file has
+none before it. Links are kept in one file, with the checksum of the program that judged them. A
+check compares the checksums of all files, and has the program read those from the first link on
+that isn't known. Another program, or a file of links that is missing or damaged, means that all are
+read.
 
-    judged.check(chain, files, archives, copies / "judged.json")
+    judged.check(chain, files, copies / "judged.json")
 """
 from __future__ import annotations
 
@@ -14,23 +15,22 @@ import json
 import pathlib
 from collections.abc import Sequence
 
-from tracedesk_ops import catalogue, chains, files, plant
+from tracedesk_ops import chains, files, model, plant, store
 
 Links = dict[str, str]  # the checksum of a file, and that of the file that it was begun from
 
 
-def check(chain: str, paths: chains.Files, archives: chains.Archives, record: pathlib.Path) -> None:
-    """A NoAnswer or a Fault says why files, from the oldest on, are no chain. `archives` are their
-    lines of the catalogue; the last may have none.
-    """
+def check(chain: str, paths: chains.Files, record: pathlib.Path) -> None:
+    """A NoAnswer or a Fault says why files, from the oldest on, are no chain."""
     before = [chains.state_of(path) for path in paths]
-    sums = [catalogue.sha256_of(path) for path in paths]
-    program = catalogue.sha256_of(pathlib.Path(chain))
+    sums = [store.sha256_of(path) for path in paths]
+    program = store.sha256_of(pathlib.Path(chain))
     links, wanted = known(record, program), links_of(sums)
     unknown = [number for number, link in enumerate(wanted.items()) if link not in links.items()]
     if unknown:
         first = max(0, unknown[0] - 1)
-        chains.asked(chain, ["check"], paths[first:], archives[first:], is_middle=first > 0)
+        digits = [checksum[: model.DIGITS] for checksum in sums[first:]]
+        chains.asked(chain, ["check"], paths[first:], digits, is_middle=first > 0)
     if before != [chains.state_of(path) for path in paths]:
         raise plant.Fault("the files were changed while they were read: check again")
     if unknown:

@@ -3,7 +3,8 @@
 A desk's file is an append-only list of commands. It names, in its first command, the archive from
 which it was begun, and it records its own heads: accepted `ClockSet`s of the source `tracedesk`,
 which change nothing. They are the desk's name, its line, its epoch (a new one after each restore),
-the head of the untraced book and the newest copy.
+the heads of the line's books (of untraced work, and of the attributes of reels) and the newest
+copy.
 
     heads_of([Head(7, "line-L1")]).line == "L1"
 """
@@ -19,7 +20,11 @@ DIGITS = (
     24  # of a file's checksum, in the mark of the desk that was begun from it and in its own name
 )
 MARK = re.compile(r"begin-([0-9a-f]{24})-1")
-KINDS = ("desk", "line", "epoch", "untraced", "copy")  # the first word of a head's UniqueID
+# a desk that was begun from an archive has it, so that a running one can be asked
+BEGUN = "desk-begun"
+ASIDE = "aside"  # a folder of an archive
+BOOKS = ("untraced", "reels")
+KINDS = ("desk", "line", "epoch", *BOOKS, "copy")  # the first word of a head's UniqueID
 LONGEST_LINE = 59  # letters of a line's name: `line-NAME` is a UniqueID of at most 64
 
 
@@ -53,23 +58,49 @@ class Heads:
     line: str = ""
     epoch: str = ""
     untraced: str = ""
+    reels: str = ""
     copy: str = ""
+    is_begun: bool = False  # it has the one that says that it was begun from an archive
+    books: tuple[str, ...] = ()  # the UniqueIDs of all heads of books: each has to be in its book
+    epochs: tuple[str, ...] = ()  # all of them, the newest last: one for each restore
+
+    def name(self) -> str:
+        """The UniqueID that names the desk, which each roll-over carries over; empty if it has
+        none.
+        """
+        return f"desk-{self.desk}" if self.desk else ""
 
     def uids(self) -> list[str]:
         """The UniqueIDs of these heads, as a roll-over carries them to the new desk."""
         return [f"{kind}-{value}" for kind in KINDS if (value := getattr(self, kind))]
 
 
+def first_uid(digits: str) -> str:
+    """The first UniqueID of the desk that was begun from the archive with these digits, or with
+    this checksum.
+    """
+    return f"begin-{digits[:DIGITS]}-1"
+
+
 def heads_of(heads: Iterable[Head]) -> Heads:
-    """The newest head of each kind. A desk keeps its first name."""
-    newest: dict[str, str] = {}
-    for head in sorted(heads, key=lambda head: head.number):
+    """The newest head of each kind. A desk keeps its first name and its first line."""
+    of: dict[str, list[str]] = {kind: [] for kind in KINDS}
+    heads = sorted(heads, key=lambda head: head.number)
+    for head in heads:
         kind, _, value = head.uid.partition("-")
-        if kind == "desk":
-            newest.setdefault(kind, value)
-        elif kind in KINDS:
-            newest[kind] = value
-    return Heads(**newest)
+        if kind in KINDS and head.uid != BEGUN:
+            of[kind].append(value)
+    return Heads(
+        desk="".join(of["desk"][:1]),
+        line="".join(of["line"][:1]),
+        epoch="".join(of["epoch"][-1:]),
+        untraced="".join(of["untraced"][-1:]),
+        reels="".join(of["reels"][-1:]),
+        copy="".join(of["copy"][-1:]),
+        is_begun=any(head.uid == BEGUN for head in heads),
+        books=tuple(f"{kind}-{value}" for kind in BOOKS for value in of[kind]),
+        epochs=tuple(of["epoch"]),
+    )
 
 
 @dataclasses.dataclass(frozen=True)
@@ -89,9 +120,14 @@ class File:
     last_minute: int
     heads: Heads = Heads()
 
+    @property
+    def digits(self) -> str:
+        """The digits by which a mark names this file."""
+        return self.sha256[:DIGITS]
+
     def is_named_by(self, mark: str) -> bool:
         """Whether a desk with this mark was begun from this file."""
-        return bool(mark) and self.sha256[:DIGITS] == mark
+        return bool(mark) and self.digits == mark
 
     def has_same_beginning(self, other: File) -> bool:
         """Whether both have one first command, so that one may be a beginning of the other."""
@@ -123,10 +159,10 @@ class Line:
 
     @property
     def aside(self) -> pathlib.Path:
-        """Where a restore puts the desk that gives way, in a folder of its own, under the desk's
-        name.
+        """Where a restore puts the desk that gives way, in a folder of its own: with the archives,
+        so that whoever reads these finds it.
         """
-        return self.desk.with_name("aside")
+        return self.archive / ASIDE
 
     @property
     def lost(self) -> str:

@@ -1,6 +1,8 @@
-"""Parts of a chain of files that are read side by side, at low priority, and how long that will take.
+"""Parts of a chain of files that are read side by side, at low priority, and how long that will
+take.
 
-Neighbours share a file: the last of a part is the first of the next one. So each file is compared with the one before it.
+Neighbours share a file: the last of a part is the first of the next one. So each file is compared
+with the one before it.
 
     spans = parts.spans([os.stat(file).st_size for file in files], parts.jobs(files))
 """

@@ -5,10 +5,12 @@
     inbox = /srv/untraced
 
 Every tool asks here, and derives no place from another one. What a file doesn't name is the
-package's own place if the file names no `db` either, and else lies next to that.
+package's own place if the file names no `db` either, and else lies next to that. A line on another
+machine has a file of two words: line = L2 and url = ssh:HOST.
 """
 from __future__ import annotations
 
+import configparser
 import dataclasses
 import functools
 import os
@@ -23,6 +25,8 @@ HOME = Path("/var/lib/tracedesk")
 DESK, COPIES, PORT = HOME / "desk", Path("/var/backups/tracedesk"), 8080
 WORDS = "line db archive inbox status copies port url stop start key".split()
 PATHS = ("db", "archive", "inbox", "status", "copies", "key")
+BY_SSH = "ssh:"  # how the URL of a line on another machine begins
+SECTION = "line"  # configparser wants one, and set-up files have none
 
 
 class NotSetUp(Exception):
@@ -70,45 +74,73 @@ def of_words(words: dict[str, str]) -> Places:
     )
 
 
-@functools.cache
 def lines() -> list[Places]:
     """The lines that are set up on this machine; a NotSetUp if a file is wrong, or two name one
-    desk. They are read once: a tool that works as the desk's owner may not read them any more.
+    desk.
     """
-    files = sorted(path for path in FOLDER.glob("*.conf") if path.name != PROXYS)
-    found = [of_words(words_in(path)) for path in files]
-    for name in ("db", "line"):
-        values = [getattr(its, name) for its in found]
-        if twice := sorted({str(value) for value in values if values.count(value) > 1}):
-            raise NotSetUp(
-                f"two files of {FOLDER} have {name} = {', '.join(twice)}: take one of them away, "
-                "or name another place in it"
-            )
+    found = [of_words(words) for words in files() if not is_elsewhere(words)]
+    want_no_two("db", [str(its.db) for its in found])
     return found
+
+
+def elsewhere() -> list[Places]:
+    """The lines that are set up as those of other machines: only their names and URLs count."""
+    return [of_words(words) for words in files() if is_elsewhere(words)]
+
+
+@functools.cache
+def files() -> list[dict[str, str]]:
+    """The words of each set-up file, in the order of their names. They are read once: a tool that
+    works as the desk's owner may not read them any more.
+    """
+    paths = sorted(path for path in FOLDER.glob("*.conf") if path.name != PROXYS)
+    found = [words_in(path) for path in paths]
+    want_no_two("line", [words["line"] for words in found])
+    return found
+
+
+def want_no_two(name: str, values: list[str]) -> None:
+    if twice := sorted({value for value in values if values.count(value) > 1}):
+        raise NotSetUp(
+            f"two files of {FOLDER} have {name} = {', '.join(twice)}: take one of them away, "
+            "or name another place in it"
+        )
+
+
+def is_elsewhere(words: dict[str, str]) -> bool:
+    return words.get("url", "").startswith(BY_SSH)
 
 
 def words_in(path: Path) -> dict[str, str]:
     """The words of a set-up file."""
+    reader = configparser.RawConfigParser(delimiters="=", comment_prefixes="#")
     try:
-        text = path.read_text(encoding="utf-8-sig")
+        rows = [row.strip() for row in path.read_text(encoding="utf-8-sig").splitlines()]
+        reader.read_string("\n".join([f"[{SECTION}]", *rows]))
     except (OSError, UnicodeDecodeError) as fault:
         raise NotSetUp(f"{path} can't be read: {fault}") from fault
-    rows = [row.partition("=") for row in text.splitlines() if row.strip() and not is_comment(row)]
-    names = [name.strip() for name, _, _ in rows]
-    words = {name.strip(): value.strip() for name, _, value in rows}
-    wrong = [name for name in words if names.count(name) > 1 or not is_word(name, words[name])]
-    if wrong:
+    except configparser.DuplicateOptionError as fault:
+        raise NotSetUp(f"{path}: {fault.option} is there twice: keep one of them") from fault
+    except configparser.Error as fault:
+        raise NotSetUp(f"{path}: each row is WORD = VALUE, or begins with #: {fault}") from fault
+    if reader.sections() != [SECTION]:
         raise NotSetUp(
-            f"{path}: {', '.join(wrong)} is none of {', '.join(WORDS)}, has no value, is there "
-            "twice, or is no whole path, which begins with /"
+            f"{path}: {reader.sections()[-1]} is in brackets: a set-up file has no parts"
+        )
+    words = dict(reader[SECTION])
+    if wrong := [name for name in words if not is_word(name, words[name])]:
+        raise NotSetUp(
+            f"{path}: {', '.join(wrong)} is none of {', '.join(WORDS)}, has no value, or is no "
+            "whole path, which begins with /"
         )
     if "line" not in words:
         raise NotSetUp(f"{path} names no line: write line = LINE into it, or take it away")
+    if is_elsewhere(words) and (more := [*words.keys() - {"line", "url"}]):
+        raise NotSetUp(
+            f"{path}: {', '.join(sorted(more))} is of a line on this machine, and its URL says that"
+            " it is on another one: take the words away, or the URL"
+        )
     return words
-
-
-def is_comment(row: str) -> bool:
-    return row.lstrip().startswith("#")
 
 
 def is_word(name: str, value: str) -> bool:
@@ -135,6 +167,11 @@ def of_archive(archive: Path, those: Iterable[Places] | None = None) -> Places:
         if os.path.realpath(its.archive) == os.path.realpath(archive):
             return its
     return dataclasses.replace(of_words({"db": str(archive.parent / DESK.name)}), archive=archive)
+
+
+def all_of(archive: Path) -> list[Places]:
+    """The places of the lines that are set up with this archive."""
+    return [it for it in lines() if os.path.realpath(it.archive) == os.path.realpath(archive)]
 
 
 # --- For the proxy, which has no other way to know them

@@ -1,4 +1,6 @@
-"""How a tool ends: an unexpected failure has a status of its own, never one that answers a question."""
+"""How a tool ends: an unexpected failure has a status of its own, never one that answers a
+question.
+"""
 from __future__ import annotations
 
 import contextlib

@@ -1,11 +1,11 @@
 """Messages to a desk, and the accepted commands of one as messages again.
 
-The table `accepted` keeps each command as one text: its word and its members, with a tab between each two
-(crates/desk_types/specs/StoredText.antt). A list is its length and then its elements. Which members a message has, and
-in which order, the message classes of the package tracedesk say.
+The table `accepted` keeps each command as one text: its word and its members, with a tab between
+each two (crates/desk_types/specs/StoredText.antt). A list is its length and then its elements.
+Which members a message has, and in which order, the message classes of the package tracedesk say.
 
     stored.message("u1", "S", 0, "PartDefined\\tP")
-    '{"MessageName":"TraceDesk.PartDefined","UniqueID":"u1","Source":"S","TimeStamp":"1970-01-01T00:00:00","MessageBody":{"PartNumber":"P"}}'
+    '{"MessageName":"TraceDesk.PartDefined",..,"MessageBody":{"PartNumber":"P"}}'
 """
 from __future__ import annotations
 
@@ -92,7 +92,9 @@ def message(uid: Any, source: Any, own: Any, text: Any) -> str:
 
 
 def line(uid: str, source: str, minute: int, word: str, said: Body) -> str:
-    """A message as a line. Its time has no offset, which is UTC to a desk: so the last day of the year 9999 is read too."""
+    """A message as a line. Its time has no offset, which is UTC to a desk: so the last day of the
+    year 9999 is read too.
+    """
     envelope = {
         "MessageName": "TraceDesk." + word,
         "UniqueID": uid,

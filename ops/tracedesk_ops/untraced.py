@@ -1,14 +1,18 @@
-"""Untraced work of a line: reports of work that its desk refused, and what a person decided about each. For ops/tracedesk-untraced, ops/tracedesk-recall
-and those that copy a line's files. Refused loads, splices and unloads have records too, but nobody has to decide about them: a recall
-says which pieces they make doubtful (doubtful.py).
+"""Untraced work of a line: reports of work that its desk refused, and what a person decided about
+each. For ops/tracedesk-untraced, ops/tracedesk-recall and those that copy a line's files. Refused
+loads, splices and unloads have records too, but nobody has to decide about them: a recall says
+which pieces they make doubtful (doubtful.py).
 
-Senders put records into the line's inbox (places.py). `collect` appends each of them to `untraced.csv`, beside the catalogue, once:
+Senders put records into the line's inbox (places.py). `collect` appends each of them to
+`untraced.csv`, beside the catalogue, once:
 
     id,kind,at,machine,board,what,refusal,place,source,by,of,became,reason,record,chain
 
-`record` is the whole record as its sender wrote it, and `id` the first 32 digits of its SHA-256; the columns before it are for
-readers. `chain` is the SHA-256 of the row's record and of the chain of the row before it. A row is never changed. How many rows there
-are, and the last chain, are also in the inbox (`collected.json`): so a file that was cut, replaced by an older one, or is gone is noticed.
+`record` is the whole record as its sender wrote it, and `id` the first 32 digits of its SHA-256;
+the columns before it are for readers. `chain` is the SHA-256 of the row's record and of the chain
+of the row before it. A row is never changed. How many rows there are, and the last chain, are also
+in the inbox (`collected.json`): so a file that was cut, replaced by an older one, or is gone is
+noticed.
 """
 from __future__ import annotations
 
@@ -20,11 +24,10 @@ import io
 import json
 import os
 import pathlib
-import re
-from collections.abc import Callable, Iterable, Iterator
-from typing import Any, BinaryIO, NamedTuple
+from collections.abc import Iterable
+from typing import Any, NamedTuple
 
-from tracedesk_ops import files, places, plant
+from tracedesk_ops import files, heads, inboxes, model, places, plant
 
 FILE_NAME, INBOX, COLLECTED, STATUS = "untraced.csv", "untraced", "collected.json", "untraced.json"
 HEADER = (
@@ -44,18 +47,13 @@ HEADER = (
     "record",
     "chain",
 )
-RECORD = re.compile(r"[0-9a-f]{32}\.json")
+KIND = "untraced"  # of the file's heads, which the line's desk records
 HANDLING = ("MaterialsLoaded", "MaterialsSpliced", "MaterialsUnloaded")
 BEGIN = "0" * 64
 MOST_DECIDED = 1_000  # ids that the status file names
 LONGEST = (
     4 << 20
 )  # bytes of a record: a message has 1,048,576 at most, and is there as read and as it came
-MOST_WAITING = 256 << 20  # bytes of an inbox, in which nginx keeps no more then
-DECIDED, FULL = (
-    "decided",
-    "full",
-)  # the folder of decisions beside the inbox, and the file that says so
 csv.field_size_limit(LONGEST)  # a row has its record as one field
 
 
@@ -68,7 +66,9 @@ class Record(NamedTuple):
 
 
 class Book(NamedTuple):
-    """What a line's file and inbox say: records in the order in which they came, and what is wrong."""
+    """What a line's file and inbox say: records in the order in which they came, and what is
+    wrong.
+    """
 
     records: list[Record]
     faults: list[str]
@@ -107,7 +107,9 @@ def inbox_of(archive: pathlib.Path) -> pathlib.Path:
 
 
 def said(record: Record) -> list[str]:
-    """What a record says to a reader: the columns of its row up to `reason`, of which half a letter is spelled."""
+    """What a record says to a reader: the columns of its row up to `reason`, of which half a letter
+    is spelled.
+    """
     return [it.encode("utf-8", "backslashreplace").decode() for it in columns(record)]
 
 
@@ -181,16 +183,18 @@ def chained(before: str, record: Record) -> str:
 
 
 def read(archive: pathlib.Path) -> Book:
-    """The records of a line, those of its inbox last, and what is wrong with its files. Nothing is written."""
+    """The records of a line, those of its inbox last, and what is wrong with its files. Nothing is
+    written.
+    """
     rows, faults = rows_of(archive)
     inbox, known = inbox_of(archive), {it.id for it in rows}
     try:
-        waiting, wrong = waiting_in(inbox)
+        waiting = waiting_in(inbox)
     except OSError as fault:
-        waiting, wrong = [], [
-            f"{fault.filename}: it can't be read, so it isn't known whether untraced work is in it: {fault.strerror}"
-        ]
-    return Book(rows + [it for it in waiting if it.id not in known], faults + wrong)
+        wrong = f"{fault.filename}: it can't be read: is untraced work in it? {fault.strerror}"
+        waiting = Waiting({}, [], [wrong])
+    new = [it for name, it in waiting.records.items() if name not in known]
+    return Book(rows + new, faults + waiting.faults)
 
 
 def rows_of(archive: pathlib.Path) -> tuple[list[Record], list[str]]:
@@ -201,7 +205,8 @@ def rows_of(archive: pathlib.Path) -> tuple[list[Record], list[str]]:
         text = path.read_bytes() if path.exists() else b""
     except (OSError, ValueError) as fault:
         return [], [
-            f"{getattr(fault, 'filename', None) or inbox / COLLECTED}: it can't be read, so it isn't known whether work was untraced: {fault}"
+            f"{getattr(fault, 'filename', None) or inbox / COLLECTED}: it can't be read, so it"
+            f" isn't known whether work was untraced: {fault}"
         ]
     records, chains, wrong = parsed(path, text)
     if wrong:
@@ -215,11 +220,13 @@ def rows_of(archive: pathlib.Path) -> tuple[list[Record], list[str]]:
             else "is another file"
         )
         return records, [
-            f"{path}: it {why}: {inbox / COLLECTED} names {count} rows and another last one. Take it from a copy"
+            f"{path}: it {why}: {inbox / COLLECTED} names {count} rows and another last one. Take"
+            " it from a copy"
         ]
     if records and not count:
         return records, [
-            f"{inbox / COLLECTED}: it is gone, or the folder isn't there, so records may be missing: bring the folder {inbox.name} back, then call tracedesk-untraced collect"
+            f"{inbox / COLLECTED}: it is gone, or the folder isn't there, so records may be"
+            f" missing: bring the folder {inbox.name} back, then call tracedesk-untraced collect"
         ]
     return records, []
 
@@ -236,7 +243,9 @@ def collected_in(inbox: pathlib.Path) -> tuple[int, str]:
 
 
 def parsed(path: pathlib.Path, text: bytes) -> tuple[list[Record], list[str], str]:
-    """The records of a file's whole lines and their chains, and what is wrong; a last line without its end was cut off, and is none yet."""
+    """The records of a file's whole lines and their chains, and what is wrong; a last line without
+    its end was cut off, and is none yet.
+    """
     records: list[Record] = []
     chains: list[str] = []
     before = BEGIN
@@ -257,7 +266,10 @@ def parsed(path: pathlib.Path, text: bytes) -> tuple[list[Record], list[str], st
                 return (
                     records,
                     chains,
-                    f"{path}, line {rows.line_num}: it is not as it was written, nor is what follows it. Take the file from a copy",
+                    (
+                        f"{path}, line {rows.line_num}: it is not as it was written, nor is what"
+                        " follows it. Take the file from a copy"
+                    ),
                 )
             records.append(record)
             chains.append(before)
@@ -270,32 +282,35 @@ def parsed(path: pathlib.Path, text: bytes) -> tuple[list[Record], list[str], st
     return records, chains, ""
 
 
-def waiting_in(inbox: pathlib.Path) -> tuple[list[Record], list[str]]:
-    """The records in an inbox, and in the folder of decisions beside it, and what is wrong there. A decision in the inbox is none: who
-    may send may put it there."""
-    records, faults = [], []
-    for file in files_in(inbox):
+class Waiting(NamedTuple):
+    """What is in an inbox: its records by their ids, the oldest first, their files, and what is
+    wrong.
+    """
+
+    records: dict[str, Record]
+    files: list[pathlib.Path]
+    faults: list[str]
+
+
+def waiting_in(inbox: pathlib.Path) -> Waiting:
+    """What waits in an inbox, and in the folder of decisions beside it. A decision in the inbox is
+    none: who may send may put it there."""
+    records, taken, faults = [], [], []
+    for file in inboxes.files_in(inbox):
         try:
             text = file.read_bytes()
             record = record_of(text) if len(text) <= LONGEST else None
-            if record is None or record.id != file.stem:
+            if record is None or record.id != inboxes.id_of(file):
                 raise ValueError("its name is not that of its bytes")
             if (record.told["Kind"] == "decided") == (file.parent != inbox):
                 records.append(record)
+                taken.append(file)
         except FileNotFoundError:
             continue  # collected meanwhile: its row is on disk
         except (ValueError, UnicodeDecodeError, RecursionError) as fault:
             faults.append(f"{file}: {fault}: look at what its sender has of it, then move it away")
     records.sort(key=lambda it: (it.told["At"], it.id))
-    return records, faults
-
-
-def files_in(inbox: pathlib.Path) -> Iterator[pathlib.Path]:
-    """The files of records that wait, and of decisions."""
-    for folder in (inbox, inbox.parent / DECIDED):
-        for file in sorted(folder.iterdir()) if folder.is_dir() else ():
-            if RECORD.fullmatch(file.name):
-                yield file
+    return Waiting({it.id: it for it in records}, taken, faults)
 
 
 def decisions(records: Iterable[Record]) -> dict[str, Record]:
@@ -318,20 +333,49 @@ def undecided(records: list[Record]) -> list[Record]:
     return [it for it in its if is_work(it) and it.id not in decided]
 
 
+def head_of(archive: pathlib.Path) -> str:
+    """The head of the line's file, which its desk records; empty if it has no row, or is
+    damaged.
+    """
+    path = pathlib.Path(archive) / FILE_NAME
+    with contextlib.suppress(OSError):
+        chains = parsed(path, path.read_bytes())[1]
+        return heads.book_head(KIND, chains[-1]) if chains else ""
+    return ""
+
+
+def missing(archive: pathlib.Path, known: model.Heads) -> list[str]:
+    """What is wrong if the line's file has not each row that its desk has recorded: it is gone, was
+    cut, or is an older one.
+    """
+    path = pathlib.Path(archive) / FILE_NAME
+    if not known.untraced:
+        return []
+    try:
+        chains = parsed(path, path.read_bytes())[1]
+    except OSError as fault:
+        return [
+            f"{path}: it can't be read, and the desk has recorded it: {fault}. Take it from a copy"
+        ]
+    return heads.missing(path, KIND, chains, known.books)
+
+
 # --- Writing
 
 
 def collect(archive: pathlib.Path) -> tuple[list[Record], int, list[str]]:
-    """Appends what is in the inbox to the line's file. Returns its records, how many are new, and what is wrong in the inbox; a Fault where the file is damaged."""
+    """Appends what is in the inbox to the line's file. Returns its records, how many are new, and
+    what is wrong in the inbox; a Fault where the file is damaged.
+    """
     archive = pathlib.Path(archive)
     with files.held(archive):
         records, faults = rows_of(archive)
         inbox, path = inbox_of(archive), archive / FILE_NAME
         if faults and not (records and not collected_in(inbox)[0] and inbox.is_dir()):
             raise plant.Fault(faults[0])
-        waiting, wrong = waiting_in(inbox)
+        waiting = waiting_in(inbox)
         known = {it.id for it in records}
-        new = [it for it in waiting if it.id not in known]
+        new = [it for name, it in waiting.records.items() if name not in known]
         if new:
             append(path, records, new)
             plant.reached("appended")
@@ -339,30 +383,21 @@ def collect(archive: pathlib.Path) -> tuple[list[Record], int, list[str]]:
             records += new
             note(inbox, records)
             plant.reached("noted")
-        for it in waiting:
-            place_of(inbox, it).unlink(missing_ok=True)
-        limit(inbox)
-    return records, len(new), wrong
+        for file in waiting.files:
+            file.unlink(missing_ok=True)
+        return records, len(new), [*waiting.faults, *inboxes.limit(inbox)]
 
 
 def place_of(inbox: pathlib.Path, record: Record) -> pathlib.Path:
     """Where a record waits."""
-    folder = inbox.parent / DECIDED if record.told["Kind"] == "decided" else inbox
+    folder = inbox.parent / inboxes.DECIDED if record.told["Kind"] == "decided" else inbox
     return folder / f"{record.id}.json"
 
 
-def limit(inbox: pathlib.Path) -> None:
-    """Has nginx take no more where too much waits, and no record can be made of it."""
-    with contextlib.suppress(FileNotFoundError):
-        waiting = sum(it.stat().st_size for it in files_in(inbox))
-        if waiting > MOST_WAITING:
-            (inbox / FULL).touch()
-        else:
-            (inbox / FULL).unlink(missing_ok=True)
-
-
 def append(path: pathlib.Path, records: list[Record], new: list[Record]) -> None:
-    """Writes the rows of new records behind those that are there, and waits until they are on disk. What a killed call left of a row goes."""
+    """Writes the rows of new records behind those that are there, and waits until they are on disk.
+    What a killed call left of a row goes.
+    """
     before = BEGIN
     for it in records:
         before = chained(before, it)
@@ -397,7 +432,9 @@ def now() -> str:
 
 
 def decide(archive: pathlib.Path, of: str, by: str, became: str, reason: str) -> Record:
-    """Puts a decision into the inbox and collects it. Returns its record; a Fault where there is no such report of work."""
+    """Puts a decision into the inbox and collects it. Returns its record; a Fault where there is no
+    such report of work.
+    """
     records, _, _ = collect(archive)
     if of not in {it.id for it in [*refused(records), *differing(records)]}:
         raise plant.Fault(f"there is no untraced work {of}: tracedesk-untraced list has the ids")
@@ -428,7 +465,9 @@ def shown(record: Record) -> dict[str, Any]:
 
 
 def write_status(folder: pathlib.Path, records: list[Record]) -> None:
-    """Writes what the station's screens read: what is undecided, and the ids of what was decided last."""
+    """Writes what the station's screens read: what is undecided, and the ids of what was decided
+    last.
+    """
     told = {
         "At": now(),
         "Decided": list(decisions(records))[-MOST_DECIDED:],
@@ -436,51 +475,3 @@ def write_status(folder: pathlib.Path, records: list[Record]) -> None:
         "Version": 1,
     }
     files.put(pathlib.Path(folder) / STATUS, json.dumps(told) + "\n", 0o644)
-
-
-def copy(
-    archive: pathlib.Path,
-    to: pathlib.Path,
-    opened: Callable[[pathlib.Path], contextlib.AbstractContextManager[BinaryIO]],
-) -> list[str]:
-    """Copies the inbox and the file into a copy of the line, the archives of which are in its folder of that name; what is wrong with them.
-
-    The inbox goes first: a record that leaves it meanwhile is in the file by then."""
-    inbox, path = inbox_of(archive), pathlib.Path(archive) / FILE_NAME
-    names = (
-        sorted(
-            it.name for it in inbox.iterdir() if RECORD.fullmatch(it.name) or it.name == COLLECTED
-        )
-        if inbox.is_dir()
-        else []
-    )
-    decided = inbox.parent / DECIDED
-    decisions_there = [it for it in files_in(inbox) if it.parent == decided]
-    for file, copied in [
-        *((it, to / DECIDED / it.name) for it in decisions_there),
-        *((inbox / it, to / INBOX / it) for it in names),
-        (path, to / pathlib.Path(archive).name / FILE_NAME),
-    ]:
-        with contextlib.suppress(FileNotFoundError), opened(file) as source:
-            copied.parent.mkdir(mode=0o700, parents=True, exist_ok=True)
-            copied.write_bytes(source.read())
-    return read(archive).faults
-
-
-def records_of(folder: pathlib.Path, name: str = "archive") -> list[Record]:
-    """The records of a copy of the line, or of what a restore put aside, as far as they can be read."""
-    path = folder / name / FILE_NAME
-    return [
-        *(parsed(path, path.read_bytes())[0] if path.exists() else ()),
-        *waiting_in(folder / INBOX)[0],
-    ]
-
-
-def take_back(archive: pathlib.Path, records: Iterable[Record]) -> None:
-    """Puts those of these records into the inbox that the line doesn't have: so a restore loses none."""
-    inbox, known = inbox_of(archive), {it.id for it in read(archive).records}
-    for it in records:
-        if it.id not in known:
-            place = place_of(inbox, it)
-            place.parent.mkdir(exist_ok=True)
-            files.put(place, it.text + "\n", 0o644)

@@ -19,14 +19,14 @@ from lab.line import Line, table
 from lab.messages import MORNING, message
 from lab.tools import Ended, Word, strings
 from lab.waits import PATIENCE
-from tracedesk_ops import backups, catalogue, copies, plant
+from tracedesk_ops import backups, catalogue, copies, plant, store
 
 Pieces = collections.Counter[tuple[str, str]]  # of boards and designators
 
 START = '#!/bin/sh\n[ -s "{file}" ] || exit 1\n' + PLAIN_START.partition("\n")[2]
 START = START.replace('> "{file}-pid"', '>> "{file}-pids"')
 STOP = """runs() {{ kill -0 $1 2> /dev/null && grep -qsxzF "{file}" /proc/$1/cmdline; }}
-for it in $(cat "{file}-pids"); do
+for it in $(cat "{file}-pids" 2> /dev/null); do
     runs $it && kill $it && while runs $it; do sleep 0.01; done
 done
 true"""
@@ -155,11 +155,9 @@ class KilledLine(Line):
 
     def own_copies(self) -> list[pathlib.Path]:
         """Those of this line's desk; those of the base have the path of that one."""
-        return [
-            copy
-            for copy in backups.survey(self.copies)[0]
-            if pathlib.Path(backups.about(copy)["desk"]).name == self.file.name
-        ]
+        there = backups.Copies(self.copies)
+        names = {path: pathlib.Path(said["desk"]).name for path, said in there.said.items()}
+        return [copy.path for copy in there.all if names[copy.path] == self.file.name]
 
     def oldest(self) -> pathlib.Path:
         with contextlib.suppress(catalogue.CatalogueError):
@@ -213,6 +211,9 @@ class KilledLine(Line):
     def all_acknowledged(self) -> Pieces:
         return sum((line.acknowledged for line in self.lines), collections.Counter())
 
+    def known_pieces(self) -> Pieces:
+        return self.acknowledged + self.doubtful
+
     def all_doubtful(self) -> Pieces:
         return sum((line.doubtful for line in self.lines), collections.Counter())
 
@@ -237,11 +238,13 @@ class KilledLine(Line):
         lost = set(self.acknowledged) - set(told) - self.pieces_of_files()
         assert not lost, f"{when}: {sorted(lost)[:6]} are in no file"
 
-    def pieces_of_files(self) -> set[tuple[str, str]]:
-        """The pieces of each desk's file that lies in the plant but for the running one's."""
+    def pieces_of_files(self, root: "pathlib.Path | None" = None) -> set[tuple[str, str]]:
+        """The pieces of each desk's file in a folder, or of a file; else of those in the plant but
+        for the running one's."""
         found: set[tuple[str, str]] = set()
-        for path in self.folder.rglob("*"):
-            if path.parent != self.folder and catalogue.is_database(path):
+        below = root or self.folder
+        for path in [below] if below.is_file() else below.rglob("*"):
+            if (root or path.parent != self.folder) and store.is_database(path):
                 with contextlib.suppress(sqlite3.Error, copies.InUse):
                     with copies.opened(path) as database:
                         found.update(database.execute("SELECT board, designator FROM placement"))
@@ -250,7 +253,7 @@ class KilledLine(Line):
     def content(self) -> dict[str, str]:
         """Each file of the plant with its checksum; of the running desk its log may be written."""
         paths = [path for path in sorted(self.folder.rglob("*")) if path.is_file()]
-        return {str(it): catalogue.sha256_of(it) for it in paths if it.parent != self.folder}
+        return {str(it): store.sha256_of(it) for it in paths if it.parent != self.folder}
 
 
 def pieces_in(text: str) -> Pieces:

@@ -1,9 +1,10 @@
 """A point at which a tool is killed, and what holds afterwards."""
 import contextlib
-import json
 import os
+import pathlib
 import random
 import subprocess
+import tempfile
 import time
 
 from kills.line import KilledLine, pieces_in
@@ -11,7 +12,7 @@ from kills.process import Run
 from lab.tools import Ended, Word, run
 from lab.waits import wait_for
 from tracedesk_dev import postgres
-from tracedesk_ops import backups, catalogue
+from tracedesk_ops import backups, store
 
 RESTORES, READERS = ("restore", "older"), ("recall", "begin", "move")
 BESIDE = {  # what happens meanwhile
@@ -79,9 +80,7 @@ def expect_after_change(line: KilledLine, name: str) -> None:
     line.board()
     line.expect_recall("called again", must=name not in RESTORES)
     if name == "older":
-        aside = line.folder.glob(f"aside/*/{catalogue.LACKS}")
-        said = [json.loads(path.read_text()) for path in aside]
-        assert any(it["archives"] for it in said), f"nothing says which archive is aside: {said}"
+        assert "is from before the archive" in done.said, f"nothing says what it lacks: {done}"
     if name == "backup":
         commands = [backups.about(copy)["commands"] for copy in line.kept()]
         assert commands[-1] >= commands[-2], f"the newest copy is not the last one: {commands}"
@@ -90,10 +89,12 @@ def expect_after_change(line: KilledLine, name: str) -> None:
 def expect_after_reading(
     line: KilledLine, name: str, was: Ended, before: "dict[str, str] | None"
 ) -> None:
-    """A tool that changes nothing: every file is as it was, what it printed is whole or was not
-    told as done, and it does it when it is called again."""
+    """A tool that changes nothing: every file is as it was, but for an empty log beside a file that
+    was read, which the next call takes away. What it printed is whole or was not told as done, and
+    it does it when it is called again."""
     now = line.content()
     changed = {file for file, _ in before.items() ^ now.items()} if before is not None else set()
+    changed -= {file for file in changed if is_empty_log(file)}
     assert not changed, f"{changed} are other files"
     for folder in line.told.glob("made-*"):
         if folder.is_dir():
@@ -106,6 +107,13 @@ def expect_after_reading(
     done = line.begin(name).ends().expect()
     assert name == "recall" or done.out == line.wanted[name].out
     line.expect_recall("called again", must=True)
+    assert before is None or line.content() == before, "the next call leaves other files"
+
+
+def is_empty_log(file: str) -> bool:
+    """Whether a file is a log that the program has begun beside a file that it read."""
+    read = pathlib.Path(file.removesuffix("-wal"))
+    return file.endswith("-wal") and read.is_file() and not store.log_of(read)
 
 
 # --- PostgreSQL
@@ -146,6 +154,7 @@ def with_database(name: str) -> None:
     os.environ["PGDATABASE"] = "postgres"
     postgres.asked("-c", f'CREATE DATABASE "{name}" TEMPLATE older')
     os.environ["PGDATABASE"] = name
+    os.environ["TRACEDESK_SEEN"] = os.path.join(tempfile.gettempdir(), f"seen-{name}")
 
 
 def without_database(name: str) -> None:

@@ -8,15 +8,12 @@ import tempfile
 from typing import Iterator, NamedTuple
 
 import pytest
-from lab import TESTS
 from lab.line import table
 from lab.tools import Ended, Word, run, run_tool
 from tracedesk_dev import packages, postgres
 
 SQL = postgres.SQL
 EXTENSIONS = pathlib.Path("/usr/share/postgresql")
-# a dump of tables that 0.3.0 had loaded, and a later copy of the line, made by its tools
-OLDER = TESTS / "plant-0.3.0.tar.xz"
 
 
 def skip_without(*extensions: str) -> None:
@@ -73,6 +70,7 @@ class Database:
             "PGDATABASE": self.name,
             "PGUSER": "plant",
             "PGCLIENTENCODING": "UTF8",
+            "TRACEDESK_SEEN": str(self.server.folder / f"seen-{self.name}"),
         }
 
     def psql(self, *words: Word, status: int = 0) -> Ended:
@@ -119,4 +117,6 @@ def create(server: postgres.Server, name: str, schema: str = "schema", more: str
     made = Database(server, name)
     if schema:
         made.psql("-f", SQL / f"{schema}.sql")
+    if schema == "schema":  # copies of tests have the names of other days
+        made.change("ALTER TABLE line ALTER oldest SET DEFAULT '100 years'")
     return made

@@ -35,10 +35,8 @@ class Desk:
         self.start_script = file.with_name(f"{file.name}-start")
         self.pid_file = file.with_name(f"{file.name}-pid")
         self.write_start()
-        self.said, self.time = (
-            0,
-            messages.EPOCH,
-        )  # that of the messages that tests say by `say` or `more`
+        # that of the messages that tests say by `say` or `more`
+        self.said, self.time = (0, messages.EPOCH)
 
     def write_start(self) -> None:
         text = START.format(program=self.program, file=self.file, port=self.port)

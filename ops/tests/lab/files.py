@@ -55,8 +55,9 @@ def roll_over(it: model.Line, name: str = "") -> None:
     room = store.emptied(it)
     shutil.copyfile(it.desk, room / "old")
     digits = store.sha256_of(room / "old")[: model.DIGITS]
-    desk(room / "new", mark=digits)
-    store.archived(it, room / "old", room / "new", name or f"{it.name}-{digits}")
+    desk(room / "new", store.Reader().desk(it.desk).heads.uids(), mark=digits)
+    store.filed(it, room / "old", name or f"{it.name}-{digits}")
+    store.placed(it.desk, room / "new")
     store.settled(it, store.Reader())
 
 
@@ -79,7 +80,10 @@ def restore(it: model.Line, copied: pathlib.Path, stamp: str = "2026-11-25T06120
     for file, path in zip(lacked, made):
         shutil.copyfile(file.path, path)
     shutil.copyfile(its.desk, room / it.desk.name)
-    store.restored(it, made, stamp)
+    aside = store.aside_folder(it, stamp)
+    store.archives_filed(it, made)
+    store.put_aside(it, aside)
+    store.placed(it.desk, room / it.desk.name)
     store.settled(it, store.Reader())
 
 
@@ -92,3 +96,8 @@ def taken(it: model.Line) -> list[str]:
 def lacking(it: model.Line) -> int:
     """How many commands lie off the line's chain and nowhere in it."""
     return sum(off.lacking for off in store.Reader().off_chain(it))
+
+
+def first_is_missing(it: model.Line) -> bool:
+    """Whether no file of a line is begun by a sender's command, as its first one is."""
+    return all(file.mark for file in store.Reader().archives(it))

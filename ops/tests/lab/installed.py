@@ -41,7 +41,9 @@ def newer_than(deb: pathlib.Path, room: pathlib.Path) -> pathlib.Path:
 
 
 class Installed(NamedTuple):
-    """The machine, the packages, and how each block of the pages, by its place, differs from them."""
+    """The machine, the packages, and how each block of the pages, by its place, differs from
+    them.
+    """
 
     machine: Machine
     packages: Packages

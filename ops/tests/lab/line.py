@@ -8,7 +8,7 @@ from typing import Any, Callable, Iterable, Mapping, Optional
 from lab import messages
 from lab.desk import Desk, rows_of
 from lab.tools import KILL_AFTER, Ended, Word, run, run_tool, tool
-from tracedesk_ops import backups, catalogue
+from tracedesk_ops import around, backups, catalogue, store
 
 QUIET = "0.1"  # seconds without a connection, after which tools take senders for gone
 OWN_COMMANDS = """SELECT uid FROM accepted WHERE source <> 'tracedesk' AND number >
@@ -87,10 +87,12 @@ class Line(Desk):
     # --- What is there
 
     def archives(self) -> list[catalogue.Archive]:
-        return list(catalogue.read(self.catalogue))
+        """The archives, the oldest first."""
+        reader = store.Reader(believes_names=True, without_logs=True)
+        return around.Folder(self.archive, [self.name], [self.file], reader).survey().archives
 
     def archive_file(self, number: int = -1) -> pathlib.Path:
-        """The file of an archive, by its place in the catalogue."""
+        """The file of an archive, by its place in the chain."""
         return pathlib.Path(catalogue.path_of(self.catalogue, self.archives()[number]))
 
     def kept(self) -> list[pathlib.Path]:
@@ -100,14 +102,8 @@ class Line(Desk):
     def newest(self) -> pathlib.Path:
         return self.kept()[-1]
 
-    def lacks(self) -> list[pathlib.Path]:
-        """The entries of copies that were restored and lacked something."""
-        return sorted(self.archive.glob(catalogue.ENTRIES))
-
     def files(self) -> list[pathlib.Path]:
-        """The files of all archives, whose checksums are right, and of the running desk."""
-        for archive in self.archives():
-            catalogue.check(self.catalogue, archive)
+        """The files of all archives, and of the running desk."""
         return [*(catalogue.path_of(self.catalogue, it) for it in self.archives()), self.file]
 
     def uids(self) -> "collections.Counter[str]":
@@ -124,12 +120,12 @@ class Line(Desk):
 
     def expect_tidy(self, *also: str, answers: bool = True) -> None:
         """Whenever no tool is on its way nothing else lies in the folder, and the desk answers."""
-        own = {self.archive.name, self.copies.name, "aside", *also}
+        own = {self.archive.name, self.copies.name, *also}
         own |= {f"{self.file.name}{tail}" for tail in ("", "-wal", "-start", "-pid")}
         others = {path.name for path in self.folder.iterdir()} - own
         assert not others, f"there are also {others}"
-        listed = {archive.file for archive in self.archives()} | {catalogue.FILE_NAME}
-        there = {path.name for path in self.archive.glob("*") if not path.match(catalogue.ENTRIES)}
+        listed = {archive.file for archive in self.archives()} | {catalogue.FILE_NAME, "aside"}
+        there = {path.name for path in self.archive.glob("*")}
         assert (
             there <= listed
         ), f"the archive has {there - listed}, which the catalogue doesn't list"

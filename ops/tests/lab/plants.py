@@ -32,11 +32,14 @@ class WorkedLine(Line):
             self.post(part.splitlines())
         self.copy()
 
-    def copy(self) -> None:
-        """Copies the desk. A copy has its name by the second, so each gets a day of its own."""
-        self.backup().expect()
-        newest = self.newest()
-        newest.rename(newest.with_name(f"2026-03-0{len(self.kept())}T060000Z"))
+    def copy(self, status: int = 0) -> pathlib.Path:
+        """Copies the desk; 4 says that an older copy has commands that the desk lacks. A copy has
+        its name by the second, so each gets a day of its own.
+        """
+        before = set(self.kept())
+        self.backup().expect(status)
+        (new,) = set(self.kept()) - before
+        return new.rename(new.with_name(f"2026-03-0{len(before) + 1}T060000Z"))
 
     @property
     def last(self) -> pathlib.Path:

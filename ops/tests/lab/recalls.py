@@ -2,8 +2,6 @@
 from __future__ import annotations
 
 import collections
-import csv
-import io
 import pathlib
 import shutil
 import threading
@@ -223,8 +221,3 @@ def expect_boards(tables: Tables) -> None:
             "overdue": "yes" if any(it["overdue"] == "yes" for it in own) else "no",
         }
         assert {name: row[name] for name in wanted} == wanted, row["board"]
-
-
-def catalogued(file: pathlib.Path) -> set[str]:
-    """The names that a catalogue has, and its own."""
-    return {row["file"] for row in csv.DictReader(io.StringIO(file.read_text()))} | {file.name}

@@ -1,14 +1,12 @@
-"""A small line for recalls of sets of reels: two parts whose lots have the same name, and an archive."""
+"""A small line for recalls of sets of reels: two parts whose lots have the same name, and an
+archive.
+"""
 from __future__ import annotations
 
-import os
-import pathlib
-import subprocess
 from typing import Any, Iterator
 
 from lab import messages
 from lab.line import Line
-from tracedesk_ops import plant
 
 REELS = {  # by reel its part and lot
     "K-1": ("CAP", "240131"),
@@ -17,7 +15,6 @@ REELS = {  # by reel its part and lot
     "K-4": ("CAP", "L-4"),
 }
 MACHINES = {"CAP": ("M1", "C1"), "RES": ("M2", "R1")}
-STUB = pathlib.Path(__file__).with_name("set_chain.py")
 
 
 def say(word: str, uid: str, **body: Any) -> bytes:
@@ -28,7 +25,7 @@ def set_up() -> Iterator[bytes]:
     for part, (machine, designator) in MACHINES.items():
         row = {"Slot": "1", "PartNumber": part, "Designators": [designator]}
         yield say("PartDefined", f"part-{part}", PartNumber=part)
-        body = {"Product": f"B-{part}", "Machine": machine}
+        body = {"Product": "B", "Machine": machine}
         yield say("SheetDefined", f"sheet-{part}", Rows=[row], **body)
         yield say("ProductSelected", f"product-{part}", **body)
     for reel, (part, lot) in REELS.items():
@@ -40,15 +37,17 @@ def received(reel: str, part: str, lot: str) -> bytes:
     return say("ReelReceived", f"received-{reel}", **its)
 
 
-def board(reel: str, name: str, part: str = "") -> Iterator[bytes]:
-    """A board with a piece of a reel; the slot is empty before and afterwards."""
+def board(reel: str, name: str, part: str = "", uid: str = "") -> Iterator[bytes]:
+    """A board with a piece of a reel; the slot is empty before and afterwards. `uid` ends the
+    UniqueIDs, which have the board's name unless it is given."""
     machine, designator = MACHINES[part or REELS[reel][0]]
     on, its = {"Machine": machine, "Slot": "1"}, {"Machine": machine, "Board": name}
-    yield say("MaterialsLoaded", f"load-{name}", Reel=reel, **on)
-    yield say("WorkStarted", f"start-{name}", **its)
-    yield say("MaterialsInstalled", f"install-{name}", Designators=[designator], **its)
-    yield say("WorkCompleted", f"complete-{name}", **its)
-    yield say("MaterialsUnloaded", f"unload-{name}", **on)
+    end = uid or name
+    yield say("MaterialsLoaded", f"load-{end}", Reel=reel, **on)
+    yield say("WorkStarted", f"start-{end}", **its)
+    yield say("MaterialsInstalled", f"install-{end}", Designators=[designator], **its)
+    yield say("WorkCompleted", f"complete-{end}", **its)
+    yield say("MaterialsUnloaded", f"unload-{end}", **on)
 
 
 def begin(line: Line) -> None:
@@ -57,16 +56,3 @@ def begin(line: Line) -> None:
     line.accept(*set_up(), *board("K-1", "SN-1"), *board("K-2", "SN-2"))
     line.rollover().expect()
     line.accept(*board("K-3", "SN-3"), *board("K-4", "SN-4"))
-
-
-def chain_of_sets(program: pathlib.Path) -> dict[str, str]:
-    """The environment in which tracedesk-chain answers about sets of reels."""
-    below = str(plant.chain_of(str(program)))
-    text = subprocess.run([below, "--help"], stdout=subprocess.PIPE, text=True, check=True).stdout
-    if "tracedesk-chain reels" in text:
-        return {"CHAIN": below}
-    return {"CHAIN": str(STUB), "CHAIN_BELOW": below}
-
-
-def own_environment(program: pathlib.Path) -> dict[str, str]:
-    return {**os.environ, **chain_of_sets(program)}

@@ -1,21 +1,26 @@
 """Calls the tools, and looks at how they ended."""
+import contextlib
 import dataclasses
+import importlib
+import io
 import os
 import pathlib
 import resource
 import signal
 import subprocess
 import sys
+import threading
 from typing import IO, Mapping, Optional, Sequence, Union
+from unittest import mock
 
 from lab import OPS, ROOT
 
 Word = Union[str, pathlib.Path, int, float]
 
 KILLED = -signal.SIGKILL
-KILL_AFTER = (
-    "TRACEDESK_KILL_AFTER"  # the environment names the step after which a tool kills itself
-)
+# the environment names the step after which a tool kills itself
+KILL_AFTER = "TRACEDESK_KILL_AFTER"
+CALLS = threading.Lock()  # of tools in this process: each has standard output to itself
 SENDER = ROOT / "clients/python/tracedesk-send"
 
 
@@ -85,6 +90,21 @@ def run(
 def run_tool(name: str, *words: Word, env: Optional[Mapping[str, str]] = None) -> Ended:
     """Runs a tool to its end."""
     return run([tool(name), *words], env=env)
+
+
+def call_tool(name: str, *words: Word) -> Ended:
+    """Calls a tool in this process, for a test that does so hundreds of times; one at a time."""
+    main = importlib.import_module(f"tracedesk_ops.cmd.{name}").main
+    out, err = io.StringIO(), io.StringIO()
+    command = [f"tracedesk-{name}", *strings(words)]
+    with CALLS, contextlib.redirect_stdout(out), contextlib.redirect_stderr(err):
+        with mock.patch.object(sys, "argv", command), mock.patch.object(os, "nice"):
+            try:
+                status = main() or 0
+            except SystemExit as end:
+                status = end.code if isinstance(end.code, int) else 1
+                err.write(end.code if isinstance(end.code, str) else "")
+    return Ended(tuple(command), status, out.getvalue(), err.getvalue())
 
 
 def started(

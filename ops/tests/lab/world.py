@@ -14,7 +14,7 @@ from typing import Optional
 from lab.desk import log_into_file, rows_of_archive
 from lab.line import Line
 from lab.messages import parts_of
-from lab.tools import Word, run_tool
+from lab.tools import Word, call_tool
 from tracedesk_dev import shift
 from tracedesk_ops import catalogue, copies, declared
 
@@ -44,16 +44,10 @@ class ArchivedLine(Line):
                     database.execute(f"CREATE INDEX {name} ON placement ({', '.join(columns)})")
         log_into_file(self.file)
         self.file.rename(file)
-        query = "SELECT min(effective), max(effective), count(*) FROM accepted"
-        ((first, last, commands),) = rows_of_archive(file, query)
+        ((last,),) = rows_of_archive(file, "SELECT max(effective) FROM accepted")
         at: list[Word] = ["--at", catalogue.spelled(last + later)] if later else []
-        begun = run_tool("begin", file, *at).expect().out
+        begun = call_tool("begin", file, *at).expect().out
         self.feed(begun.encode().splitlines(), statuses=(0,))
-        ((pieces,),) = rows_of_archive(file, "SELECT count(*) FROM placement")
-        before = self.archived[-1].name if self.archived else ""
-        sha256 = catalogue.sha256_of(file)
-        row = (file.name, sha256, self.name, first, last, commands, pieces, before)
-        catalogue.add(self.catalogue, catalogue.Archive(*row))
         self.archived.append(file)
 
     def serve(self) -> None:

@@ -19,7 +19,6 @@ from truth.run import ROUNDS, SETTLE, SLOTS, Run
 from truth.world import BEGIN, Clock, Killed, Killer, Place
 
 LINE = "L1"
-REFUSED_NOTHING = '{"archives": [], "commands": 0}'
 TABLES = ("pieces", "untraced", "doubtful")
 COMMANDS_OF = """SELECT number, own, effective, command FROM accepted
     WHERE command LIKE ? AND command NOT LIKE 'SheetDefined%'"""
@@ -150,16 +149,16 @@ class Batch:
         self.counts["copies"] += 1
 
     def restore(self) -> None:
-        """A copy takes the desk's place, and each sender sends again what was accepted since."""
+        """A copy takes the desk's place, and each sender sends again what was accepted since. In
+        that order some of it is refused, and becomes untraced work: so a person moves the old
+        desk elsewhere, as a recall asks for."""
         expect_done(self.place.backup("--restore"))
         for run in self.runs:
             for name in run.in_any_order():
                 run.sources[name].end()
                 run.sources[name].spool.again_since(self.copied - 1)
                 run.send(name)
-        aside = self.place.folder.glob("aside/*/restore.json")
-        for lacks in (*self.place.lacks(), *aside):
-            lacks.write_text(REFUSED_NOTHING)  # what the copy lacked was sent again
+        (self.place.archive / "aside").rename(self.place.folder / "moved elsewhere")
         self.counts["restores"] += 1
 
     def roll_over(self) -> None:

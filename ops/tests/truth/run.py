@@ -6,7 +6,7 @@ from typing import Any, Optional
 from tracedesk import desk as desks
 from tracedesk import records
 from tracedesk import untraced as places
-from tracedesk_ops import doubtful
+from tracedesk_ops import story
 from truth.sources import Source
 from truth.world import BEGIN, Clock, Place
 
@@ -133,7 +133,9 @@ class Run:
         return self.random.choice(tuple(SLOTS))
 
     def swap(self, slot: str) -> None:
-        """A reel is changed, and nobody scans anything. Only a machine that names its reels can tell."""
+        """A reel is changed, and nobody scans anything. Only a machine that names its reels can
+        tell.
+        """
         if free := self.free():
             self.slots[slot] = [self.random.choice(free)]
             self.swaps += 1
@@ -161,7 +163,7 @@ class Run:
         """Somebody decides of the refused reel that it was taken off."""
         kept = self.sources["tablet"].spool
         refused = kept.why(kept.set_aside()[-1])[2]["Id"]
-        more = {"Became": doubtful.TAKEN_OFF, "Of": refused, "Reason": "saw it"}
+        more = {"Became": story.TAKEN_OFF, "Of": refused, "Reason": "saw it"}
         name, text = records.record("decided", "A. Person", Clock.text(), **more)
         if self.inbox.beside:
             self.inbox.beside.put(f"{name}.json", text)
@@ -213,9 +215,12 @@ class Run:
         self.completed = (board, start) if is_done else None
 
     def begin_anew(self) -> None:
-        """A machine that was switched off says its last start again, though the board is completed: the desk repeats its answer."""
-        if self.completed and not self.is_out["machine"] and self.random.random() < 0.1:
-            board, start = self.completed
+        """A machine that was switched off says its last start again, though the board is completed:
+        the desk repeats its answer. Not where a restored desk has refused that start since: then it
+        is a new one."""
+        board, start = self.completed or ("", b"")
+        is_known = bool(board) and bool(self.sources["machine"].start_of(board))
+        if is_known and not self.is_out["machine"] and self.random.random() < 0.1:
             self.say("machine", start)
             if self.obeys and not self.planted and self.sources["machine"].permits(self.name):
                 self.faults.append(
@@ -223,7 +228,9 @@ class Run:
                 )
 
     def look_at_obedience(self, board: str, begun: str) -> None:
-        """Pieces were placed: nothing may have been refused, neither of this board nor of a slot."""
+        """Pieces were placed: nothing may have been refused, neither of this board nor of a
+        slot.
+        """
         is_known = not any(self.is_out.values())
         if self.sources["machine"].is_refused(board, begun):
             self.faults.append(f"the machine obeys, and placed pieces of the refused {board}")

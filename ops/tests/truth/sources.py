@@ -20,7 +20,9 @@ DAY = "2026-03-02.jsonl"
 
 
 class Scanning(sender.Sender):
-    """A tablet's sender. The proxy writes each of its scans into a list, with the status of the answer."""
+    """A tablet's sender. The proxy writes each of its scans into a list, with the status of the
+    answer.
+    """
 
     scans = pathlib.Path()
 
@@ -103,7 +105,9 @@ class Source:
         return next((name for name in names if board_of(sent, name) == wanted), "")
 
     def open_slots(self, slots: set[str]) -> set[str]:
-        """The slots of which the last scan was refused, from what they were before the last one that was looked at."""
+        """The slots of which the last scan was refused, from what they were before the last one
+        that was looked at.
+        """
         answered = {name: self.spool.sent for name in disk.names_in(self.spool.sent)}
         answered.update({name: self.spool.aside for name in disk.names_in(self.spool.aside)})
         for name in sorted(name for name in answered if name > self.looked_at):
@@ -115,7 +119,9 @@ class Source:
         return slots
 
     def is_refused(self, board: str, since: str) -> bool:
-        """Whether the desk has accepted no start of a board, or refused something since that message."""
+        """Whether the desk has accepted no start of a board, or refused something since that
+        message.
+        """
         aside = disk.names_in(self.spool.aside)
         return not self.start_of(board) or any(name > since for name in aside)
 

@@ -1,4 +1,6 @@
-"""What the tables of a copy say: rows that break rules, damaged pages, things that others put there."""
+"""What the tables of a copy say: rows that break rules, damaged pages, things that others put
+there.
+"""
 from __future__ import annotations
 
 import contextlib
@@ -61,7 +63,9 @@ class Copy:
         return 2
 
     def layout(self) -> Iterator[Finding]:
-        """Missing tables and columns, a row of version that is none, and declarations that say less."""
+        """Missing tables and columns, a row of version that is none, and declarations that say
+        less.
+        """
         yield from (Finding(NO_DESK, it) for it in self.gone)
         if not any("version" in it for it in self.gone):
             rows = [
@@ -76,7 +80,10 @@ class Copy:
             ):
                 yield Finding(
                     NO_DESK,
-                    f"version has the rows {rows}, and a desk's one of 1, its version, and a greatest number from 1 to 1,000,000,000",
+                    (
+                        f"version has the rows {rows}, and a desk's one of 1, its version, and a"
+                        " greatest number from 1 to 1,000,000,000"
+                    ),
                 )
         yield from (Finding(WEAKER, it) for it in declared.weaker(self.wanted, self.there))
 
@@ -113,11 +120,15 @@ class Copy:
         yield from self.first(
             PAGE, (line for line in lines if line not in rows and not line.startswith(told))
         )
-        apart = "SELECT type, name, tbl_name FROM sqlite_schema WHERE tbl_name NOT IN (SELECT name FROM sqlite_schema WHERE type IN ('table', 'view')) ORDER BY rowid"
+        apart = (
+            "SELECT type, name, tbl_name FROM sqlite_schema WHERE tbl_name NOT IN (SELECT name FROM"
+            " sqlite_schema WHERE type IN ('table', 'view')) ORDER BY rowid"
+        )
         yield from self.first(
             PAGE,
             (
-                f"sqlite_schema: the {it['type']} {it['name']} is of {it['tbl_name']}, and there is no such table"
+                f"sqlite_schema: the {it['type']} {it['name']} is of {it['tbl_name']}, and there is"
+                " no such table"
                 for it in self.database.execute(apart)
             ),
         )
@@ -132,7 +143,8 @@ class Copy:
         yield from self.first(
             ROW,
             (
-                f"{it['table']}: the row of rowid {it['rowid']} refers to one that {it['parent']} doesn't have (REFERENCES)"
+                f"{it['table']}: the row of rowid {it['rowid']} refers to one that"
+                f" {it['parent']} doesn't have (REFERENCES)"
                 for it in rows
             ),
         )
@@ -140,30 +152,38 @@ class Copy:
     def accepted(self) -> sqlite3.Cursor:
         """The accepted commands in their order."""
         return self.database.execute(
-            "SELECT number, uid, source, own, effective, command, detail FROM accepted NOT INDEXED ORDER BY number"
+            "SELECT number, uid, source, own, effective, command, detail FROM accepted NOT INDEXED"
+            " ORDER BY number"
         )
 
 
 def looked_at(copy: Copy) -> Iterator[Finding]:
-    """All that is found in a copy by stock SQLite; where a page stops it, what it says of that, once."""
-    stopped = {}
+    """All that is found in a copy by stock SQLite."""
     for part in (copy.layout, copy.broken, copy.references, copy.pages):
-        try:
-            yield from part()
-        except UNREADABLE as fault:
-            want_room(fault)
-            stopped[str(fault)] = Finding(PAGE, f"stock SQLite can't read it whole: {fault}")
-    yield from stopped.values()
+        yield from as_far_as_readable(part())
+
+
+def as_far_as_readable(findings: Iterable[Finding]) -> Iterator[Finding]:
+    """These findings, and at a page that stops them what SQLite says of it."""
+    try:
+        yield from findings
+    except UNREADABLE as fault:
+        want_room(fault)
+        yield Finding(PAGE, f"stock SQLite can't read it whole: {fault}")
 
 
 def want_room(fault: Exception) -> None:
-    """Goes on with a fault of SQLite's that is none of the file's: there was no room for its work."""
+    """Goes on with a fault of SQLite's that is none of the file's: there was no room for its
+    work.
+    """
     if "full" in str(fault):
         raise fault
 
 
 class Other(NamedTuple):
-    """A thing of others in the file: what it is, its name, the table that it stands on, and how it is taken out."""
+    """A thing of others in the file: what it is, its name, the table that it stands on, and how it
+    is taken out.
+    """
 
     kind: str
     name: str
@@ -181,7 +201,8 @@ def others(copy: Copy) -> list[Other]:
     }
     found = []
     for kind, name, on, text in copy.database.execute(
-        "SELECT type, name, tbl_name, sql FROM sqlite_schema WHERE sql IS NOT NULL AND name NOT LIKE 'sqlite\\_%' ESCAPE '\\'"
+        "SELECT type, name, tbl_name, sql FROM sqlite_schema WHERE sql IS NOT NULL AND name NOT"
+        " LIKE 'sqlite\\_%' ESCAPE '\\'"
     ):
         if kind == "table" and name in copy.wanted or name in shadows or on in shadows:
             continue
@@ -228,7 +249,10 @@ def unproved(copy: Copy) -> str:
         )
     ]
     if copy.number != 2 or copy.gone or not any(rows[: len(it)] == it for it in declared.orders()):
-        return "the desk's tables and indexes don't come first in it, in the order in which the program makes them"
+        return (
+            "the desk's tables and indexes don't come first in it, in the order in which the"
+            " program makes them"
+        )
     for name, table in copy.wanted.items():
         if copy.there[name] != table or declared.adds(copy.database, name):
             return f"the table {name} is declared otherwise than the program declares it"
@@ -253,7 +277,9 @@ def without(copy: Copy, things: Iterable[Other], room: str) -> pathlib.Path | No
 
 
 def tried(copy: Copy, program: str, said: str, room: str) -> Iterator[Finding]:
-    """Which things of others the program doesn't take: each is tried alone, where the audit says another thing without all."""
+    """Which things of others the program doesn't take: each is tried alone, where the audit says
+    another thing without all.
+    """
     things = others(copy)
     if not things:
         return
@@ -265,7 +291,10 @@ def tried(copy: Copy, program: str, said: str, room: str) -> Iterator[Finding]:
         if audited(program, without(copy, alone, room)) != clean:
             yield Finding(
                 FOREIGN,
-                f"the {it.told()}; without all that others put into the file the audit says {clean!r}: {it.out};",
+                (
+                    f"the {it.told()}; without all that others put into the file the audit says"
+                    f" {clean!r}: {it.out};"
+                ),
             )
 
 

@@ -11,7 +11,7 @@ import subprocess
 from collections.abc import Iterator
 from typing import Any
 
-from tracedesk_ops import catalogue, copies
+from tracedesk_ops import copies, store
 from tracedesk_ops.checks.findings import (
     CUT,
     FOLDER,
@@ -29,7 +29,9 @@ from tracedesk_ops.checks.findings import (
 
 
 def holder(file: str) -> str | None:
-    """Who holds a lock that keeps the program from a file, in words; none where there is no such lock."""
+    """Who holds a lock that keeps the program from a file, in words; none where there is no such
+    lock.
+    """
     with open(file, "rb") as it:
         if not copies.is_locked(it, fcntl.F_WRLCK):
             return None
@@ -40,7 +42,9 @@ def holder(file: str) -> str | None:
 
 
 def openers(file: str) -> list[str]:
-    """The other processes that have a file open, in words. A lock of the program's names no process, so all are looked at."""
+    """The other processes that have a file open, in words. A lock of the program's names no
+    process, so all are looked at.
+    """
     wanted, found = os.stat(file), set()
     for it in pathlib.Path("/proc").glob("[0-9]*/fd/*"):
         with contextlib.suppress(OSError):
@@ -60,7 +64,9 @@ def may(user: pwd.struct_passwd | None, *tests: str) -> bool:
 
 
 def user_of(file: str) -> pwd.struct_passwd | None:
-    """Who has to be able to open a file: of root's calls the owner of its folder, else that of the file; none if it is who calls."""
+    """Who has to be able to open a file: of root's calls the owner of its folder, else that of the
+    file; none if it is who calls.
+    """
     for it in (os.path.dirname(file), file) if os.geteuid() == 0 else ():
         with contextlib.suppress(KeyError):
             if owner := os.stat(it).st_uid:
@@ -75,7 +81,10 @@ def rights(file: str, user: pwd.struct_passwd | None) -> Iterator[str]:
         for right, word in (("-r", "read"), ("-w", "write")):
             if not may(user, right, it):
                 about = os.stat(it)
-                yield f"{who} may not {word} {it}, which belongs to user {name_of(about.st_uid)} and has mode {stat.S_IMODE(about.st_mode):o}"
+                yield (
+                    f"{who} may not {word} {it}, which belongs to user {name_of(about.st_uid)} and"
+                    f" has mode {stat.S_IMODE(about.st_mode):o}"
+                )
     folder = os.path.dirname(file)
     if not os.path.lexists(log) and not may(user, "-w", folder, "-a", "-x", folder):
         yield f"{who} may not make the log in {folder}"
@@ -89,9 +98,14 @@ def name_of(number: int) -> str:
 
 
 def names(file: str) -> Iterator[str]:
-    """Other names of a file, and what stands at the name of its log and is none; the program takes neither."""
+    """Other names of a file, and what stands at the name of its log and is none; the program takes
+    neither.
+    """
     if os.stat(file).st_nlink > 1:
-        yield f"{file} has {os.stat(file).st_nlink} names (hard links), and the program opens a file of one name alone: find {os.path.dirname(file)} -samefile {file}"
+        yield (
+            f"{file} has {os.stat(file).st_nlink} names (hard links), and the program opens a file"
+            f" of one name alone: find {os.path.dirname(file)} -samefile {file}"
+        )
     if os.path.lexists(f"{file}-wal") and (
         os.path.islink(f"{file}-wal") or not os.path.isfile(f"{file}-wal")
     ):
@@ -99,9 +113,14 @@ def names(file: str) -> Iterator[str]:
 
 
 def journal(file: str) -> Iterator[str]:
-    """Whether another program was cut off while it wrote the file, in words. The log of tracedesk's is another one."""
+    """Whether another program was cut off while it wrote the file, in words. The log of tracedesk's
+    is another one.
+    """
     if os.path.exists(f"{file}-journal") and os.stat(f"{file}-journal").st_size:
-        yield f"{file}-journal holds what another program, as sqlite3, was about to change when it was cut off"
+        yield (
+            f"{file}-journal holds what another program, as sqlite3, was about to change when it"
+            " was cut off"
+        )
 
 
 def room(file: str) -> Iterator[str]:
@@ -110,7 +129,10 @@ def room(file: str) -> Iterator[str]:
     if disk.f_flag & os.ST_RDONLY:
         yield f"the disk of {file} is mounted read only"
     elif disk.f_bavail * disk.f_frsize < ROOM_OF_AN_OPENING or disk.f_files and not disk.f_favail:
-        yield f"the disk of {file} has {disk.f_bavail * disk.f_frsize:,} bytes and {disk.f_favail:,} files free"
+        yield (
+            f"the disk of {file} has {disk.f_bavail * disk.f_frsize:,} bytes and"
+            f" {disk.f_favail:,} files free"
+        )
 
 
 def outside(file: str) -> Iterator[Finding]:
@@ -127,23 +149,26 @@ def outside(file: str) -> Iterator[Finding]:
 
 def no_database(file: str) -> Finding | None:
     """Why a file can't be a database, or none."""
-    size, log = os.stat(file).st_size, catalogue.log_of(file)
+    size, log = os.stat(file).st_size, store.log_of(pathlib.Path(file))
     with open(file, "rb") as it:
         head = it.read(HEAD)
     if not size and log:
         return Finding(
             CUT,
-            f"it has no bytes, and {log.name} has {os.stat(log).st_size:,}: copy the log before anything else, since an opening empties it",
+            (
+                f"it has no bytes, and {log.name} has {os.stat(log).st_size:,}: copy the log before"
+                " anything else, since an opening empties it"
+            ),
         )
     if not size:
         return Finding(
             NO_FILE,
             "it has no bytes: feed and serve make a new desk of it, all others say NotADesk",
         )
-    if not catalogue.MAGIC.startswith(head[: len(catalogue.MAGIC)]):
+    if not store.MAGIC.startswith(head[: len(store.MAGIC)]):
         return Finding(
             NO_DATABASE,
-            f"it begins with {begins(head)!r}, and a database with {begins(catalogue.MAGIC)!r}",
+            f"it begins with {begins(head)!r}, and a database with {begins(store.MAGIC)!r}",
         )
     return (
         Finding(CUT, f"it has {size:,} bytes, which is less than a page")
@@ -154,11 +179,13 @@ def no_database(file: str) -> Finding | None:
 
 def begins(head: bytes) -> str:
     """The first letters of a database's, or what stands there."""
-    return head[: len(catalogue.MAGIC) - 1].decode("ascii", "backslashreplace")
+    return head[: len(store.MAGIC) - 1].decode("ascii", "backslashreplace")
 
 
 def cut(file: str | pathlib.Path) -> str | None:
-    """How a file is shorter than its head says, in words, or none. Where the log has pages only its head can tell."""
+    """How a file is shorter than its head says, in words, or none. Where the log has pages only its
+    head can tell.
+    """
     with open(file, "rb") as it:
         head = it.read(HEAD)
     page, pages, size = (
@@ -168,7 +195,10 @@ def cut(file: str | pathlib.Path) -> str | None:
     )
     page = 65_536 if page == 1 else page
     if page >= SMALLEST and size < page * pages:
-        return f"it has {size:,} bytes, and by its head {pages:,} pages of {page:,}, which are {page * pages:,}"
+        return (
+            f"it has {size:,} bytes, and by its head {pages:,} pages of {page:,}, which are"
+            f" {page * pages:,}"
+        )
     return None
 
 
@@ -179,7 +209,10 @@ def head_faults(file: pathlib.Path) -> Iterator[str]:
     if any(head[52:56]):
         yield "the database vacuums itself: PRAGMA auto_vacuum = 0; VACUUM"
     if head[56:60] not in (b"\0\0\0\0", b"\0\0\0\1"):
-        yield "its texts are in UTF-16: a desk's are in UTF-8, and nothing but a new file changes that"
+        yield (
+            "its texts are in UTF-16: a desk's are in UTF-8, and nothing but a new file changes"
+            " that"
+        )
 
 
 def no_file(file: str) -> Finding | None:

@@ -8,10 +8,9 @@ import re
 import shutil
 import sqlite3
 import subprocess
-import tempfile
 from collections.abc import Iterator
 
-from tracedesk_ops import declared, plant, stored
+from tracedesk_ops import declared, files, plant, stored
 from tracedesk_ops.checks.findings import Finding, LIST, NOT_COMPARED, PAGE, TABLE, UNREADABLE
 from tracedesk_ops.checks.inside import Copy, want_room
 
@@ -24,15 +23,17 @@ def free_memory() -> int:
     return int(found[1]) * 1024 if found else 0
 
 
-def place_of_new(size: int) -> tempfile.TemporaryDirectory[str]:
-    """A folder of memory where a new desk and the messages fit into it, since each command is synced; else a temporary one."""
+def place_of_new(size: int) -> files.Room:
+    """A folder of memory where a new desk and the messages fit into it, since each command is
+    synced; else a temporary one.
+    """
     fits = (
         MEMORY.is_dir()
         and os.access(MEMORY, os.W_OK)
         and shutil.disk_usage(MEMORY).free > 3 * size
         and free_memory() > 6 * size
     )
-    return tempfile.TemporaryDirectory(prefix="tracedesk-", dir=MEMORY if fits else None)
+    return files.Room(dir=MEMORY if fits else None)
 
 
 class Replay:
@@ -54,7 +55,10 @@ class Replay:
                     if row["number"] != self.count + 1:
                         self.fault = Finding(
                             LIST,
-                            f"accepted has no row of number {self.count + 1}; the next one has {row['number']}",
+                            (
+                                f"accepted has no row of number {self.count + 1}; the next one has"
+                                f" {row['number']}"
+                            ),
                         )
                         return
                     to.write(
@@ -64,7 +68,10 @@ class Replay:
             except stored.NotACommand as fault:
                 self.fault = Finding(
                     LIST,
-                    f"command {self.count + 1} is {declared.shown(row['command'])}, which is none: {fault}",
+                    (
+                        f"command {self.count + 1} is {declared.shown(row['command'])}, which is"
+                        f" none: {fault}"
+                    ),
                 )
             except UNREADABLE as fault:
                 self.fault = Finding(
@@ -91,7 +98,8 @@ class Replay:
             )
         if done.returncode not in (0, 1):
             raise plant.Fault(
-                f"a new desk in {self.desk.parent} doesn't take the commands: {done.stderr.strip() or f'status {done.returncode}'}"
+                f"a new desk in {self.desk.parent} doesn't take the commands:"
+                f" {done.stderr.strip() or f'status {done.returncode}'}"
             )
 
     def list_fault(self) -> str | None:
@@ -101,10 +109,15 @@ class Replay:
             for row, answer in zip(self.copy.accepted(), map(str.strip, answers)):
                 if answer == UNAVAILABLE:
                     raise plant.Fault(
-                        f"a new desk in {self.desk.parent} takes no more than {row['number'] - 1:,} commands"
+                        f"a new desk in {self.desk.parent} takes no more than"
+                        f" {row['number'] - 1:,} commands"
                     )
                 if row["detail"] != answer:
-                    return f"command {row['number']}, {declared.shown(row['command'])}, has the answer {declared.shown(row['detail'])}; judged again it has {declared.shown(answer)}"
+                    return (
+                        f"command {row['number']}, {declared.shown(row['command'])}, has the answer"
+                        f" {declared.shown(row['detail'])}; judged again it has"
+                        f" {declared.shown(answer)}"
+                    )
                 if tuple(row) != tuple(again := made.fetchone()):
                     return declared.unlike(self.copy.wanted["accepted"], row, again)
         return None

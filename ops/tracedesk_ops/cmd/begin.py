@@ -7,22 +7,26 @@ usage: tracedesk-begin [--at TIME] [--no-loads] FILE > begin.jsonl
 examples:
   tracedesk-begin archive/L1-20260302T0600Z-20260601T1412Z-41873 > begin.jsonl
   tracedesk-begin --at 2026-03-02T06:00:00Z desk > begin.jsonl      the old desk's clock was wrong
-  tracedesk-begin --no-loads desk > begin.jsonl                     the reels on the slots are scanned anew
+  tracedesk-begin --no-loads desk > begin.jsonl                     the reels on the slots are
+                                                                    scanned anew
 
-FILE is a desk's file that no run has open; a copy with its log is audited and read, and FILE is not changed. tracedesk-rollover does
-all of it by itself. A desk that has accepted nothing must accept each message. Then it has everything that the old one had at its last
-minute, and knows the last 1,000 UniqueIDs of each source. Standard error names what is not carried over.
+FILE is a desk's file that no run has open; a copy with its log is audited and read, and FILE is not
+changed. tracedesk-rollover does all of it by itself. A desk that has accepted nothing must accept
+each message. Then it has everything that the old one had at its last minute, and knows the last
+1,000 UniqueIDs of each source. Standard error names what is not carried over.
 
-Before the new desk takes another message, have tracedesk-chain compare both files: it is proved that the new desk answers
-as the old one would have if it prints `alike` and ends with status 0. It prints a difference after --no-loads or --at, or
-if a board is in work on the old desk; tracedesk-rollover then compares the new desk with a copy of the old one that has
-unloaded its slots, completed its boards or taken the time.
+Before the new desk takes another message, have tracedesk-chain compare both files: it is proved
+that the new desk answers as the old one would have if it prints `alike` and ends with status 0. It
+prints a difference after --no-loads or --at, or if a board is in work on the old desk;
+tracedesk-rollover then compares the new desk with a copy of the old one that has unloaded its
+slots, completed its boards or taken the time.
 
-With --at before the old desk's minute exposures keep their counted minutes, and end at that time; after it they
-run on to it. UniqueIDs begin with `begin-` and the checksum of FILE, so that the new desk names its archive.
+With --at before the old desk's minute exposures keep their counted minutes, and end at that time;
+after it they run on to it. UniqueIDs begin with `begin-` and the checksum of FILE, so that the new
+desk names its archive.
 
-Exit status: 0 done; 1 the file is no desk's or can't be carried over, or the messages can't be written; 2 bad command line;
-9 an unexpected failure.
+Exit status: 0 done; 1 the file is no desk's or can't be carried over, or the messages can't be
+written; 2 bad command line; 9 an unexpected failure.
 """
 from __future__ import annotations
 
@@ -30,7 +34,7 @@ import argparse
 import pathlib
 import sys
 
-from tracedesk_ops import carry, catalogue, plant, reader_of
+from tracedesk_ops import carry, options, plant, reader_of, store
 
 
 def words(given: list[str] | None = None) -> argparse.Namespace:
@@ -47,15 +51,15 @@ def words(given: list[str] | None = None) -> argparse.Namespace:
         action="store_true",
         help="leave the slots empty: each reel has to be loaded by a scan",
     )
-    plant.offer_program(parser)
-    return plant.find_program(parser, parser.parse_args(given))
+    options.offer_program(parser)
+    return options.find_program(parser, parser.parse_args(given))
 
 
 def begun(asked: argparse.Namespace) -> tuple[list[str], carry.Carrier]:
     """The messages, and who tells what is not in them."""
     lines, carrier = carry.begun(
         carry.judged(asked.file, asked.program),
-        catalogue.sha256_of(asked.file),
+        store.sha256_of(asked.file),
         asked.at,
         not asked.no_loads,
     )

@@ -1,4 +1,5 @@
-"""Names each fault of a desk's file with its row, and the remedy. It reads a copy, and the file is unchanged.
+"""Names each fault of a desk's file with its row, and the remedy. It reads a copy, and the file is
+unchanged.
 
 usage: tracedesk-check [FILE | --line NAME] [--program FILE] [--most N]
 
@@ -7,19 +8,24 @@ examples:
   tracedesk-check /var/backups/tracedesk/2026-11-25T061203Z/desk      the desk of a backup
   tracedesk-check /root/aside/desk --most 50       of each fault the first fifty rows
 
-What keeps the program from the file is looked for first: another process, rights of the owner of its folder, a disk
-without room, a name that the program doesn't take. Then the file is copied with its log, and of the copy is asked
+What keeps the program from the file is looked for first: another process, rights of the owner of
+its folder, a disk without room, a name that the program doesn't take. Then the file is copied with
+its log, and of the copy is asked
 
 - the answer of the program's `audit`;
 - what stock SQLite's checks say, and of each row whether it is as the tables of a desk declare;
-- where the audit finds a fault: what others put into the file, and whether the audit says so without it too;
-- and the rows that the accepted commands make, given once more to a new desk: the first command and the first rows that differ.
+- where the audit finds a fault: what others put into the file, and whether the audit says so
+  without it too;
+- and the rows that the accepted commands make, given once more to a new desk: the first command and
+  the first rows that differ.
 
-For a lawful file it also says whether the proofs about tables apply to it. Each line begins with its cause; the remedy follows.
-The new desk is made in memory (/dev/shm) where there is room for it; the copies in TMPDIR, else /tmp.
+For a lawful file it also says whether the proofs about tables apply to it. Each line begins with
+its cause; the remedy follows. The new desk is made in memory (/dev/shm) where there is room for it;
+the copies in TMPDIR, else /tmp.
 
-Exit status: 0 sound; 1 faults were found; 2 bad command line, or there is no program; 3 it can't be judged: another
-process has the file open, it can't be read, or there is no room for the copies; 9 an unexpected failure.
+Exit status: 0 sound; 1 faults were found; 2 bad command line, or there is no program; 3 it can't be
+judged: another process has the file open, it can't be read, or there is no room for the copies; 9
+an unexpected failure.
 """
 from __future__ import annotations
 
@@ -33,7 +39,7 @@ import tempfile
 from collections.abc import Iterator
 from typing import Optional
 
-from tracedesk_ops import catalogue, copies, plant, reader_of
+from tracedesk_ops import copies, files, options, places, plant, reader_of, store
 from tracedesk_ops.checks.findings import (
     ADVICE,
     CUT,
@@ -51,6 +57,7 @@ from tracedesk_ops.checks.findings import (
 from tracedesk_ops.checks.inside import (
     Copy,
     again,
+    as_far_as_readable,
     audited,
     looked_at,
     told_by,
@@ -61,7 +68,8 @@ from tracedesk_ops.checks.inside import (
 from tracedesk_ops.checks.outside import cut, head_faults, holder, no_database, no_file, outside
 from tracedesk_ops.checks.replay import free_memory, remade
 
-MEMORY_OF_A_MILLION = 270_000_000  # bytes that the program takes at most for a million placed pieces: docs/figures.md, "A file's start"
+# bytes that the program takes at most for a million pieces: docs/figures.md, "A file's start"
+MEMORY_OF_A_MILLION = 270_000_000
 COPIES = 3  # of the file, at one time
 QUIET_BYTES = 100_000_000  # a larger file is told beforehand
 # what the audit says, what was found, and whether what is proved of tables is said of the file
@@ -87,18 +95,23 @@ def memory(copy: Copy) -> Iterator[Finding]:
     if need > free_memory():
         yield Finding(
             MEMORY_SHORT,
-            f"{pieces:,} placed pieces want {need:,} bytes of memory, and {free_memory():,} are free",
+            (
+                f"{pieces:,} placed pieces want {need:,} bytes of memory, and {free_memory():,} are"
+                " free"
+            ),
         )
 
 
 def judged(asked: argparse.Namespace, file: str, room: str) -> Judged:
-    """What the audit says of a copy, all findings in it, and of a lawful one whether what is proved is said of it."""
+    """What the audit says of a copy, all findings in it, and of a lawful one whether what is proved
+    is said of it.
+    """
     first = pathlib.Path(room, "copy")
     copies.copy(file, first)
     second = pathlib.Path(room, "audited")
     copies.copy(first, second)
     said = audited(asked.program, second)
-    findings = [Finding(CUT, it)] if (it := cut(first)) and catalogue.log_of(first) is None else []
+    findings = [Finding(CUT, it)] if (it := cut(first)) and store.log_of(first) is None else []
     findings += [Finding(FOREIGN, it) for it in head_faults(first)]
     try:
         copy = Copy(first, asked.most)
@@ -112,14 +125,20 @@ def judged(asked: argparse.Namespace, file: str, room: str) -> Judged:
     with contextlib.closing(copy.database):
         findings += looked_at(copy)
         if not said.startswith("lawful"):
-            findings += deeper(asked, copy, said, room)
+            findings += as_far_as_readable(deeper(asked, copy, said, room))
+        findings = list(dict.fromkeys(findings))
         why = unproved(copy) if said.startswith("lawful") and not findings else None
     return (
         said,
         findings,
-        None
-        if why is None
-        else f"what is proved of tables is {'not ' if why else ''}said of this file{': ' if why else ''}{why}",
+        (
+            None
+            if why is None
+            else (
+                f"what is proved of tables is {'not ' if why else ''}said of this"
+                f" file{': ' if why else ''}{why}"
+            )
+        ),
     )
 
 
@@ -130,10 +149,9 @@ def deeper(asked: argparse.Namespace, copy: Copy, said: str, room: str) -> Itera
             VERSION, f"its tables are of version {copy.number}, and this program keeps version 2"
         )
     if copy.number == 1:
-        yield Finding(
-            VERSION,
-            f"migrate says of a copy: {told_by(asked.program, 'migrate', '--db', again(copy.file, pathlib.Path(room, 'migrated')))}",
-        )
+        migrated = again(copy.file, pathlib.Path(room, "migrated"))
+        told = told_by(asked.program, "migrate", "--db", migrated)
+        yield Finding(VERSION, f"migrate says of a copy: {told}")
     if not said.startswith(("NotLawful", "TableDiffers", "OtherVersion")):
         yield from tried(copy, asked.program, said, room)
     yield from remade(copy, asked.program)
@@ -156,7 +174,9 @@ def text_of(
 
 
 def checked(asked: argparse.Namespace) -> tuple[str | None, list[Finding], str | None]:
-    """What the audit says, what is found, and whether what is proved is said of the file; none of the first and the last where it wasn't audited."""
+    """What the audit says, what is found, and whether what is proved is said of the file; none of
+    the first and the last where it wasn't audited.
+    """
     file = os.path.realpath(asked.file)
     if it := no_file(file):
         return None, [it], None
@@ -183,7 +203,10 @@ def checked(asked: argparse.Namespace) -> tuple[str | None, list[Finding], str |
         more = [
             Finding(
                 UNKNOWN,
-                f"the program's audit says {said!r}, and stock SQLite finds nothing wrong: memory may have been refused, of which {free_memory():,} bytes are free",
+                (
+                    f"the program's audit says {said!r}, and stock SQLite finds nothing wrong:"
+                    f" memory may have been refused, of which {free_memory():,} bytes are free"
+                ),
             )
         ]
     return said, found + more, proved
@@ -198,7 +221,7 @@ def copied_and_judged(asked: argparse.Namespace, file: str) -> Judged:
         )
     if size > QUIET_BYTES:
         plant.tell(f"{size:,} bytes are copied and audited: some seconds, and a start's time")
-    with tempfile.TemporaryDirectory(prefix="tracedesk-") as room:
+    with files.Room() as room:
         return judged(asked, file, room)
 
 
@@ -209,15 +232,15 @@ def words() -> argparse.Namespace:
         nargs="?",
         type=pathlib.Path,
         metavar="FILE",
-        help=f"the desk's file (that of the line's set-up file, else {plant.DESK})",
+        help=f"the desk's file (that of the line's set-up file, else {places.DESK})",
     )
     reader.add_argument(
         "--line",
-        type=plant.line_name,
+        type=options.line_name,
         metavar="NAME",
         help="which line's, where several are set up",
     )
-    plant.offer_program(reader)
+    options.offer_program(reader)
     reader.add_argument(
         "--most",
         type=int,
@@ -226,10 +249,10 @@ def words() -> argparse.Namespace:
         help="how many rows of each fault are printed (3)",
     )
     if (asked := reader.parse_args()).file is None:
-        reader.set_defaults(file=plant.DESK)
-        plant.set_up(reader, db="file")
+        reader.set_defaults(file=places.DESK)
+        options.set_up(reader, db="file")
         asked = reader.parse_args()
-    plant.find_program(reader, asked)
+    options.find_program(reader, asked)
     if asked.most < 1:
         reader.error("--most is at least 1")
     return asked

@@ -1,19 +1,26 @@
-"""Tells a desk the time, by one ClockSet: for a line that is idle, while no message moves its minute.
+"""Tells a desk the time, by one ClockSet: for a line that is idle, while no message moves its
+minute.
 
-usage: tracedesk-clock [--url URL] [--synced COMMAND] [--sender FILE] [--answer FILE] [--drained FILE] [--patience SECONDS]
+usage: tracedesk-clock [--url URL] [--synced COMMAND] [--sender FILE] [--answer FILE] [--drained
+FILE] [--patience SECONDS]
 
 examples:
-  tracedesk-clock                    tracedesk-clock.timer has it done each five minutes, once that is switched on
-  tracedesk-clock --synced 'chronyc -n waitsync 1 0.5 > /dev/null && echo yes'      where the system's own flag is not kept
+  tracedesk-clock                    tracedesk-clock.timer has it done each five minutes, once that
+                                     is switched on
+  tracedesk-clock --synced 'chronyc -n waitsync 1 0.5 > /dev/null && echo yes'      where the
+                                                                                    system's own
+                                                                                    flag is not kept
   tracedesk-clock --answer -         the desk's answer is printed
 
-Nothing is sent unless the command of --synced prints yes: the desk takes the time from the message, and never goes back.
-The message is of this minute, and so is its UniqueID: sent twice within a minute it acts once. tracedesk-send sends it.
-A desk that isn't there is no loss, since the next message has the time too. During a copy or a roll-over,
-when senders must come again, nothing is sent.
+Nothing is sent unless the command of --synced prints yes: the desk takes the time from the message,
+and never goes back. The message is of this minute, and so is its UniqueID: sent twice within a
+minute it acts once. tracedesk-send sends it. A desk that isn't there is no loss, since the next
+message has the time too. During a copy or a roll-over, when senders must come again, nothing is
+sent.
 
-Exit status: 0 accepted, or senders must come again; 1 not accepted, or there was no answer; 2 bad command line;
-3 nothing was sent, since this machine's clock is not in sync; 9 an unexpected failure.
+Exit status: 0 accepted, or senders must come again; 1 not accepted, or there was no answer; 2 bad
+command line; 3 nothing was sent, since this machine's clock is not in sync; 9 an unexpected
+failure.
 """
 from __future__ import annotations
 
@@ -22,12 +29,11 @@ import pathlib
 import shutil
 import subprocess
 import sys
-import tempfile
 import time
 
-from tracedesk_ops import catalogue, files, plant, reader_of, stored
+from tracedesk_ops import catalogue, files, options, places, plant, reader_of, stored
 
-URL = f"http://127.0.0.1:{plant.PORT}"
+URL = f"http://127.0.0.1:{places.PORT}"
 SYNCED = "timedatectl show --property=NTPSynchronized --value"
 ANSWER = pathlib.Path("/run/tracedesk-clock/answer.json")
 SECONDS_FOR_SYNCED = 20
@@ -51,7 +57,8 @@ def is_synced(command: str) -> bool:
         return True
     said = " ".join((done.stdout + done.stderr).split()) or f"nothing, and status {done.returncode}"
     plant.tell(
-        f"this machine's clock is not in sync: {command!r} says {said}. Nothing is sent; see to its NTP"
+        f"this machine's clock is not in sync: {command!r} says {said}. Nothing is sent; see to"
+        " its NTP"
     )
     return False
 
@@ -64,7 +71,7 @@ def message() -> str:
 
 def sent(asked: argparse.Namespace, line: str) -> str | None:
     """The desk's answer to a message; none where tracedesk-send says why there is none."""
-    with tempfile.TemporaryDirectory(prefix="tracedesk-") as room:
+    with files.Room() as room:
         messages, answers = pathlib.Path(room, "messages"), pathlib.Path(room, "answers")
         messages.write_text(line + "\n", encoding="utf-8")
         words = [
@@ -109,14 +116,14 @@ def words() -> argparse.Namespace:
     reader.add_argument(
         "--drained",
         type=pathlib.Path,
-        default=plant.DRAINED,
+        default=options.DRAINED,
         metavar="FILE",
-        help=f"nothing is sent while it is there ({plant.DRAINED})",
+        help=f"nothing is sent while it is there ({options.DRAINED})",
     )
     reader.add_argument(
         "--patience", type=float, default=60, metavar="SECONDS", help="for the answer (60)"
     )
-    plant.set_up(reader)
+    options.set_up(reader)
     asked = reader.parse_args()
     asked.sender = shutil.which(asked.sender)
     if asked.sender is None:
@@ -144,6 +151,7 @@ def main() -> int:
         return 0
     except OSError as fault:
         plant.tell(
-            f"the desk accepted it, and its answer can't be kept: {fault}. Make room, or name another file by --answer"
+            f"the desk accepted it, and its answer can't be kept: {fault}. Make room, or name"
+            " another file by --answer"
         )
         return 1

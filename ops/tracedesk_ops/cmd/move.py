@@ -1,31 +1,40 @@
-"""Prints the messages with which a reel changes lines: those for the desk that it comes to, and that for the old one.
+"""Prints the messages with which a reel changes lines: those for the desk that it comes to, and
+that for the old one.
 
 usage: tracedesk-move REEL --from OLD --to NEW [--as NAME] [--at TIME] > arrives.jsonl
        tracedesk-move REEL --from OLD --to NEW [..] --leaving > leaves.jsonl
 
 examples:
-  tracedesk-move K-02 --from line-1/desk --to line-2/desk > arrives.jsonl            for the desk of line 2
-  tracedesk-move K-02 --from line-1/desk --to line-2/desk --leaving > leaves.jsonl   for that of line 1
-  tracedesk-move K-02 --from line-2/desk --to line-1/desk --as K-02b                 back to where its name is used up
+  tracedesk-move K-02 --from line-1/desk --to line-2/desk > arrives.jsonl            for the desk of
+                                                                                     line 2
+  tracedesk-move K-02 --from line-1/desk --to line-2/desk --leaving > leaves.jsonl   for that of
+                                                                                     line 1
+  tracedesk-move K-02 --from line-2/desk --to line-1/desk --as K-02b                 back to where
+                                                                                     its name is
+                                                                                     used up
 
-A reel that is received anew begins without exposure, so the new desk is told that it was opened as long ago as the old one
-counted. It is sealed if it is sealed. By the message for the old desk no piece of it is left there: they count as scrapped.
+A reel that is received anew begins without exposure, so the new desk is told that it was opened as
+long ago as the old one counted. It is sealed if it is sealed. By the message for the old desk no
+piece of it is left there: they count as scrapped.
 
-OLD and NEW are files of desks that no run has open, or copies, as tracedesk-backup makes. They are not changed. Run both commands
-before anything is sent; then the old desk gets its message first. A running desk may have gone on since its copy was made. So
-standard error has the answer that each desk must give: how many pieces the old desk takes off, and the reel's card at the new one.
+OLD and NEW are files of desks that no run has open, or copies, as tracedesk-backup makes. They are
+not changed. Run both commands before anything is sent; then the old desk gets its message first. A
+running desk may have gone on since its copy was made. So standard error has the answer that each
+desk must give: how many pieces the old desk takes off, and the reel's card at the new one.
 
 A refusal is on standard error, with the remedy:
   UnknownReel   the old desk has no reel of that name
   ReelEmpty     no piece is left on it
   ReelMounted   it is on a slot: take it off first
   ReelExists    the new desk had a reel of that name, and takes none a second time
-  ClockAhead    the new desk's clock is past the minute at which the reel would begin there: bake it first
+  ClockAhead    the new desk's clock is past the minute at which the reel would begin there: bake it
+                first
   TimePast      --at is before the last minute of one of the desks
   DeskFull      the new desk takes fewer commands than these
   NotADesk, NotLawful, InUse, Unreadable    of a file: each is audited
 
-Exit status: 0 done; 1 it can't be moved so, and nothing is printed; 2 bad command line; 9 an unexpected failure.
+Exit status: 0 done; 1 it can't be moved so, and nothing is printed; 2 bad command line; 9 an
+unexpected failure.
 """
 from __future__ import annotations
 
@@ -38,7 +47,7 @@ import sqlite3
 import sys
 from collections.abc import Iterable, Iterator
 
-from tracedesk_ops import carry, catalogue, copies, plant, reader_of
+from tracedesk_ops import carry, catalogue, copies, options, plant, reader_of
 
 SOURCE = "move"
 KINDS: dict[type[Exception], str] = {
@@ -63,7 +72,8 @@ def desk(path: pathlib.Path, program: str) -> carry.Archive:
         return carry.judged(path, program)
     except tuple(KINDS) as fault:
         raise NotMoved(
-            f"{next(name for its, name in KINDS.items() if isinstance(fault, its))}: {path}: {fault}"
+            f"{next(name for its, name in KINDS.items() if isinstance(fault, its))}: {path}:"
+            f" {fault}"
         ) from None
 
 
@@ -71,18 +81,21 @@ def want_at_rest(old: carry.Archive, name: str) -> None:
     """Stops where the old desk has no such reel with pieces left and on no slot."""
     if name in old.spent:
         raise NotMoved(
-            f"ReelEmpty: nothing is left of {name}: if there is, it is received by the new desk as a new reel, by a new name"
+            f"ReelEmpty: nothing is left of {name}: if there is, it is received by the new desk as"
+            " a new reel, by a new name"
         )
     if name not in old.reels:
         raise NotMoved(
-            f"UnknownReel: the old desk has no reel {name}: look at its label, and whether the copy is older than the reel"
+            f"UnknownReel: the old desk has no reel {name}: look at its label, and whether the copy"
+            " is older than the reel"
         )
     for (machine, slot), tape in old.tapes.items():
         if any(it.reel == name for it in tape):
             work = [board for at, board in old.in_work if at == machine]
             first = f"complete board {work[0]}, which is in work there, " if work else ""
             raise NotMoved(
-                f"ReelMounted: {name} is on {machine}, slot {slot}: {first}unload it, and take a new copy of the old desk"
+                f"ReelMounted: {name} is on {machine}, slot {slot}: {first}unload it, and take a"
+                " new copy of the old desk"
             )
 
 
@@ -95,17 +108,21 @@ def want_new(new: carry.Archive, name: str) -> None:
             else "of which nothing is left"
         )
         raise NotMoved(
-            f"ReelExists: the new desk has a reel {name}, {left}: if it is another one, or was there before, label it anew and say that by --as"
+            f"ReelExists: the new desk has a reel {name}, {left}: if it is another one, or was"
+            " there before, label it anew and say that by --as"
         )
 
 
 def end_of(asked: argparse.Namespace, old: carry.Archive, new: carry.Archive) -> int:
-    """The minute at which the move is done: the later one of the desks' last minutes, or that of --at."""
+    """The minute at which the move is done: the later one of the desks' last minutes, or that of
+    --at.
+    """
     last: int = max(old.minute, -1 if new.minute is None else new.minute)
     if asked.at is not None and asked.at < last:
         whose = "old" if old.minute == last else "new"
         raise NotMoved(
-            f"TimePast: --at is {catalogue.spelled(asked.at)}, and the {whose} desk is at {catalogue.spelled(last)}: name the present time"
+            f"TimePast: --at is {catalogue.spelled(asked.at)}, and the {whose} desk is at"
+            f" {catalogue.spelled(last)}: name the present time"
         )
     return last if asked.at is None else int(asked.at)
 
@@ -115,14 +132,21 @@ def want_time(new: carry.Archive, reel: carry.Reel, end: int) -> None:
     exposure = reel.exposure(end)
     if new.minute is None or end - exposure >= new.minute:
         return
-    told = f"has been out for {exposure} minutes, so it has to begin at {carry.spelled(end - exposure)}, and the new desk is at {carry.spelled(new.minute)}"
+    told = (
+        f"has been out for {exposure} minutes, so it has to begin at"
+        f" {carry.spelled(end - exposure)}, and the new desk is at {carry.spelled(new.minute)}"
+    )
     wait = (
         ""
         if reel.is_open()
-        else f". Or leave the new desk as it is until {catalogue.spelled(new.minute + exposure)}, and say that by --at"
+        else (
+            f". Or leave the new desk as it is until {catalogue.spelled(new.minute + exposure)},"
+            " and say that by --at"
+        )
     )
     raise NotMoved(
-        f"ClockAhead: {reel.reel} {told}: bake it, tell the old desk so (ReelBaked), and take a new copy of it{wait}"
+        f"ClockAhead: {reel.reel} {told}: bake it, tell the old desk so (ReelBaked), and take a new"
+        f" copy of it{wait}"
     )
 
 
@@ -138,7 +162,8 @@ def arrival(
     carry.Carrier(alone, messages, end, loads=False).all()
     if new.commands + len(messages.lines) > new.greatest:
         raise NotMoved(
-            f"DeskFull: the new desk has {new.commands} of {new.greatest} commands: begin a new one there (tracedesk-rollover)"
+            f"DeskFull: the new desk has {new.commands} of {new.greatest} commands: begin a new one"
+            " there (tracedesk-rollover)"
         )
     return reel
 
@@ -146,7 +171,9 @@ def arrival(
 def notes(reel: carry.Reel, new: carry.Archive, end: int) -> Iterator[str]:
     """What to look at once the new desk was told."""
     if new.minute is not None and new.minute < end:
-        yield f"the new desk's clock goes from {carry.spelled(new.minute)} on to {carry.spelled(end)}"
+        yield (
+            f"the new desk's clock goes from {carry.spelled(new.minute)} on to {carry.spelled(end)}"
+        )
     limit, left = reel.limit(), reel.remaining
     life = "unlimited" if limit is None else str(max(0, limit - reel.exposure(end)))
     if reel.waits_for_its_bake():
@@ -158,7 +185,10 @@ def notes(reel: carry.Reel, new: carry.Archive, end: int) -> Iterator[str]:
     )
     yield f"the new desk's card of it has to be: {card.getvalue()}"
     if reel.runs():
-        yield "more minutes left there mean that its clock had gone on since the copy: then bake the reel, and tell that desk so"
+        yield (
+            "more minutes left there mean that its clock had gone on since the copy: then bake the"
+            " reel, and tell that desk so"
+        )
 
 
 def prefix(asked: argparse.Namespace, old: carry.Archive) -> str:
@@ -180,7 +210,8 @@ def moved(asked: argparse.Namespace) -> tuple[list[str | carry.Setup], Iterable[
     leaves = carry.Messages(f"{prefix(asked, old)}-left", SOURCE)
     leaves.say(old.minute, "CountsTaken", Counts=[{"Reel": asked.reel, "Quantity": 0}])
     return leaves.lines, [
-        f"the old desk has to answer Taken {reel.remaining}, its pieces; it takes no reel of the name {asked.reel} again"
+        f"the old desk has to answer Taken {reel.remaining}, its pieces; it takes no reel of the"
+        f" name {asked.reel} again"
     ]
 
 
@@ -215,15 +246,18 @@ def words(given: list[str] | None = None) -> argparse.Namespace:
         "--at",
         type=carry.minute_of,
         metavar="TIME",
-        help="the present time, as 2026-03-02T06:00:00Z, where both desks' last minutes are earlier (the later one of these)",
+        help=(
+            "the present time, as 2026-03-02T06:00:00Z, where both desks' last minutes are earlier"
+            " (the later one of these)"
+        ),
     )
     reader.add_argument(
         "--leaving",
         action="store_true",
         help="print the message for the old desk, in the place of those for the new one",
     )
-    plant.offer_program(reader)
-    asked = plant.find_program(reader, reader.parse_args(given))
+    options.offer_program(reader)
+    asked = options.find_program(reader, reader.parse_args(given))
     if asked.old.exists() and asked.new.exists() and asked.old.samefile(asked.new):
         reader.error(f"{asked.old} and {asked.new} are one file: name the desks of two lines")
     return asked
@@ -237,7 +271,8 @@ def main() -> None:
         sys.exit(f"{plant.NAME}: {fault}")
     except plant.Fault as fault:
         sys.exit(
-            f"{plant.NAME}: the messages can't be written: {fault}: send none of them, make room, and call it again"
+            f"{plant.NAME}: the messages can't be written: {fault}: send none of them, make room,"
+            " and call it again"
         )
     for note in told:
         plant.tell(note)

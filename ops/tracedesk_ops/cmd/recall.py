@@ -1,63 +1,87 @@
-"""Recalls lots, a board or reels over the running desks of lines and all archives of their catalogues.
+"""Recalls lots, a board or reels over the running desks of lines and all archives of their
+catalogues.
 
 usage: tracedesk-recall lot NAME.. [--part PART] [OPTION]..
        tracedesk-recall board NAME [OPTION]..
        tracedesk-recall reel NAME.. [OPTION]..
        tracedesk-recall where ATTRIBUTE=VALUE.. [OPTION]..
 options:                [--line LINE URL CATALOGUE].. [--lines FILE]
-                        [--show TABLE] [--shipped FILE] [--customer NAME] [--html FILE] [--evidence FOLDER] [--key FILE | --unsigned]
-                        [--cacert FILE] [--netrc FILE] [--archives-only] [--quick]
+                        [--show TABLE] [--shipped FILE] [--customer NAME] [--html FILE] [--evidence
+                        FOLDER] [--key FILE | --unsigned] [--cacert FILE] [--netrc FILE]
+                        [--archives-only]
 
 examples:
-  tracedesk-recall lot L-77            of the lines that are set up on this machine, by /etc/tracedesk/LINE.conf
-  tracedesk-recall lot L-77 --quick    a first look at them
+  tracedesk-recall lot L-77            of the lines that are set up on this machine, by
+                                       /etc/tracedesk/LINE.conf
   tracedesk-recall lot L-77 L-78 --part CAP-100N
   tracedesk-recall where date_code=2614 part=CAP-100N
   tracedesk-recall lot L-77 --line L1 http://127.0.0.1:8080 /var/lib/tracedesk/archive/catalogue.csv
-  tracedesk-recall lot L-77 --lines lines.csv --shipped shipped.csv --html L-77.html --evidence recalls/L-77 > boards.csv
+  tracedesk-recall lot L-77 --lines lines.csv --shipped shipped.csv --html L-77.html --evidence
+  recalls/L-77 > boards.csv
   tracedesk-recall board SN-117 --archives-only --line L1 - archive/catalogue.csv      no desk runs
   tracedesk-recall reel K-01 --lines lines.csv --show reels
+  tracedesk-recall lot L-77 --line L1 ssh:line-1 - --line L2 ssh:line-2 -              two lines on
+                                                                                       computers of
+                                                                                       their own
 
-tracedesk-chain reads a line's archives, once the checksum of each is that of its line, and answers only if they are a chain. Each
-file names the archive from which its desk was begun, and the running desk is asked for that too, by a message that it always refuses.
-So a missing archive, or a URL of another desk, is reported. Standard error says who could not be asked, and why: then the answer may
-lack boards. tracedesk-chain is the one next to tracedesk, or that of CHAIN in the environment. Archives that the caller can't write,
-or another one has, are copied for it into TMPDIR.
+tracedesk-chain reads a line's archives, once the checksum of each is that of its line, and answers
+only if they are a chain. Each file names the archive from which its desk was begun, and the running
+desk is asked for that too, by a message that it always refuses. So a missing archive, or a URL of
+another desk, is reported. Standard error says who could not be asked, and why: then the answer may
+lack boards. tracedesk-chain is the one next to tracedesk, or that of CHAIN in the environment.
+Archives that the caller can't write, or another one has, are copied for it into TMPDIR.
 
-A lot is only its name: --part PART leaves out other parts that came in a lot of that name. A reel that changed lines is followed under
-its other names. ATTRIBUTE is reel, part, lot, date_code, supplier, maker_part or order, as tracedesk-reels keeps them. If it is named
-twice, a reel has one of the values. A reel whose attributes nobody gave may be one of them: it is named, and the status is 3.
+A lot is only its name: --part PART leaves out other parts that came in a lot of that name. A reel
+that changed lines is followed under its other names. ATTRIBUTE is reel, part, lot, date_code,
+supplier, maker_part or order, as tracedesk-reels keeps them. If it is named twice, a reel has one
+of the values. A reel whose attributes nobody gave may be one of them: it is named, and the status
+is 3.
 
---line          a line's name, the URL of its running desk (`-` where none runs), and the path of its catalogue: where the
-                line was never rolled over, the path that it will have
---lines FILE    the same of several lines: a CSV file of the header line,url,catalogue; paths are from its folder on.
-                A fourth column, machines, may name a line's machines, with `;` between them: their slots are looked at
+--line          a line's name, the URL of its running desk (`-` where none runs), and the path of
+                its catalogue: where the line was never rolled over, the path that it will have
+                A line on another computer has the URL ssh:HOST or ssh:USER@HOST, here or in its
+                set-up file, and the catalogue `-`:
+                tracedesk-recall is run there for all lines of that computer, and each answer has to
+                be complete
+--lines FILE    the same of several lines: a CSV file of the header line,url,catalogue; paths are
+                from its folder on. A fourth column, machines, may name a line's machines, with `;`
+                between them: their slots are looked at
 --show TABLE    the table to print as CSV; without it pieces of a board, and boards of a lot or reel
-  boards        of each board its pieces, the first and last minute, the lines, overdue, and the files they lie in
-  pieces        each piece: line, file, designator, part, lot, reel, machine, slot, overdue, and when it was placed
+  boards        of each board its pieces, the first and last minute, the lines, overdue, and the
+                files they lie in
+  pieces        each piece: line, file, designator, part, lot, reel, machine, slot, overdue, and
+                when it was placed
   reels         of the lot or reel the pieces left, in stock or mounted, and the minute
   asked         the desks and archives: which were asked, and why the others were not
-  untraced      work that the desks refused, on any reel: its pieces are in no trace; with the decisions about it
-  doubtful      pieces of the lot, reel or board that may be of another reel: a load, splice or unload came late or was refused
+  untraced      work that the desks refused, on any reel: its pieces are in no trace; with the
+                decisions about it
+  doubtful      pieces of the lot, reel or board that may be of another reel: a load, splice or
+                unload came late or was refused
 --shipped FILE  a CSV file with the columns board,customer,date, which the boards have then
---customer NAME  with --shipped and --evidence: the evidence has the serials of this customer alone, also those that hold no
+--customer NAME  with --shipped and --evidence: the evidence has the serials of this customer alone,
+                 also those that hold no
                 piece, and nothing of other boards; a serial that no line knows makes it incomplete
 --html FILE     one page to print, with all of it
---evidence FOLDER  all of it as CSV and HTML, the desks' answers, the catalogues, a certificate, checksums and a signature:
-                tracedesk-verify verifies it
---key FILE      the private key that signs the evidence, as ssh-keygen makes it; without it the `key` of the line's set-up file
+--evidence FOLDER  all of it as CSV and HTML, the desks' answers, the catalogues, a certificate,
+                   checksums and a signature:
+                tracedesk-verify verifies it. With `-` it goes to standard output as a tar, in place
+                of the table, for the lines of this computer alone: so another one asks. Its
+                evidence has that tar
+--key FILE      the private key that signs the evidence, as ssh-keygen makes it; without it the
+                `key` of the line's set-up file
 --unsigned      the evidence is not signed, and its certificate says so
 --cacert FILE   the certificate of an https URL, or of its signer
 --netrc FILE    the users and passwords of the URLs
 --archives-only lets a line have no running desk; without it `-` for a URL ends with status 3
---quick         a first look at the archives, by SQL and checksums without the proof; the status is 3 then
 
-FILE of --html and FOLDER must not be there yet. Each gets its name once it is whole. A running desk reports no minutes, and lists no
-reels of a lot: its file has both, if the line's set-up names it, or it is next to the folder of its archives.
+FILE of --html and FOLDER must not be there yet. Each gets its name once it is whole. A running desk
+reports no minutes, and lists no reels of a lot: its file has both, if the line's set-up names it,
+or it is next to the folder of its archives.
 
-Exit status: 0 all were asked; 1 all were asked, and none knows the name; 2 bad command line, or a list that can't be
-read; 3 not all were asked, the archives are no chain, pieces are counted twice, or nobody decided about untraced work; 4 the
-answer can't be written; 5 all were asked, and pieces are doubtful; 9 an unexpected failure.
+Exit status: 0 all were asked; 1 all were asked, and none knows the name; 2 bad command line, or a
+list that can't be read; 3 not all were asked, the archives are no chain, pieces are counted twice,
+or nobody decided about untraced work; 4 the answer can't be written; 5 all were asked, and pieces
+are doubtful; 9 an unexpected failure.
 """
 from __future__ import annotations
 
@@ -71,14 +95,13 @@ import re
 import ssl
 import stat
 import sys
-import tempfile
 import urllib.parse
-from collections.abc import Iterable, Iterator, Sequence
+from collections.abc import Callable, Iterable, Iterator, Sequence
 from typing import Any, NoReturn
 
 from tracedesk.desk import checked_url
-from tracedesk_ops import carry, catalogue, chains, plant, reader_of
-from tracedesk_ops.recalls import customers, sets, signing
+from tracedesk_ops import carry, catalogue, chains, files, options, places, plant, reader_of
+from tracedesk_ops.recalls import customers, hosts, sets, signing
 from tracedesk_ops.recalls.certificate import bytes_of, programs
 from tracedesk_ops.recalls.desk import Desk, Line, Question
 from tracedesk_ops.recalls.evidence import (
@@ -103,14 +126,17 @@ def stop(text: str, status: int = 2) -> NoReturn:
 def rows_of(
     path: pathlib.Path, header: Sequence[str], more: Sequence[str] = ()
 ) -> Iterator[list[str]]:
-    """The rows of a CSV file that has the columns of a header, and may have more; the tool stops where it can't be read."""
+    """The rows of a CSV file that has the columns of a header, and may have more; the tool stops
+    where it can't be read.
+    """
     try:
         rows = csv.DictReader(
             io.StringIO(read_once(path).decode("utf-8-sig"), newline=""), strict=True
         )
         if lacking := [it for it in header if it not in (rows.fieldnames or [])]:
             stop(
-                f"{path}: it has no column {', '.join(lacking)}: its first line is {','.join(header)}"
+                f"{path}: it has no column {', '.join(lacking)}: its first line is"
+                f" {','.join(header)}"
             )
         for row in rows:
             if None in row or None in row.values():
@@ -139,26 +165,32 @@ def lines_of(words: argparse.Namespace) -> list[Line]:
                 "",
                 pathlib.Path(it["db"]),
             )
-            for it in plant.set_ups()
+            for it in options.set_ups()
         ]
+        if words.evidence != hosts.PRINTED:  # else another computer asks, for its own answer
+            told += [(pathlib.Path(), it.line, it.url, "-", "", None) for it in places.elsewhere()]
     lines: list[Line] = []
     seen: dict[tuple[str, Any], str] = {}
     for folder, name, url, path, machines, desk in told:
-        if path in ("", "-"):
+        host = hosts.host_of(url)
+        if path in ("", "-") and not host:
             stop(
-                f"the line {name} has no catalogue: name the path that it has, or will have, as archive/catalogue.csv beside the desk's file"
+                f"the line {name} has no catalogue: name the path that it has, or will have, as"
+                " archive/catalogue.csv beside the desk's file"
             )
         at = pathlib.Path(os.path.abspath(folder / path))  # a link stays one, as in each tool
-        if is_folder(at):
+        if is_folder(at) and not host:
             stop(
-                f"{at} is a folder: name the catalogue of the line {name}, as {at}/{catalogue.FILE_NAME}"
+                f"{at} is a folder: name the catalogue of the line {name}, as"
+                f" {at}/{catalogue.FILE_NAME}"
             )
         it = Line(
             name,
-            "" if url == "-" else url,
+            "" if url == "-" or host else url,
             at,
             tuple(filter(None, map(str.strip, machines.split(";")))),
             desk,
+            host,
         )
         try:
             place = place_of(it.url) if it.url else None
@@ -178,12 +210,15 @@ def lines_of(words: argparse.Namespace) -> list[Line]:
             stop("a line has no name")
         lines.append(it)
     return lines or stop(
-        f"no line is named, and none is set up in {plant.SET_UP}: --line NAME URL CATALOGUE, or --lines FILE"
+        f"no line is named, and none is set up in {places.FOLDER}: --line NAME URL CATALOGUE, or"
+        " --lines FILE"
     )
 
 
 def is_folder(path: pathlib.Path) -> bool:
-    """Whether a folder is there. What no path can be, as links in a circle, is an OSError or a ValueError."""
+    """Whether a folder is there. What no path can be, as links in a circle, is an OSError or a
+    ValueError.
+    """
     try:
         return stat.S_ISDIR(os.stat(path).st_mode)
     except (FileNotFoundError, NotADirectoryError):
@@ -228,7 +263,9 @@ def users_of(path: pathlib.Path | None) -> netrc.netrc | None:
 
 
 def context_of(path: pathlib.Path | None, lines: Iterable[Line]) -> ssl.SSLContext | None:
-    """By which certificates https URLs are known; none where no URL is one, since reading them takes time."""
+    """By which certificates https URLs are known; none where no URL is one, since reading them
+    takes time.
+    """
     try:
         return (
             ssl.create_default_context(cafile=path)
@@ -261,13 +298,16 @@ def parse() -> argparse.Namespace:
         ("netrc", "FILE"),
     ):
         parser.add_argument(f"--{option}", type=pathlib.Path, metavar=metavar)
-    for option in ("archives-only", "quick", "unsigned"):
+    for option in ("archives-only", "unsigned"):
         parser.add_argument(f"--{option}", action="store_true")
     parser.add_argument("--customer", metavar="NAME")
     parser.add_argument(
         "--program",
         default=os.environ.get("PROGRAM", "tracedesk"),
-        help="the program whose version is recorded; else PROGRAM in the environment, or tracedesk on the path",
+        help=(
+            "the program whose version is recorded; else PROGRAM in the environment, or tracedesk"
+            " on the path"
+        ),
     )
     words = parser.parse_args()
     if words.kind == "board" and len(words.names) > 1:
@@ -286,11 +326,15 @@ def parse() -> argparse.Namespace:
     if words.key and words.unsigned:
         stop("--key signs the evidence, and --unsigned doesn't: say one of them")
     for path in (words.html, words.evidence):
-        if path and (os.path.lexists(path) or not os.path.isdir(path.absolute().parent)):
+        if path not in (None, hosts.PRINTED) and (
+            os.path.lexists(path) or not os.path.isdir(path.absolute().parent)
+        ):
             stop(
-                f"{path}: it is there already, and nothing is overwritten"
-                if os.path.lexists(path)
-                else f"{path}: there is no folder for it",
+                (
+                    f"{path}: it is there already, and nothing is overwritten"
+                    if os.path.lexists(path)
+                    else f"{path}: there is no folder for it"
+                ),
                 4,
             )
     return words
@@ -302,17 +346,17 @@ def key_of(words: argparse.Namespace) -> pathlib.Path | None:
         return None
     if words.key:
         return pathlib.Path(words.key)
-    keys = sorted({its["key"] for its in plant.set_ups() if "key" in its})
+    keys = sorted({its["key"] for its in options.set_ups() if "key" in its})
     if len(keys) > 1:
         stop(
-            f"the set-up files in {plant.SET_UP} name the keys {', '.join(keys)}: say one by --key"
+            f"the set-up files in {places.FOLDER} name the keys {', '.join(keys)}: say one by --key"
         )
     return pathlib.Path(keys[0]) if keys else None
 
 
 def main() -> int:
     words = parse()
-    with tempfile.TemporaryDirectory(prefix="tracedesk-") as room:
+    with files.Room() as room:
         return answer(words, pathlib.Path(room))
 
 
@@ -323,6 +367,42 @@ def listed_in(room: pathlib.Path, question: Question) -> pathlib.Path:
     path.write_bytes(listing(question))
     path.chmod(0o644)
     return path
+
+
+def asked(
+    words: argparse.Namespace,
+    lines: list[Line],
+    desk_of: Callable[[Line], Desk],
+    room: pathlib.Path,
+) -> tuple[Recall, list[sets.Move]]:
+    """The recall of all lines, and the moves of reels that they know. If another computer knows
+    more names of a reel that moved, all are asked again, by all of its names.
+    """
+    here, kind, names = [line for line in lines if not line.host], words.kind, list(words.names)
+    while True:
+        its = sets.question_of(kind, names, words.part or "", here)
+        is_alone = len(here) == len(lines)
+        if is_alone and words.evidence != hosts.PRINTED and not its.question.names():
+            for text in (*(f"NOT ASKED: {why}" for why in its.faults), *its.notes):
+                plant.tell(text)
+            stop(f"no reel is one of {its.question.name}", 3 if its.faults else 1)
+        there = hosts.Asking(lines, [kind, *names, *(["--part", words.part] if words.part else [])])
+        chain = chains.Asker(words.program, its.question.words(listed_in(room, its.question)))
+        recall = Recall(its.question, lines, desk_of, chain, words.archives_only, there.take)
+        recall.faults += its.faults
+        recall.notes += its.notes
+        recall.ask()
+        those, more = there.names(its)
+        if kind != "reel" or not more:
+            break
+        names = [*names, *more]
+    recall.faults += [f"the reel {name} has moved: ask for it by this name too" for name in more]
+    known = its.known
+    if known and words.evidence == hosts.PRINTED:
+        recall.notes += known.away(those)
+    elif known:
+        recall.faults += known.away([*those, *more])
+    return recall, list(known.moves()) if known else []
 
 
 def answer(words: argparse.Namespace, room: pathlib.Path) -> int:
@@ -339,27 +419,12 @@ def answer(words: argparse.Namespace, room: pathlib.Path) -> int:
     want_secrets_kept(lines, users)
     shipped = shipped_of(words.shipped) if words.shipped else None
     os.nice(NICE)
-    question, lacking, notes = sets.question_of(words.kind, words.names, words.part or "", lines)
-    if question.kind == "reels" and not question.reels:
-        for text in (*(f"NOT ASKED: {why}" for why in lacking), *notes):
-            plant.tell(text)
-        stop(f"no reel is one of {question.name}", 3 if lacking else 1)
-    recall = Recall(
-        question,
-        lines,
-        lambda line: Desk(line, context, users),
-        None
-        if words.quick
-        else chains.Asker(words.program, question.words(listed_in(room, question))),
-        words.archives_only,
-    )
-    recall.faults += lacking
-    recall.notes += notes
+    recall, moves = asked(words, lines, lambda line: Desk(line, context, users), room)
     if not words.line and not words.lines:
         recall.notes.append(
-            f"by the files of {plant.SET_UP} the lines are {', '.join(it.name for it in lines)}: one without a file there was not asked"
+            f"by the files of {places.FOLDER} the lines are {', '.join(it.name for it in lines)}:"
+            " one without a file there was not asked"
         )
-    recall.ask()
     own = None
     if words.customer:
         own = customers.narrow(recall, shipped or {}, words.customer)
@@ -374,7 +439,8 @@ def answer(words: argparse.Namespace, room: pathlib.Path) -> int:
         for it in row
     ):
         recall.notes.append(
-            "some names begin with =, +, - or @: a spreadsheet takes them for formulas unless you open the CSV files as text"
+            "some names begin with =, +, - or @: a spreadsheet takes them for formulas unless you"
+            " open the CSV files as text"
         )
     for name, texts in (
         ("NOT ASKED", recall.faults),
@@ -385,11 +451,14 @@ def answer(words: argparse.Namespace, room: pathlib.Path) -> int:
             plant.tell(f"{name}: {text}")
     for row in recall.undecided():
         plant.tell(
-            f"UNTRACED: {row[0]}: {row[4]} of board {row[3] or 'none'} on {row[2]} at {row[1]} was refused, {row[5]} at {row[6]}, and nobody decided about it (id {row[8]}). Reels: {row[9]}"
+            f"UNTRACED: {row[0]}: {row[4]} of board {row[3] or 'none'} on {row[2]} at {row[1]} was"
+            f" refused, {row[5]} at {row[6]}, and nobody decided about it (id {row[8]}). Reels:"
+            f" {row[9]}"
         )
     if recall.doubtful:
         plant.tell(
-            f"DOUBTFUL: {len(recall.doubtful)} pieces may have come from another reel: --show doubtful"
+            f"DOUBTFUL: {len(recall.doubtful)} pieces may have come from another reel: --show"
+            " doubtful"
         )
     for note in recall.notes:
         plant.tell(note)
@@ -403,6 +472,11 @@ def answer(words: argparse.Namespace, room: pathlib.Path) -> int:
                 its = customers.contents(recall, own, used, signed_by)
         if words.html:
             write_beside(words.html, bytes_of(paper))
+        if words.evidence == hosts.PRINTED:
+            its[hosts.MOVES] = bytes_of(catalogue.csv_text([hosts.MOVES_HEADER, *moves]))
+            write_evidence(room / "evidence", its, key)
+            hosts.send(room / "evidence")
+            return recall.status()
         if words.evidence:
             write_evidence(words.evidence, its, key)
             if not key:
@@ -416,6 +490,7 @@ def answer(words: argparse.Namespace, room: pathlib.Path) -> int:
         stop(f"the answer can't be written: {fault}", 4)
     if recall.faults or recall.breaks:
         plant.tell(
-            "NOT ALL WERE ASKED, or the archives are no chain, as is told above: what is printed may lack boards"
+            "NOT ALL WERE ASKED, or the archives are no chain, as is told above: what is printed"
+            " may lack boards"
         )
     return recall.status()

@@ -5,21 +5,27 @@ usage: tracedesk-recall-page serve [--socket FILE | --port PORT] [--queue FOLDER
 
 examples:
   tracedesk-recall-page serve                      as the unit does, for the proxy in front of it
-  tracedesk-recall-page work                       as the other unit does: one recall at a time, at low priority
-  tracedesk-recall-page work --once -- --lines lines.csv     other lines than those that are set up; the words are tracedesk-recall's
+  tracedesk-recall-page work                       as the other unit does: one recall at a time, at
+                                                   low priority
+  tracedesk-recall-page work --once -- --lines lines.csv     other lines than those that are set up;
+                                                             the words are tracedesk-recall's
 
-The proxy lets readers with a log-in of /etc/tracedesk/recallers in, and names them in the header X-Reader. `serve` takes their questions
-into the queue, and shows the answers. It reads no desk's file. `work` calls tracedesk-recall for each of them. A recall that is cut off,
-as by a restart, is run anew. The queue is on disk, and answers stay there until somebody deletes their folder.
+The proxy lets readers with a log-in of /etc/tracedesk/recallers in, and names them in the header
+X-Reader. `serve` takes their questions into the queue, and shows the answers. It reads no desk's
+file. `work` calls tracedesk-recall for each of them. A recall that is cut off, as by a restart, is
+run anew. The queue is on disk, and answers stay there until somebody deletes their folder.
 
 --queue   the folder of the queue (/var/lib/tracedesk-recall)
 --socket  where the proxy finds the page (/run/tracedesk-recall/socket)
---port    a port of this machine instead, for a trial without a proxy: each caller is the reader `trial`
+--port    a port of this machine instead, for a trial without a proxy: each caller is the reader
+          `trial`
 --once    ends once nothing waits
 
-The page wants python3-flask and python3-waitress. Without python3-weasyprint it has no PDF, and without python3-xlsxwriter no spreadsheet.
+The page wants python3-flask and python3-waitress. Without weasyprint it has no PDF, and without
+python3-xlsxwriter no spreadsheet.
 
-Exit status: 0 ended; 2 bad command line; 3 something that it needs is missing, and standard error says what; 9 an unexpected failure.
+Exit status: 0 ended; 2 bad command line; 3 something that it needs is missing, and standard error
+says what; 9 an unexpected failure.
 """
 from __future__ import annotations
 

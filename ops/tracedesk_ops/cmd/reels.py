@@ -1,4 +1,5 @@
-"""Keeps the attributes of reels that a desk doesn't have: date code, supplier, maker's part number, order.
+"""Keeps the attributes of reels that a desk doesn't have: date code, supplier, maker's part number,
+order.
 
 usage: tracedesk-reels add FILE --by NAME [--line NAME] [--archive FOLDER]
        tracedesk-reels list [ATTRIBUTE=VALUE].. [--line NAME] [--archive FOLDER]
@@ -6,28 +7,32 @@ usage: tracedesk-reels add FILE --by NAME [--line NAME] [--archive FOLDER]
 examples:
   tracedesk-reels add delivery.csv --by erp
   tracedesk-reels list date_code=2614 part=CAP-100N
-  tracedesk-recall where date_code=2614 part=CAP-100N      the boards with a piece of one of these reels
+  tracedesk-recall where date_code=2614 part=CAP-100N      the boards with a piece of one of these
+                                                           reels
 
-FILE is CSV. Its header names the columns: reel, and any of part, lot, date_code, supplier, maker_part and order; others are left out.
-`add` appends them to reels.csv next to the catalogue, and never changes a row: a later row of a reel takes the place of the one before
-it. A reel that is there already with the same attributes gets no row. `list` prints the newest row of each reel.
+FILE is CSV. Its header names the columns: reel, and any of part, lot, date_code, supplier,
+maker_part and order; others are left out. `add` appends them to reels.csv next to the catalogue,
+and never changes a row: a later row of a reel takes the place of the one before it. A reel that is
+there already with the same attributes gets no row. `list` prints the newest row of each reel.
 
 --by       who gives them: a person, or a program
 --line     which line's, where several are set up
---archive  the folder with the archives and the catalogue (that of the set-up file, else /var/lib/tracedesk/archive)
+--archive  the folder with the archives and the catalogue (that of the set-up file, else
+           /var/lib/tracedesk/archive)
 
-Exit status: 0 done; 1 list: no reel has these attributes; 2 bad command line, or FILE can't be read; 3 the book is damaged or
-gone, and standard error says what to do; 9 an unexpected failure.
+Exit status: 0 done; 1 list: no reel has these attributes; 2 bad command line, or FILE can't be
+read; 3 the book is damaged or gone, or a desk has recorded a row that it lacks, and standard error
+says what to do; 9 an unexpected failure.
 """
 from __future__ import annotations
 
 import argparse
 import csv
-import datetime
 import io
 import pathlib
 
-from tracedesk_ops import attributes, carry, catalogue, places, plant, reader_of
+from tracedesk_ops import around, attributes, catalogue, options, places, plant, reader_of
+from tracedesk_ops import settling, store, untraced
 from tracedesk_ops.recalls import sets
 
 DONE, NONE, BAD, DAMAGED = 0, 1, 2, 3
@@ -45,36 +50,38 @@ def reels_in(path: pathlib.Path) -> list[attributes.Reel]:
         if None in row or None in row.values():
             raise ValueError(f"line {rows.line_num} has more or fewer fields than the header")
         its = attributes.Reel(**{name: row[name].strip() for name in names})
-        try:
-            carry.identifier(its.reel)
-        except argparse.ArgumentTypeError as fault:
-            raise ValueError(f"line {rows.line_num}: {fault}") from fault
-        if long := [value for value in its if len(value) > attributes.LONGEST]:
-            raise ValueError(f"line {rows.line_num}: {long[0][:20]}.. has too many letters")
-        if any(not value.isprintable() for value in its):
-            raise ValueError(f"line {rows.line_num} has a letter that can't be printed")
+        if fault := attributes.fault_of(its):
+            raise ValueError(f"line {rows.line_num}: {fault}")
         found.append(its)
     return found
 
 
 def add(asked: argparse.Namespace) -> int:
     try:
-        new = reels_in(asked.file)
+        with plant.as_caller():
+            new = reels_in(asked.file)
     except (OSError, UnicodeDecodeError, csv.Error, ValueError) as fault:
         plant.tell(f"{asked.file}: {fault}")
         return BAD
-    now = f"{datetime.datetime.now(datetime.timezone.utc):%Y-%m-%dT%H:%M:%SZ}"
-    count = attributes.add(asked.archive, new, now, asked.by)
+    count = attributes.add(asked.archive, new, untraced.now(), asked.by)
+    settling.record(asked.archive)  # else tracedesk-untraced does, and each start
     plant.tell(f"{count} of {len(new)} reels are new or have other attributes than before")
     return DONE
 
 
 def show(asked: argparse.Namespace) -> int:
-    newest = {row.its.reel: row for row in attributes.read(asked.archive)}
+    reader = store.Reader(believes_names=True)
+    files = reader.files_in(asked.archive)
+    files += [reader.desk(db) for db in around.desks_here(asked.archive, [])]
+    recorded = [uid for file in files for uid in file.heads.books]
+    rows, faults = attributes.rows_of(asked.archive, recorded)
+    newest = {row.its.reel: row for row in rows}
     found = [row for row in newest.values() if asked.terms.take(row.its)]
     table = [[*row.its, row.at, row.by] for row in found]
     plant.write_out(catalogue.csv_text([attributes.HEADER[:-1], *table]))
-    return DONE if found else NONE
+    for fault in faults:
+        plant.tell(fault)
+    return DAMAGED if faults else DONE if found else NONE
 
 
 def parse() -> argparse.Namespace:
@@ -83,8 +90,9 @@ def parse() -> argparse.Namespace:
     reader.add_argument("words", nargs="*", metavar="FILE | ATTRIBUTE=VALUE")
     reader.add_argument("--by", metavar="NAME")
     reader.add_argument("--archive", type=pathlib.Path, default=places.HOME / "archive")
-    plant.set_up(reader)
+    options.set_up(reader)
     asked = reader.parse_args()
+    asked.archive = asked.archive.absolute()
     if asked.what == "add":
         if len(asked.words) != 1 or not asked.by:
             reader.error("add takes one FILE, and --by NAME")
@@ -104,7 +112,8 @@ def parse() -> argparse.Namespace:
 def main() -> int:
     asked = parse()
     try:
-        return add(asked) if asked.what == "add" else show(asked)
-    except (plant.Fault, OSError) as fault:
+        with plant.as_owner(asked.archive / attributes.FILE_NAME):
+            return add(asked) if asked.what == "add" else show(asked)
+    except (plant.Fault, store.LineFault, OSError) as fault:
         plant.tell(str(fault))
         return DAMAGED

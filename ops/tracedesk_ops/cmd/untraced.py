@@ -1,28 +1,39 @@
-"""Lists the work that a line's desk refused and did not trace, and keeps each person's decision about it.
+"""Lists the work that a line's desk refused and did not trace, and keeps each person's decision
+about it.
 
-usage: tracedesk-untraced collect [--every SECONDS] [--line NAME] [--status FOLDER] [--archive FOLDER]
+usage: tracedesk-untraced collect [--every SECONDS] [--line NAME] [--status FOLDER] [--archive
+FOLDER]
        tracedesk-untraced list [--all] [--line NAME] [--archive FOLDER]
-       tracedesk-untraced decide ID --by NAME --became TEXT --reason TEXT [--line NAME] [--status FOLDER] [--archive FOLDER]
+       tracedesk-untraced decide ID --by NAME --became TEXT --reason TEXT [--line NAME] [--status
+       FOLDER] [--archive FOLDER]
 
 examples:
   tracedesk-untraced collect                     once
   tracedesk-untraced collect --every 5           for ever, as the service does
   tracedesk-untraced list                        what nobody decided yet, as CSV
-  tracedesk-untraced list --all                  all of it, with the decisions, and each refused load, splice and unload
-  tracedesk-untraced decide 3f0c9a.. --by 'A. Person' --became scrapped --reason 'built with the expired reel'
+  tracedesk-untraced list --all                  all of it, with the decisions, and each refused
+                                                 load, splice and unload
+  tracedesk-untraced decide 3f0c9a.. --by 'A. Person' --became scrapped --reason 'built with the
+  expired reel'
 
-Senders put a record of each refused report of work into the line's inbox, which its set-up file names: else the folder `untraced` next
-to that of the archives. `collect` appends it to untraced.csv, next to the catalogue. A recall names each board that is in it, and ends with status 3 until somebody decided what became
-of the board. ID may be the beginning of an id, if no other has it. A refused load, splice or unload has a record too, and needs no
-decision. If a recall names pieces as doubtful because of it, and nothing was placed from that reel, decide --became 'taken off'.
+Senders put a record of each refused report of work into the line's inbox, which its set-up file
+names: else the folder `untraced` next to that of the archives. `collect` appends it to
+untraced.csv, next to the catalogue. A recall names each board that is in it, and ends with status 3
+until somebody decided what became of the board. `collect` also takes the attributes of reels out of
+their receipts, into reels.csv. ID may be the beginning of an id, if no other has it. A refused
+load, splice or unload has a record too, and needs no decision. If a recall names pieces as doubtful
+because of it, and nothing was placed from that reel, decide --became 'taken off'.
 
 --line     which line's, where several are set up
---archive  the folder with the archives and the catalogue (that of the set-up file, else /var/lib/tracedesk/archive)
---status   where collect and decide write untraced.json, which the station reads (that of the set-up file, if it is there)
---became   scrapped, reworked, used as it is, sent again, or words of your own; of a refused reel, taken off
+--archive  the folder with the archives and the catalogue (that of the set-up file, else
+           /var/lib/tracedesk/archive)
+--status   where collect and decide write untraced.json, which the station reads (that of the set-up
+           file, if it is there)
+--became   scrapped, reworked, used as it is, sent again, or words of your own; of a refused reel,
+           taken off
 
-Exit status: 0 done, and of list: nothing is undecided; 1 something is undecided; 2 bad command line; 3 a file is damaged or
-gone, and standard error says which; 9 an unexpected failure.
+Exit status: 0 done, and of list: nothing is undecided; 1 something is undecided; 2 bad command
+line; 3 a file is damaged or gone, and standard error says which; 9 an unexpected failure.
 """
 from __future__ import annotations
 
@@ -32,11 +43,12 @@ import io
 import pathlib
 import time
 
-from tracedesk_ops import places, plant, reader_of, untraced
+from tracedesk_ops import options, places, plant, reader_of, receipts, settling, untraced
 
 
 def collect(asked: argparse.Namespace) -> int:
     """Collects once, or for ever; then a fault is said, and what comes later is still taken."""
+    its = receipts.Receipts(asked.archive)
     while True:
         status = 0
         try:
@@ -48,12 +60,26 @@ def collect(asked: argparse.Namespace) -> int:
                 plant.tell(f"{count} new, {len(untraced.undecided(records))} undecided")
             tell_station(asked, records)
             status = 3 if wrong else 0
+            try:
+                if filled := its.collect():
+                    plant.tell(f"{filled} reels have attributes from their receipts")
+            finally:
+                record_heads(asked)
         except (plant.Fault, OSError, ValueError) as fault:
             plant.tell(str(fault))
             status = 3
         if not asked.every:
             return status
         time.sleep(asked.every)
+
+
+def record_heads(asked: argparse.Namespace) -> None:
+    """Lets the line's desk record the heads of its books, once for each: while it doesn't answer,
+    it is tried again.
+    """
+    stamps = settling.stamps_of(asked.archive)
+    if stamps != getattr(asked, "recorded", []) and settling.record(asked.archive):
+        asked.recorded = stamps
 
 
 def tell_station(asked: argparse.Namespace, records: list[untraced.Record]) -> None:
@@ -154,8 +180,8 @@ def main() -> int:
             it.add_argument("id", type=words_of)
             for name in ("by", "became", "reason"):
                 it.add_argument(f"--{name}", required=True, type=words_of, metavar="TEXT")
-        plant.set_up(it, status="")
+        options.set_up(it, status="")
     asked = reader.parse_args()
     asked.archive = asked.archive.absolute()
-    with plant.as_owner(asked.archive.parent / plant.DESK.name):
+    with plant.as_owner(asked.archive.parent / places.DESK.name):
         return int(asked.call(asked))

@@ -6,21 +6,24 @@ examples:
   tracedesk-verify L-77 --signers plant.signers
   tracedesk-verify L-77 --signers plant.signers --archives /var/lib/tracedesk/archive
 
-FOLDER is what tracedesk-recall --evidence wrote. Each file in it must have the checksum of SHA256SUMS, no other file may be there, and
-the signature must be by a key of FILE. Its tables must be those that its certificate names. With the archives at hand tracedesk-chain is
-asked again, and must give the same answer. A running desk has gone on since: its part is not asked again.
+FOLDER is what tracedesk-recall --evidence wrote. Each file in it must have the checksum of
+SHA256SUMS, no other file may be there, and the signature must be by a key of FILE. Its tables must
+be those that its certificate names. With the archives at hand tracedesk-chain is asked again, and
+must give the same answer. A running desk has gone on since: its part is not asked again.
 
---signers FILE     whose signatures count: lines as `plant namespaces="tracedesk-recall" ssh-ed25519 AAAA..`, which the plant gives
-                   you by another way than with the evidence
+--signers FILE     whose signatures count: lines as `plant namespaces="tracedesk-recall" ssh-ed25519
+                   AAAA..`, which the plant gives you by another way than with the evidence
 --archives FOLDER  where archives of the certificate are; may be given several times
---program FILE     tracedesk, next to which is tracedesk-chain; else PROGRAM in the environment, or tracedesk on the path
+--program FILE     tracedesk, next to which is tracedesk-chain; else PROGRAM in the environment, or
+                   tracedesk on the path
 
-Without our tools: ssh-keygen -Y verify -f FILE -I plant -n tracedesk-recall -s SHA256SUMS.sig < SHA256SUMS
+Without our tools: ssh-keygen -Y verify -f FILE -I plant -n tracedesk-recall -s SHA256SUMS.sig <
+SHA256SUMS
 and then:          sha256sum --check --strict SHA256SUMS
 
-Exit status: 0 verified; 1 refused: it is not what the plant gave, or the answer doesn't come again; 2 bad command line; 3 nothing was
-changed since it was written, and nobody knows by whom: it is unsigned, or --signers is missing, or tracedesk-chain gives no answer;
-9 an unexpected failure.
+Exit status: 0 verified; 1 refused: it is not what the plant gave, or the answer doesn't come again;
+2 bad command line; 3 nothing was changed since it was written, and nobody knows by whom: it is
+unsigned, or --signers is missing, or tracedesk-chain gives no answer; 9 an unexpected failure.
 """
 from __future__ import annotations
 
@@ -28,9 +31,8 @@ import argparse
 import os
 import pathlib
 import sys
-import tempfile
 
-from tracedesk_ops import chains, plant, reader_of
+from tracedesk_ops import chains, files, plant, reader_of
 from tracedesk_ops.recalls import signing, verifying
 from tracedesk_ops.recalls.signing import SIGNATURE, SUMS
 from tracedesk_ops.recalls.verifying import Refused
@@ -56,7 +58,9 @@ def parse() -> argparse.Namespace:
 
 
 def signed(words: argparse.Namespace) -> str:
-    """Why it isn't known who made the evidence; empty if a signer did. A Refused if none of them did."""
+    """Why it isn't known who made the evidence; empty if a signer did. A Refused if none of them
+    did.
+    """
     if words.signers:
         if not (words.folder / SIGNATURE).exists():
             raise Refused(f"it is not signed: there is no {SIGNATURE}")
@@ -80,7 +84,7 @@ def verify(words: argparse.Namespace) -> int:
         raise Refused("its certificate says that nobody signs it")
     verifying.want_pieces(contents, told)
     if words.archives:
-        with tempfile.TemporaryDirectory(prefix="tracedesk-") as room:
+        with files.Room() as room:
             its = (contents, told, words.archives, words.program, pathlib.Path(room))
             for text in verifying.again(*its):
                 plant.tell(text)

@@ -1,23 +1,31 @@
-"""Writes what there is to know of a running desk as a text file for Prometheus, whole or not at all.
+"""Writes what there is to know of a running desk as a text file for Prometheus, whole or not at
+all.
 
-usage: tracedesk-watch [--to FILE] [--port N] [--health URL] [--unit NAME] [--setup FILE] [--db FILE] [--archive FOLDER]
-                       [--backups FOLDER] [--clock FILE] [--drained FILE] [--status FOLDER] [--timeout SECONDS]
+usage: tracedesk-watch [--to FILE] [--port N] [--health URL] [--unit NAME] [--setup FILE] [--db
+FILE] [--archive FOLDER]
+                       [--backups FOLDER] [--clock FILE] [--drained FILE] [--status FOLDER]
+                       [--timeout SECONDS]
        tracedesk-watch --list
 
 examples:
-  tracedesk-watch                the file that nginx serves as /metrics; tracedesk-watch.timer has it written each minute
+  tracedesk-watch                the file that nginx serves as /metrics; tracedesk-watch.timer has
+                                 it written each minute
   tracedesk-watch --to -         prints it
-  tracedesk-watch --to /var/lib/prometheus/node-exporter/tracedesk.prom    for the textfile collector of a node exporter
+  tracedesk-watch --to /var/lib/prometheus/node-exporter/tracedesk.prom    for the textfile
+                                                                           collector of a node
+                                                                           exporter
   tracedesk-watch --list         the metrics, one a line: name, type, meaning and source
 
-The desk is asked by its own routes, a connection a request, and its file is never opened: a running desk alone has it. Each metric
-says from where its value is. Machines are those of the station's setup.json.
+The desk is asked by its own routes, a connection a request, and its file is never opened: a running
+desk alone has it. Each metric says from where its value is. Machines are those of the station's
+setup.json.
 
-A source that can't be read is named on standard error. Its metrics are left out, and tracedesk_watch_source_up says so.
-When the desk is down the file is written with tracedesk_up 0. It gives way to the new one by a rename.
+A source that can't be read is named on standard error. Its metrics are left out, and
+tracedesk_watch_source_up says so. When the desk is down the file is written with tracedesk_up 0. It
+gives way to the new one by a rename.
 
-Exit status: 0 written, whatever was found; 1 not written, and the file before it stays; 2 bad command line;
-9 an unexpected failure.
+Exit status: 0 written, whatever was found; 1 not written, and the file before it stays; 2 bad
+command line; 9 an unexpected failure.
 """
 from __future__ import annotations
 
@@ -42,15 +50,18 @@ from typing import Any
 
 from tracedesk import words as reports
 from tracedesk_ops import (
+    around,
     asking,
-    copies,
     backups,
     catalogue,
+    copies,
     files,
-    identity,
+    options,
     places,
+    model,
     plant,
     reader_of,
+    store,
     untraced,
 )
 
@@ -155,6 +166,7 @@ class Watch:
 
     def __init__(self, asked: argparse.Namespace) -> None:
         self.asked, self.desk = asked, Desk(asked.port, asked.timeout)
+        self.reader = store.Reader(believes_names=True, without_logs=True)
         self.is_up = False
 
     def tried(self, name: str, source: Samples) -> Generator[Sample, None, bool]:
@@ -269,25 +281,21 @@ class Watch:
                 return
 
     def archive(self) -> Samples:
-        path = self.asked.archive / catalogue.FILE_NAME
-        archives = catalogue.read(path)
-        gone = [its.file for its in archives if not is_there(catalogue.path_of(path, its))]
-        if gone:
-            raise plant.Fault(f"{', '.join(gone)} of {path} is gone: take it from a copy")
-        if gaps := identity.gaps(path, archives):
-            raise plant.Fault(gaps[0])
-        last = [archive for archive in archives if not archive.went_on_to]
-        begins = [uid for archive in last for uid in identity.first_uids(archive)]
-        if self.is_up and self.desk.has(identity.BEGUN) and not any(map(self.desk.has, begins)):
+        folder = self.asked.archive
+        survey = around.Folder(folder, [], None, self.reader).survey()
+        if survey.faults:
+            raise plant.Fault(survey.faults[0])
+        archives = survey.archives
+        begins = [model.first_uid(its.sha256) for its in archives if not its.went_on_to]
+        if self.is_up and self.desk.has(model.BEGUN) and not any(map(self.desk.has, begins)):
             raise plant.Fault(
-                f"{path} has no archive from which the running desk was begun: mount its disk,"
-                " or take it from a copy and call tracedesk-settle --catalogue"
+                f"{folder} has no archive from which the running desk was begun: mount its disk, or"
+                " take it from a copy"
             )
         if archives:
-            minute = catalogue.in_turn(archives)[-1].last_minute
-            yield "rollover_timestamp_seconds", 60 * minute, {}
-        yield "archive_commands", sum(archive.commands for archive in archives), {}
-        yield "archive_pieces", sum(archive.pieces for archive in archives), {}
+            yield "rollover_timestamp_seconds", 60 * archives[-1].last_minute, {}
+        yield "archive_commands", sum(its.commands for its in archives), {}
+        yield "archive_pieces", sum(placed_in(folder / its.file) for its in archives), {}
 
     def clock(self) -> Samples:
         """The answer that the idle clock had last, if one is switched on."""
@@ -383,9 +391,9 @@ def words() -> argparse.Namespace:
     reader.add_argument(
         "--port",
         type=int,
-        default=plant.PORT,
+        default=places.PORT,
         metavar="N",
-        help=f"where the desk answers ({plant.PORT})",
+        help=f"where the desk answers ({places.PORT})",
     )
     reader.add_argument(
         "--health", default=HEALTH, metavar="URL", help=f"what nginx is asked ({HEALTH})"
@@ -399,9 +407,9 @@ def words() -> argparse.Namespace:
     reader.add_argument(
         "--db",
         type=pathlib.Path,
-        default=plant.DESK,
+        default=places.DESK,
         metavar="FILE",
-        help=f"the desk's file, whose size is looked at ({plant.DESK})",
+        help=f"the desk's file, whose size is looked at ({places.DESK})",
     )
     reader.add_argument(
         "--archive",
@@ -412,9 +420,9 @@ def words() -> argparse.Namespace:
     reader.add_argument(
         "--backups",
         type=pathlib.Path,
-        default=plant.COPIES,
+        default=places.COPIES,
         metavar="FOLDER",
-        help=f"where the copies are ({plant.COPIES})",
+        help=f"where the copies are ({places.COPIES})",
     )
     reader.add_argument(
         "--clock",
@@ -426,9 +434,9 @@ def words() -> argparse.Namespace:
     reader.add_argument(
         "--drained",
         type=pathlib.Path,
-        default=plant.DRAINED,
+        default=options.DRAINED,
         metavar="FILE",
-        help=f"senders are sent away while it is there ({plant.DRAINED})",
+        help=f"senders are sent away while it is there ({options.DRAINED})",
     )
     reader.add_argument(
         "--status",
@@ -443,7 +451,7 @@ def words() -> argparse.Namespace:
         metavar="SECONDS",
         help="for one answer of the desk (10)",
     )
-    plant.set_up(reader, copies="backups")
+    options.set_up(reader, copies="backups")
     asked = reader.parse_args()
     asked.archive = asked.archive or asked.db.parent / "archive"
     asked.status = asked.status or places.of_desk(asked.db).status
@@ -467,6 +475,7 @@ def main() -> int:
         return 0
     except OSError as fault:
         plant.tell(
-            f"{asked.to} was not written: {fault}. The one before it stays; make room, or name another by --to"
+            f"{asked.to} was not written: {fault}. The one before it stays; make room, or name"
+            " another by --to"
         )
         return 1

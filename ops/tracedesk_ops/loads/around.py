@@ -5,15 +5,16 @@ import hashlib
 import pathlib
 
 from tracedesk_ops import catalogue, doubtful, untraced
-from tracedesk_ops.loads.tables import Seen, Tables
+from tracedesk_ops.loads.tables import RUNNING, Seen, Tables
 
-LOOK = (
-    "untraced work and doubtful pieces"  # what is missing of a line in which nobody looked for them
-)
+# what is missing of a line in which nobody looked for them
+LOOK = "untraced work and doubtful pieces"
 
 
 class Around:
-    """What is around the archives of a catalogue, and the running desk of their copy: untraced work, and pieces that may be of another reel."""
+    """What is around the archives of a catalogue, and the running desk of their copy: untraced
+    work, and pieces that may be of another reel.
+    """
 
     def __init__(
         self,
@@ -24,7 +25,7 @@ class Around:
     ) -> None:
         self.path, self.archives, self.desk, self.line, self.lines = (
             path,
-            catalogue.in_turn(archives),
+            archives,
             desk,
             "; ".join(lines),
             lines,
@@ -47,7 +48,9 @@ class Around:
         )
 
     def load(self, tables: Tables, is_whole: bool) -> list[str]:
-        """Looks for it in all files, and puts it into the tables. Why it isn't known what is in doubt."""
+        """Looks for it in all files, and puts it into the tables. Why it isn't known what is in
+        doubt.
+        """
         its = doubtful.look(
             self.path, self.archives if is_whole else [], is_whole and bool(self.desk)
         )
@@ -57,8 +60,13 @@ class Around:
                     [by.told[key] for key in ("At", "Became", "By", "Reason")] if by else [""] * 4
                 )
                 tables.do(
-                    "INSERT INTO untraced VALUES (%s, %s, %s, %s, %s, %s, %s, %s, %s, %s, %s, %s, %s, %s) ON CONFLICT (line, id) DO UPDATE SET decided = excluded.decided, "
-                    "became = excluded.became, decided_by = excluded.decided_by, reason = excluded.reason WHERE excluded.decided >= untraced.decided",
+                    (
+                        "INSERT INTO untraced VALUES (%s, %s, %s, %s, %s, %s, %s, %s, %s, %s, %s,"
+                        " %s, %s, %s) ON CONFLICT (line, id) DO UPDATE SET decided ="
+                        " excluded.decided, became = excluded.became, decided_by ="
+                        " excluded.decided_by, reason = excluded.reason WHERE excluded.decided >="
+                        " untraced.decided"
+                    ),
                     self.line,
                     it.id,
                     *untraced.said(it)[2:9],
@@ -72,7 +80,8 @@ class Around:
                         self.unseen(tables)
                         if is_whole
                         else [
-                            f"{self.path}: {LOOK} were not looked for, since not all of it is loaded"
+                            f"{self.path}: {LOOK} were not looked for, since not all of it is"
+                            " loaded"
                         ]
                     ),
                 ]
@@ -88,7 +97,10 @@ class Around:
                     tables.do("INSERT INTO refused VALUES (%s, %s, %s)", self.line, reel, machine)
                 for piece in its.pieces:
                     tables.do(
-                        "INSERT INTO doubtful VALUES (%s, %s, %s, %s, %s, %s, %s, %s, %s, %s, %s, %s, %s)",
+                        (
+                            "INSERT INTO doubtful VALUES (%s, %s, %s, %s, %s, %s, %s, %s, %s, %s,"
+                            " %s, %s, %s)"
+                        ),
                         self.line,
                         *piece[:7],
                         list(piece.other_reels),
@@ -99,21 +111,27 @@ class Around:
                     )
                 tables.has(self.line, LOOK)
                 tables.do(
-                    "INSERT INTO looked VALUES (%s, %s) ON CONFLICT (line) DO UPDATE SET at = excluded.at",
+                    (
+                        "INSERT INTO looked VALUES (%s, %s) ON CONFLICT (line) DO UPDATE SET at ="
+                        " excluded.at"
+                    ),
                     self.line,
                     self.checksum,
                 )
         return faults
 
     def unseen(self, tables: Tables) -> list[str]:
-        """Files of the line that are loaded, and newer than these or of another catalogue: then these alone don't say what is in doubt."""
+        """Files of the line that are loaded, and newer than these or of another catalogue: then
+        these alone don't say what is in doubt.
+        """
         here = {it.sha256 for it in self.archives}
         return [
-            f"{self.path}: whether pieces may be of other reels isn't known, since {it.line} {it.name} is loaded and not in it: load the newest copy of the line"
+            f"{self.path}: whether pieces may be of other reels isn't known, since"
+            f" {it.line} {it.name} is loaded and not in it: load the newest copy of the line"
             for it in tables.files("line = ANY (%s) AND NOT dropped", self.lines)
             if (
                 it.sha256 not in here
                 if not it.taken
-                else not self.desk or it.number > self.desk.number
+                else not self.desk or it.name == RUNNING and it.sha256 != self.desk.sha256
             )
         ][:1]

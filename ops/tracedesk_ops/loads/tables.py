@@ -5,10 +5,10 @@ import hashlib
 import itertools
 import pathlib
 import sqlite3
-from collections.abc import Iterable
+from collections.abc import Iterable, Sequence
 from typing import Any, NamedTuple
 
-from tracedesk_ops import catalogue, plant
+from tracedesk_ops import catalogue, plant, store
 
 try:
     import psycopg
@@ -20,12 +20,14 @@ except ImportError:  # the help is printed without it
 
 RUNNING = catalogue.RUNNING
 ROWS_AT_A_TIME = 10_000
-# a placement as a line of COPY's text form, in which a backslash stands twice; names have neither tabs nor line ends
+# a placement as a line of COPY's text form, in which a backslash stands twice; names have neither
+# tabs nor line ends
 PLACEMENTS = """SELECT replace(?1 || char(9) || number || char(9) || place || char(9) || board || char(9) || designator || char(9) || placement.machine
     || char(9) || slot || char(9) || reel || char(9) || overdue || char(9) || effective, '\\', '\\\\') || char(10)
     FROM placement CROSS JOIN accepted USING (number) ORDER BY reel, number, place"""  # a reel's pieces lie on few pages
 REELS = "SELECT ?1, reel, part, lot, level FROM reel"
 STARTS = "SELECT ?1, number, command, effective FROM accepted WHERE command LIKE 'WorkStarted%'"
+UID_OF = "SELECT uid FROM accepted WHERE number = ?"
 SEEN = "SELECT count(*), min(effective), max(effective) FROM accepted"
 SAID = "SELECT uid, source, own, command FROM accepted WHERE command <> 'ClockSet'"
 PLACES = "MaterialsInstalled\t"  # how the commands begin that place pieces
@@ -36,20 +38,27 @@ class LoadedBefore(Exception):
 
 
 class Seen(NamedTuple):
-    """A file that is to be loaded; `taken` and `number` are those of the copy of a running desk, `pieces` is none where nothing says how many it has."""
+    """A file that is to be loaded; `taken` is when the copy of a running desk was made, and
+    `epochs` has one for each restore of it.
+    """
 
     file: pathlib.Path
     line: str
     name: str
     sha256: str
     taken: str
-    pieces: int | None
-    number: int = 0
+    epochs: tuple[str, ...] = ()
 
 
 def fields(*values: object) -> str:
     """A line of COPY's text form."""
     return "\t".join(str(it).replace("\\", "\\\\") for it in values) + "\n"
+
+
+def was_restored_since(seen: Seen, epochs: Sequence[str]) -> bool:
+    """Whether the desk of a file was restored since the one with these epochs was copied."""
+    last = epochs[-1] if epochs else ""
+    return seen.epochs[-1:] != (last,) and last in ("", *seen.epochs)
 
 
 class Tables:
@@ -67,10 +76,6 @@ class Tables:
         self.do(
             "SET search_path TO plant; CREATE TEMPORARY TABLE its (identity uuid, places boolean)"
         )  # the commands of the file that is to be loaded
-        if old := self.files("pieces > 0 AND said = 0 AND NOT dropped"):
-            raise plant.Fault(
-                f"{old[0].line} {old[0].name} was loaded up to 0.2.0: make the database anew"
-            )
 
     def do(self, text: str, *values: object) -> Any:
         return self.link.execute(text, values or None)
@@ -79,9 +84,14 @@ class Tables:
         return list(self.do(text, *values).fetchall())
 
     def files(self, which: str, *values: object) -> list[Any]:
-        """The files that a condition names: there may be ten thousand, so each question is asked of the database."""
+        """The files that a condition names: there may be ten thousand, so each question is asked of
+        the database.
+        """
         return self.rows(
-            f"SELECT id, line, name, sha256, pieces, taken, dropped, copy_number AS number, said, desk FROM file WHERE {which} ORDER BY id",
+            (
+                "SELECT id, line, name, sha256, pieces, taken, dropped, epochs, said, desk FROM"
+                f" file WHERE {which} ORDER BY id"
+            ),
             *values,
         )
 
@@ -97,18 +107,46 @@ class Tables:
 
     def miss(self, line: str, name: str, why: str) -> None:
         self.do(
-            "INSERT INTO lacking VALUES (%s, %s, %s) ON CONFLICT (line, name) DO UPDATE SET why = excluded.why, taken_out = ''",
+            (
+                "INSERT INTO lacking VALUES (%s, %s, %s) ON CONFLICT (line, name) DO UPDATE SET why"
+                " = excluded.why, taken_out = ''"
+            ),
             line,
             name,
             why,
         )
+
+    def expect(self, line: str) -> None:
+        """Puts a line into the table of those that an answer needs."""
+        self.do("INSERT INTO line VALUES (%s) ON CONFLICT DO NOTHING", line)
+
+    def forget_wrong_names(self) -> None:
+        """Takes back that a file is missing that is loaded by another name, and with its last file
+        a line.
+        """
+        self.do(
+            "WITH gone AS (DELETE FROM lacking USING file WHERE taken_out = file.sha256 AND NOT"
+            " dropped RETURNING lacking.line) DELETE FROM line USING gone WHERE line.name ="
+            " gone.line AND NOT EXISTS (SELECT FROM file WHERE file.line = line.name)"
+        )
+
+    def newest(self, line: str) -> str:
+        """The checksum of the running desk of a line that is loaded."""
+        its = self.files("line = %s AND name = %s", line, RUNNING)
+        return str(its[0].sha256) if its else ""
+
+    def has_all(self, line: str) -> None:
+        """Takes back what folders of this line lacked."""
+        self.do("DELETE FROM lacking WHERE line = %s AND name LIKE '/%%'", line)
 
     def has(self, line: str, name: str) -> None:
         """Takes back that something is missing."""
         self.do("DELETE FROM lacking WHERE line = %s AND name = %s AND taken_out = ''", line, name)
 
     def load(self, seen: Seen, database: sqlite3.Connection, desk: str) -> tuple[int, list[Any]]:
-        """Makes a file a part, in the place of the files that it replaces. How many pieces it has, and the copies of which it lacks commands."""
+        """Makes a file a part, in the place of the files that it replaces. How many pieces it has,
+        and the copies of which it lacks commands.
+        """
         self.do("TRUNCATE its")
         said = self.copy(
             "its FROM STDIN",
@@ -124,9 +162,9 @@ class Tables:
         )
         replaced, cut = self.gives_way(seen, said, desk)
         ((commands, first, last),) = database.execute(SEEN)
-        ((uid,),) = database.execute(
-            "SELECT uid FROM accepted WHERE number = ?", [commands]
-        ).fetchall() or [("",)]
+        ((uid,),) = database.execute(UID_OF, [commands]).fetchall() or [("",)]
+        ((begun,),) = database.execute(UID_OF, [1]).fetchall() or [("",)]
+        mark = store.mark_of(begun)
         with self.link.transaction():
             number = self.rows("SELECT nextval('file_id') AS it")[0].it
             part = f"placement_{number}"
@@ -138,17 +176,16 @@ class Tables:
                 f"{part} FROM STDIN WITH (FREEZE)",
                 (line for (line,) in database.execute(PLACEMENTS, [number])),
             )
-            if seen.pieces not in (None, pieces):
-                raise plant.Fault(
-                    f"{seen.name}: it has {pieces:,} pieces, and in the catalogue {seen.pieces:,}"
-                )
             self.do(
                 f"CREATE INDEX ON {part} (reel); CREATE INDEX ON {part} (board); ANALYZE {part}"
             )
             plant.reached("indexed")
             self.give_way(seen, replaced, cut)
             self.do(
-                "INSERT INTO file VALUES (%s, %s, %s, %s, %s, %s, %s, %s, %s, %s, false, %s, %s, %s)",
+                (
+                    "INSERT INTO file VALUES (%s, %s, %s, %s, %s, %s, %s, %s, %s, %s, false, %s,"
+                    " %s, %s, %s)"
+                ),
                 number,
                 seen.line,
                 seen.name,
@@ -159,11 +196,13 @@ class Tables:
                 uid,
                 pieces,
                 seen.taken,
-                seen.number,
+                list(seen.epochs),
                 said,
                 desk,
+                mark,
             )
             self.do("INSERT INTO command SELECT %s, identity, places FROM its", number)
+            self.expect(seen.line)
             self.copy(
                 "reel FROM STDIN", (fields(*row) for row in database.execute(REELS, [number]))
             )
@@ -180,7 +219,9 @@ class Tables:
         return pieces, cut
 
     def give_way(self, seen: Seen, replaced: list[Any], cut: list[Any]) -> None:
-        """Takes out the older copies of the same desk. One of another desk stays, under a name of its own, until its archive comes."""
+        """Takes out the older copies of the same desk. One of another desk stays, under a name of
+        its own, until its archive comes.
+        """
         for it in (*replaced, *cut):
             self.do(f"DROP TABLE placement_{it.id}")
             self.do("DELETE FROM file WHERE id = %s", it.id)
@@ -195,19 +236,24 @@ class Tables:
             self.miss(
                 it.line,
                 f"desk of {it.taken}",
-                f"{seen.name} takes its place, and lacks some of its commands: the desk was restored from an older copy. Once it is "
-                "known that they were sent again, or won't be, take this line away: drop.sql",
+                (
+                    f"{seen.name} takes its place, and lacks some of its commands: the desk was"
+                    " restored from an older copy. Once it is known that they were sent again, or"
+                    " won't be, take this line away: drop.sql"
+                ),
             )
 
     def gives_way(self, seen: Seen, said: int, desk: str) -> tuple[list[Any], list[Any]]:
-        """The files that give way to this one: those whose commands it has; and older ones that have more, as a desk that went back.
+        """The files that give way to this one: those whose commands it has; and older ones that
+        have more, as a desk that went back.
 
         A Fault where its commands would count twice, or are another line's.
         """
         counts = {
             it.file: it
             for it in self.rows(
-                "SELECT file, count(*) AS both, count(*) FILTER (WHERE its.places) AS placing FROM its JOIN command USING (identity) GROUP BY file"
+                "SELECT file, count(*) AS both, count(*) FILTER (WHERE its.places) AS placing FROM"
+                " its JOIN command USING (identity) GROUP BY file"
             )
         }
         replaced, cut = self.files("line = %s AND taken <> '' AND said = 0", seen.line), []
@@ -221,7 +267,8 @@ class Tables:
                 and (desk == it.desk if desk and it.desk else placing and both in (said, it.said))
             ):
                 raise plant.Fault(
-                    f"{seen.file}: it is the desk of the line {it.line}, whose {it.name} is loaded, and not of {seen.line}. Where that name was wrong, drop that file: drop.sql"
+                    f"{seen.file}: it is the desk of the line {it.line}, whose {it.name} is loaded,"
+                    f" and not of {seen.line}. Where that name was wrong, drop that file: drop.sql"
                 )
             if it.line != seen.line or not both:
                 continue
@@ -233,19 +280,23 @@ class Tables:
                 not it.taken and placing
             ):  # else a sender set the same up again: no piece is there twice
                 raise plant.Fault(
-                    f"{seen.file}: {both:,} of its {said:,} commands are in {it.name} too, which is loaded, and would count twice. Where a restore has put that archive "
-                    "aside, drop it: drop.sql; then call again"
+                    f"{seen.file}: {both:,} of its {said:,} commands are in {it.name} too, which is"
+                    " loaded, and would count twice. Where a restore has put that archive aside,"
+                    " drop it: drop.sql; then call again"
                 )
             if not it.taken:
                 continue
-            if both == it.said and (both < said or seen.number >= it.number or not seen.taken):
+            if both == it.said:
                 replaced.append(it)
-            elif not seen.taken or seen.number > it.number:
+            elif not seen.taken or was_restored_since(seen, it.epochs):
                 cut.append(it)
             elif both == said:
                 raise LoadedBefore(f"loaded before, as of {it.taken}")
             else:
                 raise plant.Fault(
-                    f"{seen.file}: {said - both:,} of its commands are not in the copy of {it.taken}, which is loaded and newer: the desk was restored to before them"
+                    f"{seen.file}: {said - both:,} of its commands are not in the copy of"
+                    f" {it.taken}, which is loaded, and lacks {it.said - both:,} of that: the desk"
+                    " was set back, or two machines went on from one copy. Its senders send them"
+                    " again; or drop the loaded one: drop.sql"
                 )
         return replaced, cut

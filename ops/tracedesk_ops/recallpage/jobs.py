@@ -24,6 +24,7 @@ from typing import Any
 from tracedesk_ops import files
 
 NAME = re.compile(r"\d{8}T\d{6}\.\d{6}Z-[0-9a-f]{8}")
+ASKED = "asked.json"
 NEW = ".new-"  # the beginning of the name of a folder that is not whole yet
 MOST_WAITING = 50
 MOST_OF_ONE = 10  # that wait for one reader
@@ -67,7 +68,7 @@ class Job:
 
     @property
     def asked(self) -> Asked:
-        told: dict[str, Any] = json.loads((self.folder / "asked.json").read_text(encoding="utf-8"))
+        told: dict[str, Any] = json.loads((self.folder / ASKED).read_text(encoding="utf-8"))
         told["names"] = tuple(told["names"])
         return Asked(**told)
 
@@ -106,16 +107,16 @@ class Queue:
         self.folder = folder
 
     def all(self) -> list[Job]:
-        """All of them, from the oldest on."""
+        """All of them, from the oldest on; a folder that is being deleted is none any more."""
         there = (path for path in self.folder.iterdir() if NAME.fullmatch(path.name))
-        return [Job(path) for path in sorted(there)]
+        return [Job(path) for path in sorted(there) if (path / ASKED).is_file()]
 
     def waiting(self) -> list[Job]:
         return [job for job in self.all() if not (job.folder / "ended.json").exists()]
 
     def job(self, name: str) -> Job | None:
         """The recall of this name, which may come from anybody."""
-        is_there = NAME.fullmatch(name) and (self.folder / name / "asked.json").is_file()
+        is_there = NAME.fullmatch(name) and (self.folder / name / ASKED).is_file()
         return Job(self.folder / name) if is_there else None
 
     def place(self, job: Job) -> int:
@@ -142,7 +143,7 @@ class Queue:
         room.chmod(0o2770)
         try:
             text = json.dumps(dataclasses.asdict(asked)) + "\n"
-            files.put(room / "asked.json", text, 0o640)
+            files.put(room / ASKED, text, 0o640)
             if shipped:
                 (room / "shipped.csv").write_bytes(shipped)
             os.rename(room, self.folder / name)

@@ -44,7 +44,7 @@ th, td {
   text-align: left; padding: .22rem .6rem; border-bottom: 1px solid var(--line);
   overflow-wrap: anywhere; vertical-align: top;
 }
-th { color: var(--grey); font-weight: normal }
+th { color: var(--grey); font-weight: normal; overflow-wrap: normal }
 .grey { color: var(--grey); font-size: .9rem }
 fieldset { border: 1px solid var(--line); margin: 0 0 1rem; padding: .6rem 1rem }
 label { display: block; margin: .5rem 0 .1rem }
@@ -122,7 +122,7 @@ FORM = """
 <label for="shipped">Shipped boards: a CSV file with the columns board, customer and date
 (may be empty)</label>
 <input type="file" id="shipped" name="shipped" accept=".csv,text/csv">
-<p class="grey">All lines of this machine are asked, with all their archives.</p>
+<p class="grey">All lines that are set up here are asked, with all their archives.</p>
 <button id="ask">Recall</button></fieldset></form>
 <h2>Recalls so far</h2>
 {% if jobs %}

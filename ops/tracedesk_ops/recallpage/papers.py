@@ -13,7 +13,7 @@ from tracedesk_ops.recallpage.jobs import Job
 
 PDF, SHEET, PACKED, BOARDS = "recall.pdf", "recall.xlsx", "evidence.zip", "boards.csv"
 FILES = (PDF, SHEET, BOARDS, PACKED)
-NEEDED = {PDF: ("weasyprint", "python3-weasyprint"), SHEET: ("xlsxwriter", "python3-xlsxwriter")}
+NEEDED = {PDF: ("weasyprint", "weasyprint"), SHEET: ("xlsxwriter", "python3-xlsxwriter")}
 TABLES = ("boards", "pieces", "reels", "doubtful", "untraced", "asked")
 MOST_ON_PAPER = 500  # rows of a table in the PDF
 MOST_ROWS = 1_048_575  # of a sheet, without its header

@@ -57,6 +57,7 @@ LEFT_OUT = {  # on a page, and not in the spreadsheet
 MINUTE = re.compile(r"(\d{4}-\d\d-\d\d)T(\d\d:\d\d)(:00)?Z")
 MOST_ROWS = 2_000  # of a table on a page
 NOT_SHIPPED = "Not shipped, or not on the list"
+TOOL = "tracedesk-recall: "  # begins each line that it says
 REFUSED = 2  # statuses of tracedesk-recall
 MEANINGS = {
     4: "The answer could not be written.",
@@ -200,7 +201,7 @@ def answer_of(evidence: pathlib.Path) -> Answer:
 
 def without_answer(status: int, said: str) -> tuple[str, list[str]]:
     """What a page says if a recall ended without evidence: a sentence, and what the tool said."""
-    lines = [readable(line.partition(": ")[2] or line) for line in said.splitlines()[-12:]]
+    lines = [readable(line.removeprefix(TOOL)) for line in said.splitlines()[-12:]]
     if status == REFUSED:
         return "The question was not understood.", lines
     if status == 1:

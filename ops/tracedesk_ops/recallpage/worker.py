@@ -1,20 +1,23 @@
 """Works off the queue of recalls: one at a time, at low priority, and each of them to its end."""
 from __future__ import annotations
 
+import ctypes
 import dataclasses
 import os
 import pathlib
 import shutil
+import signal
 import subprocess
 import sys
 import time
-from collections.abc import Mapping, Sequence
+from collections.abc import Sequence
 
 from tracedesk_ops import parts, plant
 from tracedesk_ops.recallpage import papers
 from tracedesk_ops.recallpage.jobs import Job, Queue
 
 NICE = 15
+PR_SET_PDEATHSIG = 1  # of prctl.h
 SECONDS_BETWEEN_LOOKS = 1.0
 LEAST_FREE = 1 << 30  # bytes, without which no recall begins
 LEFT_OVER = ".evidence-*"  # evidence that a kill cut off
@@ -27,7 +30,6 @@ class Worker:
     queue: Queue
     recall: pathlib.Path
     more: Sequence[str] = ()
-    environment: Mapping[str, str] = dataclasses.field(default_factory=dict)
 
     def work(self, is_once: bool = False) -> None:
         """Runs what waits; for ever, or until nothing does."""
@@ -55,7 +57,7 @@ class Worker:
                 stdin=subprocess.DEVNULL,
                 stdout=subprocess.DEVNULL,
                 stderr=said,
-                env={**os.environ, **self.environment, parts.SHOWN: "1"},
+                env={**os.environ, parts.SHOWN: "1"},
                 preexec_fn=low,
             )
         plant.reached("recalled")
@@ -73,8 +75,11 @@ class Worker:
 
 
 def low() -> None:
-    """What a recall does before it begins: the line's own programs go first."""
+    """What a recall does before it begins: the line's own programs go first, and it ends with its
+    worker, since the next one runs it anew.
+    """
     os.nice(NICE)
+    ctypes.CDLL(None).prctl(PR_SET_PDEATHSIG, signal.SIGKILL)
 
 
 def share(folder: pathlib.Path) -> None:

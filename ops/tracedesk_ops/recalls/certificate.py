@@ -1,5 +1,6 @@
-"""The certificate of a recall: the question, the files that were asked, the programs, the answer, and
-what it can't know. It is `certificate.json` in the evidence; `question.txt` says the same to a reader.
+"""The certificate of a recall: the question, the files that were asked, the programs, the answer,
+and what it can't know. It is `certificate.json` in the evidence; `question.txt` says the same to a
+reader.
 """
 from __future__ import annotations
 
@@ -13,7 +14,7 @@ import subprocess
 from collections.abc import Iterable, Iterator
 from typing import Any, NamedTuple
 
-from tracedesk_ops import __version__, catalogue, identity, plant
+from tracedesk_ops import __version__, catalogue, model, plant, store
 from tracedesk_ops.recalls.desk import Line
 from tracedesk_ops.recalls.recall import Recall
 from tracedesk_ops.recalls.tables import Table
@@ -27,6 +28,7 @@ LIMITS = (
     "a removal or replacement in rework",
     "a lot that was received under another name",
     "a line that is not named here",
+    "what a desk of a line took that still runs on another machine, as after a move",
 )
 
 
@@ -44,7 +46,7 @@ def program_of(name: str, path: str | None) -> Program:
     how: dict[str, Any] = {"capture_output": True, "check": True, **plant.TEXT}
     try:
         version = subprocess.run([at or name, "--version"], **how).stdout.strip()
-        return Program(name, version, catalogue.sha256_of(at or name))
+        return Program(name, version, store.sha256_of(pathlib.Path(at or name)))
     except (OSError, subprocess.CalledProcessError):
         return Program(name, f"no version: {path or name} is not here", "")
 
@@ -92,9 +94,11 @@ def certificate(
 
 
 def line_of(recall: Recall, number: int, line: Line) -> dict[str, Any]:
-    """What was asked of a line. `chain` is the answer of tracedesk-chain; without it its archives were
-    looked at by SQL alone.
+    """What was asked of a line. `chain` is the answer of tracedesk-chain; without it its archives
+    were looked at by SQL alone.
     """
+    if line.host:
+        return line_elsewhere(recall, line)
     kept = list(recall.catalogues).index(line.catalogue) + 1
     name, epoch = desk_of(recall, line)
     told: dict[str, Any] = {
@@ -126,6 +130,31 @@ def line_of(recall: Recall, number: int, line: Line) -> dict[str, Any]:
     return told
 
 
+def line_elsewhere(recall: Recall, line: Line) -> dict[str, Any]:
+    """The same of a line on another computer, whose own evidence is in this file."""
+    name, epoch, file = "", "", None
+    for number, its in enumerate(recall.elsewhere, 1):
+        if its.host == line.host and line.name in its.lines:
+            name, epoch = its.lines[line.name]
+            file = evidence_of(number)
+    return {
+        "line": line.name,
+        "desk": name,
+        "epoch": epoch,
+        "running_desk": None,
+        "catalogue": None,
+        "chain": None,
+        "archives": [],
+        "host": line.host,
+        "evidence": file,
+    }
+
+
+def evidence_of(number: int) -> str:
+    """The file with the evidence of another computer."""
+    return f"host-{number}.tar"
+
+
 def desk_of(recall: Recall, line: Line) -> tuple[str, str]:
     """The name and the epoch of a line's desk, by its file, else by the newest archive that can be
     read; empty if it has none.
@@ -133,15 +162,15 @@ def desk_of(recall: Recall, line: Line) -> tuple[str, str]:
     if who := recall.running_desks.get(line.name):
         return named(who)
     own = [its for its in recall.catalogues[line.catalogue].archives if its.desk == line.name]
-    for archive in reversed(catalogue.in_turn(own)):
-        with contextlib.suppress(OSError, sqlite3.Error):
-            return named(identity.of(catalogue.path_of(line.catalogue, archive)))
+    for archive in reversed(own):
+        path = catalogue.path_of(line.catalogue, archive)
+        with contextlib.suppress(OSError, sqlite3.Error), catalogue.opened(path) as database:
+            return named(store.heads_in(database))
     return "", ""
 
 
-def named(who: identity.Identity) -> tuple[str, str]:
-    epochs = [uid for _, uid, *_ in who.rows if uid.startswith(EPOCH)]
-    return who.name, epochs[-1] if epochs else ""
+def named(heads: model.Heads) -> tuple[str, str]:
+    return heads.name(), f"{EPOCH}{heads.epoch}" if heads.epoch else ""
 
 
 def bytes_of(text: str) -> bytes:

@@ -96,6 +96,8 @@ def contents(
     for line in told["lines"]:
         line["running_desk"] = bool(line["running_desk"])
         line["catalogue"] = None
+        for name in line.keys() & {"host", "evidence"}:
+            line[name] = None
         for archive in line["archives"]:
             archive["why"] = wording.readable(archive["why"])
     listed = evidence.listing(recall.question)

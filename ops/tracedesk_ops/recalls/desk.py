@@ -10,7 +10,7 @@ from collections.abc import Iterator
 from typing import NamedTuple
 
 from tracedesk import words as reports
-from tracedesk_ops import asking, catalogue, identity, plant
+from tracedesk_ops import asking, catalogue, model, plant
 from tracedesk_ops.firstlook import Piece, Reel, Told
 
 RUNNING = catalogue.RUNNING
@@ -18,8 +18,8 @@ SECONDS_FOR_A_REPORT = 120  # as the proxy waits; a trace of very many pieces ta
 
 
 class Line(NamedTuple):
-    """A line of the plant; `url` is empty if no desk runs, `machines` are those that somebody named,
-    and `desk` is its file if that is known.
+    """A line of the plant; `url` is empty if no desk runs, `machines` are those that somebody
+    named, and `desk` is its file if that is known. A line on another computer has its `host` alone.
     """
 
     name: str
@@ -27,17 +27,22 @@ class Line(NamedTuple):
     catalogue: pathlib.Path
     machines: tuple[str, ...] = ()
     desk: pathlib.Path | None = None
+    host: str = ""
 
 
 class Question(NamedTuple):
-    """What is asked: `kind` is lot, board, reel, or reels, a set of them whose `name` is a title. A lot
-    may be asked for its pieces of one part.
+    """What is asked: `kind` is lot, board, reel, or reels, a set of them whose `name` is a title. A
+    lot may be asked for its pieces of one part.
     """
 
     kind: str
     name: str
     part: str = ""
     reels: tuple[str, ...] = ()
+
+    def names(self) -> tuple[str, ...]:
+        """The names that are asked for; of a set of reels perhaps none."""
+        return self.reels if self.kind == "reels" else (self.name,)
 
     def about(self) -> dict[str, str]:
         """The question as a certificate has it."""
@@ -62,7 +67,7 @@ class Question(NamedTuple):
         """Whether such a reel is asked for."""
         if self.kind == "lot":
             return lot == self.name and self.part in ("", part)
-        return reel in (self.reels or (self.name,))
+        return reel in self.names()
 
 
 class Desk(asking.Once):
@@ -77,18 +82,18 @@ class Desk(asking.Once):
             self.headers["Authorization"] = f"Basic {log_in}"
 
     def want_line(self, newest: catalogue.Archive | None) -> list[str]:
-        """Stops where this is not the desk that went on from the newest archive of its line. What is
-        wrong if it went on from one and there is none.
+        """Stops where this is not the desk that went on from the newest archive of its line. What
+        is wrong if it went on from one and there is none.
         """
-        if newest and not any(self.has(uid) for uid in identity.first_uids(newest)):
+        if newest and not self.has(model.first_uid(newest.sha256)):
             raise plant.Fault(
-                f"{self.name}: this desk did not go on from {newest.file}, the line's newest archive:"
-                " it is another line's, or a newer archive is not in the catalogue"
+                f"{self.name}: this desk did not go on from {newest.file}, the line's newest"
+                " archive: it is another line's, or a newer archive is missing"
             )
-        if not newest and self.has(identity.BEGUN):
+        if not newest and self.has(model.BEGUN):
             return [
-                f"{self.line.name}: {self.name}: this desk was begun from an archive, and the line has"
-                " none: name its catalogue, or mount its disk"
+                f"{self.line.name}: {self.name}: this desk was begun from an archive, and the line"
+                " has none: name its folder, or mount its disk"
             ]
         return []
 
@@ -102,7 +107,7 @@ class Desk(asking.Once):
             return Told(of_board is not None, there)
         lots = [question.name]
         if question.kind != "lot":
-            cards = [self.card(reel) for reel in question.reels or (question.name,)]
+            cards = [self.card(reel) for reel in question.names()]
             lots = sorted({card.lot for card in cards if card})
         pieces: list[Piece] = []
         is_known = False
@@ -136,7 +141,7 @@ class Desk(asking.Once):
             for machine in looked_at
             for row in self.rows("/slots", machine=machine) or []
         }
-        named = set(question.reels or (question.name,))
+        named = set(question.names())
         if question.kind == "lot":
             named = {
                 name
@@ -155,7 +160,7 @@ class Desk(asking.Once):
                 yield Reel(name, *left, machine, slot, self.line.name, None)
         if question.kind == "lot":
             self.notes.append(
-                f"{self.line.name}: reels of the lot that came in after the last archive are known by"
-                f" the slots of {', '.join(looked_at) or 'no machine'} alone: look in the stock, and at"
-                " each other machine"
+                f"{self.line.name}: reels of the lot that came in after the last archive are known"
+                f" by the slots of {', '.join(looked_at) or 'no machine'} alone: look in the stock,"
+                " and at each other machine"
             )

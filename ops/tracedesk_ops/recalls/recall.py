@@ -11,7 +11,19 @@ import sqlite3
 from collections.abc import Callable
 from typing import NamedTuple
 
-from tracedesk_ops import catalogue, chains, doubtful, firstlook, identity, plant, untraced
+from tracedesk_ops import (
+    around,
+    catalogue,
+    chains,
+    doubtful,
+    firstlook,
+    handling,
+    model,
+    plant,
+    store,
+    story,
+    untraced,
+)
 from tracedesk_ops.firstlook import Piece, Reel, Told
 from tracedesk_ops.recalls.desk import RUNNING, Desk, Line, Question
 
@@ -40,21 +52,35 @@ class Asked(NamedTuple):
     why: str
 
 
+class Elsewhere(NamedTuple):
+    """Another computer that was asked: its evidence, and the desk and epoch of each of its
+    lines.
+    """
+
+    host: str
+    evidence: bytes
+    lines: dict[str, tuple[str, str]]
+
+
 Wait = tuple[catalogue.Archive, "concurrent.futures.Future[Told]"]
 
 
 class Recall:
-    """A question with what all told: `faults` are why some were not asked, `breaks` which archives are no chain, `doubts` what is told twice,
-    `notes` what a reader has to know besides. Without a `chain` it is a first look."""
+    """A question with what all told: `faults` are why some were not asked, `breaks` which archives
+    are no chain, `doubts` what is told twice, `notes` what a reader has to know besides."""
 
     def __init__(
         self,
         question: Question,
         lines: list[Line],
         desk_of: Callable[[Line], Desk],
-        chain: chains.Asker | None,
+        chain: chains.Asker,
         archives_only: bool = False,
+        take_elsewhere: Callable[[Recall], None] = lambda recall: None,
     ) -> None:
+        self.take_elsewhere = take_elsewhere
+        self.here = [line for line in lines if not line.host]
+        self.elsewhere: list[Elsewhere] = []
         self.question, self.lines, self.desk_of, self.chain = question, lines, desk_of, chain
         self.archives_only = archives_only
         self.minute = datetime.datetime.now(datetime.timezone.utc)
@@ -66,94 +92,95 @@ class Recall:
         self.breaks: list[str] = []
         self.doubts: list[str] = []
         self.notes: list[str] = []
-        self.catalogues: dict[pathlib.Path, catalogue.Survey] = {}
-        self.around: dict[pathlib.Path, list[str]] = {}
+        self.folders: dict[pathlib.Path, around.Folder] = {}  # by their catalogues
+        self.catalogues: dict[pathlib.Path, around.Survey] = {}
         self.desks: dict[str, Desk] = {}  # by line
-        self.running_desks: dict[str, identity.Identity] = {}  # by line, if their file is at hand
+        self.running_desks: dict[str, model.Heads] = {}  # by line, if their file is at hand
         self.proofs: dict[str, chains.Answer] = {}  # by line
         self.untraced: list[list[str]] = []
         self.doubtful: list[list[str]] = []
 
     def ask(self) -> None:
         with concurrent.futures.ThreadPoolExecutor(os.cpu_count()) as threads:
-            waits = {line: self.begin(line, threads) for line in self.lines}
+            waits = {line: self.begin(line, threads) for line in self.here}
             proofs = {
                 line: threads.submit(
                     self.chain.ask,
                     [catalogue.path_of(line.catalogue, it) for it, _ in its],
-                    [it for it, _ in its],
+                    [it.sha256[: model.DIGITS] for it, _ in its],
                     f"{line.name}: ",
                 )
                 for line, its in waits.items()
-                if self.chain and its and not any(future.exception() for _, future in its)
+                if its
+                and self.question.names()
+                and not any(future.exception() for _, future in its)
             }
-        for line in self.lines:
+        for line in self.here:
             self.running(line, self.archives(line, waits[line], proofs.get(line)))
         for path, survey in self.catalogues.items():
-            if (
-                catalogue.survey(path).text != survey.text
-                or self.lying_around(path) != self.around[path]
-            ):
+            if self.folders[path].survey() != survey:
                 self.faults.append(
-                    f"{path}: it was changed meanwhile, or what lies around it, as by a roll-over or a restore: ask again"
+                    f"{path.parent}: it was changed meanwhile, or what is around it, as by a "
+                    "roll-over or a restore: ask again"
                 )
         for path in self.catalogues:
             self.look_for_untraced(path)
+        self.take_elsewhere(self)
         self.pieces.sort(key=lambda it: (it.board, it.line, it.designator))
-        self.reels.sort()
+        self.reels.sort(key=lambda it: (it[:-1], -1 if it.minute is None else it.minute))
         self.doubt()
         self.note()
 
     def begin(self, line: Line, threads: concurrent.futures.ThreadPoolExecutor) -> list[Wait]:
-        """Asks the archives of a line: pairs of the archive and what will be told, in the order of their chain."""
+        """Asks the archives of a line: pairs of the archive and what will be told, in the order of
+        their chain.
+        """
         if line.catalogue not in self.catalogues:
             self.survey(line.catalogue)
-        own = catalogue.in_turn(
-            [it for it in self.catalogues[line.catalogue].archives if it.desk == line.name]
-        )
+        own = self.own(line)
         if not own and not line.url:
             self.faults.append(
-                f"{line.name}: it has no running desk, and {line.catalogue} has no archive of it"
+                f"{line.name}: it has no running desk, and {line.catalogue.parent} has no archive"
+                " of it"
             )
         if not line.url and not self.archives_only:
             self.faults.append(
-                f"{line.name}: its running desk is not asked, since its URL is `-`: say --archives-only where none runs"
+                f"{line.name}: its running desk is not asked, since its URL is `-`: say"
+                " --archives-only where none runs"
             )
         return [
-            (archive, threads.submit(firstlook.at, line, archive, self.question, not self.chain))
+            (archive, threads.submit(firstlook.at, line, archive, self.question, False))
             for archive in own
         ]
 
-    def survey(self, path: pathlib.Path) -> None:
-        """Reads a catalogue; what it names and nobody asks for, and what it doesn't name, is told."""
-        lines = {line.name for line in self.lines if line.catalogue == path}
-        self.catalogues[path] = catalogue.survey(path)
-        if catalogue.has_no_archives(path):
-            self.notes.append(
-                f"{', '.join(sorted(lines))}: no archives yet: there is no {path}, and nothing else where it would be"
-            )
-            self.catalogues[path] = catalogue.Survey(b"", [], [])
-        self.faults += self.catalogues[path].faults
-        for desk in sorted({it.desk for it in self.catalogues[path].archives} - lines):
-            self.faults.append(
-                f"{path}: archives of the line {desk} are not asked: no --line has that name with this catalogue"
-            )
-        self.around[path] = self.lying_around(path)
-        self.faults += self.around[path]
+    def own(self, line: Line) -> list[catalogue.Archive]:
+        """The archives of a line, each behind the one from which it was begun."""
+        return [its for its in self.catalogues[line.catalogue].archives if its.desk == line.name]
 
-    def lying_around(self, path: pathlib.Path) -> list[str]:
-        return list(
-            catalogue.unasked(
-                path,
-                self.catalogues[path].archives,
-                [it.desk for it in self.lines if it.catalogue == path and it.desk],
+    def survey(self, path: pathlib.Path) -> None:
+        """Looks at a folder of archives: what nobody asks, or can ask, is a fault."""
+        lines = [line for line in self.here if line.catalogue == path]
+        names = [line.name for line in lines]
+        desks = [line.desk for line in lines if line.desk]
+        self.folders[path] = folder = around.Folder(path.parent, names, desks)
+        self.catalogues[path] = survey = folder.survey()
+        self.faults += survey.faults
+        if not folder.is_there():
+            self.faults.append(f"{path.parent}: there is no such folder: mount its disk")
+        elif not survey.archives:
+            self.notes.append(f"{', '.join(sorted(names))}: no archives yet in {path.parent}")
+        for name in sorted({its.desk for its in survey.archives} - {*names, ""}):
+            self.faults.append(
+                f"{path.parent}: archives of the line {name} are not asked: no --line has that name"
+                " with this catalogue"
             )
-        )
 
     def archives(
         self, line: Line, waits: list[Wait], proof: concurrent.futures.Future[chains.Answer] | None
     ) -> list[catalogue.Archive]:
-        """Takes what the archives of a line told; returns those that were asked, from the oldest on."""
+        """Takes what the archives of a line told; returns those that were asked, from the oldest
+        on.
+        """
         told: dict[catalogue.Archive, Told] = {}
         ends: list[chains.End] = []
         for archive, future in waits:
@@ -166,7 +193,7 @@ class Recall:
                 ends = self.proved(line, told, proof.result())
             except (chains.NoAnswer, plant.Fault, OSError) as fault:
                 self.refused(line, list(told), fault)
-        if not ends and self.chain:  # the others are asked all the same, where one is missing
+        if not ends:  # the others are asked all the same, where one is missing
             told = {it: firstlook.at(line, it, self.question) for it in told}
         for archive, its in told.items():
             self.take(self.about(line, archive), its)
@@ -192,7 +219,8 @@ class Recall:
         """Takes the pieces of a line's chain. Returns what was read of each file."""
         archives = list(told)
         self.notes += [
-            f"{line.name}: {it}: as by a roll-over with an option. Its checksum alone shows that it went on from the one before it"
+            f"{line.name}: {it}: as by a roll-over with an option. Its checksum alone shows that it"
+            " went on from the one before it"
             for it in answer.options
         ]
         for row in answer.rows:
@@ -200,32 +228,35 @@ class Recall:
             minute = int(row.pop("minute"))
             piece = Piece(**row, minute=minute, line=line.name, file=archive.file)
             told[archive].pieces.append(piece)
-        self.faults += [
-            f"{line.catalogue}: of {it.file} it doesn't say {end.commands} commands until {catalogue.spelled(end.minute)}, as the file does: tracedesk-settle --catalogue makes it anew"
-            for it, end in zip(archives, answer.ends)
-            if (it.commands, it.last_minute) != (end.commands, end.minute)
-        ]
         self.proofs[line.name] = answer
         return answer.ends
 
     def refused(self, line: Line, archives: list[catalogue.Archive], fault: Exception) -> None:
-        """Takes why there is no answer about a line's chain: what is printed of its archives is a first look."""
+        """Takes why there is no answer about a line's chain: what is printed of its archives is a
+        first look.
+        """
         status = getattr(fault, "status", None)
         if status == chains.NO_CHAIN:
             self.breaks.append(
-                f"{line.name}: {fault}: {line.catalogue} lacks an archive, or has them in another order, or an old copy of one. Look at their first and last minutes, and at the backups"
+                f"{line.name}: {fault}: {line.catalogue} lacks an archive, or has them in another"
+                " order, or an old copy of one. Look at their first and last minutes, and at the"
+                " backups"
             )
         elif status == chains.BEGUN:
             self.faults.append(
-                f"{line.name}: {fault}, and {line.catalogue} doesn't have that archive: take it from a backup"
+                f"{line.name}: {fault}, and {line.catalogue.parent} doesn't have that archive: take"
+                " it from a copy"
             )
         else:
             self.faults.append(
-                f"{line.name}: its {len(archives)} archives were looked at by SQL alone, since tracedesk-chain gives no answer: {fault}"
+                f"{line.name}: its {len(archives)} archives were looked at by SQL alone, since"
+                f" tracedesk-chain gives no answer: {fault}"
             )
 
     def running(self, line: Line, archives: list[catalogue.Archive]) -> None:
-        """Asks the running desk of a line, and what is left of the lot or reel; without it that is as the newest archive says."""
+        """Asks the running desk of a line, and what is left of the lot or reel; without it that is
+        as the newest archive says.
+        """
         held: list[Reel] = []
         machines: set[str] = set()
         try:
@@ -241,12 +272,6 @@ class Recall:
             if line.url
             else None
         )
-        if not line.url and (
-            desk := identity.of_running(line.desk or line.catalogue.parent.parent / "desk")
-        ):  # it may name an archive that is missing
-            self.faults += identity.chain(
-                line.catalogue, self.catalogues[line.catalogue].archives, desk.mark
-            )[1]
         self.reels += held if left is None else left
 
     def ask_desk(
@@ -256,17 +281,13 @@ class Recall:
         held: dict[str, Reel],
         machines: set[str],
     ) -> list[Reel] | None:
-        """Asks a running desk; what is left of the reels, none where it doesn't tell. Its file, where it is at hand, has all of them."""
+        """Asks a running desk; what is left of the reels, none where it doesn't tell. Its file,
+        where it is at hand, has all of them.
+        """
         about = About(line.name, RUNNING)
         desk = self.desks.setdefault(line.name, self.desk_of(line))
-        newest = next(
-            (
-                it
-                for it in reversed(self.catalogues[line.catalogue].archives)
-                if it.desk == line.name and not it.went_on_to
-            ),
-            None,
-        )
+        ends = [its for its in self.own(line) if not its.went_on_to]
+        newest = ends[-1] if ends else None
         try:
             self.faults += desk.want_line(
                 next((it for it in archives if newest and it.file == newest.file), newest)
@@ -293,26 +314,28 @@ class Recall:
     def by_its_file(
         self, line: Line, desk: Desk, newest: catalogue.Archive | None, told: Told
     ) -> tuple[Told, list[Reel]] | None:
-        """What a running desk told, with the minutes of the pieces, and what is left of the reels, by
-        its file; None if that is not at hand.
+        """What a running desk told, with the minutes of the pieces, and what is left of the reels,
+        by its file; None if that is not at hand.
         """
         file = line.desk or line.catalogue.parent.parent / "desk"
         with contextlib.suppress(OSError), doubtful.copied(file) as database:
             if not doubtful.why_not(file, database, [newest] if newest else [], [desk.has]):
-                self.running_desks[line.name] = identity.read(database)
+                self.running_desks[line.name] = store.heads_in(database)
                 left = firstlook.left_in(database, line, self.question)[0]
                 timed = firstlook.with_minutes(database, told.pieces)
                 return Told(told.known or bool(left), timed), left
         return None
 
     def look_for_untraced(self, path: pathlib.Path) -> None:
-        """What is around a catalogue: work that a desk refused, what was decided about it, and the pieces of the question that may be of another reel."""
-        lines = [it for it in self.lines if it.catalogue == path]
+        """What is around a catalogue: work that a desk refused, what was decided about it, and the
+        pieces of the question that may be of another reel.
+        """
+        lines = [it for it in self.here if it.catalogue == path]
         name, asked = "; ".join(it.name for it in lines), [it.name for it in lines]
         running = [(it.desk, functools.partial(self.has, it)) for it in lines if it.url]
         its = doubtful.look(
             path,
-            catalogue.in_turn([it for it in self.catalogues[path].archives if it.desk in asked]),
+            [it for it in self.catalogues[path].archives if it.desk in asked],
             bool(running),
             running,
         )
@@ -336,7 +359,9 @@ class Recall:
         self.doubtful += [[name, *it.row()] for it in its.pieces if it in concern]
 
     def has(self, line: Line, uid: str) -> bool | None:
-        """Whether the running desk of a line has a UniqueID; None if it gives no answer, which is a fault by then."""
+        """Whether the running desk of a line has a UniqueID; None if it gives no answer, which is a
+        fault by then.
+        """
         with contextlib.suppress(plant.Fault):
             return self.desks[line.name].has(uid)
         return None
@@ -355,7 +380,9 @@ class Recall:
         self.asked.append(Asked(*about, "no", "", 0, str(fault)))
 
     def doubt(self) -> None:
-        """No desk places a piece twice: where a line has a board and a designator twice, two of its files overlap, or a board's name came again."""
+        """No desk places a piece twice: where a line has a board and a designator twice, two of its
+        files overlap, or a board's name came again.
+        """
         twice = [
             (it, other)
             for it, other in zip(self.pieces, self.pieces[1:])
@@ -363,16 +390,17 @@ class Recall:
         ]
         for it, other in twice[:1]:
             self.doubts.append(
-                f"{it.line}: {len(twice)} pieces are there twice, as {it.designator} of {it.board} in {it.file} and in {other.file}: "
-                "these files have the same commands, or a board's name came again"
+                f"{it.line}: {len(twice)} pieces are there twice, as {it.designator} of"
+                f" {it.board} in {it.file} and in {other.file}: these files have the same commands,"
+                " or a board's name came again"
             )
-        there = [(it.sha256, it) for survey in self.catalogues.values() for it in survey.archives]
-        for sha256, archive in there:
-            same = [other for its, other in there if its == sha256 and other != archive]
+        there = [row for row in self.asked if row.sha256]
+        for row in there:
+            same = [other for other in there if other.sha256 == row.sha256 and other != row]
             if same:
-                names = ", ".join(f"{other.desk} {other.file}" for other in same)
+                names = ", ".join(f"{other.line} {other.file}" for other in same)
                 self.doubts.append(
-                    f"{archive.desk} {archive.file} has the same checksum as {names}:"
+                    f"{row.line} {row.file} has the same checksum as {names}:"
                     " it is one file, on two lines"
                 )
         lines: dict[tuple[str, str, str], set[str]] = {}
@@ -381,14 +409,16 @@ class Recall:
                 lines.setdefault((it.board, it.designator, it.reel), set()).add(it.line)
         if both := next((sorted(those) for those in lines.values() if len(those) > 1), None):
             self.doubts.append(
-                f"the running desks of {' and '.join(both)} have the same pieces: both URLs lead to one desk"
+                f"the running desks of {' and '.join(both)} have the same pieces: both URLs lead to"
+                " one desk"
             )
 
     def note(self) -> None:
         kind, name = self.question.kind, self.question.name
         if not self.known and not self.faults:
             self.notes.append(
-                f"nobody knows the {kind} {name}: look at its spelling; names are told apart to the letter"
+                f"nobody knows the {kind} {name}: look at its spelling; names are told apart to the"
+                " letter"
             )
         elif self.known and not self.pieces:
             self.notes.append(
@@ -397,13 +427,10 @@ class Recall:
             )
         if any(it.minute is None for it in self.pieces):
             self.notes.append(
-                "a piece that lies in a running desk has no minute here, since the desk's file is not at hand: it was placed after the line's last archive"
+                "a piece that lies in a running desk has no minute here, since the desk's file is"
+                " not at hand: it was placed after the line's last archive"
             )
-        if not self.chain:
-            self.faults.append(
-                "this is a first look, by --quick: nothing was proved of the archives. Ask without it too"
-            )
-        if self.archives_only and (without := [it.name for it in self.lines if not it.url]):
+        if self.archives_only and (without := [it.name for it in self.here if not it.url]):
             self.notes.append(
                 f"no running desk was asked of {', '.join(without)}, by --archives-only"
             )
@@ -421,28 +448,28 @@ class Recall:
 
 
 class Concern:
-    """Which pieces in doubt a recall has to name: those that may be of a reel of the question, or of its
-    part. A reel that no desk knows may have been on each machine on which it was refused.
+    """Which pieces in doubt a recall has to name: those that may be of a reel of the question, or
+    of its part. A reel that no desk knows may have been on each machine on which it was refused.
     """
 
-    def __init__(self, story: doubtful.Story, question: Question) -> None:
-        self.story, self.question = story, question
-        self.is_set = bool(question.part or question.reels)
+    def __init__(self, of: story.Story, question: Question) -> None:
+        self.story, self.question = of, question
+        self.is_set = bool(question.part) or question.kind == "reels"
         self.reels = set(question.reels) or {
-            reel for reel, lot in story.lots.items() if question.is_of(reel, story.parts[reel], lot)
+            reel for reel, lot in of.lots.items() if question.is_of(reel, of.parts[reel], lot)
         }
-        unknown = self.reels - story.parts.keys()
+        unknown = self.reels - of.parts.keys()
         if not self.reels:  # of a lot that no desk knows
-            unknown = story.machines.keys() - story.parts.keys()
-        self.parts = {story.parts[reel] for reel in self.reels - unknown}
-        self.machines = {it for reel in unknown for it in story.machines.get(reel, ())}
+            unknown = of.machines.keys() - of.parts.keys()
+        self.parts = {of.parts[reel] for reel in self.reels - unknown}
+        self.machines = {it for reel in unknown for it in of.machines.get(reel, ())}
 
-    def __contains__(self, piece: doubtful.Piece) -> bool:
+    def __contains__(self, piece: handling.Piece) -> bool:
         if not self.is_set:
             return self.story.concerns(piece, self.question.kind, self.question.name)
         if self.reels & {piece.reel, *piece.other_reels}:
             return True
-        if doubtful.DIFFERS in piece.why and piece.other_lots[0]:
-            return False
+        if story.DIFFERS in piece.why:  # of what lot and part an unknown reel is, nobody knows
+            return not piece.other_lots[0]
         part = self.story.parts.get(piece.reel)
         return part in self.parts or piece.machine in self.machines

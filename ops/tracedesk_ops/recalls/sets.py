@@ -1,5 +1,5 @@
-"""The set of reels that a question means: those of several lots, those with an attribute, and the other
-names of a reel that changed lines.
+"""The set of reels that a question means: those of several lots, those with an attribute, and the
+other names of a reel that changed lines.
 """
 from __future__ import annotations
 
@@ -11,7 +11,7 @@ import sqlite3
 from collections.abc import Iterable, Iterator, Sequence
 from typing import NamedTuple
 
-from tracedesk_ops import attributes, catalogue, copies, doubtful, plant, stored
+from tracedesk_ops import around, attributes, catalogue, copies, doubtful, store, stored
 from tracedesk_ops.recalls.desk import Line, Question
 
 REELS = "SELECT reel, part, lot FROM reel"
@@ -51,15 +51,21 @@ def terms_of(words: Iterable[str]) -> Terms:
         name, equals, value = word.partition("=")
         if not equals or not value or name not in attributes.ASKED:
             raise ValueError(
-                f"{word} is no ATTRIBUTE=VALUE: an attribute is one of {', '.join(attributes.ASKED)}"
+                f"{word} is no ATTRIBUTE=VALUE: an attribute is one of"
+                f" {', '.join(attributes.ASKED)}"
             )
         values.setdefault(name, []).append(value)
     return Terms(values)
 
 
+OLD, NEW = "old", "new"  # the side of a move on which a reel has a name
+Move = tuple[str, str, str]  # the beginning of its UniqueIDs, a side, and a reel
+
+
 class Known:
-    """What the files of all lines know of reels: `cards` has a reel's part and lot, `same` the names of
-    each move, and `faults` what could not be looked at.
+    """What the files of all lines know of reels: `cards` has a reel's part and lot, `old` and `new`
+    the names of each move, `books` the heads that desks have recorded of books, and `faults` what
+    could not be looked at.
     """
 
     def __init__(self, lines: Sequence[Line]) -> None:
@@ -68,12 +74,14 @@ class Known:
             set
         )  # by the beginning of UniqueIDs
         self.new: dict[str, set[str]] = collections.defaultdict(set)
+        self.books: dict[pathlib.Path, set[str]] = collections.defaultdict(set)  # by their folder
         self.faults: list[str] = []
         for line in lines:
             for file, is_running in files_of(line):
                 try:
                     with opened(file, is_running) as database:
                         self.read(database)
+                        self.books[line.catalogue.parent].update(store.heads_in(database).books)
                 except (OSError, sqlite3.Error, catalogue.CatalogueError) as fault:
                     self.faults.append(f"{line.name}: the reels of {file} aren't known: {fault}")
 
@@ -88,31 +96,55 @@ class Known:
                 elif word == "CountsTaken" and found[2]:
                     self.old[found[1]].update(row["Reel"] for row in body["Counts"])
 
-    def followed(self, reels: Iterable[str]) -> tuple[list[str], list[str]]:
-        """The reels with all names that they have had, and which of them came from, or went to, a line
-        that isn't asked.
-        """
-        found, faults = dict.fromkeys(reels), []
+    def moves(self) -> Iterator[Move]:
+        for side, names in ((OLD, self.old), (NEW, self.new)):
+            yield from ((move, side, reel) for move, reels in names.items() for reel in reels)
+
+    def learn(self, moves: Iterable[Move]) -> None:
+        """Adds moves that are known elsewhere."""
+        for move, side, reel in moves:
+            (self.old if side == OLD else self.new)[move].add(reel)
+
+    def followed(self, reels: Iterable[str]) -> list[str]:
+        """The reels with all names that they have had."""
+        found = dict.fromkeys(reels)
         waiting = list(found)
         while waiting:
             reel = waiting.pop()
             for move in {*self.old, *self.new}:
                 names = self.old[move] | self.new[move]
-                if reel not in names:
-                    continue
-                if not (self.old[move] and self.new[move]):
-                    way = "went to" if self.old[move] else "came from"
-                    faults.append(
-                        f"the reel {reel} {way} a line that is not asked: name that line too"
-                    )
-                waiting += [name for name in sorted(names) if name not in found]
-                found |= dict.fromkeys(sorted(names))
-        return list(found), faults
+                if reel in names:
+                    waiting += [name for name in sorted(names) if name not in found]
+                    found |= dict.fromkeys(sorted(names))
+        return list(found)
+
+    def away(self, reels: Iterable[str]) -> Iterator[str]:
+        """Which of these reels came from, or went to, a line that isn't asked."""
+        for reel in reels:
+            for move in sorted({*self.old, *self.new}):
+                old, new = self.old[move], self.new[move]
+                if reel in old | new and not (old and new):
+                    way = "went to" if old else "came from"
+                    yield f"the reel {reel} {way} a line that is not asked: name that line too"
+
+
+class Asked(NamedTuple):
+    """The question that some words ask, why its set of reels may not be whole, and what a reader
+    has to know. `known` is what the lines know of reels, as far as the question wants it.
+    """
+
+    question: Question
+    faults: list[str]
+    notes: list[str]
+    known: Known | None = None
 
 
 def files_of(line: Line) -> Iterator[tuple[pathlib.Path, bool]]:
     """The archives of a line, and the running desk's file."""
-    for archive in catalogue.survey(line.catalogue).archives:
+    reader = store.Reader(believes_names=True, without_logs=True)
+    desks = [line.desk] if line.desk else []
+    folder = around.Folder(line.catalogue.parent, [line.name], desks, reader)
+    for archive in folder.survey().archives:
         if archive.desk == line.name:
             yield catalogue.path_of(line.catalogue, archive), False
     if line.url:
@@ -130,44 +162,37 @@ def title(kind: str, names: Sequence[str], part: str) -> str:
     return f"the {kind}s {', '.join(names)}{of_part}"
 
 
-def question_of(
-    kind: str, names: Sequence[str], part: str, lines: Sequence[Line]
-) -> tuple[Question, list[str], list[str]]:
-    """The question that these words ask, why its set of reels may not be whole, and what a reader has to
-    know.
-    """
+def question_of(kind: str, names: Sequence[str], part: str, lines: Sequence[Line]) -> Asked:
+    """The question that these words ask."""
     if kind == "board" or kind == "lot" and len(names) == 1:
-        return Question(kind, names[0], part), [], []
+        return Asked(Question(kind, names[0], part), [], [])
     known = Known(lines)
     if kind == "reel":
-        reels, faults = known.followed(names)
+        reels = known.followed(names)
         more = [name for name in reels if name not in names]
         notes = [f"followed under other names too: {', '.join(more)}"] if more else []
-        if len(reels) == 1:
-            return Question(kind, names[0]), faults, []
-        return Question("reels", title(kind, reels, ""), "", tuple(reels)), faults, notes
+        its = Question("reels", title(kind, reels, ""), "", tuple(reels))
+        return Asked(its if len(reels) > 1 else Question(kind, names[0]), [], notes, known)
     if kind == "lot":
         cards = known.cards.values()
         of_lots = [its.reel for its in cards if its.lot in names and part in ("", its.part)]
         its = Question("reels", title(kind, names, part), "", tuple(sorted(of_lots)))
         unknown = [lot for lot in names if not any(card.lot == lot for card in cards)]
-        return its, known.faults, [f"nobody knows the lot {lot}" for lot in unknown]
+        notes = [f"no line here knows the lot {lot}" for lot in unknown]
+        return Asked(its, known.faults, notes)
     return where(terms_of(names), known, lines)
 
 
-def where(
-    terms: Terms, known: Known, lines: Sequence[Line]
-) -> tuple[Question, list[str], list[str]]:
-    """The question for the reels with these attributes. A reel whose attributes nobody knows may be one of
-    them.
+def where(terms: Terms, known: Known, lines: Sequence[Line]) -> Asked:
+    """The question for the reels with these attributes. A reel whose attributes nobody knows may be
+    one of them.
     """
     faults = list(known.faults)
     told: dict[str, attributes.Reel] = {}
     for archive in dict.fromkeys(line.catalogue.parent for line in lines):
-        try:
-            told |= attributes.newest(attributes.read(archive))
-        except plant.Fault as fault:
-            faults.append(str(fault))
+        rows, wrong = attributes.rows_of(archive, known.books[archive])
+        told |= attributes.newest(rows)
+        faults += wrong
     for reel, card in known.cards.items():  # what a desk knows counts
         told[reel] = told.get(reel, card)._replace(part=card.part, lot=card.lot)
     lacking = sorted(reel for reel, its in told.items() if terms.lack(its))
@@ -178,5 +203,5 @@ def where(
             f"the attributes of {len(lacking)} reels aren't known, so they may be of this recall:"
             f" {named}{more}. Give them by tracedesk-reels add"
         )
-    reels, gone = known.followed(sorted(reel for reel, its in told.items() if terms.take(its)))
-    return Question("reels", str(terms), "", tuple(reels)), [*faults, *gone], []
+    reels = known.followed(sorted(reel for reel, its in told.items() if terms.take(its)))
+    return Asked(Question("reels", str(terms), "", tuple(reels)), faults, [], known)

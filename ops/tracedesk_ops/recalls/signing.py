@@ -1,4 +1,5 @@
-"""Signatures over the checksums of a folder, by ssh-keygen of OpenSSH, so that anybody can verify them:
+"""Signatures over the checksums of a folder, by ssh-keygen of OpenSSH, so that anybody can verify
+them:
 
     ssh-keygen -Y verify -f signers -I plant -n tracedesk-recall -s SHA256SUMS.sig < SHA256SUMS
 """
@@ -42,7 +43,8 @@ def fingerprint(key: pathlib.Path) -> str:
         return keygen("-l", "-E", "sha256", "-f", key).split()[1]
     except NoSignature as fault:
         raise NoSignature(
-            f"{key} can't be used as a key: {fault}. Call it as a user who may read the key, or with --unsigned"
+            f"{key} can't be used as a key: {fault}. Call it as a user who may read the key, or"
+            " with --unsigned"
         ) from fault
 
 
@@ -81,7 +83,8 @@ def signer(folder: pathlib.Path, sums: bytes, signers: pathlib.Path) -> str:
         found = keygen("-Y", "find-principals", *words).splitlines()
     except NoSignature as fault:
         raise NoSignature(
-            f"its key is that of nobody in {signers}: ask the plant for its key by another way than with the evidence"
+            f"its key is that of nobody in {signers}: ask the plant for its key by another way than"
+            " with the evidence"
         ) from fault
     named = ("-I", found[0], "-n", NAMESPACE)
     keygen("-Y", "verify", *words, *named, given=sums)

@@ -6,7 +6,7 @@ import html
 from collections.abc import Iterable, Sequence
 from typing import Any
 
-from tracedesk_ops import catalogue, doubtful
+from tracedesk_ops import catalogue, story
 from tracedesk_ops.firstlook import Piece, Reel
 from tracedesk_ops.recalls.desk import Question
 from tracedesk_ops.recalls.recall import Asked, Recall
@@ -21,7 +21,9 @@ def spelled(minute: int | None) -> str:
 
 
 def boards_table(recall: Recall, shipped: Shipped | None) -> Table:
-    """A row for each board. If a piece in a running desk has no minute, the last minute is empty, and the first where all pieces of a line do."""
+    """A row for each board. If a piece in a running desk has no minute, the last minute is empty,
+    and the first where all pieces of a line do.
+    """
     boards: dict[str, list[Piece]] = {}
     for it in recall.pieces:
         boards.setdefault(it.board, []).append(it)
@@ -56,7 +58,9 @@ def board_row(board: str, pieces: list[Piece]) -> list[Any]:
 
 
 def shipment(shipped: Shipped, board: str) -> list[str]:
-    """The customers of a board and the dates, in the order of the list; empty where it was not shipped."""
+    """The customers of a board and the dates, in the order of the list; empty where it was not
+    shipped.
+    """
     return ["; ".join(it) for it in zip(*shipped[board])] if board in shipped else ["", ""]
 
 
@@ -91,7 +95,7 @@ def tables_of(recall: Recall, shipped: Shipped | None) -> dict[str, Table]:
             ],
             *recall.untraced,
         ],
-        "doubtful": [["line", *doubtful.HEADER], *recall.doubtful],
+        "doubtful": [["line", *story.HEADER], *recall.doubtful],
     }
 
 
@@ -112,17 +116,27 @@ th { font-weight: normal; color: #5a6675 } td { overflow-wrap: anywhere } .whole
 
 
 def page(recall: Recall, tables: dict[str, Table], shipped: Shipped | None, version: str) -> str:
-    """One page: the question, whether all were asked, the boards, what is left of the reels, and who was asked."""
+    """One page: the question, whether all were asked, the boards, what is left of the reels, and
+    who was asked.
+    """
     kind = recall.question.kind
     title = html.escape(title_of(recall.question))
     asked, missing = len(recall.asked), sum(1 for it in recall.asked if it.why)
-    head = f'<p class="whole">All were asked: {asked} {"archives and no running desk" if recall.archives_only and not any(it.url for it in recall.lines) else "desks and archives"}.</p>'
+    is_old = recall.archives_only and not any(line.url for line in recall.lines)
+    files = "archives and no running desk" if is_old else "desks and archives"
+    head = f'<p class="whole">All were asked: {asked} {files}.</p>'
     if recall.faults or recall.breaks:
-        head = f'<div class="missing">NOT ALL WERE ASKED, or the archives are no chain. The answer may lack boards.{listed([*recall.faults, *recall.breaks])}</div>'
+        head = (
+            '<div class="missing">NOT ALL WERE ASKED, or the archives are no chain. The answer may'
+            f" lack boards.{listed([*recall.faults, *recall.breaks])}</div>"
+        )
     if recall.doubts:
         head += f'<div class="missing">PIECES ARE COUNTED TWICE.{listed(recall.doubts)}</div>'
     if undecided := recall.undecided():
-        head += f'<div class="missing">WORK WAS DONE ALTHOUGH A DESK REFUSED IT: its pieces are in no trace. See "Untraced work", {len(undecided)} undecided.</div>'
+        head += (
+            '<div class="missing">WORK WAS DONE ALTHOUGH A DESK REFUSED IT: its pieces are in no'
+            f' trace. See "Untraced work", {len(undecided)} undecided.</div>'
+        )
     sections = [
         (f"Boards: {len(tables['boards']) - 1}, with {len(recall.pieces)} pieces", tables["boards"])
     ]
@@ -181,4 +195,5 @@ def html_table(table: Table) -> str:
         texts = (f"<{tag}>{html.escape(str(value))}</{tag}>" for value in row)
         return f"<tr>{''.join(texts)}</tr>\n"
 
-    return f"<table><thead>{cells(header, 'th')}</thead><tbody>{''.join(cells(row, 'td') for row in rows)}</tbody></table>"
+    body = "".join(cells(row, "td") for row in rows)
+    return f"<table><thead>{cells(header, 'th')}</thead><tbody>{body}</tbody></table>"

@@ -12,7 +12,7 @@ import re
 from collections.abc import Iterator, Sequence
 from typing import Any
 
-from tracedesk_ops import catalogue, chains, plant
+from tracedesk_ops import catalogue, chains, model, plant, store
 from tracedesk_ops.recalls import certificate, signing
 from tracedesk_ops.recalls.certificate import LISTED, bytes_of
 from tracedesk_ops.recalls.evidence import Contents, sums_of
@@ -32,11 +32,15 @@ def contents_of(folder: pathlib.Path) -> Contents:
         there = {path.name: path for path in folder.iterdir()}
         if odd := [path for path in there.values() if path.is_symlink() or not path.is_file()]:
             raise Refused(f"{odd[0]} is no file: evidence has files alone")
-        texts = {name: path.read_bytes() for name, path in there.items()}
+        return checked({name: path.read_bytes() for name, path in there.items()}, folder)
     except OSError as fault:
         raise Refused(f"{fault.filename}: it can't be read: {fault.strerror}") from fault
+
+
+def checked(texts: Contents, of: object) -> Contents:
+    """The same of all files of this evidence, by their names."""
     if signing.SUMS not in texts:
-        raise Refused(f"{folder} has no {signing.SUMS}: it is no evidence of a recall")
+        raise Refused(f"{of} has no {signing.SUMS}: it is no evidence of a recall")
     sums = texts.pop(signing.SUMS)
     texts.pop(signing.SIGNATURE, None)
     named = {
@@ -74,8 +78,8 @@ def rows_of(contents: Contents, name: str) -> list[dict[str, str]]:
 
 
 def want_pieces(contents: Contents, told: dict[str, Any]) -> None:
-    """Stops if the pieces of archives aren't those of tracedesk-chain, or the boards not those of the
-    pieces.
+    """Stops if the pieces of archives aren't those of tracedesk-chain, or the boards not those of
+    the pieces.
     """
     pieces = rows_of(contents, "pieces")
     wanted: list[list[str]] = []
@@ -115,8 +119,8 @@ def again(
     program: str,
     room: pathlib.Path,
 ) -> Iterator[str]:
-    """Asks tracedesk-chain again about the archives in these folders; yields what came of each line.
-    A Refused if an archive is another one, or the answer is.
+    """Asks tracedesk-chain again about the archives in these folders; yields what came of each
+    line. A Refused if an archive is another one, or the answer is.
     """
     chain = plant.chain_of(program)
     if not chain:
@@ -128,11 +132,8 @@ def again(
         if not line["chain"]:
             raise Refused(f"{line['line']}: its archives were not asked by tracedesk-chain")
         words = [word_of(word, contents, room) for word in line["chain"]["words"]]
-        archives = [
-            catalogue.Archive(file.name, its["sha256"], line["line"], 0, 0, 0, 0, "")
-            for file, its in zip(files, line["archives"])
-        ]
-        answer = chains.asked(chain, words, files, archives)
+        digits = [its["sha256"][: model.DIGITS] for its in line["archives"]]
+        answer = chains.asked(chain, words, files, digits)
         sha256 = hashlib.sha256(bytes_of(answer.text)).hexdigest()
         if sha256 != line["chain"]["sha256"]:
             raise Refused(f"{line['line']}: tracedesk-chain answers otherwise about these archives")
@@ -157,6 +158,6 @@ def file_of(folders: Sequence[pathlib.Path], name: str, sha256: str) -> pathlib.
     if not there:
         raise Refused(f"the archive {name} is in none of the folders of --archives")
     for file in there:
-        if catalogue.sha256_of(file) == sha256:
+        if store.sha256_of(file) == sha256:
             return file
     raise Refused(f"{there[0]} is another archive: its checksum is not that of the certificate")

@@ -1,0 +1,155 @@
+"""The words by which the tools of a line are called, and what a line's set-up file says of them."""
+from __future__ import annotations
+
+import argparse
+import os
+import pathlib
+import re
+import shutil
+
+from tracedesk_ops import model, places
+from tracedesk_ops.plant import Fault
+
+SET_UP, DESK, PORT = places.FOLDER, places.DESK, places.PORT
+STOP = "systemctl stop tracedesk"
+# it may have failed too often, on a desk that was not to be had
+START = "systemctl reset-failed tracedesk; systemctl start tracedesk"
+PROXY_PORT = 8081  # packaging/nginx.conf
+DRAINED = pathlib.Path("/run/tracedesk-drained")  # packaging/nginx.conf looks for it
+
+
+def offer_program(reader: argparse.ArgumentParser) -> None:
+    reader.add_argument(
+        "--program",
+        default=os.environ.get("PROGRAM", "tracedesk"),
+        metavar="FILE",
+        help="the program (PROGRAM in the environment, else tracedesk)",
+    )
+
+
+def find_program(reader: argparse.ArgumentParser, asked: argparse.Namespace) -> argparse.Namespace:
+    """Makes the program's name a path, in the words that it returns; the tool ends where there is
+    none.
+    """
+    asked.program = shutil.which(asked.program)
+    if asked.program is None:
+        reader.error("there is no program: name it by --program, or PROGRAM in the environment")
+    return asked
+
+
+def set_ups() -> list[dict[str, str]]:
+    """The lines that are set up on this machine: of each the words of its file LINE.conf, and what
+    it doesn't name.
+    """
+    try:
+        return [its.words() for its in places.lines()]
+    except places.NotSetUp as fault:
+        raise Fault(str(fault)) from fault
+
+
+def set_up(reader: argparse.ArgumentParser, **names: str) -> None:
+    """Takes the words of a tool from the line's set-up file, as far as the command line doesn't say
+    them. `names` are those of words that the tool calls otherwise.
+    """
+    if not any(action.dest == "line" for action in reader._actions):
+        reader.add_argument(
+            "--line", type=line_name, metavar="NAME", help="which line's, where several are set up"
+        )
+    given = argparse.ArgumentParser(add_help=False, allow_abbrev=False)
+    given.add_argument("--line")
+    given.add_argument("--db")
+    given.add_argument("--archive")
+    it = given.parse_known_args()[0]
+    try:
+        named = "db" if it.db or not it.archive else "archive"
+        those = [its for its in set_ups() if getattr(it, named) in (None, its[named])]
+    except Fault as fault:
+        reader.error(str(fault))
+    own = [its for its in those if it.line in (None, its["line"])]
+    if len(own) > 1:
+        reader.error(
+            f"the lines {', '.join(its['line'] for its in own)} are set up in {SET_UP}: say by"
+            " --line which it is"
+        )
+    if those and not own:
+        reader.error(
+            f"in {SET_UP} the lines {', '.join(its['line'] for its in those)} are set up, and not"
+            f" {it.line}: write {SET_UP}/{it.line}.conf, or name its desk by --db"
+        )
+    known = {action.dest for action in reader._actions}
+    reader.set_defaults(
+        **{
+            names.get(name, name): value
+            for its in own
+            for name, value in its.items()
+            if names.get(name, name) in known
+        }
+    )
+
+
+def offer(reader: argparse.ArgumentParser) -> None:
+    """Adds the words of both tools."""
+    reader.add_argument(
+        "--db", type=pathlib.Path, default=DESK, metavar="FILE", help=f"the desk's file ({DESK})"
+    )
+    reader.add_argument(
+        "--archive",
+        type=pathlib.Path,
+        metavar="FOLDER",
+        help="the archived desks with their catalogue (archive, beside the file)",
+    )
+    offer_program(reader)
+    reader.add_argument(
+        "--stop", default=STOP, metavar="COMMAND", help=f"stops the service ({STOP})"
+    )
+    reader.add_argument(
+        "--start", default=START, metavar="COMMAND", help=f"starts the service ({START})"
+    )
+    reader.add_argument(
+        "--port", type=int, default=PORT, metavar="N", help=f"where the desk answers ({PORT})"
+    )
+    reader.add_argument(
+        "--drained",
+        type=pathlib.Path,
+        default=DRAINED,
+        metavar="FILE",
+        help=f"the proxy sends senders away while it is there ({DRAINED})",
+    )
+    reader.add_argument(
+        "--drain-seconds",
+        type=float,
+        default=30,
+        metavar="N",
+        help="how long the last answers may take (30)",
+    )
+    reader.add_argument(
+        "--proxy-port",
+        type=int,
+        default=PROXY_PORT,
+        metavar="N",
+        help=f"where the proxy counts its requests for this machine ({PROXY_PORT})",
+    )
+    set_up(reader, copies="to")
+
+
+def line_name(text: str) -> str:
+    if not re.fullmatch(r"[A-Za-z0-9][A-Za-z0-9._-]*", text) or len(text) > model.LONGEST_LINE:
+        raise argparse.ArgumentTypeError("a line's name has letters, digits, '.', '_' and '-'")
+    return text
+
+
+def understood(reader: argparse.ArgumentParser, wants_desk: bool = True) -> argparse.Namespace:
+    """The words of the command line, with whole paths; it ends where they can't be followed."""
+    asked = reader.parse_args()
+    asked.archive = (asked.archive or asked.db.absolute().parent / "archive").absolute()
+    asked.db = (
+        asked.db.resolve() if asked.db.is_symlink() else asked.db.absolute()
+    )  # a link to it stays one
+    find_program(reader, asked)
+    line = model.Line("", asked.db, asked.archive)
+    was_cut_off = line.room.exists() or line.aside.exists()
+    if wants_desk and not asked.db.is_file() and not was_cut_off:
+        reader.error(f"there is no file {asked.db}: name the desk's file by --db")
+    if asked.archive == asked.db.parent:
+        reader.error("the archived desks have a folder of their own")
+    return asked
