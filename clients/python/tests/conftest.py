@@ -1,4 +1,5 @@
-"""The paths and options of the tests of the package; the other options and the markers are those of all tests.
+"""The paths and options of the tests of the package; the other options and the markers are those of
+all tests.
 
     /usr/bin/python3 -m pytest clients/python/tests -m gate
     /usr/bin/python3 -m pytest clients/python/tests/test_interlock.py -k mended

@@ -1,4 +1,6 @@
-"""A desk as far as the interlock sees one: a machine's sheet, the reels on its slots, the board in work; over HTTP, or called."""
+"""A desk as far as the interlock sees one: a machine's sheet, the reels on its slots, the board in
+work; over HTTP, or called.
+"""
 from __future__ import annotations
 
 import http.server
@@ -15,7 +17,9 @@ CARD = "reel,part,lot,level,received,placed,scrapped,remaining,minutes_left,stat
 
 
 class Model:
-    """One machine, M1. Each slot of its sheet takes reels of the part of the same name; a reel's name begins with its part."""
+    """One machine, M1. Each slot of its sheet takes reels of the part of the same name; a reel's
+    name begins with its part.
+    """
 
     def __init__(self, slots: Tuple[str, ...] = ("1",)) -> None:
         self.sheet = slots

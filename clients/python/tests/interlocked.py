@@ -1,18 +1,27 @@
 #!/usr/bin/env python3
-"""Tries the interlock: from a refusal to `stop`, of the machine's own messages and of a tablet's; and kills of the sender at random moments.
+"""Tries the interlock: from a refusal to `stop`, of the machine's own messages and of a tablet's;
+and kills of the sender at random moments.
 
 usage: clients/python/tests/interlocked.py [--kills N] [--refusals N] [--tablets N] [--seed N]
 
-The sender is the package's, before a model of a desk. The plant's command writes each call with its time. The machine of the test takes
-`go` only while the last call says so and is younger than half a second. A killed sender calls nothing more, so that the machine stops;
-one of five hangs before it is killed. A sender that is started again must say `stop` until a start of work is accepted. A tablet talks
-to the desk alone; the sender reads of it in the list of scans that the proxy writes.
+The sender is the package's, before a model of a desk. The plant's command writes each call with its
+time. The machine of the test takes `go` only while the last call says so and is younger than half a
+second. A killed sender calls nothing more, so that the machine stops; one of five hangs before it
+is killed. A sender that is started again must say `stop` until a start of work is accepted. A
+tablet talks to the desk alone; the sender reads of it in the list of scans that the proxy writes.
+
+Two of five refusals come while something else goes wrong for 1.5 seconds: the sender is killed and
+started again, or it is suspended, or the desk is frozen, or the disk of the sender is full. The
+machine must stand from then on, until the slot or the board is in order. Seconds are counted to the
+last moment in which the machine might work: until the call that stops, or until a permission is too
+old.
 
 examples:
   clients/python/tests/interlocked.py --refusals 100 --tablets 100
   clients/python/tests/interlocked.py --kills 500 --refusals 1000 --tablets 1000
 
-A line every 20 rounds has the figures so far. Exit status: 0 each kill ended in stop; 1 one did not; 2 bad command line.
+A line every 20 rounds has the figures so far. Exit status: 0 each kill and refusal ended in stop; 1
+one did not; 2 bad command line.
 """
 from __future__ import annotations
 
@@ -22,6 +31,7 @@ import json
 import os
 import pathlib
 import random
+import resource
 import signal
 import subprocess
 import sys
@@ -33,12 +43,16 @@ from desk_model import Model, Server
 
 SENDER = pathlib.Path(__file__).resolve().parents[1] / "tracedesk-send"
 YOUNG = 0.5  # seconds that a call permits for
+TROUBLES = ("a kill", "a suspend", "a frozen desk", "a full disk")
+TROUBLED, LASTS = 0.4, 1.5  # share of refusals amid one, and its seconds
 PATIENCE = 600  # seconds for what must come: a machine may be busy
 Found = TypeVar("Found")
 
 
 class Plant:
-    """A sender, the file that its machine writes to, a tablet, and the calls of the plant's command."""
+    """A sender, the file that its machine writes to, a tablet, and the calls of the plant's
+    command.
+    """
 
     def __init__(self, room: pathlib.Path) -> None:
         self.room, self.out, self.log, self.number = room, room / "out", room / "calls", 0
@@ -47,7 +61,8 @@ class Plant:
         self.scans.mkdir()
         self.log.touch()
         command = room / "permit"
-        command.write_text(f'#!/bin/sh\necho "$(date +%s.%N) $2 $3" >> {self.log}\n')
+        free = "ulimit -S -f unlimited"  # the log is on a disk that is never full
+        command.write_text(f'#!/bin/sh\n{free}\necho "$(date +%s.%N) $2 $3" >> {self.log}\n')
         command.chmod(0o755)
         self.server = Server(Model())
         self.model = self.server.model
@@ -114,8 +129,9 @@ class Plant:
     def wait_for(self, found: Callable[[], Optional[Found]]) -> Found:
         end = time.monotonic() + PATIENCE
         while not (it := found()):
-            if time.monotonic() > end:
-                raise AssertionError(f"it doesn't come: {list(self.calls())[-3:]}")
+            ended = self.sender.poll()
+            if ended is not None or time.monotonic() > end:
+                raise AssertionError(f"it doesn't come: {list(self.calls())[-3:]}, sender: {ended}")
             time.sleep(0.01)
         return it
 
@@ -123,31 +139,82 @@ class Plant:
         last = list(self.calls())[-1:]
         return bool(last) and last[0][1] == "go" and time.time() - last[0][0] < YOUNG
 
-    def refusal(self, from_tablet: bool) -> float:
-        """Seconds from the answer that refuses to the call that stops."""
+    def refusal(self, from_tablet: bool, trouble: str = "", ahead: float = 0.0) -> float:
+        """Seconds from the answer that refuses until the machine stands. A trouble begins so long
+        before the message, or after it.
+        """
         self.wait_for(self.is_idle)
         self.log.write_text("")
         self.begin_board()
         self.wait_for(self.is_permitted)
-        if from_tablet:
-            uid = self.tablet("MaterialsSpliced", Slot="1", Reel="WRONG")
-        else:
-            bad = self.message("MaterialsInstalled", Board=self.model.board, Designators=["9"])
-            uid = self.say(bad)
+        with contextlib.ExitStack() as held:
+            if trouble and ahead > 0:
+                held.enter_context(self.amid(trouble))
+                time.sleep(ahead)
+            if from_tablet:
+                uid = self.tablet("MaterialsSpliced", Slot="1", Reel="WRONG")
+            else:
+                board = self.model.board
+                uid = self.say(self.message("MaterialsInstalled", Board=board, Designators=["9"]))
+            if trouble and ahead <= 0:
+                time.sleep(-ahead)
+                held.enter_context(self.amid(trouble))
         refused = self.wait_for(lambda: self.model.refused_at.get(uid))
-
-        def stopped() -> Optional[float]:
-            its = (at for at, state, _ in self.calls() if state == "stop" and at > refused)
-            return next(its, None)
-
-        took = self.wait_for(stopped) - refused
+        self.wait_for(lambda: self.is_stopped_for_it(refused))
+        time.sleep(2 * YOUNG if trouble else 0)
+        if self.is_permitted():
+            raise AssertionError(f"it works again, amid {trouble or 'nothing'}")
+        took = self.permitted_until(refused) - refused
         if from_tablet:
             self.tablet("MaterialsUnloaded", Slot="1")
             self.tablet("MaterialsLoaded", Slot="1", Reel=f"1-K{self.number}")
         return took
 
+    def is_stopped_for_it(self, since: float) -> bool:
+        """Whether the command was called with `stop` because of a refusal."""
+        return any(it[1] == "stop" and "refused" in it[2] for it in self.calls() if it[0] > since)
+
+    def permitted_until(self, since: float) -> float:
+        """Until when the machine might work after a moment: a call permits until the next one, and
+        not for long.
+        """
+        end, until = since, -float("inf")
+        for at, state, _ in self.calls():
+            end = max(end, min(until, at))
+            until = at + YOUNG if state == "go" else -float("inf")
+        return end
+
+    @contextlib.contextmanager
+    def amid(self, trouble: str) -> Iterator[None]:
+        """A trouble that lasts for a while."""
+        if trouble == "a kill":
+            self.kill()
+        elif trouble == "a suspend":
+            self.sender.send_signal(signal.SIGSTOP)
+        elif trouble == "a frozen desk":
+            self.model.is_silent = True
+        else:
+            self.fill_disk(0)
+        yield
+        time.sleep(LASTS)
+        if trouble == "a kill":
+            self.start()
+        elif trouble == "a suspend":
+            self.sender.send_signal(signal.SIGCONT)
+        elif trouble == "a frozen desk":
+            self.model.is_silent = False
+        else:
+            self.fill_disk(resource.RLIM_INFINITY)
+
+    def fill_disk(self, most: int) -> None:
+        """No file of the sender can grow above so many bytes."""
+        hard = resource.RLIM_INFINITY
+        resource.prlimit(self.sender.pid, resource.RLIMIT_FSIZE, (most, hard))
+
     def killed(self, chance: random.Random) -> bool:
-        """Kills the sender around a start; whether the machine stops, and stays so until a start is accepted anew."""
+        """Kills the sender around a start; whether the machine stops, and stays so until a start is
+        accepted anew.
+        """
         self.wait_for(self.is_idle)
         self.log.write_text("")
         self.begin_board()
@@ -181,7 +248,7 @@ def figures(kills: int, stopped: int, took: Dict[str, List[float]]) -> Dict[str,
     found: Dict[str, Any] = {"kills": kills, "stopped": stopped}
     for name, its in took.items():
         if its := sorted(its):
-            found[f"refused by {name}"] = len(its)
+            found[f"refused {name}"] = len(its)
             found[f"{name}: median"] = its[len(its) // 2]
             found[f"{name}: 99th"] = its[len(its) * 99 // 100]
             found[f"{name}: most"] = its[-1]
@@ -202,13 +269,18 @@ def run(
     seed: int,
     say: Callable[[str], None] = lambda line: None,
 ) -> Dict[str, Any]:
-    """How many kills ended in stop, and the seconds from refusals to stop. Kills come between the refusals; `say` takes the figures so far."""
+    """How many kills ended in stop, and the seconds from refusals to stop. Kills come between the
+    refusals; `say` takes the figures so far.
+    """
     chance = random.Random(seed)
-    took: Dict[str, List[float]] = {"machine": [], "tablet": []}
-    deeds = ["kill"] * kills + ["machine"] * refusals + ["tablet"] * tablets
+    took: Dict[str, List[float]] = {"by machine": [], "by tablet": []}
+    took.update({f"amid {name}": [] for name in TROUBLES})
+    deeds = ["kill"] * kills + ["by machine"] * refusals + ["by tablet"] * tablets
     chance.shuffle(deeds)
     done = stopped = 0
-    with tempfile.TemporaryDirectory() as room, contextlib.ExitStack() as held:
+    with tempfile.TemporaryDirectory(
+        ignore_cleanup_errors=True
+    ) as room, contextlib.ExitStack() as held:
         plant = Plant(pathlib.Path(room))
         held.callback(plant.end)
         plant.start()
@@ -216,7 +288,10 @@ def run(
             if deed == "kill":
                 done, stopped = done + 1, stopped + plant.killed(chance)
             else:
-                took[deed].append(plant.refusal(deed == "tablet"))
+                trouble = chance.choice(TROUBLES) if chance.random() < TROUBLED else ""
+                seconds = plant.refusal(deed == "by tablet", trouble, chance.uniform(-0.15, 0.15))
+                for name in (deed, f"amid {trouble}")[: 1 + bool(trouble)]:
+                    took[name].append(seconds)
             if number % 20 == 19:
                 say(shown(figures(done, stopped, took)))
         plant.wait_for(plant.is_idle)

@@ -50,7 +50,9 @@ class DeskModel:
         return 200, {"Answer": "Accepted", "Number": len(self.accepted), "UniqueID": uid}
 
     def roll_over(self) -> None:
-        """A new desk has of each message of the archive its UniqueID, Source and minute, as a ClockSet."""
+        """A new desk has of each message of the archive its UniqueID, Source and minute, as a
+        ClockSet.
+        """
         for uid, (number, told) in self.accepted.items():
             self.told[uid] = number, {
                 **told,

@@ -1,4 +1,6 @@
-"""Machines, programs and operators under the model of what is outside, and what holds at the end."""
+"""Machines, programs and operators under the model of what is outside, and what holds at the
+end.
+"""
 from __future__ import annotations
 
 import contextlib
@@ -50,9 +52,11 @@ class Run:
 
     def made(self, source: str, most: int, said: bool = False) -> list[bytes]:
         kinds = [
-            "good"
-            if said or self.chance.random() < 0.75
-            else self.chance.choice(("bad", "faulty", "mistyped", "other", "long"))
+            (
+                "good"
+                if said or self.chance.random() < 0.75
+                else self.chance.choice(("bad", "faulty", "mistyped", "other", "long"))
+            )
             for _ in range(self.chance.randrange(most))
         ]
         self.wanted[source] = [f"{source}-{number}-{kind}" for number, kind in enumerate(kinds)]
@@ -66,7 +70,9 @@ class Run:
     # What machines do
 
     def write_file(self) -> None:
-        """A file with the next lines, under a name that may have been used before. The machine doesn't write over one that is there."""
+        """A file with the next lines, under a name that may have been used before. The machine
+        doesn't write over one that is there.
+        """
         there = sorted(it.name for it in self.world.out.glob("*.jsonl"))
         name = f"{int(there[-1][0]) + 1 if there else self.chance.randrange(3)}.jsonl"
         some, self.files = self.files[:2], self.files[2:]
@@ -92,7 +98,9 @@ class Run:
             self.world.sleep(self.chance.choice((0, 0.1, 1)))
 
     def rotate(self) -> None:
-        """The file is moved away; its writer stays on it for a line or two, and the file of that name comes after the last of them. It may be packed then."""
+        """The file is moved away; its writer stays on it for a line or two, and the file of that
+        name comes after the last of them. It may be packed then.
+        """
         if self.log is None or not (self.world.room / "spool/.position").exists():
             return  # what was moved away before the bridge ever ran is given by hand
         log, self.number = self.world.log, self.number + 1
@@ -141,7 +149,9 @@ class Run:
         return packed
 
     def write_anew(self) -> None:
-        """The file gets other lines in place of those that were read: as many bytes, fewer or more."""
+        """The file gets other lines in place of those that were read: as many bytes, fewer or
+        more.
+        """
         if self.log is None or not self.lines or not self.is_read():
             return
         size = self.world.log.stat().st_size
@@ -168,9 +178,9 @@ class Run:
                 str(self.world.log.absolute())
             ]["Files"]
             there = {
-                it.stat().st_ino: gzip.decompress(it.read_bytes())
-                if it.suffix == ".gz"
-                else it.read_bytes()
+                it.stat().st_ino: (
+                    gzip.decompress(it.read_bytes()) if it.suffix == ".gz" else it.read_bytes()
+                )
                 for it in self.world.room.iterdir()
                 if it.is_file()
             }
@@ -313,7 +323,9 @@ class Run:
             raise Wrong(f"status {self.sender.status}: {self.sender.told()}")
 
     def restore(self) -> None:
-        """The desk is restored from a copy, and the operator sends again what was sent since then."""
+        """The desk is restored from a copy, and the operator sends again what was sent since
+        then.
+        """
         assert self.copied
         kept, since = self.copied
         self.world.desk.accepted, self.world.desk.told, self.world.desk.history = kept
@@ -324,7 +336,9 @@ class Run:
         self.drained()
 
     def look_at_all(self) -> None:
-        """None lost, none twice, none reordered; what was not taken is set aside, and nothing else."""
+        """None lost, none twice, none reordered; what was not taken is set aside, and nothing
+        else.
+        """
         history, aside = self.world.desk.history, [
             it.read_bytes() for it in sorted(self.world.spool.aside.glob("*.json"))
         ]
@@ -338,7 +352,8 @@ class Run:
         ]
         if set(history) != {uid for uid in good if uid.endswith("good")}:
             raise Wrong(
-                f"lost or made up: {set(history) ^ {uid for uid in good if uid.endswith('good')}}; log: {self.bridging and self.bridging.told()}"
+                f"lost or made up: {set(history) ^ {uid for uid in good if uid.endswith('good')}};"
+                f" log: {self.bridging and self.bridging.told()}"
             )
         for source, wanted in self.wanted.items():
             got = [uid for uid in history if uid.startswith(source)]

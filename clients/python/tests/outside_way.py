@@ -1,4 +1,6 @@
-"""The way to the desk of the model, through a proxy; and how programs come to see the model in place of the system."""
+"""The way to the desk of the model, through a proxy; and how programs come to see the model in
+place of the system.
+"""
 from __future__ import annotations
 
 import contextlib

@@ -1,7 +1,8 @@
 """What is outside of a sender and a bridge, as a model: a clock, files, a desk, and signals.
 
-The programs themselves run, in threads of this process, and one at a time: whoever sleeps, reads, writes, syncs, locks or asks the
-desk may be put off, killed, or given a fault, as the seed of the run says. Time passes only where all of them sleep.
+The programs themselves run, in threads of this process, and one at a time: whoever sleeps, reads,
+writes, syncs, locks or asks the desk may be put off, killed, or given a fault, as the seed of the
+run says. Time passes only where all of them sleep.
 """
 from __future__ import annotations
 

@@ -1,4 +1,5 @@
-"""What tests of the sender share: a desk, a proxy in front of it that fails, and runs of the sender with two files.
+"""What tests of the sender share: a desk, a proxy in front of it that fails, and runs of the sender
+with two files.
 
 Each step of the proxy's script is called with the request that is at hand.
 """
@@ -112,7 +113,9 @@ def expect(got: Sent, status: int, answers: int, said: str = "") -> None:
 
 
 class Proxy(http.server.ThreadingHTTPServer):
-    """Stands in front of a desk: its first requests meet the steps of a script, and what comes then is passed on."""
+    """Stands in front of a desk: its first requests meet the steps of a script, and what comes then
+    is passed on.
+    """
 
     daemon_threads = True
 

@@ -27,7 +27,9 @@ def line(uid: str, word: str = "PartDefined") -> bytes:
 
 
 class Answering(http.server.BaseHTTPRequestHandler):
-    """Says what its script says next; then Accepted, of `bad` Refused, and of a word that is none Ignored."""
+    """Says what its script says next; then Accepted, of `bad` Refused, and of a word that is none
+    Ignored.
+    """
 
     protocol_version = "HTTP/1.1"
     server: Server

@@ -169,9 +169,13 @@ def test_a_reason_says_what_to_do() -> None:
 
 REPORTS = {
     "/slots?machine=M+1": "slot,position,reel,part,lot,remaining,minutes_left\n1,1,K-1,P,L,40,unlimited\n1,2,K-2,P,L,7,10050\n",
-    "/kit?product=PR&machine=M&boards=3": "slot,part,needed,reel,pieces,minutes_left\n1,P,9,K-1,4,unbaked\n1,P,9,,5,short\n",
+    "/kit?product=PR&machine=M&boards=3": (
+        "slot,part,needed,reel,pieces,minutes_left\n1,P,9,K-1,4,unbaked\n1,P,9,,5,short\n"
+    ),
     "/reel?reel=K-1": "reel,part,lot,level,received,placed,scrapped,remaining,minutes_left,state\nK-1,P,L,1,10,1,2,7,unlimited,open\n",
-    "/trace/board?board=B&detail=4": 'designator,part,lot,reel,machine,slot,overdue\nC1,"P,1",L,K,M,1,yes\n',
+    "/trace/board?board=B&detail=4": (
+        'designator,part,lot,reel,machine,slot,overdue\nC1,"P,1",L,K,M,1,yes\n'
+    ),
     "/trace/lot?lot=L&detail=1": "board\nB\n",
     "/overdue?": "board,designator,reel,minute\n",
     "/trace/lot?lot=X&detail=1": None,

@@ -1,4 +1,6 @@
-"""The plant's command: kills, signals, and calls that hang. The sender is a process of its own before a model of a desk."""
+"""The plant's command: kills, signals, and calls that hang. The sender is a process of its own
+before a model of a desk.
+"""
 from __future__ import annotations
 
 import pathlib

@@ -11,16 +11,20 @@ from unittest import mock
 import pytest
 from desk_model import Model, Server
 
-from tracedesk import answers, asking, desk, disk, interlock, spool
+from tracedesk import answers, asking, command, desk, disk, interlock, scans, spool
 
 
 class Line:
-    """An interlock of M1 before a desk: what the machine and the tablets say, and the questions after it."""
+    """An interlock of M1 before a desk: what the machine and the tablets say, and the questions
+    after it.
+    """
 
     def __init__(self, room: pathlib.Path, server: Server) -> None:
         self.room, self.server, self.model = room, server, server.model
         self.desk = desk.Desk(server.url, patience=5.0, timeout=5.0)
-        self.count = self.lines = 0
+        self.count = self.names = 0
+        self.scans_at = room / "scans"
+        self.scans_at.mkdir()
         self.begin()
 
     def begin(self) -> None:
@@ -28,6 +32,7 @@ class Line:
         self.spool = spool.Spool(self.room / "spool", name="m1")
         self.states = interlock.Interlock(self.spool, ["M1"], is_used=True)
         self.asker = asking.Asker(self.states, self.desk)
+        self.list = scans.Scans(self.states, str(self.scans_at), lambda _: self.desk, True, print)
 
     def message(self, word: str, uid: Optional[str] = None, **body: Any) -> Dict[str, Any]:
         self.count += 1
@@ -43,11 +48,25 @@ class Line:
         """The machine's sender says something; the state after it."""
         return self.send(self.message(word, uid, **body))
 
-    def send(self, told: Dict[str, Any]) -> str:
+    def send(self, told: Dict[str, Any], name: int = 0) -> str:
+        """The sender sends a message, under a name that it has in its spool already, or a new
+        one.
+        """
+        self.names += not name
         self.asker.look("M1")
         answer = answers.read(self.model.say(json.dumps(told).encode())[1])
         assert answer is not None
-        self.states.judged("1", told, answer)
+        self.states.judged(disk.spelled(name or self.names), told, answer)
+        return self.state()
+
+    def listed(self, told: Dict[str, Any], day: str = "2026-03-02") -> str:
+        """A tablet says something to the desk, the proxy adds it to the file of a day, and the
+        sender reads that.
+        """
+        status = self.model.say(json.dumps(told).encode())[0]
+        with (self.scans_at / f"{day}.jsonl").open("a") as file:
+            print(json.dumps({"Message": json.dumps(told), "Status": status}), file=file)
+        self.list.look()
         return self.state()
 
     def tablet(self, word: str, source: str = "tablet", **body: Any) -> str:
@@ -58,7 +77,7 @@ class Line:
     def scan(self, told: Dict[str, Any], status: int) -> str:
         own = told["UniqueID"] in self.states.own
         scan = {"Message": told, "Status": status, "IsOld": False, "IsOwn": own}
-        self.states.scanned([scan], ["2026-03-02.jsonl", self.count])
+        self.states.scanned([scan], ["2026-03-02.jsonl", self.count], interlock.clock())
         return self.state()
 
     def ask(self) -> None:
@@ -214,6 +233,67 @@ def test_an_own_message_that_is_answered_again_mends_nothing(line: Line) -> None
     assert line.send(told) == "stop"
 
 
+def restore(model: Model, splice: Dict[str, Any]) -> None:
+    """A copy takes the desk's place, and lacks this splice."""
+    model.answers.pop(splice["UniqueID"])
+    model.tapes[splice["MessageBody"]["Slot"]].remove(splice["MessageBody"]["Reel"])
+
+
+def test_a_scan_that_is_sent_again_after_a_restore_mends_nothing(line: Line) -> None:
+    """Also where the sender began anew since it read it."""
+    line.start()
+    spliced = line.message("MaterialsSpliced", Slot="1", Reel="1-K2")
+    assert line.listed(spliced, "2026-02-24") == "go"
+    wrong = line.message("MaterialsSpliced", Slot="1", Reel="2-WRONG")
+    assert line.listed(wrong) == "stop"
+    for _ in range(2):
+        line.begin()
+        restore(line.model, spliced)
+        line.listed(spliced)
+        assert line.states.of("M1").slots
+    line.listed(line.message("MaterialsSpliced", Slot="1", Reel="1-K3"))
+    assert not line.states.of("M1").slots
+
+
+@pytest.mark.parametrize("is_read", [False, True])
+def test_a_scan_before_a_refusal_mends_nothing_where_the_sender_is_killed(
+    line: Line, is_read: bool
+) -> None:
+    """Once the list was read behind the refusal a scan mends it, also one that comes while no
+    sender runs.
+    """
+    line.start()
+    line.list.look()
+    early = line.message("MaterialsSpliced", Slot="1", Reel="1-K2")
+    with mock.patch.object(line.list, "look"):
+        line.listed(early)
+    assert line.say("MaterialsSpliced", Slot="1", Reel="2-WRONG") == "stop"
+    if is_read:
+        line.list.look()
+        with mock.patch.object(line.list, "look"):
+            line.listed(line.message("MaterialsSpliced", Slot="1", Reel="1-K3"))
+    line.begin()
+    line.list.look()
+    assert bool(line.states.of("M1").slots) is not is_read
+
+
+def test_an_own_message_that_is_sent_again_after_a_restore_mends_nothing(line: Line) -> None:
+    """Also where others said so much to the desk since that its number is a greater one now."""
+    line.start()
+    spliced = line.message("MaterialsSpliced", Slot="1", Reel="1-K2")
+    assert line.send(spliced) == "go"
+    name = line.names
+    assert line.say("MaterialsSpliced", Slot="1", Reel="2-WRONG") == "stop"
+    for _ in range(2):
+        restore(line.model, spliced)
+        line.model.number += 100
+        line.send(spliced, name)
+        assert line.states.of("M1").slots
+        line.begin()
+    line.say("MaterialsSpliced", Slot="1", Reel="1-K3")
+    assert not line.states.of("M1").slots
+
+
 def test_an_old_start_permits_only_what_holds_now(line: Line) -> None:
     told = line.message("WorkStarted", Board="B1")
     assert line.send(told) == "go"
@@ -300,6 +380,25 @@ def test_silence_stops(line: Line) -> None:
         assert line.state() == "go"
     line.states.scans_at = interlock.clock() - 11
     assert line.cause() == "silent"
+
+
+def test_what_was_asked_before_a_suspend_permits_nothing(line: Line) -> None:
+    """Neither that of the desk nor what the list of scans had; an answer that came meanwhile is of
+    before it too.
+    """
+    line.start()
+    line.list.look()
+    caller = command.Caller(line.states, "M1", ["true"], print)
+    assert caller.state().word == "go"
+    begun = interlock.clock()
+    with mock.patch.object(command, "clock", lambda: begun + 1.1):
+        assert caller.state().word == "stop"
+    line.states.asked("M1", "B1", None, begun)
+    assert "was suspended" in line.states.state("M1").reason
+    line.states.resumed = begun
+    assert (line.state(), caller.state().word) == ("stop", "stop")
+    line.list.look()
+    assert line.state() == "go"
 
 
 def test_a_desk_that_answers_oddly_stops(line: Line) -> None:

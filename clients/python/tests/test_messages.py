@@ -1,4 +1,6 @@
-"""The seventeen messages: what is made is taken by the schema, and what is out of range is not made."""
+"""The seventeen messages: what is made is taken by the schema, and what is out of range is not
+made.
+"""
 import dataclasses
 import datetime
 import json

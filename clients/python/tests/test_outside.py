@@ -1,4 +1,6 @@
-"""Senders and bridges under a model of what is outside: none lost, none twice, none reordered, and each status true."""
+"""Senders and bridges under a model of what is outside: none lost, none twice, none reordered, and
+each status true.
+"""
 import os
 import sys
 import tempfile
@@ -14,7 +16,9 @@ NEWS = 100  # runs between two lines
 
 
 def test_each_message_acts_once_and_in_order_whatever_fails(request: pytest.FixtureRequest) -> None:
-    """--outside N random runs, the first one of --seed N: that of a run which fails, with --outside 1, is that run again."""
+    """--outside N random runs, the first one of --seed N: that of a run which fails, with --outside
+    1, is that run again.
+    """
     runs, first = request.config.getoption("--outside"), request.config.getoption("--seed")
     bridge, counts, begun = bridge_program(), Counter[str](), time.monotonic()
     with modelled(bridge):

@@ -251,7 +251,9 @@ def test_a_message_of_the_archive_is_done(lab: Lab) -> None:
 
 
 def test_a_name_that_this_spool_used_before_is_no_archive(lab: Lab) -> None:
-    """A ClockSet from here was accepted under that UniqueID, so a yes to the question says nothing of the message."""
+    """A ClockSet from here was accepted under that UniqueID, so a yes to the question says nothing
+    of the message.
+    """
     lab.send("--follow", "-", given=line("u1", "ClockSet"))
     lab.send("--put", "-", given=line("u1"))
     lab.server.script = [

@@ -1,4 +1,6 @@
-"""No message is lost, none acts twice, and their order is kept, whatever is killed between a machine and its desk."""
+"""No message is lost, none acts twice, and their order is kept, whatever is killed between a
+machine and its desk.
+"""
 from __future__ import annotations
 
 import pathlib

@@ -1,4 +1,6 @@
-"""What stands between sender and desk breaks connections, loses answers, asks for a log-in, turns messages away."""
+"""What stands between sender and desk breaks connections, loses answers, asks for a log-in, turns
+messages away.
+"""
 from __future__ import annotations
 
 import pathlib

@@ -1,4 +1,6 @@
-"""The sender by TLS, with a password or a certificate; and examples/client.py, with a spool and without."""
+"""The sender by TLS, with a password or a certificate; and examples/client.py, with a spool and
+without.
+"""
 from __future__ import annotations
 
 import pathlib

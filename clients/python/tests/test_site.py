@@ -1,4 +1,6 @@
-"""The packaged proxy before a desk of the program: who may put what for the line, and what a sender reads there of others' scans."""
+"""The packaged proxy before a desk of the program: who may put what for the line, and what a sender
+reads there of others' scans.
+"""
 from __future__ import annotations
 
 import contextlib
@@ -12,13 +14,15 @@ import sys
 import tempfile
 import time
 from typing import Any, Callable, Dict, Iterator, List, Tuple
+from unittest import mock
 
 import pytest
 
 ROOT = pathlib.Path(__file__).resolve().parents[3]
-sys.path[:0] = [str(ROOT / "station/tests")]
+sys.path[:0] = [str(ROOT / "station/tests"), str(ROOT / "ops")]
 from station_site import Site  # noqa: E402
 from tracedesk_dev import program as programs  # noqa: E402
+from tracedesk_ops import inboxes  # noqa: E402
 
 HAS_NGINX = shutil.which("nginx", path=os.environ.get("PATH", "") + ":/usr/sbin")
 SENDER = ROOT / "clients/python/tracedesk-send"
@@ -43,20 +47,28 @@ def site() -> Iterator[Any]:
             yield made
 
 
+def file_of(site: Any, path: str, user: str) -> pathlib.Path:
+    """The file of what a log-in put."""
+    folder, _, name = path.partition("/line/")[2].partition("/")
+    found: pathlib.Path = site.room / "line" / folder / f"{user}~{name}"
+    return found
+
+
 def put(site: Any, path: str, user: "str | None" = None, text: str = RECORD, **more: Any) -> int:
     status: int = site.asked("PUT", path, user, text, **more)[0]
     return status
 
 
 def test_a_record_is_put_once_and_stays(site: Any) -> None:
-    file = site.room / "line" / PATH.partition("/line/")[2]
+    file = file_of(site, PATH, "op")
     for user in (None, "office", "qm"):
         assert put(site, PATH, user) == 401
     assert put(site, PATH, None, certificate="auditor") == 401
     assert not file.exists()
     assert (put(site, PATH, "op"), put(site, PATH, "op", "other")) == (201, 204)
     assert (file.read_text(), file.stat().st_mode & 0o777) == (RECORD, 0o644)
-    assert put(site, PATH, None, certificate="m2") == 204
+    assert [put(site, PATH, None, certificate="m2") for _ in range(2)] == [201, 204]
+    assert file_of(site, PATH, "m2").read_text() == RECORD
     other = f"{PATH[:-9]}0000.json"
     for user in (None, "office"):  # nobody learns whether it is there
         assert put(site, PATH, user) == put(site, other, user) == 401
@@ -77,19 +89,25 @@ def test_a_decision_wants_a_log_in_of_its_own(site: Any) -> None:
     for user, certificate in ((None, None), ("office", None), (None, "m2"), ("m1", None)):
         assert put(site, DECIDED, user, certificate=certificate) == 401
     assert (put(site, DECIDED, "qm"), put(site, DECIDED, "qm")) == (201, 204)
-    file = site.room / "line" / DECIDED.partition("/line/")[2]
-    assert file.read_text() == RECORD
+    assert file_of(site, DECIDED, "qm").read_text() == RECORD
 
 
-def test_where_too_much_waits_nothing_is_put(site: Any) -> None:
-    path = PATH.replace("untraced/", "untraced/" + "1" * 8)[: len(PATH) - 5] + ".json"
-    full = site.room / "line/untraced/full"
-    full.touch()
-    try:
-        assert put(site, path, "op") == 507
-    finally:
-        full.unlink()
-    assert put(site, path, "op") == 201
+def test_where_too_much_of_a_log_in_waits_it_alone_puts_no_more(site: Any) -> None:
+    """The tool that collects makes the marks; what nobody can make a row of counts."""
+    inbox = site.room / "line/untraced"
+    names = [f"/line/untraced/{number:032}.json" for number in range(4)]
+    m2: Dict[str, Any] = {"certificate": "m2", "text": "x" * 1000}
+    assert put(site, names[0], **m2) == 201
+    with mock.patch.object(inboxes, "MOST_OF_ONE", 999):
+        assert len(inboxes.limit(inbox)) == 1
+    assert put(site, names[1], **m2) == 507
+    assert put(site, names[1], "op") == put(site, DECIDED[:-6] + "0.json", "qm") == 201
+    with mock.patch.object(inboxes, "MOST_WAITING", 999):
+        inboxes.limit(inbox)
+    assert put(site, names[2], **m2) == put(site, names[2], "op") == 507
+    file_of(site, names[0], "m2").unlink()
+    assert inboxes.limit(inbox) == []
+    assert put(site, names[3], **m2) == put(site, names[3], "op") == 201
 
 
 def test_a_sender_puts_its_own_status(site: Any) -> None:

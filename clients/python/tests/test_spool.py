@@ -18,7 +18,9 @@ class Ended(BaseException):
 
 @contextlib.contextmanager
 def ends_at(number: int) -> Iterator[None]:
-    """The process ends before its call of this number, of those that write, sync, rename and delete."""
+    """The process ends before its call of this number, of those that write, sync, rename and
+    delete.
+    """
     count = 0
 
     def counted(call: Callable[..., Any]) -> Callable[..., Any]:
@@ -282,6 +284,19 @@ def test_sent_messages_go_again_in_front(lab: Lab) -> None:
     assert lab.texts() == [b"b", b"c", b"d"]
     with it.sending(), pytest.raises(disk.SpoolError):
         spool.Spool(lab.folder).again_since(0)
+
+
+def test_an_old_answer_takes_no_message_that_goes_again(lab: Lab) -> None:
+    """A sender that ends before its first new answer sends the last message all the same."""
+    it = lab.sent([b"a", b"b"])
+    for number in range(1, 20):
+        it.again_since(0)
+        with contextlib.suppress(Ended), ends_at(number), it.sending():
+            it.done("000000000001", accepted(1))
+        with (it := spool.Spool(lab.folder)).sending():
+            assert lab.texts()[-1:] == [b"b"], number
+            for name in it.names():
+                it.done(name, accepted(1))
 
 
 def test_sent_messages_are_kept_by_age_and_size() -> None:

@@ -9,8 +9,8 @@
         for row in desk.slots("M1"):
             print(row.slot, row.reel, row.remaining)
 
-A machine that may be switched off between making a message and its answer puts it into a Spool first, and tracedesk-send
-sends it from there: `Spool("/var/spool/m1").put(message)`.
+A machine that may be switched off between making a message and its answer puts it into a Spool
+first, and tracedesk-send sends it from there: `Spool("/var/spool/m1").put(message)`.
 """
 from .answers import (
     Accepted,

@@ -1,4 +1,6 @@
-"""What a desk answers, as data; and what each status asks of a sender: it is an answer, or again, or stop and tell a person."""
+"""What a desk answers, as data; and what each status asks of a sender: it is an answer, or again,
+or stop and tell a person.
+"""
 from __future__ import annotations
 
 import dataclasses
@@ -26,7 +28,8 @@ class Accepted:
 
 @dataclasses.dataclass(frozen=True)
 class Refused:
-    """The command breaks a rule, `at` what is at fault; nothing was kept. `number` is that of a UniqueID that was used.
+    """The command breaks a rule, `at` what is at fault; nothing was kept. `number` is that of a
+    UniqueID that was used.
 
     `archived` is set by Desk.send: the message itself was accepted before the desk was begun anew.
     """
@@ -157,7 +160,9 @@ def is_archived(answer: Answer) -> bool:
 
 
 def is_taken(answer: Answer) -> bool:
-    """Whether nothing is left to do: it is accepted, now or before a roll-over, or of a vocabulary that is not the desk's."""
+    """Whether nothing is left to do: it is accepted, now or before a roll-over, or of a vocabulary
+    that is not the desk's.
+    """
     return (
         isinstance(answer, Accepted)
         or is_archived(answer)
@@ -175,7 +180,9 @@ def is_of(answer: Answer, message: bytes) -> bool:
 
 
 def question(message: bytes) -> bytes:
-    """A message that a desk accepts if it has accepted this one, or the one of its archive with the same UniqueID: after IdReused alone."""
+    """A message that a desk accepts if it has accepted this one, or the one of its archive with the
+    same UniqueID: after IdReused alone.
+    """
     told = read_object(message)
     return json.dumps(
         {
@@ -209,7 +216,10 @@ def why(answer: Answer) -> str:
     if isinstance(answer, Ignored):
         names = [words.PREFIX + it.WORD for it in words.MESSAGES]
         near = difflib.get_close_matches(answer.message_name, names, 1, 0.0)[0]
-        return f"ignored: the desk has no message {answer.message_name:.100}, and did nothing. To do: correct the name; the nearest is {near}"
+        return (
+            f"ignored: the desk has no message {answer.message_name:.100}, and did nothing. To do:"
+            f" correct the name; the nearest is {near}"
+        )
     return type(answer).__name__
 
 
@@ -226,7 +236,9 @@ class Meaning(enum.Enum):
 
 @dataclasses.dataclass(frozen=True)
 class Verdict:
-    """What came of a try: the answer, or why there is none, and how many seconds to wait at least."""
+    """What came of a try: the answer, or why there is none, and how many seconds to wait at
+    least.
+    """
 
     meaning: Meaning
     answer: Optional[Answer] = None
@@ -239,7 +251,9 @@ BEGINNING = b'{"Answer":'
 
 
 def seconds_of(retry_after: Optional[str]) -> float:
-    """How long to wait for a Retry-After, which is a number of seconds, or a date: ten minutes at most. What is neither asks for nothing."""
+    """How long to wait for a Retry-After, which is a number of seconds, or a date: ten minutes at
+    most. What is neither asks for nothing.
+    """
     if retry_after is None:
         return 0.0
     try:

@@ -1,4 +1,6 @@
-"""The questions that the interlock asks the desk, again and again. No answer to them changes anything there."""
+"""The questions that the interlock asks the desk, again and again. No answer to them changes
+anything there.
+"""
 from __future__ import annotations
 
 import contextlib
@@ -8,9 +10,11 @@ from typing import Any, Dict, List, Optional
 
 from . import answers, words
 from .desk import Desk, NotThere
-from .interlock import Fault, Interlock, clock
+from .interlock import Interlock, clock
+from .machine import Fault
 
-ASKS = "tracedesk-send asks"  # begins the UniqueIDs of questions, by which the proxy keeps them out of its list
+# begins the UniqueIDs of questions, by which the proxy keeps them out of its list
+ASKS = "tracedesk-send asks"
 LONG_AGO = "1970-01-01T00:00:00Z"  # a time that is never too far ahead
 NO_DESIGNATORS = ["-", "-"]  # the desk refuses one that is named twice, on whatever sheet
 
@@ -47,7 +51,9 @@ def is_in_work(desk: Desk, machine: str, board: str) -> bool:
 
 
 def slot_says(desk: Desk, machine: str, slot: str) -> str:
-    """How the desk refuses to load a reel that nobody has: SlotNotOnSheet, SlotTaken, or UnknownReel where the slot of the sheet is empty."""
+    """How the desk refuses to load a reel that nobody has: SlotNotOnSheet, SlotTaken, or
+    UnknownReel where the slot of the sheet is empty.
+    """
     reel = f"no reel {secrets.token_hex(8)}"
     return refusal_of(desk, question("MaterialsLoaded", Machine=machine, Slot=slot, Reel=reel))
 
@@ -69,7 +75,9 @@ class Asker:
         return any(self.states.is_due(it) for it in self.states.listed)
 
     def ask(self) -> None:
-        """Asks about each machine whose turn it is. Without an answer in time nothing is known, and the machines stop by themselves."""
+        """Asks about each machine whose turn it is. Without an answer in time nothing is known, and
+        the machines stop by themselves.
+        """
         due = [it for it in self.states.listed if self.states.is_due(it)]
         if due:
             with contextlib.suppress(Exception), self.desk.hasty(self.states.silence / 2) as desk:
@@ -83,22 +91,26 @@ class Asker:
                 self.seen(machine, mounted(desk, machine))
 
     def seen(self, machine: str, rows: List[words.SlotRow]) -> None:
-        """Notes the slots that have a reel. When a start is accepted each slot of the sheet has one."""
+        """Notes the slots that have a reel. When a start is accepted each slot of the sheet has
+        one.
+        """
         it, slots = self.states.of(machine), {row.slot for row in rows}
         if not slots <= it.seen:
             it.seen |= slots
             self.states.keep()
 
     def ask_about(self, desk: Desk, machine: str) -> None:
-        board = self.states.of(machine).board
+        board, begun = self.states.of(machine).board, clock()
         try:
             found = self.found(desk, machine, board)
         except Odd as odd:
             found = Fault("refused", str(odd))
-        self.states.asked(machine, board, found)
+        self.states.asked(machine, board, found, begun)
 
     def found(self, desk: Desk, machine: str, board: Optional[str]) -> Optional[Fault]:
-        """What speaks against work on a board: it isn't in work, or a slot of the sheet is empty, or its reel is expired or not baked."""
+        """What speaks against work on a board: it isn't in work, or a slot of the sheet is empty,
+        or its reel is expired or not baked.
+        """
         is_known = board is None or is_in_work(desk, machine, board)
         rows = mounted(desk, machine)
         self.seen(machine, rows)
@@ -123,8 +135,8 @@ class Asker:
         return None if rows else Fault("empty", "the machine has no reel")
 
     def old_reel(self, desk: Desk, machine: str, rows: List[words.SlotRow]) -> Optional[Fault]:
-        """A slot of the sheet whose first reel is expired or not baked. The desk counts minutes by the messages that it gets, so the
-        clock here is looked at too."""
+        """A slot of the sheet whose first reel is expired or not baked. The desk counts minutes by
+        the messages that it gets, so the clock here is looked at too."""
         it, now, ends = self.states.of(machine), clock(), {}  # type: Any, float, Dict[str, float]
         for row in rows:
             if isinstance(row.minutes_left, int):

@@ -1,4 +1,6 @@
-"""The plant's command, called for each machine by a thread of its own: no machine waits for the command of another one."""
+"""The plant's command, called for each machine by a thread of its own: no machine waits for the
+command of another one.
+"""
 from __future__ import annotations
 
 import contextlib
@@ -14,11 +16,13 @@ from .interlock import Interlock, State, clock
 
 LONGEST_CALL = 2.0  # seconds that a call may take
 SHORT, OFTEN = 0.01, 0.05  # seconds between two looks: at a call that runs, and at a state
-LATE = 1.0  # seconds from a state to its call, after which that state is old
+LATE = 1.0  # seconds from a state to its call, or between two looks, after which a state is old
 
 
 class Caller(threading.Thread):
-    """Calls COMMAND MACHINE STATE REASON BOARD at each change of a machine's state, and again and again with the same one."""
+    """Calls COMMAND MACHINE STATE REASON BOARD at each change of a machine's state, and again and
+    again with the same one.
+    """
 
     def __init__(
         self, states: Interlock, machine: str, command: List[str], tell: Callable[[str], None]
@@ -27,13 +31,24 @@ class Caller(threading.Thread):
         self.states, self.machine, self.command, self.tell = states, machine, command, tell
         self.called: Optional[State] = None
         self.again_at, self.next_news, self.failed_until = 0.0, 0.0, 0.0
+        self.looked = clock()
+
+    def state(self) -> State:
+        """The state now. Where nobody looked for long the sender was suspended: what it knew says
+        nothing of now.
+        """
+        now = clock()
+        if now - self.looked > LATE:
+            self.states.resumed = now
+        self.looked = now
+        return self.states.state(self.machine)
 
     def run(self) -> None:
         """Calls until the sender ends. Whatever a call finds, the next one comes."""
         while True:
             is_ended = bool(self.states.ended)
             try:
-                state = self.states.state(self.machine)
+                state = self.state()
                 if is_ended or state != self.called or clock() >= self.again_at:
                     self.again_at = clock() + self.states.every
                     self.call(state)
@@ -45,7 +60,9 @@ class Caller(threading.Thread):
             time.sleep(OFTEN)
 
     def call(self, state: State) -> None:
-        """One call. Until one succeeds the machine is stopped, since nobody knows what came of it."""
+        """One call. Until one succeeds the machine is stopped, since nobody knows what came of
+        it.
+        """
         begun, it = clock(), self.states.machines[self.machine]
         told = (self.machine, state.word, state.reason, state.board or "")
         words = [text.replace("\0", "?") for text in told]
@@ -62,7 +79,7 @@ class Caller(threading.Thread):
         is_old = state.word == "go" and clock() - begun > LATE
         while not is_old and done.poll() is None and clock() - begun < LONGEST_CALL:
             time.sleep(SHORT)
-            is_old = state.word == "go" and self.states.state(self.machine).word != "go"
+            is_old = self.state().word != "go" and state.word == "go"
         if done.poll() is None:
             with contextlib.suppress(OSError):
                 os.killpg(done.pid, signal.SIGKILL)
@@ -98,7 +115,9 @@ class Command:
         threading.Thread(target=self.look, daemon=True).start()
 
     def look(self) -> None:
-        """Looks at what waits: a start that the machine has handed over stops it, whatever the sender waits for meanwhile."""
+        """Looks at what waits: a start that the machine has handed over stops it, whatever the
+        sender waits for meanwhile.
+        """
         disk_at = 0.0
         while not self.states.ended:
             with contextlib.suppress(Exception):
@@ -119,7 +138,9 @@ class Command:
 
 
 def end_at_signal(command: Command) -> None:
-    """Stops the machines at SIGTERM, and then ends as the signal does. A thread does so: the main one may hang in a request, or hold a lock."""
+    """Stops the machines at SIGTERM, and then ends as the signal does. A thread does so: the main
+    one may hang in a request, or hold a lock.
+    """
     came, tells = os.pipe()
     os.set_blocking(tells, False)
     main = threading.main_thread().ident or 0

@@ -1,4 +1,6 @@
-"""How a program reports: news on standard error, results on standard output, and its status. A reader that is gone ends no program."""
+"""How a program reports: news on standard error, results on standard output, and its status. A
+reader that is gone ends no program.
+"""
 from __future__ import annotations
 
 import os
@@ -9,15 +11,15 @@ import traceback
 from typing import Callable, Mapping, Type, TypeVar
 
 NAME = pathlib.Path(sys.argv[0]).name
-PAUSE_OF_A_FAULT, NEWS_OF_A_FAULT = (
-    5.0,
-    60.0,
-)  # seconds between two tries, and between two reports of them
+# seconds between two tries, and between two reports of them
+PAUSE_OF_A_FAULT, NEWS_OF_A_FAULT = (5.0, 60.0)
 Found = TypeVar("Found")
 
 
 def tell(line: object) -> None:
-    """Writes a line of news. Once standard error is closed, or takes no more, what follows goes nowhere."""
+    """Writes a line of news. Once standard error is closed, or takes no more, what follows goes
+    nowhere.
+    """
     try:
         print(f"{NAME}: {line}", file=sys.stderr, flush=True)
     except (OSError, ValueError):
@@ -25,7 +27,9 @@ def tell(line: object) -> None:
 
 
 def say(line: str) -> None:
-    """Writes a line of results. Once standard output is closed, or takes no more, what follows goes nowhere."""
+    """Writes a line of results. Once standard output is closed, or takes no more, what follows goes
+    nowhere.
+    """
     try:
         print(line, flush=True)
     except OSError as fault:
@@ -34,14 +38,18 @@ def say(line: str) -> None:
 
 
 def silence(number: int) -> None:
-    """Lets nothing come of what a stream still holds: else the end of the program fails as it writes that, with status 120."""
+    """Lets nothing come of what a stream still holds: else the end of the program fails as it
+    writes that, with status 120.
+    """
     nowhere = os.open(os.devnull, os.O_WRONLY)
     os.dup2(nowhere, number)
     os.close(nowhere)
 
 
 def ended(call: Callable[[], int], statuses: Mapping[Type[Exception], int]) -> int:
-    """Runs a program, and returns its status: of a fault the one given for its kind, else 5 with the place in the program."""
+    """Runs a program, and returns its status: of a fault the one given for its kind, else 5 with
+    the place in the program.
+    """
     try:
         return call()
     except KeyboardInterrupt:
@@ -53,7 +61,9 @@ def ended(call: Callable[[], int], statuses: Mapping[Type[Exception], int]) -> i
 
 
 def patiently(call: Callable[[], Found], news: Callable[[str], None] = tell) -> Found:
-    """Repeats a call until it succeeds. A full disk, a file that can't be read and the like are reported and waited out."""
+    """Repeats a call until it succeeds. A full disk, a file that can't be read and the like are
+    reported and waited out.
+    """
     since = None
     while True:
         try:
@@ -62,6 +72,7 @@ def patiently(call: Callable[[], Found], news: Callable[[str], None] = tell) -> 
             if since is None or time.monotonic() - since >= NEWS_OF_A_FAULT:
                 since = time.monotonic()
                 news(
-                    f"{fault or repr(fault)}. It is tried again every {PAUSE_OF_A_FAULT:.0f} seconds until that is mended"
+                    f"{fault or repr(fault)}. It is tried again every"
+                    f" {PAUSE_OF_A_FAULT:.0f} seconds until that is mended"
                 )
             time.sleep(PAUSE_OF_A_FAULT)

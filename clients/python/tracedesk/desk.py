@@ -1,4 +1,4 @@
-"""A desk, or the proxy in front of it: messages are sent until they are answered, and reports come as rows."""
+"""A desk, or the proxy in front of it: messages are sent until answered, reports come as rows."""
 from __future__ import annotations
 
 import base64
@@ -21,15 +21,14 @@ from . import answers, forms, records, words
 FIRST_PAUSE, LONGEST_PAUSE = 0.05, 5.0  # seconds
 PATIENCE = 600.0  # seconds for one message: a desk of a month starts in two minutes
 TIMEOUT = 150.0  # seconds for one answer: longer than the proxy waits for the desk
-FIRST_NEWS, NEWS = (
-    10.0,
-    60.0,
-)  # seconds without an answer, after which that is reported, and reported again
-SELDOM = 30.0  # seconds to the next try after a log-in was refused, doubled each time: nobody's password is tried fast
-NOT_VALID_NOW = (
-    9,
-    10,
-)  # OpenSSL: a certificate that isn't valid yet, or any more. Its renewal, or a clock that is set, mends that
+# seconds without an answer, after which that is reported, and reported again
+FIRST_NEWS, NEWS = (10.0, 60.0)
+# seconds to the next try after a log-in was refused, doubled each time: nobody's password is tried
+# fast
+SELDOM = 30.0
+# OpenSSL: a certificate that isn't valid yet, or any more. Its renewal, or a clock that is set,
+# mends that
+NOT_VALID_NOW = (9, 10)
 
 
 class GivenUp(Exception):
@@ -41,7 +40,7 @@ class NotTaken(Exception):
 
 
 class NotThere(Exception):
-    """The report is of a board, lot, reel, machine or sheet that isn't there; `kind` says of what."""
+    """The report is of a board, lot, reel, machine or sheet (`kind`) that isn't there."""
 
     def __init__(self, kind: str) -> None:
         super().__init__(f"no such {kind.lower()}: look at the name")
@@ -49,7 +48,9 @@ class NotThere(Exception):
 
 
 def checked_url(text: str) -> urllib.parse.SplitResult:
-    """The parts of a URL, if it names a machine and nobody's password; else ValueError with what is wrong."""
+    """The parts of a URL, if it names a machine and nobody's password; else ValueError with what is
+    wrong.
+    """
     parts = urllib.parse.urlsplit(text)
     if (
         parts.scheme not in ("http", "https")
@@ -72,9 +73,10 @@ def checked_url(text: str) -> urllib.parse.SplitResult:
 class Desk:
     """One connection, made when it is needed and again when it is broken.
 
-    `trust` is an ssl.SSLContext, with a client's certificate where there is one; `log_in` a user and a password; `rate` the
-    most tries in a second, 0 for no limit; `patience` none for ever; `tell` takes a line of news. With `waits` what a person has
-    to mend, as a log-in that is refused, is reported and tried again, but seldom. A URL that names none is a ValueError.
+    `trust` is an ssl.SSLContext, with a client's certificate where there is one; `log_in` a user
+    and a password; `rate` the most tries in a second, 0 for no limit; `patience` none for ever;
+    `tell` takes a line of news. With `waits` what a person has to mend, as a log-in that is
+    refused, is reported and tried again, but seldom. A URL that names none is a ValueError.
     """
 
     def __init__(
@@ -109,7 +111,8 @@ class Desk:
         self.socket: Optional[socket.socket] = None
         self.waits, self.fault = waits, None  # type: bool, Optional[Dict[str, str]]
         self.interval, self.next_try, self.sent_again = (1 / rate if rate else 0.0), 0.0, 0
-        self.is_unanswered = False  # whether there was a try of the last message that may have been accepted without an answer
+        # whether there was a try of the last message that may have been accepted without an answer
+        self.is_unanswered = False
 
     def __enter__(self) -> "Desk":
         return self
@@ -118,7 +121,7 @@ class Desk:
         self.close()
 
     def close(self) -> None:
-        """Ends the connection: the desk serves one at a time, so who has nothing to say holds none."""
+        """Ends the connection: the desk serves one at a time, so an idle sender holds none."""
         if self.connection is not None:
             self.connection.close()
             self.connection = self.socket = None
@@ -161,8 +164,9 @@ class Desk:
 
     @contextlib.contextmanager
     def within(self, end: Optional[float], news: Callable[[], None]) -> Iterator[None]:
-        """Cuts a request that isn't answered whole in its time, by a clock of its own: a server that hangs, or sends a byte a
-        second, lets the caller look at nothing. Meanwhile it reports that there is no answer."""
+        """Cuts a request that isn't answered whole in its time, by a clock of its own: a server
+        that hangs, or sends a byte a second, lets the caller look at nothing. Meanwhile it reports
+        that there is no answer."""
         limit = min(time.monotonic() + self.timeout, end or float("inf"))
         over = threading.Event()
 
@@ -194,7 +198,9 @@ class Desk:
                 socket.socket.shutdown(it, socket.SHUT_RDWR)  # type: ignore[arg-type]  # of TLS too
 
     def until(self, call: Callable[[], Tuple[Optional[Any], str, float]]) -> Any:
-        """Tries until the call finds something. It returns none with why, and how long to wait at least."""
+        """Tries until the call finds something. It returns none with why, and how long to wait at
+        least.
+        """
         begun, pause, seldom = time.monotonic(), FIRST_PAUSE, SELDOM
         end = None if self.patience is None else begun + self.patience
         next_news, why, wait = begun + FIRST_NEWS, "it has not answered", 0.0
@@ -207,7 +213,8 @@ class Desk:
                 next_news = now + NEWS
 
         while True:
-            time.sleep(max(0.0, self.next_try - time.monotonic()))
+            if (ahead := self.next_try - time.monotonic()) > 0:
+                time.sleep(ahead)
             self.next_try = time.monotonic() + self.interval
             found, stop = None, None  # type: Optional[Any], Optional[NotTaken]
             try:
@@ -253,7 +260,9 @@ class Desk:
                 )
 
     def ask(self, text: bytes) -> answers.Answer:
-        """Sends the same bytes until they are answered. An answer that names another message is none."""
+        """Sends the same bytes until they are answered. An answer that names another message is
+        none.
+        """
 
         def call() -> Tuple[Optional[answers.Answer], str, float]:
             was, self.is_unanswered = self.is_unanswered, True
@@ -269,7 +278,10 @@ class Desk:
             self.close()
             return (
                 None,
-                f"what came is the answer to another message: {told.answer.text[:200].decode(errors='replace')}",
+                (
+                    "what came is the answer to another message:"
+                    f" {told.answer.text[:200].decode(errors='replace')}"
+                ),
                 0.0,
             )
 
@@ -282,11 +294,13 @@ class Desk:
         is_tried: bool = False,
         is_others: Callable[[], bool] = lambda: False,
     ) -> answers.Answer:
-        """Sends the same bytes until they are answered, and returns the answer. `is_tried` is whether a run before may have sent them,
-        `is_others` whether another message of the sender is known to have been accepted under their UniqueID.
+        """Sends the same bytes until they are answered, and returns the answer. `is_tried` is
+        whether a run before may have sent them, `is_others` whether another message of the sender
+        is known to have been accepted under their UniqueID.
 
-        A message may have been accepted, its answer lost, and the desk begun anew: then the new desk refuses its UniqueID. It
-        knows for each UniqueID of its archive the Source and the minute, and says so to `answers.question`.
+        A message may have been accepted, its answer lost, and the desk begun anew: then the new
+        desk refuses its UniqueID. It knows for each UniqueID of its archive the Source and the
+        minute, and says so to `answers.question`.
         """
         text = message if isinstance(message, bytes) else message.text
         if len(text) > forms.LONGEST_MESSAGE:
@@ -301,7 +315,8 @@ class Desk:
             and isinstance(self.ask(answers.question(text)), answers.Accepted)
         ):
             self.tell(
-                f"{answer.unique_id} was accepted before the desk was begun anew: its first answer is in the archive"
+                f"{answer.unique_id} was accepted before the desk was begun anew: its first answer"
+                " is in the archive"
             )
             answer = dataclasses.replace(answer, archived=True)
         self.is_unanswered = False
@@ -318,7 +333,8 @@ class Desk:
             told.append(f"desk: {self.place} listens")
             if isinstance(connection.sock, ssl.SSLSocket):
                 told.append(
-                    f"certificate: trusted, until {dict(connection.sock.getpeercert() or {}).get('notAfter')}"
+                    "certificate: trusted, until"
+                    f" {dict(connection.sock.getpeercert() or {}).get('notAfter')}"
                 )
             connection.request("GET", self.path + "/overdue", None, self.headers)
             answer = connection.getresponse()
@@ -340,7 +356,10 @@ class Desk:
         told.append(
             "clock: not compared, since the answer has no date"
             if date is None
-            else f"clock: {'right' if abs(ahead) < 60 else 'WRONG'}, {abs(ahead):.0f} seconds {'ahead of' if ahead > 0 else 'behind'} the other's"
+            else (
+                f"clock: {'right' if abs(ahead) < 60 else 'WRONG'}, {abs(ahead):.0f} seconds"
+                f" {'ahead of' if ahead > 0 else 'behind'} the other's"
+            )
         )
         is_desk = answer.status == 200 and body.startswith(b"board,")
         if answer.status in (401, 403):
@@ -351,20 +370,25 @@ class Desk:
             )
         else:
             told.append(
-                f"desk: status {answer.status}, which is no answer of a desk: {body[:100].decode(errors='replace')}"
+                f"desk: status {answer.status}, which is no answer of a desk:"
+                f" {body[:100].decode(errors='replace')}"
             )
         return told, is_desk and abs(ahead) < 60
 
     @property
     def address(self) -> str:
-        """The machine and the port, by which two senders of a desk are told from those of two desks."""
+        """The machine and the port, by which two senders of a desk are told from those of two
+        desks.
+        """
         host = str(self.url.hostname)
         with contextlib.suppress(OSError, UnicodeError):
             host = socket.gethostbyname(host)
         return f"{host}:{self.url.port or self.url.scheme}"
 
     def hasty(self, seconds: float = 2.0) -> "Desk":
-        """This desk with a patience of some seconds, for what may fail. Its own connection is closed: a desk serves one at a time."""
+        """This desk with a patience of some seconds, for what may fail. Its own connection is
+        closed: a desk serves one at a time.
+        """
         self.close()
         made = copy.copy(self)
         made.patience = made.timeout = seconds
@@ -388,7 +412,8 @@ class Desk:
             if status in words.AGAIN or status >= 500:
                 return None, f"status {status}", answers.seconds_of(retry_after)
             raise NotTaken(
-                f"status {status}: {words.STOPS.get(status, 'look at what was asked')}: {body[:200].decode(errors='replace')}"
+                f"status {status}: {words.STOPS.get(status, 'look at what was asked')}:"
+                f" {body[:200].decode(errors='replace')}"
             )
 
         rows: List[Any] = self.until(call)
@@ -433,19 +458,25 @@ READERS: Dict[Any, Callable[[str], Any]] = {
 
 
 def rows_of(kind: Any, body: bytes) -> List[Any]:
-    """The rows of a report as tuples with names. Another header than the report's is told, since columns are read by their place."""
+    """The rows of a report as tuples with names. Another header than the report's is told, since
+    columns are read by their place.
+    """
     text = body.decode()
     lines = csv.reader(io.StringIO(text, newline=""), strict=True)
     header: List[str] = next(lines, [])
     if header != list(kind._fields):
         raise NotTaken(
-            f"a report with the columns {','.join(kind._fields)} is wanted, and {','.join(header)[:200]} came: the desk is of another version, or --url leads elsewhere"
+            f"a report with the columns {','.join(kind._fields)} is wanted, and"
+            f" {','.join(header)[:200]} came: the desk is of another version, or --url leads"
+            " elsewhere"
         )
     readers = [
         READERS[
-            kind.__annotations__[name]
-            if isinstance(kind.__annotations__[name], str)
-            else kind.__annotations__[name].__forward_arg__
+            (
+                kind.__annotations__[name]
+                if isinstance(kind.__annotations__[name], str)
+                else kind.__annotations__[name].__forward_arg__
+            )
         ]
         for name in kind._fields
     ]
@@ -458,7 +489,9 @@ def rows_of(kind: Any, body: bytes) -> List[Any]:
 def trust_of(
     ca: Optional[str] = None, cert: Optional[str] = None, key: Optional[str] = None
 ) -> ssl.SSLContext:
-    """Whom to trust: who signed the desk's certificate, or whom this machine trusts; with a certificate of one's own."""
+    """Whom to trust: who signed the desk's certificate, or whom this machine trusts; with a
+    certificate of one's own.
+    """
     trust = ssl.create_default_context(cafile=ca)
     if cert:
         trust.load_cert_chain(cert, key)

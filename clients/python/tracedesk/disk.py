@@ -1,4 +1,6 @@
-"""Files that are on disk before what is done next: written whole, synced, locked, and listed by their names."""
+"""Files that are on disk before what is done next: written whole, synced, locked, and listed by
+their names.
+"""
 from __future__ import annotations
 
 import collections
@@ -29,7 +31,9 @@ def sync_folder(path: pathlib.Path) -> None:
 def write_synced(
     path: pathlib.Path, text: Union[bytes, Iterable[bytes]], mode: Optional[int] = None
 ) -> None:
-    """Puts a file of this text, or of its pieces, at its place, whole; it is on disk once its folder is synced."""
+    """Puts a file of this text, or of its pieces, at its place, whole; it is on disk once its
+    folder is synced.
+    """
     beside = path.with_name(f".{path.name}.new")
     try:
         with open(beside, "wb") as file:
@@ -64,7 +68,9 @@ def names_in(folder: pathlib.Path) -> List[str]:
 
 
 def lines_of(stream: BinaryIO) -> Iterator[Union[bytes, Iterator[bytes]]]:
-    """The messages of a stream: its lines, without those of spaces alone. A line longer than any message comes in pieces."""
+    """The messages of a stream: its lines, without those of spaces alone. A line longer than any
+    message comes in pieces.
+    """
     most = forms.LONGEST_MESSAGE + 2
     while line := stream.readline(most):
         if len(line) < most or line.endswith(b"\n"):
@@ -85,7 +91,9 @@ def long_line(first: bytes, pieces: Iterator[bytes]) -> Iterator[bytes]:
 
 
 def files_in(folder: pathlib.Path) -> List[pathlib.Path]:
-    """The files of messages in a folder, by their names. What is being written there has another ending, or begins with a dot."""
+    """The files of messages in a folder, by their names. What is being written there has another
+    ending, or begins with a dot.
+    """
     return sorted(
         it
         for it in folder.iterdir()

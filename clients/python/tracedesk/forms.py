@@ -1,4 +1,6 @@
-"""What a member may be, and what messages are made of. Each range is looked at when a message is made, before it is sent."""
+"""What a member may be, and what messages are made of. Each range is looked at when a message is
+made, before it is sent.
+"""
 from __future__ import annotations
 
 import dataclasses
@@ -171,7 +173,9 @@ def stamp(at: Optional[datetime.datetime]) -> str:
 
 @dataclasses.dataclass(frozen=True)
 class Message:
-    """A message that is made: what names it, and its bytes, which stay the same when it is sent again."""
+    """A message that is made: what names it, and its bytes, which stay the same when it is sent
+    again.
+    """
 
     word: str
     unique_id: str
@@ -190,7 +194,9 @@ class Command(Part):
         unique_id: Optional[str] = None,
         at: Optional[datetime.datetime] = None,
     ) -> Message:
-        """The message of this sender, of now and with a UniqueID of its own where none are given."""
+        """The message of this sender, of now and with a UniqueID of its own where none are
+        given.
+        """
         from . import words
 
         uid = words.NAME.checked("UniqueID", str(uuid.uuid4()) if unique_id is None else unique_id)
@@ -205,6 +211,9 @@ class Command(Part):
         if len(text) > LONGEST_MESSAGE:
             raise OutOfRange(
                 self.MEMBERS[-1][0],
-                f"the message has {len(text):,} bytes, and a desk takes {LONGEST_MESSAGE:,}: tell it in several",
+                (
+                    f"the message has {len(text):,} bytes, and a desk takes {LONGEST_MESSAGE:,}:"
+                    " tell it in several"
+                ),
             )
         return Message(self.WORD, uid, text)

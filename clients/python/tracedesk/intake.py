@@ -1,7 +1,7 @@
 """Which file a spool is taking in, and how far.
 
-While one is taken in, `.intake` has its path, the number of its first line, and how many lines were in before that: a process
-that is started again goes on with the next line.
+While one is taken in, `.intake` has its path, the number of its first line, and how many lines were
+in before that: a process that is started again goes on with the next line.
 """
 from __future__ import annotations
 
@@ -20,7 +20,9 @@ class Intake:
         self.file = folder / ".intake"
 
     def read(self) -> Optional[Tuple[str, int, int]]:
-        """The path, the number of the first line, and the lines before it; none if nothing is taken in."""
+        """The path, the number of the first line, and the lines before it; none if nothing is taken
+        in.
+        """
         with contextlib.suppress(FileNotFoundError, ValueError, KeyError, TypeError):
             told = json.loads(self.file.read_text())
             if [type(told[name]) for name in ("File", "First", "Before")] == [str, int, int]:

@@ -1,4 +1,6 @@
-"""Which machines may work. `go` says that the desk was just asked, and that nothing speaks against it; else `stop`, with the reason."""
+"""Which machines may work. `go` says that the desk was just asked, and that nothing speaks against
+it; else `stop`, with the reason.
+"""
 from __future__ import annotations
 
 import contextlib
@@ -7,11 +9,12 @@ import json
 import socket
 import threading
 import time
-from typing import Any, Dict, Iterator, List, Optional, Set
+from typing import Any, Dict, Iterator, List, Optional
 
-from . import answers, records, words
-from .records import utc
+from . import answers, words
 from .disk import SpoolError, write_synced
+from .machine import Fault, Machine, idle, minute_of, no_slot
+from .records import utc
 from .spool import Spool
 
 EVERY = (
@@ -25,37 +28,13 @@ MOST_KNOWN = 100_000  # UniqueIDs of scans that were seen
 HANDLING = ("MaterialsLoaded", "MaterialsSpliced", "MaterialsUnloaded")
 OF_A_MACHINE = {it.partition(words.PREFIX)[2] for it in words.RECORDED}
 OF_NOTHING = {it.WORD for it in words.MESSAGES} - OF_A_MACHINE
-AT_A_SLOT = (
-    "SlotEmpty",
-    "WrongPart",
-    "NotBaked",
-    "Expired",
-)  # refusals of a start that name a slot
+# refusals of a start that name a slot
+AT_A_SLOT = ("SlotEmpty", "WrongPart", "NotBaked", "Expired")
 
 
 def clock() -> float:
     """Seconds, also those of a suspend."""
     return time.clock_gettime(time.CLOCK_BOOTTIME)
-
-
-@dataclasses.dataclass
-class Fault:
-    """Why a machine must not work. `cause` is a word of docs/interlock.md, and `minute` that of the message that opened it."""
-
-    cause: str
-    reason: str
-    slot: Optional[str] = None
-    reel: Optional[str] = None
-    refusal: Optional[str] = None
-    minute: str = ""
-    source: str = ""
-    line: int = 0  # of the list of scans: only a scan behind it can mend it
-    batch: int = 0  # of the same: only a batch behind it can
-    is_followed: bool = False  # whether its source scanned something behind it, which was accepted
-
-
-def idle(reason: str) -> Fault:
-    return Fault("idle", reason)
 
 
 def cut(known: Dict[str, Any]) -> None:
@@ -64,70 +43,10 @@ def cut(known: Dict[str, Any]) -> None:
         del known[next(iter(known))]
 
 
-def no_slot(source: str = "") -> str:
-    """The place of a fault whose slot isn't known, or is on no sheet. No slot has this name, since none begins with a space."""
-    return f" {source}"
-
-
-class Machine:
-    """What is known of a machine."""
-
-    def __init__(self) -> None:
-        self.board: Optional[str] = None  # of the last start that was accepted
-        self.idle = idle("no start of work was accepted yet")
-        self.start: Optional[str] = None  # the newest start that waits for its answer
-        self.slots: Dict[str, Fault] = {}  # faults that a load, splice or unload of the slot mends
-        self.work: Dict[
-            str, Fault
-        ] = {}  # refused reports of work since the last start, by UniqueID
-        self.seen: Set[str] = set()  # slots that had a reel, and may be of the sheet
-        self.ends: Dict[
-            str, float
-        ] = {}  # when the floor life of a mounted reel is over, at the latest
-        self.found: Optional[Fault] = None  # what the last question found
-        self.found_for: Optional[str] = None  # the board that it was about
-        self.asked = -float("inf")  # when it was answered
-        self.asked_at: Optional[str] = None
-        self.last_start = ""  # the minute of the last start that was accepted
-        self.command_fault: Optional[str] = None
-        self.differs: List[Dict[str, Any]] = []
-        self.last_refused: Optional[Dict[str, Any]] = None
-        self.state, self.since = "stop", utc()
-
-    def fault(self) -> Optional[Fault]:
-        """What the answers say against work."""
-        if self.start:
-            return Fault("waiting", "a start of work waits for its answer")
-        for faults in (self.slots, self.work):
-            if faults:
-                return list(faults.values())[-1]
-        if self.board is None:
-            return self.idle
-        if self.found_for != self.board:
-            return Fault("waiting", f"the desk is asked about board {self.board}")
-        return self.found
-
-    def kept(self) -> Dict[str, Any]:
-        """What outlives the sender."""
-        return {
-            "Slots": {name: dataclasses.asdict(it) for name, it in self.slots.items()},
-            "Work": {name: dataclasses.asdict(it) for name, it in self.work.items()},
-            "Seen": sorted(self.seen),
-            "Differs": self.differs,
-            "LastStart": self.last_start,
-        }
-
-    def take_kept(self, told: Dict[str, Any]) -> None:
-        self.slots = {name: Fault(**it) for name, it in told["Slots"].items()}
-        self.work = {name: Fault(**it) for name, it in told["Work"].items()}
-        for it in (*self.slots.values(), *self.work.values()):
-            it.line = it.batch = 0
-        self.seen, self.differs = set(told["Seen"]), list(told["Differs"])
-        self.last_start = str(told["LastStart"])
-
-
 class Interlock:
-    """The states of machines, by what the sender, its questions and the list of scans say. `listed` are those whose command is called."""
+    """The states of machines, by what the sender, its questions and the list of scans say. `listed`
+    are those whose command is called.
+    """
 
     def __init__(
         self,
@@ -144,15 +63,17 @@ class Interlock:
         self.listed, self.seen = list(machines), 0
         self.waits: Dict[str, float] = {}  # what waits, and since when that is known
         self.greatest = 0  # number of an accepted command
+        self.accepted = 0  # the last message that was accepted: one up to it is sent again
         self.is_stuck, self.disk, self.ended, self.is_needed = False, "", "", is_used
         self.scans_at: Optional[
             float
         ] = None  # when the list of scans was read; none if there is none
         self.scan_place: Optional[List[Any]] = None  # how far it was read
-        self.batches = self.lines = 0
+        self.batches = self.lines = self.old_lines = 0  # old: a sender before has read them
         self.first_seen: Dict[str, int] = {}  # of each scan's UniqueID its first line
         self.own: Dict[str, None] = {}  # UniqueIDs of loads, splices and unloads of this sender
         self.ahead = time.time() - clock()
+        self.resumed = -float("inf")  # when a suspend was over: what was asked before says nothing
         self.take_kept()
         for name, told in spool.last_refused().items():
             self.of(name).last_refused = told
@@ -170,15 +91,22 @@ class Interlock:
         with contextlib.suppress(OSError, ValueError, KeyError, TypeError, AttributeError):
             told = json.loads(self.kept_at.read_bytes())
             for name, it in told["Machines"].items():
-                self.of(name).take_kept(it)
+                self.of(name).take_kept(it, int(told.get("Batches", 0)))
             self.greatest, self.scan_place = int(told["Greatest"]), told["Scans"]
+            self.accepted = int(told.get("Accepted", 0))
 
     def keep(self) -> None:
         """Keeps it. A disk that takes nothing stops the machines, and is told elsewhere."""
         if self.is_used:
             with self.lock:
                 machines = {name: it.kept() for name, it in self.machines.items()}
-                told = {"Greatest": self.greatest, "Scans": self.scan_place, "Machines": machines}
+                told = {
+                    "Greatest": self.greatest,
+                    "Accepted": self.accepted,
+                    "Batches": self.batches,
+                    "Scans": self.scan_place,
+                    "Machines": machines,
+                }
             with contextlib.suppress(OSError):
                 write_synced(self.kept_at, json.dumps(told).encode())
 
@@ -186,7 +114,9 @@ class Interlock:
 
     @contextlib.contextmanager
     def held(self, place: str) -> Iterator[None]:
-        """Holds a name for each machine of this desk, which the system gives to one process at a time."""
+        """Holds a name for each machine of this desk, which the system gives to one process at a
+        time.
+        """
         with contextlib.ExitStack() as stack:
             for machine in self.listed if self.is_used else []:
                 it = stack.enter_context(socket.socket(socket.AF_UNIX, socket.SOCK_STREAM))
@@ -202,7 +132,9 @@ class Interlock:
     # --- What the sender says
 
     def look_ahead(self, names: List[str]) -> None:
-        """Sees what waits: from the moment that a start does, until its answer, there is no `go`."""
+        """Sees what waits: from the moment that a start does, until its answer, there is no
+        `go`.
+        """
         if not self.is_needed:
             return
         now = clock()
@@ -240,14 +172,17 @@ class Interlock:
         return [self.of(it) for it in self.listed]
 
     def judged(self, name: str, told: Dict[str, Any], answer: answers.Answer) -> None:
-        """Follows an answer. That of a message which was accepted before mends nothing, since it says nothing of now."""
+        """Follows an answer. That of a message which was accepted before mends nothing, since it
+        says nothing of now: neither where the desk repeats its answer, nor where a copy took the
+        desk's place and what it lacks is sent again.
+        """
         word = answers.word_of(told)
         with self.lock:
             if word in HANDLING:
                 self.own[str(told.get("UniqueID"))] = None
                 cut(self.own)
             for it in self.meant(told, answer):
-                is_new = self.is_new(it, told, answer)
+                is_new = int(name) > self.accepted and self.is_new(it, told, answer)
                 if not answers.is_taken(answer):
                     self.refuse(it, word, told, answer)
                 elif word in HANDLING:
@@ -263,12 +198,15 @@ class Interlock:
                     it.start = None
             if isinstance(answer, answers.Accepted):
                 self.greatest = max(self.greatest, answer.number)
+                self.accepted = max(self.accepted, int(name))
         if word in OF_A_MACHINE or not answers.is_taken(answer):
             self.keep()
         self.news()
 
     def is_new(self, it: Machine, told: Dict[str, Any], answer: answers.Answer) -> bool:
-        """Whether an answer is the first to its message: of a later number, or, of a desk that was begun anew, of a later minute."""
+        """Whether an answer is the first to its message: of a later number, or, of a desk that was
+        begun anew, of a later minute.
+        """
         if not isinstance(answer, answers.Accepted):
             return False
         if answer.number > self.greatest:
@@ -311,16 +249,20 @@ class Interlock:
             it.work, it.last_start = {}, max(minute_of(told), it.last_start)
 
     def mend(self, it: Machine, slot: Any, source: str, line: Optional[int] = None) -> None:
-        """A load, splice or unload of a slot was accepted: what was wrong with that slot is mended, and nothing else. A fault without
-        a slot of the sheet is mended by the next one of the same source."""
+        """A load, splice or unload of a slot was accepted: what was wrong with that slot is mended,
+        and nothing else. A fault without a slot of the sheet is mended by the next one of the same
+        source."""
         for name, fault in list(it.slots.items()):
-            if line is None or line > fault.line and self.batches > fault.batch:
+            behind = max(fault.line, self.old_lines)
+            if line is None or line > behind and self.batches > fault.batch:
                 fault.is_followed = fault.is_followed or fault.source == source
                 if name in (slot, no_slot(), no_slot(source)):
                     del it.slots[name]
 
     def differ(self, machine: str, told: Dict[str, Any]) -> None:
-        """The machine took another reel than the desk has for a piece. It is told again once the slot is known."""
+        """The machine took another reel than the desk has for a piece. It is told again once the
+        slot is known.
+        """
         with self.lock:
             it, place = self.of(machine), told["Slot"] or no_slot()
             if told["Slot"] and getattr(it.slots.get(no_slot()), "cause", "") == "differs":
@@ -339,7 +281,9 @@ class Interlock:
         self.news()
 
     def off_sheet(self, machine: str, slot: str) -> None:
-        """The desk says that a slot isn't on the sheet, so no load of it can be accepted: its fault waits for the next scan of who caused it."""
+        """The desk says that a slot isn't on the sheet, so no load of it can be accepted: its fault
+        waits for the next scan of who caused it.
+        """
         with self.lock:
             slots = self.of(machine).slots
             fault = slots.pop(slot, None)
@@ -349,12 +293,14 @@ class Interlock:
     def refused(self, machine: str, told: Dict[str, Any]) -> None:
         self.of(machine).last_refused = told
 
-    def asked(self, machine: str, board: Optional[str], found: Optional[Fault]) -> None:
-        """The desk answered a question about a machine."""
+    def asked(
+        self, machine: str, board: Optional[str], found: Optional[Fault], begun: float
+    ) -> None:
+        """The desk answered a question about a machine, which was begun then."""
         with self.lock:
             it = self.of(machine)
             was = it.found
-            it.found, it.found_for, it.asked, it.asked_at = found, board, clock(), utc()
+            it.found, it.found_for, it.asked, it.asked_at = found, board, begun, utc()
         if was != found:
             self.news()
 
@@ -366,9 +312,10 @@ class Interlock:
 
     # --- What others said to the desk, as the proxy has seen it
 
-    def scanned(self, scans: List[Dict[str, Any]], place: List[Any]) -> None:
-        """Takes a batch of loads, splices and unloads, each with the status of its answer. A scan that was sent before a fault was
-        opened, and is answered again, mends nothing."""
+    def scanned(self, scans: List[Dict[str, Any]], place: List[Any], begun: float) -> None:
+        """Takes a batch of loads, splices and unloads, each with the status of its answer, whose
+        reading was begun then. A scan that was sent before a fault was opened, and is answered
+        again, mends nothing."""
         is_news = False
         with self.lock:
             self.batches += 1
@@ -377,6 +324,8 @@ class Interlock:
                 message, status = told["Message"], told["Status"]
                 uid, body = str(message.get("UniqueID")), answers.body_of(message)
                 first = self.first_seen.setdefault(uid, self.lines)
+                if told["IsOld"]:
+                    self.old_lines = self.lines
                 name = body.get("Machine")
                 if told["IsOld"] or not isinstance(name, str):
                     continue
@@ -391,8 +340,10 @@ class Interlock:
                     if not told["IsOwn"]:
                         self.refuse_scan(it, message)
             cut(self.first_seen)
-            self.scan_place, self.scans_at = place, clock()
-        if scans:
+            self.scan_place, self.scans_at = place, begun
+            slots = [fault for it in self.machines.values() for fault in it.slots.values()]
+            is_behind = any(fault.batch == self.batches for fault in slots)
+        if scans or is_behind:
             self.keep()
         if is_news:
             self.news()
@@ -426,6 +377,9 @@ class Interlock:
             return Fault("silent", silent)
         if self.scans_at is not None and now - self.scans_at > self.silence:
             return Fault("silent", f"the list of scans: {silent}")
+        known = it.asked if self.scans_at is None else min(it.asked, self.scans_at)
+        if known < self.resumed:
+            return Fault("silent", "the sender was suspended, and the desk wasn't asked since")
         oldest = next(iter(self.waits.values()), now)
         if now - oldest > self.silence:
             return Fault("waiting", f"a message waits: {silent}")
@@ -492,8 +446,3 @@ class State:
     @property
     def reason(self) -> str:
         return self.fault.reason if self.fault else f"board {self.board} is in work"
-
-
-def minute_of(told: Dict[str, Any]) -> str:
-    """The minute of a message in UTC, as text that sorts; empty where it has none."""
-    return records.in_utc(told.get("TimeStamp"))[:16]

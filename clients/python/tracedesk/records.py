@@ -1,7 +1,9 @@
-"""Records of what the desk did not take: reports of work, and loads, splices and unloads; and what a person decided about each.
+"""Records of what the desk did not take: reports of work, and loads, splices and unloads; and what
+a person decided about each.
 
-A record is one line of JSON. Its id is made of its bytes, and its file is ID.json, so the same record is there once, whatever is
-killed. A spool makes records in its folder `untraced`. From there they are handed on to the inbox of the line.
+A record is one line of JSON. Its id is made of its bytes, and its file is ID.json, so the same
+record is there once, whatever is killed. A spool makes records in its folder `untraced`. From there
+they are handed on to the inbox of the line.
 """
 from __future__ import annotations
 
@@ -24,7 +26,9 @@ def utc(seconds: Optional[float] = None) -> str:
 
 
 def in_utc(text: Any) -> str:
-    """The time of a message as a record has it, in UTC; empty where it is none that the desk reads."""
+    """The time of a message as a record has it, in UTC; empty where it is none that the desk
+    reads.
+    """
     try:
         at = datetime.datetime.fromisoformat(re.sub("[Zz]$", "+00:00", str(text)))
         at = at.astimezone(datetime.timezone.utc) if at.tzinfo else at
@@ -46,18 +50,24 @@ def record(kind: str, by: str, at: str, **more: Any) -> Tuple[str, bytes]:
 
 
 def is_report(told: Dict[str, Any]) -> bool:
-    """Whether a message says what was done, and not what somebody asks for. One that nobody can read may say so."""
+    """Whether a message says what was done, and not what somebody asks for. One that nobody can
+    read may say so.
+    """
     name = told.get("MessageName")
     return not isinstance(name, str) or name in words.REPORTS_OF_WORK
 
 
 def is_recorded(told: Dict[str, Any]) -> bool:
-    """Whether a record is made of a message that isn't taken: a report of work, or a load, splice or unload, which may be sent again."""
+    """Whether a record is made of a message that isn't taken: a report of work, or a load, splice
+    or unload, which may be sent again.
+    """
     return is_report(told) or told["MessageName"] in words.RECORDED
 
 
 def as_read(text: bytes) -> Dict[str, Any]:
-    """What can be read of a message, also of one that is no strict JSON: odd bytes, raw tabs, NaN and long numbers become texts."""
+    """What can be read of a message, also of one that is no strict JSON: odd bytes, raw tabs, NaN
+    and long numbers become texts.
+    """
     try:
         told = json.loads(
             text.decode("utf-8", "replace"),
@@ -71,8 +81,9 @@ def as_read(text: bytes) -> Dict[str, Any]:
 
 
 def kept_of(text: bytes, size: int) -> Dict[str, Any]:
-    """What a record has of a message: what was read, and each byte as it came. Of one that is too long for any desk it has the beginning
-    of each list, how long it is, and the SHA-256 of its bytes; these stay where the sender set them aside.
+    """What a record has of a message: what was read, and each byte as it came. Of one that is too
+    long for any desk it has the beginning of each list, how long it is, and the SHA-256 of its
+    bytes; these stay where the sender set them aside.
     """
     told = as_read(text)
     if size <= forms.LONGEST_MESSAGE:

@@ -1,7 +1,8 @@
-"""What others scanned: the loads, splices and unloads that the proxy handed to the desk, each with the status of its answer.
+"""What others scanned: the loads, splices and unloads that the proxy handed to the desk, each with
+the status of its answer.
 
-The desk keeps nothing of a refusal, so the proxy writes a line for each of these messages, into a file for each day. A sender asks for
-what is new there, twice a second.
+The desk keeps nothing of a refusal, so the proxy writes a line for each of these messages, into a
+file for each day. A sender asks for what is new there, twice a second.
 """
 from __future__ import annotations
 
@@ -16,11 +17,13 @@ from typing import Any, Callable, Dict, List, Optional, Tuple
 from . import answers
 from .console import NEWS_OF_A_FAULT
 from .desk import Desk
-from .interlock import Interlock
+from .interlock import Interlock, clock
+from .sent import KEPT_DAYS
 
 NAME = re.compile(r"\d{4}-\d\d-\d\d\.jsonl")
 OFTEN = 0.5  # seconds between two looks
-DAYS = 2  # that are read where nothing was read before
+NEW_DAYS = 2  # that are read where nothing was read before
+DAYS = int(KEPT_DAYS) + 1  # of scans that may be sent again, as after a restore
 MOST = 8 << 20  # bytes of one look
 PATH = "/line/scans"  # where the proxy serves the list
 
@@ -88,7 +91,7 @@ class Scans:
         self.states, self.where, self.is_named, self.tell = states, place, is_named, tell
         self.place: Any = Proxy(desk_of(place)) if "://" in place else Folder(place)
         self.at: Optional[Tuple[str, int]] = None  # how far it was read
-        self.old: Optional[Tuple[str, int]] = None  # how far a run before has read it
+        self.old: Optional[Tuple[str, int]] = None  # scans before it are known, and change nothing
         self.next_news = 0.0
         if told := states.scan_place:
             self.old = str(told[0]), int(told[1])
@@ -105,7 +108,8 @@ class Scans:
             except NoList:
                 if self.states.scans_at is None:
                     self.tell(
-                        f"{self.where} is not there: what the desk refuses to others isn't known here"
+                        f"{self.where} is not there: what the desk refuses to others isn't known"
+                        " here"
                     )
                     return
                 self.say("it is gone")
@@ -122,11 +126,13 @@ class Scans:
 
     def look(self) -> None:
         """Reads what is new, whole lines alone."""
+        looked = clock()
         sizes = {name: it for name, it in self.place.sizes().items() if NAME.fullmatch(name)}
         if self.at is None:
             names = sorted(sizes)[-DAYS:]
-            first = min(names[0], self.old[0]) if names and self.old else names[0] if names else ""
-            self.at = first, 0
+            new = names[-NEW_DAYS:] or [""]
+            self.old = self.old or (new[0], 0)
+            self.at = min([self.old[0], *names[:1]]), 0
         scans: List[Dict[str, Any]] = []
         for name in sorted(it for it in sizes if it >= self.at[0]):
             begun = self.at[1] if name == self.at[0] else 0
@@ -138,7 +144,7 @@ class Scans:
                     scans += self.scan(line, (name, begun))
                     begun += len(line) + 1
             self.at = name, begun
-        self.states.scanned(scans, list(max(self.at, self.old or self.at)))
+        self.states.scanned(scans, list(max(self.at, self.old or self.at)), looked)
 
     def scan(self, line: bytes, at: Tuple[str, int]) -> List[Dict[str, Any]]:
         """A line of the list: what was said, and the status of the answer."""

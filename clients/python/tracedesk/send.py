@@ -1,86 +1,111 @@
-"""Sends messages to a desk, one after the other, until each has its answer: none is lost and none acts twice.
+"""Sends messages to a desk, one after the other, until each has its answer: none is lost and none
+acts twice.
 
 usage: tracedesk-send [--url URL] [WHO] [HOW] MESSAGES ANSWERS
        tracedesk-send [--url URL] [WHO] [HOW] --spool FOLDER [--follow FOLDER | --follow - | --stay]
        tracedesk-send --spool FOLDER --put MESSAGES | --put -
        tracedesk-send --spool FOLDER --again all | --again NAME .. | --again TIME
-       tracedesk-send --spool FOLDER [--url URL] [WHO] --again NAME --by PERSON --reason TEXT [--seen CODE]
+       tracedesk-send --spool FOLDER [--url URL] [WHO] --again NAME --by PERSON --reason TEXT
+       [--seen CODE]
        tracedesk-send [--url URL] [WHO] --check
        tracedesk-send --validate MESSAGES | --version
 
 examples:
   tracedesk-send first.jsonl first.answers
-  tracedesk-send --url https://desk.plant --ca server.crt --user m1 --password-file m1.password --spool m1 --follow /m1/out
-  machine | tracedesk-send --url https://desk.plant --ca server.crt --cert m2.crt --key m2.key --spool m2 --follow -
+  tracedesk-send --url https://desk.plant --ca server.crt --user m1 --password-file m1.password
+  --spool m1 --follow /m1/out machine | tracedesk-send --url https://desk.plant --ca server.crt
+  --cert m2.crt --key m2.key --spool m2 --follow -
   tracedesk-send --spool m1 --put mended.jsonl
   tracedesk-send --spool m1 --again 000000000007
   tracedesk-send --spool m1 --again 2026-03-02T06:00Z
-  tracedesk-send --spool m1 --stay --untraced /var/lib/tracedesk/untraced --status /var/lib/tracedesk/status
+  tracedesk-send --spool m1 --stay --untraced /var/lib/tracedesk/untraced --status
+  /var/lib/tracedesk/status
   tracedesk-send --spool m1 --follow /m1/out --interlock /usr/local/bin/permit --machine M1
-  tracedesk-send --url https://desk.plant --ca server.crt --user m1 --password-file m1.password --check
+  tracedesk-send --url https://desk.plant --ca server.crt --user m1 --password-file m1.password
+  --check
   tracedesk-send --validate first.jsonl
 
-With two files it posts the lines of MESSAGES, each with the UniqueID in it, and adds the desk's answers to ANSWERS.
-Started again, it goes on behind the last whole line of ANSWERS.
+With two files it posts the lines of MESSAGES, each with the UniqueID in it, and adds the desk's
+answers to ANSWERS. Started again, it goes on behind the last whole line of ANSWERS.
 
-With --spool it sends what waits in that folder, and each message is on disk there before it is sent. Started again after
-whatever ended it, it goes on where it was. One sender has a spool at a time; any number may put messages in.
---follow FOLDER  takes in the files *.json and *.jsonl of FOLDER, by their names, a message a line, and deletes each once it
-                 is in the spool. Write a file under another ending and rename it, so that it appears whole. A name may be
-                 used again at any time
---follow -       takes in the lines of standard input, and prints 'kept NAME' for each once it is on disk
+With --spool it sends what waits in that folder, and each message is on disk there before it is
+sent. Started again after whatever ended it, it goes on where it was. One sender has a spool at a
+time; any number may put messages in.
+--follow FOLDER  takes in the files *.json and *.jsonl of FOLDER, by their names, a message a line,
+                 and deletes each once it is in the spool. Write a file under another ending and
+                 rename it, so that it appears whole. A name may be used again at any time
+--follow -       takes in the lines of standard input, and prints 'kept NAME' for each once it is on
+                 disk
 --stay           goes on when nothing waits, for programs that put messages in
 --put            puts lines into the spool and sends nothing
---again          puts requests that were set aside behind those that wait, once the fault is mended. A report of work is about
-                 the past, so it is judged by the reels of its time or not at all: it is listed, and not sent, with status 6.
-                 With a TIME, as 2026-03-02T06:00Z, puts each message that was accepted since then before those that wait, and none
-                 that was refused: after the desk was restored from a copy of that time. Messages that the desk has already aren't done
-                 twice. No sender may run meanwhile
---by --reason    who decides that a report of work is sent again, and why. First the commands accepted since are shown, with the
-                 CODE for --seen; then the decision is kept as a record, and the message waits again
---untraced       where the records of reports of work that were not taken go: a folder, or https://desk.plant/line/untraced.
-                 Without it they are kept in the folder `untraced` of the spool, and are handed on once it is named
---status         where NAME.json lists every few seconds the messages that wait or were set aside, and the state of machines: a folder, or
-                 https://desk.plant/line/status
+--again          puts requests that were set aside behind those that wait, once the fault is mended.
+                 A report of work is about the past, so it is judged by the reels of its time or not
+                 at all: it is listed, and not sent, with status 6. With a TIME, as
+                 2026-03-02T06:00Z, puts each message that was accepted since then before those that
+                 wait, and none that was refused: after the desk was restored from a copy of that
+                 time. Messages that the desk has already aren't done twice. No sender may run
+                 meanwhile
+--by --reason    who decides that a report of work is sent again, and why. First the commands
+                 accepted since are shown, with the CODE for --seen; then the decision is kept as a
+                 record, and the message waits again
+--untraced       where the records of reports of work that were not taken go: a folder, or
+                 https://desk.plant/line/untraced. Without it they are kept in the folder `untraced`
+                 of the spool, and are handed on once it is named
+--status         where NAME.json lists every few seconds the messages that wait or were set aside,
+                 and the state of machines: a folder, or https://desk.plant/line/status
                  The proxy takes it under the name of the log-in only
 --name           the sender's name there (that of --user, else of the spool's folder)
---interlock      a command that is called as COMMAND MACHINE STATE REASON BOARD, at each change and every --every seconds (2). STATE is `go`
-                 only while the desk says that the board is in work and the sheet's slots have good reels, nothing that was refused
-                 is open, and no start of work waits; else `stop`. docs/interlock.md has the rules
---machine NAME   a machine of the interlock; --silence SECONDS without an answer stop it (10). One sender has a machine
---scans          where the proxy lists what others scanned: a folder, or https://desk.plant/line/scans (with an https --url that of it)
+--interlock      a command that is called as COMMAND MACHINE STATE REASON BOARD, at each change and
+                 every --every seconds (2). STATE is `go` only while the desk says that the board is
+                 in work and the sheet's slots have good reels, nothing that was refused is open,
+                 and no start of work waits; else `stop`. docs/interlock.md has the rules
+--machine NAME   a machine of the interlock; --silence SECONDS without an answer stop it (10). One
+                 sender has a machine
+--scans          where the proxy lists what others scanned: a folder, or
+                 https://desk.plant/line/scans (with an https --url that of it)
 --check          says whether the desk, its certificate, the clock and the log-in are right
 --validate       looks at messages, a line each, and sends nothing: '-' is standard input
---keep-days N    how long the spool keeps sent messages for --again TIME (7): longer than from one copy of the desk to the next
+--keep-days N    how long the spool keeps sent messages for --again TIME (7): longer than from one
+                 copy of the desk to the next
 --keep-mib N     how much disk they may take (512). The oldest go first, and standard error says so
 
-No answer is a connection that breaks, a port where nobody listens, status 408, 429 or 5xx of the desk or of a server
-in front of it, an answer that was cut, the answer to another message, and a certificate that isn't valid yet or any more.
-Then the same bytes are sent again, after a wait that grows, or that Retry-After asks for, ten minutes at most: a
-message that was accepted the first time gets its first answer and changes nothing. An answer is a desk's text for
-a message, with status 200, 202, 400, 409 or 422. Anything else is for a person to mend: a log-in that is refused, a
-certificate that is another's, an answer that is no desk's. With two files it ends the run. With a spool it is reported, on
-standard error and in the status, and tried again after 30 seconds, then after twice as long each time, ten minutes at most.
+No answer is a connection that breaks, a port where nobody listens, status 408, 429 or 5xx of the
+desk or of a server in front of it, an answer that was cut, the answer to another message, and a
+certificate that isn't valid yet or any more. Then the same bytes are sent again, after a wait that
+grows, or that Retry-After asks for, ten minutes at most: a message that was accepted the first time
+gets its first answer and changes nothing. An answer is a desk's text for a message, with status
+200, 202, 400, 409 or 422. Anything else is for a person to mend: a log-in that is refused, a
+certificate that is another's, an answer that is no desk's. With two files it ends the run. With a
+spool it is reported, on standard error and in the status, and tried again after 30 seconds, then
+after twice as long each time, ten minutes at most.
 
-A message that was accepted, whose answer was lost, and whose desk was then begun anew, is refused there: IdReused. The desk is
-asked whether its archive has that message. If it has, the message is done, and a line on standard error says so.
+A message that was accepted, whose answer was lost, and whose desk was then begun anew, is refused
+there: IdReused. The desk is asked whether its archive has that message. If it has, the message is
+done, and a line on standard error says so.
 
-A message that is refused, faulty, too long, or Ignored though its name begins with TraceDesk. was not taken. With a spool it is
-set aside in its folder `aside`, with the reason, and the next one is sent. With two files its answer is in ANSWERS.
---stop-at-refusal  ends the run at such a message, on standard error. A request stays the next one that is sent, so that it is
-                   sent again once its fault is mended. A report of work is done with: it is set aside, or its answer is kept
---rate N           at most so many tries in a second (with a spool 40, since nginx lets 50 pass); 0 is no limit
---patience SECONDS  for one message: 600, and with a spool no end. A line after ten seconds, and then each minute, says that
+A message that is refused, faulty, too long, or Ignored though its name begins with TraceDesk. was
+not taken. With a spool it is set aside in its folder `aside`, with the reason, and the next one is
+sent. With two files its answer is in ANSWERS.
+--stop-at-refusal  ends the run at such a message, on standard error. A request stays the next one
+                   that is sent, so that it is sent again once its fault is mended. A report of work
+                   is done with: it is set aside, or its answer is kept
+--rate N           at most so many tries in a second (with a spool 40, since nginx lets 50 pass); 0
+                   is no limit
+--patience SECONDS  for one message: 600, and with a spool no end. A line after ten seconds, and
+                    then each minute, says that
                    there is no answer, and why
 The password is in FILE, or in the environment as TRACEDESK_PASSWORD.
 
-A full disk, and a file that can't be read, are reported and waited out. Standard output may be closed: nothing more is printed.
+A full disk, and a file that can't be read, are reported and waited out. Standard output may be
+closed: nothing more is printed.
 
-Exit status: 0 every message has its answer, or the check found no fault; 1 stopped at a message that was not taken; or some
-are set aside in this run, or with two files were Ignored though their names begin with TraceDesk.; or the check found a fault;
-2 bad command line, or a file or a spool that can't be used; 3 given up: no answer in all the time that was given; 4 a message
-can't be sent so, and standard error says why; 5 an error of this program, which standard error has; 6 a report of work is not
-sent again: a person has to decide. With 3, 4 and 5 what has no answer is sent by the next run.
+Exit status: 0 every message has its answer, or the check found no fault; 1 stopped at a message
+that was not taken; or some are set aside in this run, or with two files were Ignored though their
+names begin with TraceDesk.; or the check found a fault; 2 bad command line, or a file or a spool
+that can't be used; 3 given up: no answer in all the time that was given; 4 a message can't be sent
+so, and standard error says why; 5 an error of this program, which standard error has; 6 a report of
+work is not sent again: a person has to decide. With 3, 4 and 5 what has no answer is sent by the
+next run.
 """
 from __future__ import annotations
 
@@ -129,7 +154,8 @@ def moment(text: str) -> float:
         raise disk.SpoolError(f"{text} is no time, as 2026-03-02T06:00Z") from None
     if at.tzinfo is None:
         raise disk.SpoolError(
-            f"{text} has no offset: a time is spelled as 2026-03-02T06:00Z or 2026-03-02T07:00+01:00"
+            f"{text} has no offset: a time is spelled as 2026-03-02T06:00Z or"
+            " 2026-03-02T07:00+01:00"
         )
     return at.timestamp()
 
@@ -159,11 +185,14 @@ def again(asked: argparse.Namespace, into: spool.Spool) -> int:
     say(f"{len(found)} wait again{', as ' + ' '.join(found) if found else ''}")
     for it in reports:
         tell(
-            f"message {it} is a report of work, and is not sent again: {untraced.brief(into.message(it))} was {answers.short(into.why(it)[1])}"
+            f"message {it} is a report of work, and is not sent again:"
+            f" {untraced.brief(into.message(it))} was {answers.short(into.why(it)[1])}"
         )
     if reports:
         tell(
-            f"{len(reports)} reports of work stay in {into.aside}: the boards are untraced work. Decide about each by tracedesk-untraced. To send one again all the same, name it, with --by and --reason"
+            f"{len(reports)} reports of work stay in {into.aside}: the boards are untraced work."
+            " Decide about each by tracedesk-untraced. To send one again all the same, name it,"
+            " with --by and --reason"
         )
     return 6 if reports else 0
 
@@ -324,7 +353,8 @@ def words() -> argparse.Namespace:
         or asked.interlock
     ):
         reader.error(
-            "--follow, --stay, --put, --again, --untraced, --status and --interlock want --spool FOLDER"
+            "--follow, --stay, --put, --again, --untraced, --status and --interlock want --spool"
+            " FOLDER"
         )
     if (asked.by or asked.reason or asked.seen) and not (
         asked.again and asked.by and asked.by.strip() and asked.reason and asked.reason.strip()
@@ -348,7 +378,8 @@ def words() -> argparse.Namespace:
         )
     if asked.user and not asked.password_file and "TRACEDESK_PASSWORD" not in os.environ:
         reader.error(
-            "--user wants --password-file FILE, or the password in the environment as TRACEDESK_PASSWORD"
+            "--user wants --password-file FILE, or the password in the environment as"
+            " TRACEDESK_PASSWORD"
         )
     return asked
 

@@ -1,4 +1,6 @@
-"""Sends what waits in a spool, one message at a time and in order, and takes in what comes meanwhile."""
+"""Sends what waits in a spool, one message at a time and in order, and takes in what comes
+meanwhile.
+"""
 from __future__ import annotations
 
 import contextlib
@@ -28,8 +30,9 @@ class Stopped(Exception):
 
 
 class Sender:
-    """The one sender of a spool. `stops` ends the run at a message that is not taken; else that one is set aside. A report of work is
-    always set aside: it isn't sent again unless a person decides so."""
+    """The one sender of a spool. `stops` ends the run at a message that is not taken; else that one
+    is set aside. A report of work is always set aside: it isn't sent again unless a person decides
+    so."""
 
     def __init__(
         self,
@@ -51,7 +54,9 @@ class Sender:
         self.news, self.dropped, self.next_news = threading.Event(), 0, 0.0
 
     def answer_to(self, name: str) -> Tuple[Optional[answers.Answer], Dict[str, Any]]:
-        """The answer to a message, and the message; none if it is gone. One that is too long for any desk has its answer at once."""
+        """The answer to a message, and the message; none if it is gone. One that is too long for
+        any desk has its answer at once.
+        """
         place = self.spool.waiting / f"{name}.json"
         if not patiently(place.exists, self.tell):
             self.tell(f"{place} was deleted before it was sent")
@@ -93,7 +98,8 @@ class Sender:
                 self.tell(
                     f"{why}. It is set aside in {self.spool.aside}"
                     + (
-                        f". It is a report of work, and isn't sent again: a person decides about it{self.line.where_kept()}"
+                        ". It is a report of work, and isn't sent again: a person decides about"
+                        f" it{self.line.where_kept()}"
                         if is_report
                         else ""
                     )
@@ -115,7 +121,9 @@ class Sender:
         return len(names)
 
     def compare(self, told: Dict[str, Any], answer: answers.Answer) -> List[Dict[str, Any]]:
-        """Compares the machine's reels with the desk's. What differs stops the machine, and is on disk before the answer is."""
+        """Compares the machine's reels with the desk's. What differs stops the machine, and is on
+        disk before the answer is.
+        """
         if fault := witness.fault_of(told):
             self.tell(f"{machine_of(told)}: {fault}")
         found = []
@@ -139,7 +147,9 @@ class Sender:
         self.look_at_what_is_kept()
 
     def tell_line(self, name: str, told: Dict[str, Any]) -> None:
-        """Keeps the reels that are on a machine now that a report of it was refused, and shows the refusal at the line."""
+        """Keeps the reels that are on a machine now that a report of it was refused, and shows the
+        refusal at the line.
+        """
         machine = machine_of(told)
         with contextlib.suppress(OSError, IndexError):
             _, answer, more = self.spool.why(name)
@@ -162,7 +172,8 @@ class Sender:
                 time.monotonic() + NEWS_OF_A_FAULT,
             )
             self.tell(
-                f"{self.spool.sent} has more than --keep-mib: {self.dropped} messages of less than --keep-days were deleted there, and can't be sent again"
+                f"{self.spool.sent} has more than --keep-mib: {self.dropped} messages of less than"
+                " --keep-days were deleted there, and can't be sent again"
             )
 
     def run(self, follower: Optional["Follower"] = None, stays: bool = False) -> None:
@@ -195,7 +206,9 @@ class Sender:
 
 
 class Follower:
-    """Takes messages into a spool as they come, in a thread of its own: a desk that is away stops no machine."""
+    """Takes messages into a spool as they come, in a thread of its own: a desk that is away stops
+    no machine.
+    """
 
     def __init__(self, spool: Spool, tell: Callable[[str], None] = lambda line: None) -> None:
         self.spool, self.say, self.is_ended, self.is_stuck = spool, tell, False, False
@@ -219,7 +232,9 @@ class Follower:
 
 
 class Lines(Follower):
-    """Follows a stream of lines. Once a line is on disk its name in the spool goes to `acknowledge`."""
+    """Follows a stream of lines. Once a line is on disk its name in the spool goes to
+    `acknowledge`.
+    """
 
     def __init__(
         self,
@@ -248,8 +263,9 @@ class Lines(Follower):
 
 
 class Folder(Follower):
-    """Follows a folder: the files *.json and *.jsonl that are renamed into it, in the order of their names. Each gets a name of
-    its own first, so that a machine may use a name again, and is deleted once its lines are in the spool.
+    """Follows a folder: the files *.json and *.jsonl that are renamed into it, in the order of
+    their names. Each gets a name of its own first, so that a machine may use a name again, and is
+    deleted once its lines are in the spool.
     """
 
     def __init__(

@@ -1,14 +1,19 @@
-"""A folder in which messages wait until they are answered. Each is on disk, with its name, before it is sent.
+"""A folder in which messages wait until they are answered. Each is on disk, with its name, before
+it is sent.
 
     waiting/000000000012.json     a message, sent in the order of the names
-    answers/2026-03-02.jsonl      a line for each answer, in the order sent: {"Answer":{..},"Message":"000000000012"}
-    sent/000000000011.json        a message that was accepted, kept for some days; .refused is a copy of one that was refused
+    answers/2026-03-02.jsonl      a line for each answer, in the order sent:
+                                  {"Answer":{..},"Message":"000000000012"}
+    sent/000000000011.json        a message that was accepted, kept for some days; .refused is a
+                                  copy of one that was refused
     aside/000000000007.json       a message that was not taken, and beside it
-    aside/000000000007.why        what was wrong, and what to do; and the id of its record, if one is made
+    aside/000000000007.why        what was wrong, and what to do; and the id of its record, if one
+                                  is made
     aside/000000000007.slots      the reels on the machine when a report of work was refused
     untraced/ID.json              a record of untraced work that isn't handed on yet
 
-Files of answers of earlier days may be deleted. Programs may put messages in at the same time; one sends.
+Files of answers of earlier days may be deleted. Programs may put messages in at the same time; one
+sends.
 """
 from __future__ import annotations
 
@@ -20,17 +25,7 @@ import os
 import pathlib
 import re
 import uuid
-from typing import (
-    Any,
-    Callable,
-    Dict,
-    Iterable,
-    Iterator,
-    List,
-    Optional,
-    Tuple,
-    Union,
-)
+from typing import Any, Callable, Dict, Iterable, Iterator, List, Optional, Tuple, Union
 
 from . import answers, forms, records
 from .console import patiently
@@ -50,20 +45,21 @@ from .sent import KEPT_BYTES, KEPT_DAYS, Sent
 LOG = re.compile(r"\d{4}-\d\d-\d\d\.jsonl")
 LAST = 999_999_999_999  # the greatest number
 MOST_READ = 16 << 20  # bytes of a message of which a record is made
-
-
 STATE: Dict[str, Callable[[Any], bool]] = {  # what the members of .sender may be
     "Tried": lambda it: type(it) is int,
     "Runs": lambda it: type(it) is bool,
     "Answers": lambda it: it is None or isinstance(it, str),
-    "Again": lambda it: it is None
-    or isinstance(it, list)
-    and [type(one) for one in it] == [int, int],
+    "Behind": lambda it: type(it) is int,
+    "Again": (
+        lambda it: it is None or isinstance(it, list) and [type(one) for one in it] == [int, int]
+    ),
 }
 
 
 class Spool:
-    """A spool, which is made if there is none. Sent messages are kept for `days`, and of at most so many bytes. Its name is in records."""
+    """A spool, which is made if there is none. Sent messages are kept for `days`, and of at most so
+    many bytes. Its name is in records.
+    """
 
     def __init__(
         self,
@@ -89,7 +85,8 @@ class Spool:
         # Whether the run that ends leaves a message with a try and without an answer.
         self.is_unanswered = False
 
-    # --- Numbers. The file .lock has the last one, and the word "busy" while one more message is put in.
+    # --- Numbers. The file .lock has the last one, and the word "busy" while one more message is
+    # put in.
 
     @contextlib.contextmanager
     def locked(self) -> Iterator[int]:
@@ -101,7 +98,9 @@ class Spool:
             os.close(handle)
 
     def last(self, lock: int) -> int:
-        """The greatest number so far. It is counted anew once, and after a process that ended in the middle of a `put`."""
+        """The greatest number so far. It is counted anew once, and after a process that ended in
+        the middle of a `put`.
+        """
         told = re.fullmatch(rb"(\d{12}) (busy|free)\n", os.pread(lock, 100, 0))
         told = (
             None if told and int(told[1]) >= LAST else told
@@ -116,7 +115,7 @@ class Spool:
         )
 
     def put(self, message: Union[forms.Message, bytes]) -> str:
-        """Keeps a message, and returns its name in the spool: it is on disk then, and is sent after those before it."""
+        """Keeps a message on disk, behind those before it, and returns its name in the spool."""
         with self.locked() as lock:
             last = self.last(lock)
             if intake := self.intake.read():
@@ -129,7 +128,8 @@ class Spool:
         name = spelled(last + 1)
         if last >= LAST:
             raise SpoolError(
-                f"{self.waiting} has a message of the greatest number: move it away, and use another spool"
+                f"{self.waiting} has a message of the greatest number: move it away, and use"
+                " another spool"
             )
         os.pwrite(lock, f"{name} busy\n".encode(), 0)
         write_synced(self.waiting / f"{name}.json", text)
@@ -143,7 +143,7 @@ class Spool:
     # --- Files of messages. Nobody else has a file of such a path.
 
     def take_file(self, path: pathlib.Path) -> int:
-        """Takes the lines of a file in, each once, and deletes the file; how many they are. Only this spool has that path."""
+        """Takes the lines of a file in, each once, and deletes the file; how many they are."""
         number = -1
         with open(path, "rb") as file, self.locked() as lock:
             last, intake = self.last(lock), self.intake.read()
@@ -170,14 +170,17 @@ class Spool:
                 self.last(lock)
                 self.intake.drop()
 
-    # --- Sending. The file .sender has up to which message there may have been a try ("Tried"), whether a run is under way or was
-    # killed ("Runs"), which file has the last answer ("Answers"), and which sent messages go back to those that wait ("Again").
+    # --- Sending. The file .sender has up to which message there may have been a try ("Tried"),
+    # whether a run is under way or was killed ("Runs"), which file has the last answer ("Answers"),
+    # how many bytes of it are older than this run ("Behind"), and which sent messages go back to
+    # those that wait ("Again").
 
     def read_state(self) -> Dict[str, Any]:
         state = {
             "Tried": 0,
             "Runs": False,
             "Answers": max(self.logs(), default=None),
+            "Behind": 0,
             "Again": None,
         }
         with contextlib.suppress(FileNotFoundError, ValueError):
@@ -201,7 +204,9 @@ class Spool:
 
     @contextlib.contextmanager
     def sending(self) -> Iterator[None]:
-        """Held by the one that sends. What a killed run left between an answer and what follows of it is made good first."""
+        """Held by the one that sends. What a killed run left between an answer and what follows of
+        it is made good first.
+        """
         handle = os.open(self.folder / ".sending", os.O_RDWR | os.O_CREAT, 0o600)
         try:
             lock_alone(
@@ -209,7 +214,8 @@ class Spool:
             )
             self.state = self.read_state()
             self.move_back()
-            number, answer, at = self.last_answer(self.state["Answers"], mends=True)
+            known = self.state["Answers"], self.state["Behind"]
+            number, answer, at = self.last_answer(*known, mends=True)
             self.is_made_good = (
                 answer is not None
                 and not answers.is_taken(answer)
@@ -248,15 +254,16 @@ class Spool:
         return [it for it in os.listdir(self.answered) if LOG.fullmatch(it)]
 
     def last_answer(
-        self, log: Optional[str], mends: bool = False
+        self, log: Optional[str], behind: int = 0, mends: bool = False
     ) -> Tuple[int, Optional[answers.Answer], str]:
-        """The last answer in a file of answers, the number of its message, and when it came; `mends` cuts a line that was not written whole."""
+        """The last answer in a file of answers behind so many bytes, the number of its message, and
+        when it came; `mends` cuts a line that was not written whole."""
         with contextlib.suppress(OSError, ValueError, KeyError, TypeError):
             with open(self.answered / str(log), "r+b" if mends else "rb") as file:
                 size = file.seek(0, os.SEEK_END)
                 tail, at = b"", size
-                while at and tail.count(b"\n") < 2:
-                    at = max(0, at - 4096)
+                while at > behind and tail.count(b"\n") < 2:
+                    at = max(behind, at - 4096)
                     file.seek(at)
                     tail = file.read(size - at)
                 whole, _, cut = tail.rpartition(b"\n")
@@ -292,7 +299,9 @@ class Spool:
         return False
 
     def keep_answer(self, name: str, answer: answers.Answer, at: str = "") -> None:
-        """Adds an answer to the file of the day; of a message that was not taken with the time, so that its record is the same each time it is made."""
+        """Adds an answer to the file of the day; of a message that was not taken with the time, so
+        that its record is the same each time it is made.
+        """
         today = f"{datetime.date.today()}.jsonl"
         if self.log is None or self.log[0] != today:
             self.close_log()
@@ -301,7 +310,8 @@ class Spool:
             )
             sync_folder(self.answered)
         if self.state.get("Answers") != today:
-            self.write_state(Answers=today)
+            # what is in it may be the answer to a message that is sent again
+            self.write_state(Answers=today, Behind=os.fstat(self.log[1]).st_size)
         more = b',"Archived":true' if answers.is_archived(answer) else b""
         if not more and not answers.is_taken(answer):
             more = b',"At":"%b"' % at.encode()
@@ -324,7 +334,7 @@ class Spool:
             self.log = None
 
     def finish(self, name: str, answer: answers.Answer, at: str = "") -> None:
-        """Moves a message that is answered: to those that were sent, or aside. Done once more it does nothing."""
+        """Moves a message that is answered to those sent, or aside. Twice does no harm."""
         place = self.waiting / f"{name}.json"
         if not place.exists():
             return
@@ -378,7 +388,9 @@ class Spool:
     # --- What was sent
 
     def again_since(self, since: float) -> List[str]:
-        """Puts each message that was sent since this second of the clock before those that wait, under its old name."""
+        """Puts each message that was sent since this second of the clock before those that wait,
+        under its old name.
+        """
         with self.sending():
             names = names_in(self.sent)
             first = next(
@@ -420,16 +432,17 @@ class Spool:
         return records.as_read((self.aside / f"{name}.json").read_bytes())
 
     def is_report(self, name: str) -> bool:
-        """Whether a message that was set aside is a report of work: it isn't sent again unless a person decides so."""
+        """Whether a message that was set aside reports work, and so needs a decision."""
         place = self.aside / f"{name}.json"
         if not NAME.fullmatch(place.name) or not place.exists():
             raise SpoolError(
-                f"{place} is not there: name a message of {self.aside}, or a time, as 2026-03-02T06:00Z"
+                f"{place} is not there: name a message of {self.aside}, or a time, as"
+                " 2026-03-02T06:00Z"
             )
         return records.is_report(self.message(name))
 
     def why(self, name: str) -> Tuple[str, answers.Answer, Dict[str, Any]]:
-        """Why a message was set aside, the answer, and when that was and the id of its record, if one is made."""
+        """Why a message was set aside, the answer, when that was, and its record's id, if any."""
         lines = (self.aside / f"{name}.why").read_text().split("\n")
         answer = answers.read(lines[1].encode()) or answers.LINE_TOO_LONG
         return lines[0], answer, answers.read_object(lines[2].encode())
@@ -463,7 +476,7 @@ class Spool:
         self.keep_made(made, text)
 
     def again(self, names: Iterable[str], decided: bool = False) -> List[str]:
-        """Puts messages that were set aside behind those that wait, the same bytes; their new names. Of reports of work only with a decision."""
+        """Puts messages that were set aside last; their new names. A report needs a decision."""
         found = []
         for name in names:
             place = self.aside / f"{name}.json"

@@ -33,21 +33,26 @@ def whole_lines(file: BinaryIO) -> List[bytes]:
 
 
 def compare(messages: List[bytes], known: List[bytes]) -> None:
-    """Looks whether the answers that are there are a desk's to the first messages: one may name its message by UniqueID."""
+    """Looks whether the answers that are there are a desk's to the first messages: one may name its
+    message by UniqueID.
+    """
     if len(known) > len(messages):
         raise BadFile(
-            f"it has {len(known)} answers, and there are {len(messages)} messages: name a new file for answers"
+            f"it has {len(known)} answers, and there are {len(messages)} messages: name a new file"
+            " for answers"
         )
     for number, (line, answer) in enumerate(zip(messages, known), 1):
         told = answers.read(answer)
         if told is None or isinstance(told, (answers.NotFound, answers.Unavailable)):
             raise BadFile(
-                f"its line {number} is no answer of a desk, so that message may not have been taken: cut the file before that line"
+                f"its line {number} is no answer of a desk, so that message may not have been"
+                " taken: cut the file before that line"
             )
         uid = getattr(told, "unique_id", None)
         if uid is not None and uid != answers.read_object(line).get("UniqueID"):
             raise BadFile(
-                f"its line {number} answers {uid}, which is not the message of that line: name a new file for answers"
+                f"its line {number} answers {uid}, which is not the message of that line: name a"
+                " new file for answers"
             )
 
 
@@ -59,7 +64,9 @@ def send_all(
     is_tried: bool,
     stops: bool,
 ) -> int:
-    """Sends what has no answer yet, and adds each answer to the file before the next message goes out; how many were mistyped."""
+    """Sends what has no answer yet, and adds each answer to the file before the next message goes
+    out; how many were mistyped.
+    """
     mistyped = 0
     file.truncate(sum(len(it) + 1 for it in known))  # a line that was cut goes
     for line in messages[len(known) :]:
@@ -78,7 +85,9 @@ def send_all(
 
 
 def run(asked: argparse.Namespace, to: desk.Desk) -> int:
-    """Goes through two files. If there were answers, a run before may have sent the next message."""
+    """Goes through two files. If there were answers, a run before may have sent the next
+    message.
+    """
     is_tried = os.path.exists(asked.files[1])
     try:
         with held(asked.files[1]) as file:

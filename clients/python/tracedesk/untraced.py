@@ -1,4 +1,6 @@
-"""What the line sees of a sender: its records of untraced work, which are handed on to the inbox of the line, and its status."""
+"""What the line sees of a sender: its records of untraced work, which are handed on to the inbox of
+the line, and its status.
+"""
 from __future__ import annotations
 
 import json
@@ -55,7 +57,9 @@ class Place:
 
     @property
     def beside(self) -> Optional["Place"]:
-        """The place of decisions, which is beside that of records; none where there is no such folder."""
+        """The place of decisions, which is beside that of records; none where there is no such
+        folder.
+        """
         where = self.where.rpartition("/")[0] + "/decided" if self.desk else ""
         beside = pathlib.Path(self.where).absolute().parent / "decided"
         if not self.desk and not beside.is_dir():
@@ -64,8 +68,8 @@ class Place:
 
 
 class Line:
-    """What the line sees of a sender: its records of untraced work, and its status. It has a thread of its own, so that no place
-    that is away holds a message up."""
+    """What the line sees of a sender: its records of untraced work, and its status. It has a thread
+    of its own, so that no place that is away holds a message up."""
 
     def __init__(
         self,
@@ -120,11 +124,14 @@ class Line:
             if time.monotonic() >= self.next_news.get(what, 0.0):
                 self.next_news[what] = time.monotonic() + NEWS_OF_A_FAULT
                 self.tell(
-                    f"{what} is not handed on: {fault}. It is tried again every {PAUSE_OF_A_FAULT:.0f} seconds"
+                    f"{what} is not handed on: {fault}. It is tried again every"
+                    f" {PAUSE_OF_A_FAULT:.0f} seconds"
                 )
 
     def hand_on(self) -> None:
-        """Hands each record on. One that isn't taken holds no other one up, unless the place takes none."""
+        """Hands each record on. One that isn't taken holds no other one up, unless the place takes
+        none.
+        """
         wrong: List[str] = []
         for path in sorted(self.spool.untraced.glob("*.json")) if self.inbox else []:
             text = path.read_bytes()
@@ -142,7 +149,9 @@ class Line:
             raise OSError(f"{len(wrong)} records, the first {wrong[0]}")
 
     def told(self) -> Dict[str, Any]:
-        """The status: what waits, what was set aside, the machines, and what the sender can't mend itself."""
+        """The status: what waits, what was set aside, the machines, and what the sender can't mend
+        itself.
+        """
         names, oldest = self.spool.names(), None
         if names:
             try:
@@ -162,7 +171,9 @@ class Line:
 
 
 def shown(spool: Spool, name: str, desk: Desk) -> str:
-    """What a person must see who decides about a report that was refused: what the desk accepted from here since, and the reels then and now."""
+    """What a person must see who decides about a report that was refused: what the desk accepted
+    from here since, and the reels then and now.
+    """
     told, why = spool.message(name), spool.why(name)
     machine, then = answers.body_of(told).get("Machine"), spool.aside / f"{name}.slots"
     lines = [
@@ -189,7 +200,10 @@ def shown(spool: Spool, name: str, desk: Desk) -> str:
 
 
 def brief(told: Dict[str, Any]) -> str:
-    return f"{answers.word_of(told)} at {told.get('TimeStamp')}, {json.dumps(told.get('MessageBody'))[:300]}"
+    return (
+        f"{answers.word_of(told)} at {told.get('TimeStamp')},"
+        f" {json.dumps(told.get('MessageBody'))[:300]}"
+    )
 
 
 def slots_of(desk: Desk, machine: Any) -> List[str]:

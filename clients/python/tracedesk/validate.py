@@ -1,4 +1,6 @@
-"""Looks at messages before they are sent. A desk may refuse more: what breaks a rule of the line."""
+"""Looks at messages before they are sent. A desk may refuse more: what breaks a rule of the
+line.
+"""
 from __future__ import annotations
 
 import datetime
@@ -32,7 +34,10 @@ def faults(line: bytes) -> Iterator[str]:
     yield from missing(told, wanted)
     name = told.get("MessageName")
     if "MessageName" in told and name not in kinds:
-        yield f"MessageName: there is no message {name!r:.100}; the nearest is {nearest(str(name), list(kinds))}"
+        yield (
+            f"MessageName: there is no message {name!r:.100}; the nearest is"
+            f" {nearest(str(name), list(kinds))}"
+        )
     for it in ("UniqueID", "Source"):
         if it in told:
             yield from of_form(it, words.NAME, told[it])
@@ -64,7 +69,9 @@ def of_form(name: str, form: forms.Form, value: Any) -> Iterator[str]:
 
 
 def wrong_time(text: Any) -> Optional[str]:
-    """What is wrong with a time stamp, if anything. A desk reads more forms than this: without an offset it takes UTC."""
+    """What is wrong with a time stamp, if anything. A desk reads more forms than this: without an
+    offset it takes UTC.
+    """
     if not isinstance(text, str) or not TIME.fullmatch(text):
         return f"is no time with its offset: {AS}"
     try:

@@ -1,7 +1,9 @@
-"""Two witnesses of a piece: the scan, by which the desk knows the reel on a slot, and the machine, where it names the reel that it took.
+"""Two witnesses of a piece: the scan, by which the desk knows the reel on a slot, and the machine,
+where it names the reel that it took.
 
-An install may have the member `MachineReels` beside `Designators`: the reel of each, or null. The desk skips it. The sender compares it
-with the reels in the desk's answer, and keeps a record of each two that differ.
+An install may have the member `MachineReels` beside `Designators`: the reel of each, or null. The
+desk skips it. The sender compares it with the reels in the desk's answer, and keeps a record of
+each two that differ.
 """
 from __future__ import annotations
 
@@ -41,7 +43,9 @@ def fault_of(told: Dict[str, Any]) -> str:
 def made(
     told: Dict[str, Any], answer: answers.Answer, by: str
 ) -> List[Tuple[str, bytes, Dict[str, Any]]]:
-    """The records of what differs, each with its id and what a status says of it. A message gives the same ones each time."""
+    """The records of what differs, each with its id and what a status says of it. A message gives
+    the same ones each time.
+    """
     body, found = answers.body_of(told), []
     at = records.in_utc(told.get("TimeStamp")) or records.utc()
     for (desk, machine), names in differences(told, answer).items():
@@ -63,7 +67,9 @@ def made(
 
 
 def looked_up(desk: Desk, shown: Dict[str, Any]) -> Dict[str, Any]:
-    """The slot of a piece that differs, and whether the desk knows the machine's reel, as far as it says so."""
+    """The slot of a piece that differs, and whether the desk knows the machine's reel, as far as it
+    says so.
+    """
     slot: Optional[str] = None
     is_known: Optional[bool] = None
     with contextlib.suppress(Exception), desk.hasty() as asked:
