@@ -1,6 +1,7 @@
 // A supplier's label: ISO/IEC 15434, form 06, with data identifiers of ANSI MH10.8.2, as EIGP 114
 // has them.
 
+const ATTRIBUTES = { DateCode: "9D", Supplier: "V", MakerPart: "1P", Order: "K" };
 const IDENTIFIER = /^([0-9]{0,3}[A-Z])(.*)$/s;
 
 /**
@@ -41,4 +42,13 @@ export function receiptOf(fields, names) {
     quantity,
     reel: fields[names.reel] ?? "",
   };
+}
+
+/** What a label says of a reel and no desk keeps: the line's book of attributes does. */
+export function attributesOf(fields) {
+  return Object.fromEntries(
+    Object.entries(ATTRIBUTES)
+      .map(([name, identifier]) => [name, fields[identifier]])
+      .filter(([, value]) => value),
+  );
 }

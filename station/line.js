@@ -92,7 +92,8 @@ export class LineScreen {
     this.counts(lines);
     this.order(isMany && shown.length > 0);
     this.ranked = urgentOf(lines);
-    this.tiles(isMany ? shown.length ? 0 : MOST_ABOVE : MOST_TILES);
+    this.wanted = isMany ? shown.length ? 0 : MOST_ABOVE : MOST_TILES;
+    this.tiles(this.wanted);
     put(this.overview, ...(shown.length ? [] : lines.map((it) => this.machineTile(it))));
     put(this.machines, ...shown.map((it) => this.machine(it)));
     this.fit();
@@ -352,6 +353,9 @@ export class LineScreen {
   fit(isResized = false) {
     const { machines } = this;
     const main = machines.parentElement;
+    if (isResized && this.most < this.wanted) {
+      this.tiles(this.wanted); // there may be room again
+    }
     const fitted = [
       machines.querySelectorAll("tr").length,
       this.urgent.childElementCount,

@@ -2,7 +2,7 @@
 // in stays until the desk accepted it.
 import { wordsOf } from "./answers.js";
 import { button, el, field, isTwice } from "./dom.js";
-import { fieldsOf, receiptOf } from "./label.js";
+import { attributesOf, fieldsOf, receiptOf } from "./label.js";
 import { isName, LEVELS, MOST_MINUTES, MOST_PIECES, numberIn } from "./names.js";
 import { said } from "./say.js";
 import { bodyOf, WORDS } from "./scan.js";
@@ -21,6 +21,7 @@ export class ReceiveScreen {
     this.moved = -Infinity; // when the focus went on by itself
     this.last = {}; // when it was sent last
     this.kept = {}; // what the fields hold, also while another screen is shown
+    this.label = {}; // its part, lot and attributes, until the reel is accepted
     this.said = el("p", { class: "note", role: "status" }, TEXTS.receive.hint);
   }
 
@@ -85,6 +86,7 @@ export class ReceiveScreen {
 
   clear() {
     this.fill({});
+    this.label = {};
     this.say(TEXTS.receive.hint, false);
     this.form.elements.reel.focus();
   }
@@ -127,6 +129,7 @@ export class ReceiveScreen {
     const read = said(TEXTS.receive.read, {
       fields: Object.entries(found).map(([name, value]) => `${name} ${value}`).join(", "),
     });
+    this.label = { part: receipt.part, lot: receipt.lot, attributes: attributesOf(found) };
     this.fill(
       receipt,
     ); // the level is on each bag: another one of the part may have another level
@@ -229,6 +232,15 @@ export class ReceiveScreen {
     }
   }
 
+  /** What the label says too, unless the fields are of another part or lot by now. */
+  attributes() {
+    const isAsRead = ["part", "lot"].every((name) => {
+      const text = this.form.elements[name].value.trim();
+      return !this.label[name] || this.label[name] === text;
+    });
+    return isAsRead ? this.label.attributes : {};
+  }
+
   values() {
     const { elements } = this.form;
     const text = (name) => elements[name].value.trim();
@@ -239,6 +251,7 @@ export class ReceiveScreen {
       quantity: numberIn(text("quantity"), 1, MOST_PIECES),
       level: elements.level.value,
       minutes: numberIn(text("minutes"), 1, MOST_MINUTES),
+      attributes: this.attributes(),
     };
   }
 
@@ -269,6 +282,7 @@ export class ReceiveScreen {
     }
     if (answer.Answer === "Accepted") {
       this.fill({});
+      this.label = {};
       this.say(TEXTS.receive.hint, false);
     } else {
       this.say(

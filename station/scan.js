@@ -63,12 +63,14 @@ export class Scan {
 
   /** Forgets what is held when no scan came for long: it is not for whoever comes next. */
   forget() {
+    if (Math.abs(Date.now() - this.touched) <= this.station.setup.heldSeconds * 1000) {
+      return;
+    }
+    this.last = { text: "", at: -Infinity }; // an action that comes again is a new one
     if (this.slot || this.reel || this.action || this.asking) {
-      if (Math.abs(Date.now() - this.touched) > this.station.setup.heldSeconds * 1000) {
-        this.clear();
-        this.isForgotten = true;
-        this.station.scanned();
-      }
+      this.clear();
+      this.isForgotten = true;
+      this.station.scanned();
     }
   }
 
@@ -363,7 +365,7 @@ export class Scan {
 /** The body of a message of an action. */
 export function bodyOf(
   action,
-  { machine, slot, reel, quantity, product, part, lot, level, minutes },
+  { machine, slot, reel, quantity, product, part, lot, level, minutes, attributes },
 ) {
   switch (action) {
     case "LOAD":
@@ -380,6 +382,7 @@ export function bodyOf(
         Level: level,
         ...(level === "6" ? { LabelMinutes: minutes } : {}),
         Quantity: quantity,
+        ...attributes,
       };
     default: return { Reel: reel };
   }

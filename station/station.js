@@ -268,7 +268,7 @@ export class Station {
     } else if (count && problem && !problem.again) {
       text = said(strip.stuck, { status: String(problem.status), count });
     }
-    put(at("waiting"), text, count && store.isKept() === false ? ` ${strip.unsafe}` : "");
+    put(at("waiting"), text, count && store.isKept() === false ? ` · ${strip.unsafe}` : "");
     this.screens[this.screen].held?.();
   }
 

@@ -1,4 +1,6 @@
-"""The fixture of the station's tests: a plant behind the packaged nginx, whose Line is compared with `report` at the end."""
+"""The fixture of the station's tests: a plant behind the packaged nginx, whose Line is compared
+with `report` at the end.
+"""
 import pathlib
 from typing import Iterator
 

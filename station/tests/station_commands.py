@@ -1,4 +1,6 @@
-"""Random commands under outages, against a model of the operator's sheet: each acts once, or its loss is shown and asked for again."""
+"""Random commands under outages, against a model of the operator's sheet: each acts once, or its
+loss is shown and asked for again.
+"""
 import random
 from typing import Any
 
@@ -12,8 +14,9 @@ COMMANDS, ROUND = 2_000, 20  # in all, and under one outage
 LOADS, TAKES = ("MaterialsLoaded", "MaterialsSpliced"), ("MaterialsScrapped", "CountsTaken")
 OUTAGES, AWAY = ("none", "losses", "desk", "proxy", "slow"), ("desk", "proxy", "slow")
 SLOTS = [(machine, slot) for machine in ("M1", "M2") for slot in ("1", "2", "10", "3")]
-# Does commands one behind the other, as a scanner in the scan field. Of each: what the strip said before its last code, what is
-# over the page behind it, and the messages that it made. A question is answered as the command says.
+# Does commands one behind the other, as a scanner in the scan field. Of each: what the strip said
+# before its last code, what is over the page behind it, and the messages that it made. A question
+# is answered as the command says.
 DOES = """
 const [commands, done] = arguments, at = (id) => document.getElementById(id), field = at("scan"), pause = (time) => new Promise((go) => setTimeout(go, time));
 const opened = new Promise((go) => { const request = indexedDB.open("tracedesk-station"); request.onsuccess = () => go(request.result); });
@@ -47,7 +50,9 @@ const seen = () => ({ turn: Number(at("verdict").dataset.turn ?? 0), kind: at("v
 
 
 class Command:
-    """What somebody at the line means to do: the codes by the operator's sheet, and the message that they stand for."""
+    """What somebody at the line means to do: the codes by the operator's sheet, and the message
+    that they stand for.
+    """
 
     def __init__(self, dice: random.Random) -> None:
         self.machine, self.slot = dice.choice(SLOTS)
@@ -70,7 +75,9 @@ class Command:
             self.codes.reverse()
 
     def message(self, held: str) -> Any:
-        """The message that the operator expects; of a load the strip said before whether it loads or splices."""
+        """The message that the operator expects; of a load the strip said before whether it loads
+        or splices.
+        """
         on: dict[str, Any] = {"Machine": self.machine, "Slot": self.slot}
         messages: dict[str, Any] = {
             "LOAD": (LOADS["SPLICE" in held], {**on, "Reel": self.reel}),
@@ -99,14 +106,16 @@ class Command:
 
 
 class Page:
-    """The model: the messages that have no answer yet, as somebody knows them who saw each screen."""
+    """The model: the messages that have no answer yet, as somebody knows them who saw each
+    screen.
+    """
 
     def __init__(self) -> None:
         self.waiting: list[
             tuple[Command, str, Any]
         ] = []  # of (command, word, body), the oldest first
 
-    def is_same(self, command: Command, word: str, body: Any) -> Any:
+    def is_same(self, command: Command, word: str, body: Any) -> bool:
         """Whether the last one about the same slot or reel is this very one."""
         last = next(
             (
@@ -116,10 +125,14 @@ class Page:
             ),
             None,
         )
-        return last and last[2] == body and (last[1] == word or {last[1], word} == set(LOADS))
+        if last is None:
+            return False
+        return bool(last[2] == body and (last[1] == word or {last[1], word} == set(LOADS)))
 
     def judged(self, command: Command, told: Any, is_away: bool) -> Any:
-        """Looks whether a command made its message, or its loss was shown; gives the message or None. Only `is_away`, with nobody to answer, is known which of the two it has to be."""
+        """Looks whether a command made its message, or its loss was shown; gives the message or
+        None. Only `is_away`, with nobody to answer, is known which of the two it has to be.
+        """
         word, body = command.message(told["held"])
         made, shown, is_same = told["made"], told["shown"], self.is_same(command, word, body)
         words = (
@@ -142,7 +155,8 @@ class Page:
             != (is_same and word in TAKES, is_same and not (word in TAKES and command.yes))
         ):
             raise Difference(
-                f"{command}, wanted {word} {body} once, or to be told of its loss; unanswered are {[(str(one), kind) for one, kind, _ in self.waiting[-5:]]}: {told}"
+                f"{command}, wanted {word} {body} once, or to be told of its loss; unanswered are"
+                f" {[(str(one), kind) for one, kind, _ in self.waiting[-5:]]}: {told}"
             )
         if is_kept:
             self.waiting.append((command, made[0]["word"], body))
@@ -178,7 +192,9 @@ def all_answered(it: Operator) -> Any:
 
 
 def taken(site: Site, it: Operator, made: Any) -> Any:
-    """How many of these messages the desk accepted: each once, as it answered, and none that it refused."""
+    """How many of these messages the desk accepted: each once, as it answered, and none that it
+    refused.
+    """
     by_uid, desk = all_answered(it), accepted(site)
     lacking = [uid for uid in made if uid not in by_uid]
     wrong = [
@@ -201,7 +217,9 @@ def done(it: Operator, commands: Any) -> Any:
 
 
 def one_round(site: Site, it: Operator, dice: random.Random, outage: str, count: int) -> Any:
-    """So many commands under an outage; then those that were lost once more, with the desk there. Gives how many messages were made, accepted and lost."""
+    """So many commands under an outage; then those that were lost once more, with the desk there.
+    Gives how many messages were made, accepted and lost.
+    """
     commands: list[Command] = []
     lost: list[Command] = []
     made: list[str] = []

@@ -1,4 +1,6 @@
-"""What the station costs: how long a verdict takes, what a tab keeps, and how many connections of the desk stations use up."""
+"""What the station costs: how long a verdict takes, what a tab keeps, and how many connections of
+the desk stations use up.
+"""
 import json
 import statistics
 import time
@@ -33,7 +35,9 @@ new MutationObserver(() => {
 
 
 def to_a_verdict(site: Site, scans: Any = 30) -> Any:
-    """Of each screen, at a line of twelve machines with 120 slots, the milliseconds from the Enter of a scan to the frame with its verdict, by the page's clock: loads and unloads in turn."""
+    """Of each screen, at a line of twelve machines with 120 slots, the milliseconds from the Enter
+    of a scan to the frame with its verdict, by the page's clock: loads and unloads in turn.
+    """
     machines, told = long_line(site), {}
     with Operator(site) as it:
         it.ready().script(DRAWN)
@@ -81,7 +85,9 @@ SELDOM = 900  # connections a day: a page that may use so few looks each ten min
 
 
 def each_scan(site: Site) -> Any:
-    """The connections of the desk that scans use up, each a second after the one before and after more than the cache keeps."""
+    """The connections of the desk that scans use up, each a second after the one before and after
+    more than the cache keeps.
+    """
     site.set_up({**SETUP, "connectionsADay": SELDOM})
     told = {}
     with Operator(site, name="C") as it:
@@ -104,7 +110,9 @@ def each_scan(site: Site) -> Any:
 
 
 def measure(program: str, scans: Any) -> Any:
-    """From scan to verdict on each screen, the tab's memory over so many scans, and the connections of a scan; the exit status."""
+    """From scan to verdict on each screen, the tab's memory over so many scans, and the connections
+    of a scan; the exit status.
+    """
 
     def say(name: str, value: Any) -> None:
         print(json.dumps({name: value}), flush=True)

@@ -1,4 +1,6 @@
-"""What the screen Line has to show, reckoned from the program's `report` alone; and a line of the size of a plant's."""
+"""What the screen Line has to show, reckoned from the program's `report` alone; and a line of the
+size of a plant's.
+"""
 import csv
 import datetime
 import io
@@ -34,9 +36,11 @@ def life(minutes: str) -> str:
     return (
         "EXPIRED"
         if left == 0
-        else f"{left // 1440} d {left % 1440 // 60} h"
-        if left >= 1440
-        else f"{left // 60} h {left % 60} min"
+        else (
+            f"{left // 1440} d {left % 1440 // 60} h"
+            if left >= 1440
+            else f"{left // 60} h {left % 60} min"
+        )
     )
 
 
@@ -89,7 +93,9 @@ class Slot:
         ]
 
     def tile(self) -> Any:
-        """What stands on top of the screen where the slot needs a person: how urgent, and its words."""
+        """What stands on top of the screen where the slot needs a person: how urgent, and its
+        words.
+        """
         rank = min((URGENT.index(it) for it in self.states if it in URGENT), default=None)
         if rank is None:
             return None
@@ -118,7 +124,9 @@ class Slot:
 
 
 def slots_of(site: Site, machine: str, product: str, boards: int, expires: int) -> list[Slot]:
-    """The slots of a machine in the order of its sheet, and behind them those that are on no row of it."""
+    """The slots of a machine in the order of its sheet, and behind them those that are on no row of
+    it.
+    """
     mounted = report(site, f"/slots?machine={machine}")
     sheet = list(
         dict.fromkeys(
@@ -147,14 +155,19 @@ def slots_of(site: Site, machine: str, product: str, boards: int, expires: int) 
 def shown_rows(operator: Operator, machine: str) -> Any:
     """The rows of a machine on the screen Line, over all its columns."""
     return operator.script(
-        "return [...document.querySelectorAll('#main table')].filter((it) => it.dataset.machine === arguments[0]).flatMap((it) => [...it.tBodies[0].rows].map((row) => [...row.cells].map((cell) => cell.textContent)))",
+        (
+            "return [...document.querySelectorAll('#main table')].filter((it) => it.dataset.machine"
+            " === arguments[0]).flatMap((it) => [...it.tBodies[0].rows].map((row) =>"
+            " [...row.cells].map((cell) => cell.textContent)))"
+        ),
         machine,
     )
 
 
 def shown_tiles(operator: Operator) -> Any:
     return operator.script(
-        "return [...document.querySelectorAll('.urgent li:not(.more)')].map((it) => [...it.children].map((part) => part.textContent))"
+        "return [...document.querySelectorAll('.urgent li:not(.more)')].map((it) =>"
+        " [...it.children].map((part) => part.textContent))"
     )
 
 
@@ -228,7 +241,9 @@ def tiles_are_as_reported(
 
 
 def real_line(site: Site, boards: int = 60) -> Any:
-    """A desk with the sheets, reels and messages of a shift's line, to the moment at which a reel has expired on its slot; the shift."""
+    """A desk with the sheets, reels and messages of a shift's line, to the moment at which a reel
+    has expired on its slot; the shift.
+    """
     told = shift.Shift(
         boards=boards, day=datetime.datetime.now(datetime.timezone.utc).strftime("%Y-%m-%d")
     )

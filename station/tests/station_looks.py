@@ -1,4 +1,6 @@
-"""How the station looks, and what it costs: contrast, sizes, the keyboard alone, printed codes; pictures; and figures."""
+"""How the station looks, and what it costs: contrast, sizes, the keyboard alone, printed codes;
+pictures; and figures.
+"""
 import time
 
 from station_operator import Operator
@@ -8,7 +10,8 @@ SCREEN, TABLET = (1920, 1080), (800, 1280)
 SEEN_ANEW = (
     4  # seconds, after which the page looks at a slot again before it takes a scan for a load
 )
-# Each element with text of its own: its letters against what is behind them, as WCAG 2.1 reckons it.
+# Each element with text of its own: its letters against what is behind them, as WCAG 2.1 reckons
+# it.
 CONTRAST = r"""
 const part = (c) => { c /= 255; return c <= 0.03928 ? c / 12.92 : ((c + 0.055) / 1.055) ** 2.4; };
 const light = ([r, g, b]) => 0.2126 * part(r) + 0.7152 * part(g) + 0.0722 * part(b);
@@ -30,7 +33,10 @@ for (const it of document.querySelectorAll("body *")) {
 }
 return told;
 """
-SIZES = "const m = document.getElementById('main'); return [m.scrollHeight - m.clientHeight, m.scrollWidth - m.clientWidth, document.documentElement.scrollWidth - innerWidth];"
+SIZES = (
+    "const m = document.getElementById('main'); return [m.scrollHeight - m.clientHeight,"
+    " m.scrollWidth - m.clientWidth, document.documentElement.scrollWidth - innerWidth];"
+)
 
 
 def set_up(it: Operator) -> None:

@@ -57,7 +57,9 @@ class Operator:
             self.close()
 
     def open(self, before: str = "") -> None:
-        """Begins the browser, logs in and waits until the page is there. `before` is a script that is run before those of each page."""
+        """Begins the browser, logs in and waits until the page is there. `before` is a script that
+        is run before those of each page.
+        """
         self.page = browser(self.site.room, f"profile-{self.name}", self.size)
         if before:
             self.page.execute_cdp_cmd("Page.addScriptToEvaluateOnNewDocument", {"source": before})
@@ -71,7 +73,8 @@ class Operator:
             wait_for(
                 "the page is there",
                 lambda: self.script(
-                    "return document.querySelectorAll('#screens button').length === 5 && document.getElementById('state').textContent !== ''"
+                    "return document.querySelectorAll('#screens button').length === 5 &&"
+                    " document.getElementById('state').textContent !== ''"
                 ),
             )
 
@@ -80,7 +83,8 @@ class Operator:
         wait_for(
             "the page has the desk's answers",
             lambda: self.script(
-                "return document.body.dataset.asked === 'all' && document.getElementById('state').className === 'fresh'"
+                "return document.body.dataset.asked === 'all' &&"
+                " document.getElementById('state').className === 'fresh'"
             ),
         )
         return self
@@ -116,7 +120,9 @@ class Operator:
         chain_of(self.page).send_keys(*keys).perform()
 
     def scan(self, *codes: str) -> None:
-        """Scans codes as a wedge does: letters and Enter; the same one not sooner than a hand does."""
+        """Scans codes as a wedge does: letters and Enter; the same one not sooner than a hand
+        does.
+        """
         from selenium.webdriver.common.keys import Keys
 
         for code in codes:
@@ -138,11 +144,14 @@ class Operator:
         seconds: float = PATIENCE,
         after: int = 0,
     ) -> Any:
-        """The kind and the text of the verdict, once there is one of these kinds; `after` is the turn of what was there before."""
+        """The kind and the text of the verdict, once there is one of these kinds; `after` is the
+        turn of what was there before.
+        """
 
         def shown() -> Any:
             kind, text, turn = self.script(
-                "const v = document.getElementById('verdict'); return v.hidden ? ['', '', 0] : [v.className, v.innerText, Number(v.dataset.turn)]"
+                "const v = document.getElementById('verdict'); return v.hidden ? ['', '', 0] :"
+                " [v.className, v.innerText, Number(v.dataset.turn)]"
             )
             return (kind, text) if kind in kinds and turn > after else None
 
@@ -163,9 +172,11 @@ class Operator:
         after = self.turn() if codes else 0
         self.scan(*codes)
         got, text = self.verdict(
-            kinds=("accepted", "refused", "fault")
-            if kind in ("accepted", "refused", "fault")
-            else (kind,),
+            kinds=(
+                ("accepted", "refused", "fault")
+                if kind in ("accepted", "refused", "fault")
+                else (kind,)
+            ),
             after=after,
         )
         lacking = [it for it in holds if it not in text]
@@ -185,7 +196,11 @@ class Operator:
     def rows(self, table: int = 0) -> Any:
         """The rows of a table of the page, as texts."""
         return self.script(
-            "return [...(document.querySelectorAll('#main table')[arguments[0]]?.querySelectorAll('tbody tr') ?? [])].map((row) => [...row.cells].map((it) => it.textContent))",
+            (
+                "return [...(document.querySelectorAll('#main"
+                " table')[arguments[0]]?.querySelectorAll('tbody tr') ?? [])].map((row) =>"
+                " [...row.cells].map((it) => it.textContent))"
+            ),
             table,
         )
 

@@ -1,4 +1,6 @@
-"""The pictures of docs/station.md: of five sizes of a screen, and in each language of the package."""
+"""The pictures of docs/station.md: of five sizes of a screen, and in each language of the
+package.
+"""
 import contextlib
 import pathlib
 import time

@@ -32,11 +32,8 @@ REELS = [
 ]
 LEVEL_SIX = 2880
 DAY_AND_AN_HOUR = 1500  # minutes: a reel of level 5a, which has 1,440, is expired then
-MACHINES, SLOTS, SECONDS = (
-    12,
-    120,
-    0.3,
-)  # of a long line; of the page's processor time, from a scan to its verdict and after it
+# of a long line; of the page's processor time, from a scan to its verdict and after it
+MACHINES, SLOTS, SECONDS = (12, 120, 0.3)
 CLOCKS = """window.asleep = 0; window.later = 0;
 const steady = performance.now.bind(performance), wall = Date.now.bind(Date);
 performance.now = () => steady() - window.asleep; Date.now = () => wall() + window.later;"""
@@ -86,7 +83,9 @@ def accepted(site: Site) -> collections.Counter[str]:
 
 
 def whole(site: Site, operator: Operator, count: int) -> Any:
-    """Looks whether all of a station's scans are answered, and each accepted one is in the desk's file once."""
+    """Looks whether all of a station's scans are answered, and each accepted one is in the desk's
+    file once.
+    """
     scans = wait_for(
         "all scans are answered",
         lambda: (it := operator.scans()) and all(scan["state"] == "answered" for scan in it) and it,
@@ -141,7 +140,8 @@ def asks(operator: Operator, question: str, name: str, detail: str = "1") -> Any
     wait_for(
         "an answer",
         lambda: operator.script(
-            "return document.querySelector('.result table') !== null || !document.querySelector('form.trace .note').hidden"
+            "return document.querySelector('.result table') !== null ||"
+            " !document.querySelector('form.trace .note').hidden"
         ),
     )
     return operator.rows()
@@ -255,7 +255,9 @@ def long_line(site: Site) -> Any:
 
 
 def all_states(site: Site) -> None:
-    """Slots in every state, by messages of the host alone; the desk's clock is a day and an hour ahead then."""
+    """Slots in every state, by messages of the host alone; the desk's clock is a day and an hour
+    ahead then.
+    """
     say = site.say
     for reel, part, level in (("K-9", "ALT", "5a"), ("K-10", "ALT", "5a")):
         say(
@@ -302,7 +304,10 @@ def letters(it: Operator, *classes: Any) -> Any:
     """The sizes of the letters of a verdict's parts, in pixels."""
     return [
         it.script(
-            "return parseFloat(getComputedStyle(document.querySelector(`#verdict .${arguments[0]}`)).fontSize)",
+            (
+                "return parseFloat(getComputedStyle(document.querySelector(`#verdict"
+                " .${arguments[0]}`)).fontSize)"
+            ),
             name,
         )
         for name in classes
@@ -310,7 +315,9 @@ def letters(it: Operator, *classes: Any) -> Any:
 
 
 def agrees(operator: Operator) -> None:
-    """The Line of each machine as `report` has it, at the end of what an operator does: where the desk runs, has the sheets, and the page is the station."""
+    """The Line of each machine as `report` has it, at the end of what an operator does: where the
+    desk runs, has the sheets, and the page is the station.
+    """
     site = operator.site
     if (
         site.desk
@@ -318,7 +325,8 @@ def agrees(operator: Operator) -> None:
         and site.setup == SETUP
         and operator.agrees
         and operator.script(
-            "return location.pathname === '/station/' && document.getElementById('screens').children.length > 0"
+            "return location.pathname === '/station/' &&"
+            " document.getElementById('screens').children.length > 0"
         )
     ):
         for machine in ("M1", "M2"):

@@ -1,4 +1,6 @@
-"""Random hands at the station, while answers are lost: nothing is green that the desk has not, and no refusal goes unseen."""
+"""Random hands at the station, while answers are lost: nothing is green that the desk has not, and
+no refusal goes unseen.
+"""
 import concurrent.futures
 import contextlib
 import json
@@ -18,7 +20,8 @@ REELS = [f"K-{number}" for number in range(1, 9)] + ["K-99", "1000234"]
 SLOTS = [f"S/{machine}/{slot}" for machine in ("M1", "M2") for slot in ("1", "2", "10", "3", "77")]
 BATCH = 20  # sequences at one desk
 MEANT = 5  # a refusal may go by one of so many of the last deeds
-# Each state of the verdict that lasts longer than a task of the page, and each deed, in one list that outlives a reload.
+# Each state of the verdict that lasts longer than a task of the page, and each deed, in one list
+# that outlives a reload.
 WATCH = (
     DISK
     + """
@@ -36,7 +39,9 @@ document.addEventListener('DOMContentLoaded', () => {
 
 
 class Losses(threading.Thread):
-    """Stands between nginx and the desk: of each message it may lose the request, the answer or half of it, or be slow."""
+    """Stands between nginx and the desk: of each message it may lose the request, the answer or
+    half of it, or be slow.
+    """
 
     def __init__(self, port: Any, to: Any, dice: random.Random) -> None:
         super().__init__(daemon=True)
@@ -229,7 +234,9 @@ def about_of(scan: Any) -> Any:
 
 
 def judged(log: Any, scans: Any, desk: Any) -> Any:
-    """Compares what the page showed with what the desk has; gives how many greens and reds were seen."""
+    """Compares what the page showed with what the desk has; gives how many greens and reds were
+    seen.
+    """
     by_uid, deeds = {scan["uid"]: scan for scan in scans}, []
     red: set[str] = set()
     unseen: set[str] = set()
@@ -262,12 +269,14 @@ def judged(log: Any, scans: Any, desk: Any) -> Any:
     shown = {uid for entry in log for uid in entry.get("red", [])}
     if wrong or refused - shown and not any("more" in entry.get("red", []) for entry in log):
         raise Difference(
-            f"green and not at the desk: {wrong}; refused and never shown: {[by_uid[uid] for uid in refused - shown]}"
+            f"green and not at the desk: {wrong}; refused and never shown:"
+            f" {[by_uid[uid] for uid in refused - shown]}"
         )
     hidden = {uid for uid in unseen & refused if uid not in red and "more" not in red}
     if hidden:
         raise Difference(
-            f"refusals that no one has seen are not shown: {[by_uid[uid] for uid in hidden]} after {deeds[-8:]}"
+            f"refusals that no one has seen are not shown: {[by_uid[uid] for uid in hidden]} after"
+            f" {deeds[-8:]}"
         )
     return len(greens), len(shown)
 
@@ -302,7 +311,9 @@ def tried(site: Site, it: Operator, dice: random.Random) -> Any:
 
 
 def batch(program: str, seed: int, count: int, seconds: float | None = None) -> Any:
-    """So many sequences at one desk; the sums of messages, greens and reds, sequences and losses."""
+    """So many sequences at one desk; the sums of messages, greens and reds, sequences and
+    losses.
+    """
     dice, sums, done = random.Random(seed), [0, 0, 0], 0
     with LossySite(program, folder(), dice) as site:
         plant(site)
@@ -328,7 +339,10 @@ def batch(program: str, seed: int, count: int, seconds: float | None = None) -> 
 
 def words(sums: Any) -> Any:
     messages, greens, reds, done, lost = sums
-    return f"{done} sequences, {messages} messages, {lost} requests and answers lost: {greens} greens, each at the desk; {reds} refusals, each shown until it was seen"
+    return (
+        f"{done} sequences, {messages} messages, {lost} requests and answers lost: {greens} greens,"
+        f" each at the desk; {reds} refusals, each shown until it was seen"
+    )
 
 
 def run(program: str, count: int, jobs: int, seed: int) -> Any:
@@ -346,7 +360,10 @@ def run(program: str, count: int, jobs: int, seed: int) -> Any:
             except Exception as fault:  # whatever it is, the other batches go on
                 failed += 1
                 print(
-                    f"FAILED  the {BATCH} of seed {asked[one]}: {type(fault).__name__} {str(fault)[:1500]}",
+                    (
+                        f"FAILED  the {BATCH} of seed {asked[one]}:"
+                        f" {type(fault).__name__} {str(fault)[:1500]}"
+                    ),
                     flush=True,
                 )
     print(f"{sums[3]} passed, {failed} failed")

@@ -1,4 +1,6 @@
-"""What station/tests/station-test stands on: the program behind the packaged nginx in a folder of its own, and a browser before it."""
+"""What station/tests/station-test stands on: the program behind the packaged nginx in a folder of
+its own, and a browser before it.
+"""
 import base64
 import contextlib
 import datetime
@@ -76,7 +78,10 @@ def free_ports(count: int) -> list[int]:
 
 def certificate(folder: pathlib.Path, name: str, subject: str, by: str | None = None) -> None:
     """A key and a certificate for localhost; one that signs itself, or by another's key."""
-    words = "openssl req -x509 -newkey ec -pkeyopt ec_paramgen_curve:P-256 -nodes -days 9 -addext subjectAltName=DNS:localhost"
+    words = (
+        "openssl req -x509 -newkey ec -pkeyopt ec_paramgen_curve:P-256 -nodes -days 9 -addext"
+        " subjectAltName=DNS:localhost"
+    )
     signed: list[Any] = ["-CA", folder / f"{by}.crt", "-CAkey", folder / f"{by}.key"] if by else []
     subprocess.run(
         [
@@ -160,7 +165,7 @@ class Site:
         at = self.room / "etc"
         password = ["openssl", "passwd", "-6"]
         self.lines = {
-            name: f"{name}:{subprocess.run([*password, name], check=True, capture_output=True, text=True).stdout}"
+            name: f"{name}:{subprocess.check_output([*password, name], text=True)}"
             for name in PEOPLE
         }
         (at / "readers").write_text("".join(self.lines.values()))
@@ -199,8 +204,9 @@ class Site:
         )
         user = "user root;" if os.geteuid() == 0 else ""
         (self.room / "nginx.conf").write_text(
-            f"{user} daemon off; pid {self.room}/nginx.pid; error_log {self.room}/log/error.log; events {{}}\n"
-            f"http {{ include /etc/nginx/mime.types; default_type application/octet-stream; {temporary} include {self.room}/tracedesk.conf; }}\n"
+            f"{user} daemon off; pid {self.room}/nginx.pid; error_log {self.room}/log/error.log;"
+            " events {}\nhttp { include /etc/nginx/mime.types; default_type"
+            f" application/octet-stream; {temporary} include {self.room}/tracedesk.conf; }}\n"
         )
 
     def proxy_words(self) -> Any:
@@ -274,7 +280,9 @@ class Site:
             self.desk = None
 
     def pause_desk(self) -> None:
-        """Stops the desk where it is; it may be in the midst of a checkpoint until the kernel says that it is stopped."""
+        """Stops the desk where it is; it may be in the midst of a checkpoint until the kernel says
+        that it is stopped.
+        """
         self.desk.send_signal(signal.SIGSTOP)
         wait_for(
             "the desk is stopped",
@@ -306,7 +314,9 @@ class Site:
         certificate: str | None = None,
         **headers: str | None,
     ) -> Any:
-        """The status, the headers and the body of a request to nginx. A header is named with _ in place of -; one that is None isn't sent."""
+        """The status, the headers and the body of a request to nginx. A header is named with _ in
+        place of -; one that is None isn't sent.
+        """
         trust = ssl.create_default_context(cafile=self.room / "etc/server.crt")
         if certificate:
             trust.load_cert_chain(
@@ -361,7 +371,9 @@ class Site:
         ).stdout
 
     def report(self, target: str) -> str:
-        """What the program's `report` says of a copy of the file and its log, while the desk is stopped for that moment."""
+        """What the program's `report` says of a copy of the file and its log, while the desk is
+        stopped for that moment.
+        """
         self.pause_desk()
         try:
             for name in ("desk", "desk-wal"):

@@ -13,13 +13,16 @@ pytestmark = pytest.mark.browser
 
 
 def test_a_changeover_counts_what_is_mounted(site: Site) -> None:
-    """A product is selected; the kit says what is on the slots, what to bring, and what neither has."""
+    """A product is selected; the kit says what is on the slots, what to bring, and what neither
+    has.
+    """
     for slot, reel in (("2", "K-2"), ("3", "K-4")):
         site.say("MaterialsLoaded", {"Machine": "M1", "Slot": slot, "Reel": reel})
     with Operator(site) as it:
         it.ready().go("changeover")
         it.script(
-            "const form = document.querySelector('form.changeover'); form.elements.boards.value = '1000'; form.querySelectorAll('button')[0].click()"
+            "const form = document.querySelector('form.changeover'); form.elements.boards.value ="
+            " '1000'; form.querySelectorAll('button')[0].click()"
         )
         wait_for(
             "the kits",
@@ -53,7 +56,8 @@ def test_a_changeover_counts_what_is_mounted(site: Site) -> None:
         )
         whole(site, it, 1)
     print(
-        "4 rows with 5,000 mounted pieces, 900 of another part and 960 missing; a selection, told with its command's number and kept over a reload"
+        "4 rows with 5,000 mounted pieces, 900 of another part and 960 missing; a selection, told"
+        " with its command's number and kept over a reload"
     )
 
 
@@ -96,7 +100,8 @@ def on(slot: str, reel: str, part: str, pieces: Any, life: Any = "unlimited") ->
 
 
 U = "unlimited"
-# what is on the machines and free, the boards, the own parts of reels that are known, and of each slot: what to bring, missing, missing if another part may not stay
+# what is on the machines and free, the boards, the own parts of reels that are known, and of each
+# slot: what to bring, missing, missing if another part may not stay
 ALLOTMENTS = {
     "what is mounted counts first": (
         [
@@ -190,13 +195,16 @@ def test_who_gets_which_reel(site: Site) -> None:
 
 
 def test_a_changeover_of_two_machines(site: Site) -> None:
-    """Each reel that is to be brought is a free one of `report`, none stands twice, and what is on the slots is what `report` has."""
+    """Each reel that is to be brought is a free one of `report`, none stands twice, and what is on
+    the slots is what `report` has.
+    """
     for machine, slot, reel in (("M1", "1", "K-1"), ("M2", "10", "K-8")):
         site.say("MaterialsLoaded", {"Machine": machine, "Slot": slot, "Reel": reel})
     with Operator(site) as it:
         it.ready().go("changeover")
         it.script(
-            "const form = document.querySelector('form.changeover'); form.elements.boards.value = '100'; form.querySelectorAll('button')[0].click()"
+            "const form = document.querySelector('form.changeover'); form.elements.boards.value ="
+            " '100'; form.querySelectorAll('button')[0].click()"
         )
         wait_for(
             "the kits",
@@ -247,12 +255,15 @@ def test_a_changeover_of_two_machines(site: Site) -> None:
         if got != wanted:
             raise Difference(f"to bring: {json.dumps(got)}, wanted {json.dumps(wanted)}")
     print(
-        f"{len(promised)} reels for 8 slots of two machines, none twice, and what is missing is what `report` leaves"
+        f"{len(promised)} reels for 8 slots of two machines, none twice, and what is missing is"
+        " what `report` leaves"
     )
 
 
 def test_a_pick_list_over_the_line(site: Site) -> None:
-    """What each machine makes now: the reels to bring, the slot that ends next first; and both machines' selections by one touch."""
+    """What each machine makes now: the reels to bring, the slot that ends next first; and both
+    machines' selections by one touch.
+    """
     for machine, slot, reel in (
         ("M1", "1", "K-1"),
         ("M1", "10", "K-5"),
@@ -263,7 +274,8 @@ def test_a_pick_list_over_the_line(site: Site) -> None:
     with Operator(site) as it:
         it.ready().go("changeover")
         it.script(
-            "const form = document.querySelector('form.changeover'); form.elements.boards.value = '100'; [...form.querySelectorAll('button')].at(-1).click()"
+            "const form = document.querySelector('form.changeover'); form.elements.boards.value ="
+            " '100'; [...form.querySelectorAll('button')].at(-1).click()"
         )
         rows = wait_for("the list", lambda: it.rows())
         lasts = [int(row[2].split(" ")[0].replace(",", "")) for row in rows]

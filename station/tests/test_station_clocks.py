@@ -18,7 +18,9 @@ pytestmark = pytest.mark.browser
 
 
 def test_a_servers_clock_that_jumps(site: Site) -> None:
-    """23 days ahead, then right again: each jump is asked about, a no sends nothing, and no later scan has the wrong time."""
+    """23 days ahead, then right again: each jump is asked about, a no sends nothing, and no later
+    scan has the wrong time.
+    """
     with Operator(site) as it:
         it.ready().does("A/OPEN", "K-1")
         site.shift_clock(2)
@@ -50,7 +52,9 @@ def test_a_servers_clock_that_jumps(site: Site) -> None:
 
 
 def test_a_tablet_that_slept(site: Site) -> None:
-    """The steady clock stood still for ten hours: the first scan has the time of the server, and without a server none is made."""
+    """The steady clock stood still for ten hours: the first scan has the time of the server, and
+    without a server none is made.
+    """
     with opened(site, CLOCKS) as it:
         it.ready().does("A/OPEN", "K-1")
         it.script("window.asleep = 36e6")
@@ -67,7 +71,9 @@ def test_a_tablet_that_slept(site: Site) -> None:
 
 
 def test_what_is_held_is_forgotten(site: Site) -> None:
-    """A slot and a badge that nobody used for long are not for the next person; a plant may want a badge."""
+    """A slot and a badge that nobody used for long are not for the next person; a plant may want a
+    badge.
+    """
     with opened(site, CLOCKS) as it:
         it.ready().scan("B/anna", "S/M1/1")
         wait_for("the slot is held", lambda: "M1 slot 1" in it.text("held"))
@@ -100,7 +106,9 @@ def test_what_is_held_is_forgotten(site: Site) -> None:
 
 
 def test_a_disk_that_fails_once(site: Site) -> None:
-    """An answer that can't be kept, a scan that can't be kept, a store that the browser closed: the next scans are taken."""
+    """An answer that can't be kept, a scan that can't be kept, a store that the browser closed: the
+    next scans are taken.
+    """
     with opened(site, DISK) as it:
         it.ready().does("A/OPEN", "K-1")
         it.script("window.failing.put = 1")
@@ -121,7 +129,8 @@ def test_a_disk_that_fails_once(site: Site) -> None:
             it.load()
         whole(site, it, 4)
     print(
-        "4 scans over 3 faults of the disk, each acted once; the screen Scan says whether the browser keeps them"
+        "4 scans over 3 faults of the disk, each acted once; the screen Scan says whether the"
+        " browser keeps them"
     )
 
 
@@ -144,7 +153,9 @@ DAYS = 30  # that a million connections have to last
 
 
 def test_a_scan_over_a_roll_over(site: Site) -> None:
-    """The desk takes a scan, its answer is lost, and a new desk is begun: that scan is done, and the one behind it acts in the new desk."""
+    """The desk takes a scan, its answer is lost, and a new desk is begun: that scan is done, and
+    the one behind it acts in the new desk.
+    """
     with Operator(site) as it:
         it.ready()
         site.stop_nginx()
@@ -179,7 +190,9 @@ def test_a_scan_over_a_roll_over(site: Site) -> None:
 
 
 def test_a_slow_desk_is_not_said_to_be_away(site: Site) -> None:
-    """A key whose time is over while the desk is slow: the others get the answer before with its age; the page says SLOW and not OLD, and no age where it is young."""
+    """A key whose time is over while the desk is slow: the others get the answer before with its
+    age; the page says SLOW and not OLD, and no age where it is young.
+    """
     with Operator(site) as it, concurrent.futures.ThreadPoolExecutor(40) as threads:
         it.ready()
         site.pause_desk()
@@ -228,7 +241,9 @@ def test_a_slow_desk_is_not_said_to_be_away(site: Site) -> None:
 
 
 def test_ten_pages_that_scan_at_once(site: Site) -> None:
-    """Ten browsers that were begun at random times: their looks are one station's, by which a million connections last thirty days; and each one's scans act once."""
+    """Ten browsers that were begun at random times: their looks are one station's, by which a
+    million connections last thirty days; and each one's scans act once.
+    """
     for number in range(10):
         site.say(
             "ReelReceived",
@@ -254,7 +269,8 @@ def test_ten_pages_that_scan_at_once(site: Site) -> None:
             used, most = site.connections() - before, 3 * 2 + 3 * int(time.time() // KITS - turn)
             if used > most or min(last) < DAYS:
                 raise Difference(
-                    f"{used} connections in three looks of ten pages, and {most} are one page's; at 2, 4 and 8 machines a million last {last} days"
+                    f"{used} connections in three looks of ten pages, and {most} are one page's; at"
+                    f" 2, 4 and 8 machines a million last {last} days"
                 )
 
             list(threads.map(a_station_works, enumerate(pages)))
@@ -272,12 +288,15 @@ def test_ten_pages_that_scan_at_once(site: Site) -> None:
     } != {"Accepted"}:
         raise Difference(f"{[scan['answer'] for scan in scans]}")
     print(
-        f"{used} connections in three looks of ten pages; {len(scans)} scans at once, each acted once"
+        f"{used} connections in three looks of ten pages; {len(scans)} scans at once, each acted"
+        " once"
     )
 
 
 def a_station_works(numbered: Any) -> None:
-    """A bag is opened, sealed and opened; four stations load their reel, each on a slot of its own."""
+    """A bag is opened, sealed and opened; four stations load their reel, each on a slot of its
+    own.
+    """
     number, page = numbered
     for action, text in (("OPEN", "OPENED"), ("SEAL", "SEALED"), ("OPEN", "OPENED")):
         page.does(f"A/{action}", f"T-{number}", holds=(text, f"T-{number}"))

@@ -15,7 +15,9 @@ pytestmark = pytest.mark.browser
 
 
 def test_commands_under_outages(site: Site, count: int = COMMANDS, seed: int = 1) -> None:
-    """Random commands, a third of them as one before, while answers are lost, the desk or the proxy is killed or slow."""
+    """Random commands, a third of them as one before, while answers are lost, the desk or the proxy
+    is killed or slow.
+    """
     dice, sums, begun, ticks = random.Random(seed), [0, 0, 0], time.monotonic(), Ticks()
     with LossySite(site.program, folder(), dice) as lossy:
         plant(lossy)
@@ -33,5 +35,6 @@ def test_commands_under_outages(site: Site, count: int = COMMANDS, seed: int = 1
                 )
     made, acted, lost = sums
     print(
-        f"{count} commands under {count // ROUND} outages in {time.monotonic() - begun:.0f} s: {made} messages, {acted} accepted once, {lost} losses shown and scanned again"
+        f"{count} commands under {count // ROUND} outages in {time.monotonic() - begun:.0f} s:"
+        f" {made} messages, {acted} accepted once, {lost} losses shown and scanned again"
     )

@@ -16,7 +16,9 @@ pytestmark = pytest.mark.browser
 
 
 def test_a_plant_changes_texts_and_set_up(site: Site) -> None:
-    """A texts.js of the plant's takes the place of ours; codes of another form; a set-up that is wrong is told."""
+    """A texts.js of the plant's takes the place of ours; codes of another form; a set-up that is
+    wrong is told.
+    """
     ours = (ROOT / "station/texts.js").read_text()
     (site.room / "etc/station/texts.js").write_text(
         ours.replace('accepted: "ACCEPTED: {done}"', 'accepted: "ANGENOMMEN: {done}"')
@@ -91,7 +93,9 @@ BY_NAME = {
 
 
 def test_from_right_to_left(site: Site) -> None:
-    """Texts of a language that is written so: nothing goes beyond the sides, and names stay as they are. Each table has a name."""
+    """Texts of a language that is written so: nothing goes beyond the sides, and names stay as they
+    are. Each table has a name.
+    """
     (site.room / "etc/station/texts.js").write_text(
         'export const TEXTS = { lang: "ar", screens: { line: "\u0627\u0644\u062e\u0637" } };',
         encoding="utf-8",
@@ -102,11 +106,13 @@ def test_from_right_to_left(site: Site) -> None:
         for screen in SCREENS:
             it.go(screen)
             if it.script(
-                "return [document.documentElement.dir, document.documentElement.scrollWidth - innerWidth]"
+                "return [document.documentElement.dir, document.documentElement.scrollWidth -"
+                " innerWidth]"
             ) != ["rtl", 0]:
                 raise Difference(f"{screen} from right to left")
             if it.script(
-                "return [...document.querySelectorAll('#main table')].some((it) => !it.getAttribute('aria-label'))"
+                "return [...document.querySelectorAll('#main table')].some((it) =>"
+                " !it.getAttribute('aria-label'))"
             ):
                 raise Difference(f"a table of {screen} without a name")
     print(f"{len(SCREENS)} screens")
@@ -126,7 +132,9 @@ def tab_to(it: Operator, what: str, holds: Any, most: Any = 150) -> None:
 
 
 def test_each_form_by_the_keyboard(site: Site) -> None:
-    """Each screen, Receive, Changeover, Trace and the buttons of Scan with Tab, arrows, letters and Enter alone."""
+    """Each screen, Receive, Changeover, Trace and the buttons of Scan with Tab, arrows, letters and
+    Enter alone.
+    """
     from selenium.webdriver.common.keys import Keys
 
     with Operator(site) as it:
@@ -135,7 +143,10 @@ def test_each_form_by_the_keyboard(site: Site) -> None:
             tab_to(
                 it,
                 f"the button of {screen}",
-                f"it.parentElement.id === 'screens' && [...it.parentElement.children].indexOf(it) === {SCREENS.index(screen)}",
+                (
+                    "it.parentElement.id === 'screens' &&"
+                    f" [...it.parentElement.children].indexOf(it) === {SCREENS.index(screen)}"
+                ),
             )
             it.keys(Keys.ENTER)
             wait_for(
@@ -213,14 +224,21 @@ def test_each_form_by_the_keyboard(site: Site) -> None:
         it.does("S/M1/1", "K-1", holds=("LOADED",))
         whole(site, it, 4)
     print(
-        "5 screens, a reel, a selection, a kit, a question, a sort and an action without a mouse and without a scanner"
+        "5 screens, a reel, a selection, a kit, a question, a sort and an action without a mouse"
+        " and without a scanner"
     )
 
 
 def test_a_plants_own_texts(site: Site) -> None:
-    """A file that has some texts only, one that has a fault, and none: each text that is not the plant's is ours; and none of ours is dead."""
+    """A file that has some texts only, one that has a fault, and none: each text that is not the
+    plant's is ours; and none of ours is dead.
+    """
     at = site.room / "etc/station/texts.js"
-    some = 'export const TEXTS = { lang: "de", verdict: { accepted: "ANGENOMMEN: {done}" }, refusals: { UnknownReel: ["Rolle {at} ist unbekannt", "Noch einmal scannen."], Expired: ["nur eins"] }, screens: 7 };'
+    some = (
+        'export const TEXTS = { lang: "de", verdict: { accepted: "ANGENOMMEN: {done}" }, refusals:'
+        ' { UnknownReel: ["Rolle {at} ist unbekannt", "Noch einmal scannen."], Expired: ["nur'
+        ' eins"] }, screens: 7 };'
+    )
     told: list[str] = []
     for text, yes, number in (
         (some, "ANGENOMMEN: GESPLEISST", "4.300"),

@@ -26,12 +26,19 @@ from tracedesk_dev.trial import Difference
 pytestmark = pytest.mark.browser
 EXPIRES = 1400
 SCREEN, TABLET = (1920, 1080), (800, 1280)
-TWO_METRES = 47  # pixels of a screen of 24 inches and 1080 lines: capitals of 16 minutes of arc at two metres
-WHERE = "return [...document.querySelectorAll(arguments[0])].map((it) => { const box = it.getBoundingClientRect(); return [box.top, box.bottom, box.left, box.right, parseFloat(getComputedStyle(it).fontSize)]; })"
+# pixels of a screen of 24 inches and 1080 lines: capitals of 16 minutes of arc at two metres
+TWO_METRES = 47
+WHERE = (
+    "return [...document.querySelectorAll(arguments[0])].map((it) => { const box ="
+    " it.getBoundingClientRect(); return [box.top, box.bottom, box.left, box.right,"
+    " parseFloat(getComputedStyle(it).fontSize)]; })"
+)
 
 
 def test_every_state_of_a_slot(site: Site) -> None:
-    """All cells, what needs a person, both other orders and the overdue mark, as `report` has them; and without a sheet nothing is OK."""
+    """All cells, what needs a person, both other orders and the overdue mark, as `report` has them;
+    and without a sheet nothing is OK.
+    """
     all_states(site)
     site.set_up({**SETUP, "expires": EXPIRES})
     seen = set()
@@ -64,7 +71,8 @@ def test_every_state_of_a_slot(site: Site) -> None:
             "return document.querySelector('.alarms').textContent"
         ):
             raise Difference(
-                f"{overdue} are overdue: {it.script('return document.querySelector(String.raw`.alarms`).textContent')}"
+                f"{overdue} are overdue:"
+                f" {it.script('return document.querySelector(String.raw`.alarms`).textContent')}"
             )
         site.set_up(
             {**SETUP, "machines": [{"machine": "M1"}, {"machine": "M2", "product": "NO-SUCH"}]}
@@ -78,7 +86,8 @@ def test_every_state_of_a_slot(site: Site) -> None:
         if {"NO SHEET KNOWN"} != {row[-1].split(" · ")[-1] for row in rows}:
             raise Difference(f"without a sheet: {rows}")
     print(
-        f"{len(seen)} states on 9 slots, {urgent} of them on top, 2 more orders, {overdue} overdue; no OK without a sheet"
+        f"{len(seen)} states on 9 slots, {urgent} of them on top, 2 more orders, {overdue} overdue;"
+        " no OK without a sheet"
     )
 
 
@@ -99,7 +108,9 @@ def sorted_as_asked(site: Site, it: Operator) -> None:
 
 
 def on_the_screen(it: Operator, what: str, size: tuple[int, int], least: Any = 0) -> Any:
-    """Looks whether all of these elements lie within the viewport, in letters of so many pixels at least; gives their number."""
+    """Looks whether all of these elements lie within the viewport, in letters of so many pixels at
+    least; gives their number.
+    """
     found = it.script(WHERE, what)
     beyond = [
         box
@@ -112,12 +123,20 @@ def on_the_screen(it: Operator, what: str, size: tuple[int, int], least: Any = 0
     return len(found)
 
 
-MACHINE_LINES = "return [...document.querySelectorAll('#machines li')].map((it) => parseFloat(getComputedStyle(it).fontSize))"
-IS_WHOLE = "const main = document.getElementById('main'); return main.scrollHeight <= main.clientHeight + 1;"
+MACHINE_LINES = (
+    "return [...document.querySelectorAll('#machines li')].map((it) =>"
+    " parseFloat(getComputedStyle(it).fontSize))"
+)
+IS_WHOLE = (
+    "const main = document.getElementById('main'); return main.scrollHeight <= main.clientHeight"
+    " + 1;"
+)
 
 
 def test_a_real_line_is_on_one_screen(site: Site) -> None:
-    """The 40 and 38 slots of a shift: at 1080 lines all are on the screen, those that need a person in letters for two metres; on a tablet these come first."""
+    """The 40 and 38 slots of a shift: at 1080 lines all are on the screen, those that need a person
+    in letters for two metres; on a tablet these come first.
+    """
     told = real_line(site)
     first, second = told.machines
     with Operator(site) as it:
@@ -148,13 +167,11 @@ def test_a_real_line_is_on_one_screen(site: Site) -> None:
         on_the_screen(it, ".line table td", SCREEN, 14)
         it.keys("\ue00c")
         view(it, *TABLET)
-        on_a_tablet = on_the_screen(it, ".urgent li > *", TABLET, 30) // 3
-        if (
-            on_a_tablet != few
-            or it.script("return document.querySelector('#main td:nth-child(7)').checkVisibility()")
-            is not True
-        ):
-            raise Difference(f"on a tablet: {on_a_tablet} of {few}")
+        wait_for("all on a tablet", lambda: len(it.script(WHERE, ".urgent li > *")) == 3 * few)
+        on_the_screen(it, ".urgent li > *", TABLET, 30)
+        is_seen = "return document.querySelector('#main td:nth-child(7)').checkVisibility()"
+        if not it.script(is_seen):
+            raise Difference("a tablet does not show what waits behind the front reel")
         for slot, _, _ in told.sheets["CTRL-A", second]:
             site.say("MaterialsUnloaded", {"Machine": second, "Slot": slot})
         view(it, *SCREEN)
@@ -165,7 +182,8 @@ def test_a_real_line_is_on_one_screen(site: Site) -> None:
         if many < 38 or large < 4:
             raise Difference(f"{many} need a person, {large} are shown large")
     print(
-        f"78 slots at 1920 by 1080 and none below the fold, {few} that need a person in letters of {TWO_METRES} pixels; of {many} the first {large}, and all marked below"
+        f"78 slots at 1920 by 1080 and none below the fold, {few} that need a person in letters of"
+        f" {TWO_METRES} pixels; of {many} the first {large}, and all marked below"
     )
 
 
@@ -178,7 +196,9 @@ def processor_seconds(it: Operator) -> Any:
 
 
 def test_a_line_of_twelve_machines(site: Site) -> None:
-    """A tile for each machine with what is wrong as `report` has it, its slots after a touch, and a scan that costs the page little."""
+    """A tile for each machine with what is wrong as `report` has it, its slots after a touch, and a
+    scan that costs the page little.
+    """
     machines = long_line(site)
     status = {
         "Machines": {machines[0]: {"Board": "SN-4711", "LastRefused": None, "State": "go"}},
@@ -229,11 +249,15 @@ def test_a_line_of_twelve_machines(site: Site) -> None:
         it.script("document.querySelector('.orders button').click()")
         wait_for("the overview again", lambda: len(it.script(TILES)) == MACHINES)
     print(
-        f"{MACHINES} tiles as `report` has them, {SLOTS} slots after a touch; a scan takes {statistics.median(took):.2f} s of the page's processor time"
+        f"{MACHINES} tiles as `report` has them, {SLOTS} slots after a touch; a scan takes"
+        f" {statistics.median(took):.2f} s of the page's processor time"
     )
 
 
-TILES = "return [...document.querySelectorAll('.overview button')].map((it) => it.innerText.split('\\n').join(' '))"
+TILES = (
+    "return [...document.querySelectorAll('.overview button')].map((it) =>"
+    " it.innerText.split('\\n').join(' '))"
+)
 LATER = """window.later = 0;
 const fetched = window.fetch;
 window.fetch = async (...how) => {
@@ -268,7 +292,8 @@ def used(*reels: Any) -> Any:
     ]
 
 
-# the slot lists of two moments, five minutes apart, for a sheet with one piece a board at slots 1 to 3: of each slot its boards, minutes and whether somebody is called
+# the slot lists of two moments, five minutes apart, for a sheet with one piece a board at slots 1
+# to 3: of each slot its boards, minutes and whether somebody is called
 PACED = {
     "ten boards in five minutes": (
         used(("1", "A", 100), ("2", "B", 25), ("3", "C", 500)),
@@ -294,7 +319,9 @@ PACED = {
 
 
 def test_a_splice_is_called_for(site: Site) -> None:
-    """By the pace of the last minutes, with a tone once, on whatever screen is shown; and the pace by cases that were worked out by hand."""
+    """By the pace of the last minutes, with a tone once, on whatever screen is shown; and the pace
+    by cases that were worked out by hand.
+    """
     for slot, reel in (("1", "K-1"), ("2", "K-2"), ("10", "K-5"), ("3", "K-3")):
         site.say("MaterialsLoaded", {"Machine": "M1", "Slot": slot, "Reel": reel})
     site.set_up({**SETUP, "boards": 5})
@@ -320,7 +347,7 @@ def test_a_splice_is_called_for(site: Site) -> None:
             ):
                 if site.say(word, body)["Answer"] != "Accepted":
                     raise Difference(f"{word} of board {board} was refused")
-        it.script("window.later = 300")
+        it.script("window.later = 130")  # the call then holds for four minutes
         wait_for("the call", lambda: re.search(r"SPLICE M1 10 in \d min", it.text("ending")), 60)
         wait_for(
             "the tone",
@@ -329,7 +356,9 @@ def test_a_splice_is_called_for(site: Site) -> None:
         it.go("line")
         wait_for(
             "the tile",
-            lambda: any(re.fullmatch(r"LOW: 8 · \d min", tile[1]) for tile in shown_tiles(it)),
+            lambda: any(
+                re.fullmatch(r"LOW: 8 boards · \d min", tile[1]) for tile in shown_tiles(it)
+            ),
         )
         time.sleep(8)
         if it.script("return window.tones.filter((it) => it === 660).length") != 3:

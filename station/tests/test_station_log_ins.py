@@ -16,7 +16,9 @@ pytestmark = pytest.mark.browser
 
 
 def test_readers_may_only_read(site: Site) -> None:
-    """Who may send, who may read, who is nobody; and the desk's own port has nothing of the page."""
+    """Who may send, who may read, who is nobody; and the desk's own port has nothing of the
+    page.
+    """
     wanted = {
         ("GET", "/station/", None): 401,
         ("GET", "/station/", "office"): 200,
@@ -58,7 +60,8 @@ def test_readers_may_only_read(site: Site) -> None:
 
 
 IMPORT = "/imports/counts?id=%s&source=store&time=2026-03-02T06:32:00Z"
-# What a page of another site can do unasked: a form that takes the place of the page itself, which has the log-in that the browser keeps; fetch and a beacon.
+# What a page of another site can do unasked: a form that takes the place of the page itself, which
+# has the log-in that the browser keeps; fetch and a beacon.
 FORM = """
 const [path, enctype, text] = arguments, made = document.createElement('form'), field = document.createElement('input');
 [made.method, made.action, made.enctype] = ['post', path, enctype];
@@ -90,7 +93,9 @@ class Elsewhere(http.server.BaseHTTPRequestHandler):
 
 
 def test_another_site_commands_nothing(site: Site) -> None:
-    """A page of another site, and one of the same machine's other port, in the browser of an operator who is logged in: nothing of it comes to the desk."""
+    """A page of another site, and one of the same machine's other port, in the browser of an
+    operator who is logged in: nothing of it comes to the desk.
+    """
     plain = {
         "MessageName": "TraceDesk.ReelOpened",
         "Source": "x",
@@ -169,12 +174,15 @@ def test_another_site_commands_nothing(site: Site) -> None:
     server.shutdown()
     server.server_close()
     print(
-        f"{2 * len(wanted) + 3} requests by their headers; {tried} forms, fetches and beacons of two other sites in a browser that is logged in: none acted"
+        f"{2 * len(wanted) + 3} requests by their headers; {tried} forms, fetches and beacons of"
+        " two other sites in a browser that is logged in: none acted"
     )
 
 
 def test_certificates_read_or_send(site: Site) -> None:
-    """A certificate that is named as a sender's sends; another one only reads, and without the file so do all."""
+    """A certificate that is named as a sender's sends; another one only reads, and without the file
+    so do all.
+    """
     message = json.dumps(
         {
             "MessageName": "TraceDesk.ReelOpened",
@@ -199,11 +207,13 @@ def test_certificates_read_or_send(site: Site) -> None:
                 method,
                 path,
                 None,
-                None
-                if method == "GET"
-                else "reel,quantity\nNO-SUCH,7\n"
-                if "imports" in path
-                else message,
+                (
+                    None
+                    if method == "GET"
+                    else "reel,quantity\nNO-SUCH,7\n"
+                    if "imports" in path
+                    else message
+                ),
                 certificate,
                 **({"Content_Type": "text/csv"} if "imports" in path else {}),
             )[0]
@@ -223,7 +233,9 @@ def test_certificates_read_or_send(site: Site) -> None:
 
 
 def test_ten_stations_ask_once(site: Site) -> None:
-    """Twenty looks at the same moment are one connection of the desk; an answer to a POST is never kept."""
+    """Twenty looks at the same moment are one connection of the desk; an answer to a POST is never
+    kept.
+    """
     time.sleep(2.2)
     site.kill_desk()
     site.start_desk()

@@ -39,7 +39,9 @@ def nobody_may(site: Site) -> Iterator[None]:
 
 
 def test_the_log_in_is_asked_on_the_page(site: Site) -> None:
-    """Keys reach the page meanwhile; a kept scan is sent after the log-in, and a reload asks nothing."""
+    """Keys reach the page meanwhile; a kept scan is sent after the log-in, and a reload asks
+    nothing.
+    """
     with Operator(site) as it:
         it.ready().agrees = False
         with nobody_may(site):
@@ -124,7 +126,10 @@ def commands_with_log_outs(site: Site, count: int, seed: int = 1) -> str:
         raise Difference(
             f"{made} made, {lost} lost with a word, of {count}; {away.result()} log-outs"
         )
-    return f"{count} commands at two tablets, {away.result()} log-outs: {made} messages, {acted} accepted once, {lost} losses said"
+    return (
+        f"{count} commands at two tablets, {away.result()} log-outs: {made} messages,"
+        f" {acted} accepted once, {lost} losses said"
+    )
 
 
 def test_a_few_commands_with_log_outs(site: Site) -> None:
@@ -133,6 +138,8 @@ def test_a_few_commands_with_log_outs(site: Site) -> None:
 
 @pytest.mark.whole
 def test_commands_with_log_outs_at_two_tablets(site: Site) -> None:
-    """1,000 random commands: each makes its message or its loss is said, and none is dropped without a word."""
+    """1,000 random commands: each makes its message or its loss is said, and none is dropped
+    without a word.
+    """
     began = time.monotonic()
     print(commands_with_log_outs(site, COMMANDS), f"in {time.monotonic() - began:.0f} s")

@@ -73,7 +73,9 @@ def pictured(it: Operator, name: str) -> None:
 
 
 def fits(it: Operator, where: Any, size: tuple[int, int]) -> Any:
-    """All of the verdict is on the screen above the strip, with what to do right below what is wrong; nothing goes beyond the sides."""
+    """All of the verdict is on the screen above the strip, with what to do right below what is
+    wrong; nothing goes beyond the sides.
+    """
     found = it.script(
         PLACES,
         [
@@ -95,7 +97,9 @@ def fits(it: Operator, where: Any, size: tuple[int, int]) -> Any:
         and any(bottom > found["#strip"][0][0] + 1 or top < 0 for top, bottom, _ in boxes)
     ]
     wide = it.script(
-        "return [document.documentElement.scrollWidth - innerWidth, document.getElementById('verdict').scrollWidth - document.getElementById('verdict').clientWidth]"
+        "return [document.documentElement.scrollWidth - innerWidth,"
+        " document.getElementById('verdict').scrollWidth -"
+        " document.getElementById('verdict').clientWidth]"
     )
     if below or max(wide) > 0:
         raise Difference(
@@ -141,7 +145,9 @@ def each_verdict_at(
 
 
 def each_screen_at(it: Operator, size: tuple[int, int], touched: Any) -> Any:
-    """Nothing beyond the sides, and each thing to touch large enough; the number pad above the strip."""
+    """Nothing beyond the sides, and each thing to touch large enough; the number pad above the
+    strip.
+    """
     for screen in ("line", "scan", "receive", "changeover", "trace"):
         it.go(screen)
         time.sleep(0.2)
@@ -165,7 +171,8 @@ def each_screen_at(it: Operator, size: tuple[int, int], touched: Any) -> Any:
         raise Difference(f"the pad at {size}: {found}")
     it.scan("A/CANCEL")
     answers = it.script(
-        "return [...document.querySelectorAll('.history td:nth-child(3)')].map((it) => it.getBoundingClientRect().right - innerWidth)"
+        "return [...document.querySelectorAll('.history td:nth-child(3)')].map((it) =>"
+        " it.getBoundingClientRect().right - innerWidth)"
     )
     if not answers or max(answers) > 0:
         raise Difference(f"the answers at {size}: {answers}")
@@ -173,7 +180,9 @@ def each_screen_at(it: Operator, size: tuple[int, int], touched: Any) -> Any:
 
 
 def test_each_size_of_a_screen(site: Site) -> None:
-    """Five sizes, with names of 2 letters and of 64: verdicts, screens, the pad, things to touch."""
+    """Five sizes, with names of 2 letters and of 64: verdicts, screens, the pad, things to
+    touch.
+    """
     long_plant(site)
     touched = 0
     site.set_up(
@@ -198,7 +207,9 @@ def test_each_size_of_a_screen(site: Site) -> None:
                 it.go(screen)
                 time.sleep(0.2)
                 inside, outside, room = it.script(
-                    "const m = document.getElementById('main'); return [m.scrollWidth - m.clientWidth, document.documentElement.scrollWidth - innerWidth, m.clientHeight]"
+                    "const m = document.getElementById('main'); return [m.scrollWidth -"
+                    " m.clientWidth, document.documentElement.scrollWidth - innerWidth,"
+                    " m.clientHeight]"
                 )
                 pictured(it, f"{size[0]}x{size[1]}-{screen}")
                 if inside > 0 or outside > 0 or room < 200:
@@ -206,7 +217,8 @@ def test_each_size_of_a_screen(site: Site) -> None:
                         f"{screen} at {size}: beyond by {inside}, {outside}; {room} pixels for it"
                     )
     print(
-        f"{len(SIZES)} sizes, 20 verdicts and {touched} things to touch; {len(SMALLEST)} smaller ones"
+        f"{len(SIZES)} sizes, 20 verdicts and {touched} things to touch; {len(SMALLEST)} smaller"
+        " ones"
     )
 
 
@@ -221,7 +233,9 @@ def dark_on_light(it: Operator, where: Any, seen: Any) -> None:
 
 
 def test_letters_stand_out(site: Site) -> None:
-    """WCAG AA of each text, on each screen, of a verdict of each kind, and while the desk doesn't answer."""
+    """WCAG AA of each text, on each screen, of a verdict of each kind, and while the desk doesn't
+    answer.
+    """
     seen: list[Any] = []
     with Operator(site) as it:
         set_up(it)
@@ -277,7 +291,8 @@ def test_printed_codes_are_read_back(site: Site) -> None:
             "the codes", lambda: it.script("return document.querySelectorAll('.cards').length > 7")
         )
         wanted, longer = it.script(
-            "return [':has(svg)', ':has(p)'].map((has) => [...document.querySelectorAll(`figure${has} small`)].map((it) => it.textContent))"
+            "return [':has(svg)', ':has(p)'].map((has) =>"
+            " [...document.querySelectorAll(`figure${has} small`)].map((it) => it.textContent))"
         )
         printed = base64.b64decode(
             it.page.execute_cdp_cmd("Page.printToPDF", {"printBackground": True})["data"]
@@ -297,5 +312,6 @@ def test_printed_codes_are_read_back(site: Site) -> None:
     if sorted(set(wanted)) != sorted({it for it in read if it}):
         raise Difference(f"printed {sorted(wanted)}, read {sorted(read)}")
     print(
-        f"{len(wanted)} codes of {max(map(len, wanted))} letters at most; {len(longer)} is said to be too long"
+        f"{len(wanted)} codes of {max(map(len, wanted))} letters at most; {len(longer)} is said to"
+        " be too long"
     )

@@ -1,4 +1,6 @@
-"""A line of text for each machine on all screens, and that nothing in a status file stops the page."""
+"""A line of text for each machine on all screens, and that nothing in a status file stops the
+page.
+"""
 import json
 import time
 
@@ -17,7 +19,9 @@ return [it.scrollHeight - it.clientHeight, box.bottom <= innerHeight && box.heig
 STOP = {"State": "stop", "Cause": "expired", "Slot": "3", "Reel": "R-OLD"}
 ODD = {
     "null machine": '{"Machines": {"M1": null}}',
-    "no message": '{"Machines": {"M1": {"LastRefused": {"Id": "1", "At": "2026-01-01T00:00:00Z"}}}}',
+    "no message": (
+        '{"Machines": {"M1": {"LastRefused": {"Id": "1", "At": "2026-01-01T00:00:00Z"}}}}'
+    ),
     "undecided null": '{"Undecided": [null]}',
     "not a number": '{"Machines": {"M2": {"State": "stop", "Quantity": NaN}}}',
     "cut": '{"Machines": {"M1": {"State": "go"',
@@ -30,7 +34,9 @@ def shows(it: Operator, *lines: str) -> None:
 
 
 def test_each_machine_on_all_screens(site: Site) -> None:
-    """Why it is stopped and what to load, what it runs, and since when it is not known; on each screen and over a verdict."""
+    """Why it is stopped and what to load, what it runs, and since when it is not known; on each
+    screen and over a verdict.
+    """
     machines_say(site, M1=STOP, M2={"State": "go", "Board": "SN-2041"})
     with Operator(site) as it:
         it.ready()
@@ -58,7 +64,9 @@ def test_each_machine_on_all_screens(site: Site) -> None:
 
 
 def test_two_witnesses_that_differ(site: Site) -> None:
-    """A board for which the machine took another reel is red with both reels, until somebody decides."""
+    """A board for which the machine took another reel is red with both reels, until somebody
+    decides.
+    """
     differs = {"Id": "d" * 32, "Board": "SN-8", "Designators": ["C1"], "Slot": "1"}
     reels = {"Desk": "K-77", "Machine": "K-99", "Known": False, "At": "2026-03-02T06:00:00Z"}
     machines_say(site, M1={"State": "stop", "Cause": "differs", "Differs": [{**differs, **reels}]})

@@ -33,7 +33,8 @@ def test_each_refusal_in_words(site: Site) -> None:
 
     with Operator(site) as it:
         words = it.ready().page.execute_async_script(
-            "const done = arguments[arguments.length - 1]; import('/station/texts.js').then((it) => done(it.TEXTS.refusals))"
+            "const done = arguments[arguments.length - 1]; import('/station/texts.js').then((it) =>"
+            " done(it.TEXTS.refusals))"
         )
         table = re.findall(
             r"^\| `(\w+)` \|[^|]*\|[^|]+\|[^|]+\|$",
@@ -59,7 +60,8 @@ def test_each_refusal_in_words(site: Site) -> None:
         refused_by_a_race(site, it, refused)
         refused_by_the_state(site, it, refused)
     print(
-        f"{len(got)} by a scan: {' '.join(sorted(got))}; all {len(words)} have a title and what to do"
+        f"{len(got)} by a scan: {' '.join(sorted(got))}; all {len(words)} have a title and what"
+        " to do"
     )
 
 
@@ -80,7 +82,10 @@ def refused_by_a_screen(it: Operator, refused: Any) -> None:
         it.seen()
         it.go("changeover")
         it.script(
-            "document.querySelector('form.changeover').elements.product.value = arguments[0]; document.querySelectorAll('form.changeover button')[1].click()",
+            (
+                "document.querySelector('form.changeover').elements.product.value = arguments[0];"
+                " document.querySelectorAll('form.changeover button')[1].click()"
+            ),
             product,
         )
         it.verdict()
@@ -101,7 +106,8 @@ def refused_by_a_race(site: Site, it: Operator, refused: Any) -> None:
         raise Difference("the board was not started")
     it.seen()
     it.script(
-        "document.querySelector('form.changeover').elements.product.value = 'CTRL-A'; document.querySelectorAll('form.changeover button')[2].click()"
+        "document.querySelector('form.changeover').elements.product.value = 'CTRL-A';"
+        " document.querySelectorAll('form.changeover button')[2].click()"
     )
     it.verdict()
     refused("MachineBusy")
@@ -175,7 +181,9 @@ READ = 47  # pixels: letters that are read from two metres on a screen of 24 inc
 
 
 def test_each_refused_load_says_what_to_bring(site: Site) -> None:
-    """The part, by which sheet, known from where, and free reels; an alternate of two parts at both; on green the reel's own part."""
+    """The part, by which sheet, known from where, and free reels; an alternate of two parts at
+    both; on green the reel's own part.
+    """
     site.say("AlternateAllowed", {"PartNumber": "RES", "Alternate": "ALT"})
     site.say(
         "ReelOpened", {"Reel": "K-4"}
@@ -236,12 +244,15 @@ def test_each_refused_load_says_what_to_bring(site: Site) -> None:
         if min(sizes := letters(it, "word", "where", "todo", "part")) < READ:
             raise Difference(f"letters of a refusal: {sizes}")
     print(
-        f"{len(saw)} refused loads with part, sheet, source and reels; one alternate at two slots; a splice right after a refusal"
+        f"{len(saw)} refused loads with part, sheet, source and reels; one alternate at two slots;"
+        " a splice right after a refusal"
     )
 
 
 def test_an_alternate_that_was_refused_is_not_offered_again(site: Site) -> None:
-    """The kit lists an alternate of CAP at slot 1. At a slot of RES it is shown as not sure; once the desk refused it there, it is shown there no more."""
+    """The kit lists an alternate of CAP at slot 1. At a slot of RES it is shown as not sure; once
+    the desk refused it there, it is shown there no more.
+    """
     site.say(
         "ReelOpened", {"Reel": "K-4"}
     )  # the first to end: the kit gives it to the first slot of CAP
@@ -263,7 +274,9 @@ def test_an_alternate_that_was_refused_is_not_offered_again(site: Site) -> None:
 
 
 def test_an_id_that_was_used_before(site: Site) -> None:
-    """The host uses the UniqueID of a scan that waits: 409 is its answer, and the next scan goes out."""
+    """The host uses the UniqueID of a scan that waits: 409 is its answer, and the next scan goes
+    out.
+    """
     with Operator(site) as it:
         it.ready()
         site.stop_nginx()

@@ -17,7 +17,9 @@ pytestmark = pytest.mark.browser
 
 
 def test_a_trace_is_the_report(site: Site) -> None:
-    """A lot and a board at each detail, a card, the overdue list: the rows, the file that is saved, sorted and filtered."""
+    """A lot and a board at each detail, a card, the overdue list: the rows, the file that is saved,
+    sorted and filtered.
+    """
     for slot, reel in (("1", "K-1"), ("2", "K-2"), ("10", "K-8"), ("3", "K-3")):
         site.say("MaterialsLoaded", {"Machine": "M1", "Slot": slot, "Reel": reel})
     for board in range(12):
@@ -52,7 +54,8 @@ def test_a_trace_is_the_report(site: Site) -> None:
         ):
             raise Difference("an unknown lot is not told")
     print(
-        f"{asked} traces and a card as `report` has them; the saved file is the desk's answer to the byte; sorted and filtered"
+        f"{asked} traces and a card as `report` has them; the saved file is the desk's answer to"
+        " the byte; sorted and filtered"
     )
 
 
@@ -66,12 +69,14 @@ def saves_and_sorts(site: Site, it: Operator) -> None:
         raise Difference("the saved file is another than the report")
     before = it.rows()
     it.script(
-        "document.querySelector('.result th button').click(); document.querySelector('.result th button').click()"
+        "document.querySelector('.result th button').click(); document.querySelector('.result th"
+        " button').click()"
     )
     if it.rows() != sorted(before, key=lambda row: int(row[0][3:]), reverse=True):
         raise Difference(f"sorted: {it.rows()}")
     it.script(
-        "const f = document.getElementById('filter'); f.value = 'sn-11'; f.dispatchEvent(new Event('input'))"
+        "const f = document.getElementById('filter'); f.value = 'sn-11'; f.dispatchEvent(new"
+        " Event('input'))"
     )
     if {row[0] for row in it.rows()} != {"SN-11"} or "L-1" not in it.script(
         "return document.querySelector('.evidence').textContent"
@@ -121,7 +126,9 @@ BOARDS, MANY = 7, 180  # designators of one slot
 
 
 def test_a_trace_is_printed_whole(site: Site) -> None:
-    """More rows than the screen shows: printed are all, with the question, the filter and the order on the first page, and a head on each."""
+    """More rows than the screen shows: printed are all, with the question, the filter and the order
+    on the first page, and a head on each.
+    """
     names = [f"R{number}" for number in range(1, MANY + 1)]
     site.say(
         "SheetDefined",
@@ -169,19 +176,22 @@ def test_a_trace_is_printed_whole(site: Site) -> None:
         )
         some = " ".join(" ".join(printed(site, it, "some")).split())
         if (
-            f'Filter: "sn-3", {MANY} of {len(rows)} rows' not in some
+            f'Filter: "sn-3", {MANY} of {len(rows):,} rows' not in some
             or f"Order: {head[0]}, descending" not in some
             or "SN-2" in some
             or some.count("SN-3") != MANY
         ):
             raise Difference(f"filtered: {some[:900]}")
     print(
-        f"{len(rows)} rows on {len(pages)} pages where the screen shows {len(shown)}; the filter and the order stand in the evidence"
+        f"{len(rows)} rows on {len(pages)} pages where the screen shows {len(shown)}; the filter"
+        " and the order stand in the evidence"
     )
 
 
 def test_the_operators_sheet_is_one_page(site: Site) -> None:
-    """docs/station-operator.md as the package has it, printed by a browser: one page of A4 that names each action and each state."""
+    """docs/station-operator.md as the package has it, printed by a browser: one page of A4 that
+    names each action and each state.
+    """
     if not shutil.which("pandoc"):
         pytest.skip("there is no pandoc here: apt-get install pandoc")
     page = ROOT / "docs/station-operator.md"
@@ -190,7 +200,8 @@ def test_the_operators_sheet_is_one_page(site: Site) -> None:
     (site.room / "made.html").write_text(made_of(page))
     with Operator(site) as it:
         names = it.script(
-            "return import('/station/words.js').then((it) => [it.TEXTS.actions, it.TEXTS.line.states, it.TEXTS.line.urgent, it.TEXTS.verdict])"
+            "return import('/station/words.js').then((it) => [it.TEXTS.actions,"
+            " it.TEXTS.line.states, it.TEXTS.line.urgent, it.TEXTS.verdict])"
         )
         codes = it.script("return import('/station/scan.js').then((it) => it.ACTIONS)")
         it.page.get((site.room / "made.html").as_uri())

@@ -1,4 +1,5 @@
 """What a scanner types leads to a scan, whatever has the focus."""
+import json
 import time
 from typing import Any
 
@@ -64,7 +65,9 @@ def test_a_name_is_no_number(site: Site) -> None:
 
 
 def test_typing_with_pauses_and_touches(site: Site) -> None:
-    """A number in two parts, a touch in its midst, double touches, double Enters, a second label, the control keys of a wedge."""
+    """A number in two parts, a touch in its midst, double touches, double Enters, a second label,
+    the control keys of a wedge.
+    """
     from selenium.webdriver.common.keys import Keys
 
     with Operator(site) as it:
@@ -114,11 +117,14 @@ def receipts(it: Operator, Keys: Any) -> None:
     if it.script("return document.getElementById('reel').value") != "R-1":
         raise Difference("a no replaced the label")
     it.script("document.getElementById('quantity').focus()")
+    it.script("const now = performance.now(); performance.now = () => now")  # both come at once
     it.keys(Keys.END, Keys.ENTER, Keys.ENTER)
+    it.script("delete performance.now")
     time.sleep(0.5)
     count_is(it, 4, "a double Enter")
     it.script(
-        "const b = document.querySelector('form.receive button[type=submit]'); b.focus(); b.click(); b.click()"
+        "const b = document.querySelector('form.receive button[type=submit]'); b.focus();"
+        " b.click(); b.click()"
     )
     if "R-1" not in it.verdict()[1]:
         raise Difference(it.text("verdict"))
@@ -126,7 +132,7 @@ def receipts(it: Operator, Keys: Any) -> None:
     count_is(it, 5, "a double touch of Receive")
     it.seen()
     it.script("document.querySelectorAll('form.receive button')[1].click()")
-    type_label(it, "[)>{RS}06{GS}PLED{GS}1TLOT-77{GS}SR-6{RS}{EOT}")
+    type_label(it, "[)>{RS}06{GS}PLED{GS}1TLOT-77{GS}SR-6{GS}9D2614{GS}KPO-7{RS}{EOT}")
     it.scan("A/LEVEL-6", "A/4", "A/0", "A/ENTER", "A/1", "A/2", "A/0")
     if (
         got := it.script(
@@ -135,11 +141,29 @@ def receipts(it: Operator, Keys: Any) -> None:
     ) != ["40", "120"]:
         raise Difference(f"digits of a reel of level 6: {got}")
     it.does("A/ENTER", holds=("RECEIVED", "R-6"))
+    has_attributes(it.site, {"R-1": {}, "R-6": {"DateCode": "2614", "Order": "PO-7"}})
+
+
+def has_attributes(site: Site, wanted: Any) -> None:
+    """Whether the proxy wrote of these reels what else their labels say."""
+    (file,) = (site.room / "line/scans").glob("receipts-*.jsonl")
+    bodies = [
+        json.loads(json.loads(line)["Message"])["MessageBody"]
+        for line in file.read_text().splitlines()
+    ]
+    found = {
+        body["Reel"]: {name: body[name] for name in ("DateCode", "Order") if name in body}
+        for body in bodies
+        if body["Reel"] in wanted
+    }
+    if found != wanted:
+        raise Difference(f"attributes of receipts: {found}")
 
 
 def control_keys(it: Operator, Keys: Any) -> None:
     it.script(
-        "window.kept = []; window.addEventListener('keydown', (event) => event.ctrlKey && event.key !== 'Control' && window.kept.push(event.defaultPrevented))"
+        "window.kept = []; window.addEventListener('keydown', (event) => event.ctrlKey && event.key"
+        " !== 'Control' && window.kept.push(event.defaultPrevented))"
     )
     chain = chain_of(it.page)
     for code in ("A/OPEN", "K-2"):
@@ -158,7 +182,9 @@ def control_keys(it: Operator, Keys: Any) -> None:
 
 
 def test_codes_that_may_be_read_as_others(site: Site) -> None:
-    """A form of codes under which a code is read as another one is no set-up; names with braces are scanned."""
+    """A form of codes under which a code is read as another one is no set-up; names with braces are
+    scanned.
+    """
     site.say(
         "SheetDefined",
         {
@@ -234,7 +260,9 @@ return [it.value, ['select-one'].includes(it.type) || it.type === 'radio' ? Stri
 
 
 def test_a_scan_whatever_has_the_focus(site: Site) -> None:
-    """A slot and a reel with the focus on every element of every screen, and on one of each kind: both are taken, and nothing else changes."""
+    """A slot and a reel with the focus on every element of every screen, and on one of each kind:
+    both are taken, and nothing else changes.
+    """
     tried = 0
     with Operator(site) as it:
         it.ready()
@@ -256,7 +284,8 @@ def test_a_scan_whatever_has_the_focus(site: Site) -> None:
                     or sent
                 ):
                     raise Difference(
-                        f"{screen}: a scan at {name} left {value!r}, {chosen!r} became {after!r}, sent {sent}"
+                        f"{screen}: a scan at {name} left {value!r}, {chosen!r} became {after!r},"
+                        f" sent {sent}"
                     )
                 it.script(FOCUS, number)
                 it.scan("A/CANCEL")
@@ -279,12 +308,15 @@ def test_a_scan_whatever_has_the_focus(site: Site) -> None:
             raise Difference(f"a message was made: {it.scans()}")
         tried += scans_beside_fields(site, it)
     print(
-        f"{tried} places: each scan was taken, a field kept what it had, and nothing was sent that was not asked for"
+        f"{tried} places: each scan was taken, a field kept what it had, and nothing was sent that"
+        " was not asked for"
     )
 
 
 def scans_beside_fields(site: Site, it: Operator) -> Any:
-    """A reel for a slot that is held, a reel in a field of numbers, letters that were left behind, and the page of codes."""
+    """A reel for a slot that is held, a reel in a field of numbers, letters that were left behind,
+    and the page of codes.
+    """
     it.go("trace")
     it.scan("S/M1/1")
     it.script("document.getElementById('name').focus()")
@@ -318,7 +350,9 @@ FIELDS = "return ['reel', 'part', 'lot', 'quantity'].map((it) => document.getEle
 
 
 def test_receive_keeps_what_it_has(site: Site) -> None:
-    """Labels in each spelling into empty fields; a scan into a filled field replaces it; Enter sends nothing unasked; a refusal keeps the fields; and by codes alone."""
+    """Labels in each spelling into empty fields; a scan into a filled field replaces it; Enter
+    sends nothing unasked; a refusal keeps the fields; and by codes alone.
+    """
     part, forms = "[)>{RS}06{GS}P%s{GS}Q3000{GS}1TLOT-77{GS}S%s{RS}{EOT}", 0
     with Operator(site) as it:
         it.ready().go("receive")
@@ -387,7 +421,8 @@ def test_receive_keeps_what_it_has(site: Site) -> None:
         it.does("A/LEVEL-2", kind="fault", holds=("Scan RECEIVE first",))
         whole(site, it, 3)
     print(
-        f"{forms} spellings of a label, a scan that replaces, a refusal that takes nothing, 1 reel by codes alone"
+        f"{forms} spellings of a label, a scan that replaces, a refusal that takes nothing, 1 reel"
+        " by codes alone"
     )
 
 

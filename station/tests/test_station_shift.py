@@ -1,4 +1,6 @@
-"""A shift as a new operator works it, and what fails in the midst of it: the browser, the desk, a second tab."""
+"""A shift as a new operator works it, and what fails in the midst of it: the browser, the desk, a
+second tab.
+"""
 import re
 
 import pytest
@@ -12,7 +14,9 @@ pytestmark = pytest.mark.browser
 
 
 def test_a_shift_from_the_printed_page(site: Site) -> None:
-    """Load, refuse, splice, scrap, unload, open, seal, bake, count, receive by a label: as a new operator does it."""
+    """Load, refuse, splice, scrap, unload, open, seal, bake, count, receive by a label: as a new
+    operator does it.
+    """
     with Operator(site) as it:
         it.ready()
         it.scan("B/anna")
@@ -50,14 +54,17 @@ def test_a_shift_from_the_printed_page(site: Site) -> None:
 
 
 def receives(operator: Operator) -> None:
-    """A supplier's label, as control characters and as a wedge's words; then the level, and Enter."""
+    """A supplier's label, as control characters and as a wedge's words; then the level, and
+    Enter.
+    """
     from selenium.webdriver.common.keys import Keys
 
     operator.seen()  # the fields are under a refusal
     for label in LABEL:
         type_label(operator, label)
         fields = operator.script(
-            "return ['reel', 'part', 'lot', 'quantity'].map((it) => document.getElementById(it).value)"
+            "return ['reel', 'part', 'lot', 'quantity'].map((it) =>"
+            " document.getElementById(it).value)"
         )
         if fields != ["R-900", "LED", "LOT-77", "3000"]:
             raise Difference(f"{label!r} was read as {fields}")
@@ -69,7 +76,9 @@ def receives(operator: Operator) -> None:
 
 
 def test_a_kill_of_the_browser_in_mid_scan(site: Site) -> None:
-    """Killed with a scan that the desk didn't read, with one that it took, and with three that never left."""
+    """Killed with a scan that the desk didn't read, with one that it took, and with three that
+    never left.
+    """
     with Operator(site) as it:
         it.ready()
         site.pause_desk()
@@ -92,7 +101,8 @@ def test_a_kill_of_the_browser_in_mid_scan(site: Site) -> None:
             raise Difference("a late refusal is not red")
         whole(site, it, 4)
     print(
-        "4 scans over 2 kills of the browser: each acted once, and each answer was shown as one of before"
+        "4 scans over 2 kills of the browser: each acted once, and each answer was shown as one of"
+        " before"
     )
 
 
@@ -140,7 +150,9 @@ HOSTILE = [
 
 
 def test_hostile_names(site: Site) -> None:
-    """Names of parts, reels, lots, slots, boards, machines and products that are code elsewhere are texts here."""
+    """Names of parts, reels, lots, slots, boards, machines and products that are code elsewhere are
+    texts here.
+    """
     rows = [
         {"Slot": name, "PartNumber": name, "Designators": [f"C{at}"]}
         for at, name in enumerate(HOSTILE)
@@ -176,7 +188,8 @@ def test_hostile_names(site: Site) -> None:
             "codes", lambda: it.script("return document.querySelectorAll('figure').length > 20")
         )
         bad = it.script(
-            "return [window.hacked ?? null, document.querySelectorAll('main img, main script, main b b').length]"
+            "return [window.hacked ?? null, document.querySelectorAll('main img, main script, main"
+            " b b').length]"
         )
         logs = [
             log["message"]
@@ -186,7 +199,8 @@ def test_hostile_names(site: Site) -> None:
     if bad != [None, 0] or logs:
         raise Difference(f"{bad} {logs}")
     print(
-        f"{len(HOSTILE)} names on five screens and the codes: none ran, none became an element, the policy had nothing to stop"
+        f"{len(HOSTILE)} names on five screens and the codes: none ran, none became an element, the"
+        " policy had nothing to stop"
     )
 
 

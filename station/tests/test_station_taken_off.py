@@ -1,4 +1,6 @@
-"""A refused load shows what was scanned and what is wanted; that its reel was taken off is asked twice and can be undone."""
+"""A refused load shows what was scanned and what is wanted; that its reel was taken off is asked
+twice and can be undone.
+"""
 import time
 
 import pytest
@@ -6,7 +8,7 @@ from station_operator import Operator
 from station_plant import CLOCKS, opened, records
 from station_site import Site, wait_for
 from tracedesk_dev.trial import Difference
-from tracedesk_ops import doubtful
+from tracedesk_ops import story
 
 pytestmark = pytest.mark.browser
 PRESS = "document.querySelectorAll('#verdict .off button')[arguments[0]]?.click()"
@@ -36,7 +38,10 @@ def press(it: Operator, number: int = 0) -> None:
 def test_scanned_beside_wanted(site: Site) -> None:
     with Operator(site) as it:
         it.ready().does("S/M1/3", "K-2", kind="refused", holds=("WRONG PART",))
-        sides = "return [...document.querySelectorAll('#verdict .sides > div')].map((it) => it.innerText.split(/\\s*\\n\\s*/))"
+        sides = (
+            "return [...document.querySelectorAll('#verdict .sides > div')].map((it) =>"
+            " it.innerText.split(/\\s*\\n\\s*/))"
+        )
         wanted = [["SCANNED", "RES", "reel K-2"], ["WANTED", "CAP", "slot 3"]]
         wait_for("both sides", lambda: it.script(sides) == wanted)
         if (gap := it.script(GAP)) < 100:
@@ -58,7 +63,9 @@ def test_a_touch_too_soon_is_none(site: Site) -> None:
 
 
 def test_it_is_asked_twice_and_can_be_undone(site: Site) -> None:
-    """No sends nothing, an undo sends nothing, a minute later it is noted, and a reload in between loses nothing."""
+    """No sends nothing, an undo sends nothing, a minute later it is noted, and a reload in between
+    loses nothing.
+    """
     with opened(site, CLOCKS) as it:
         it.ready().does("S/M1/3", "K-2", kind="refused")
         wait_for("the refusal is handed on", lambda: records(site))
@@ -88,7 +95,7 @@ def test_it_is_asked_twice_and_can_be_undone(site: Site) -> None:
         it.script("window.later += 70_000")
         wait_for_text(it, "Noted: the reel was taken off")
         (told,) = [one for one in records(site) if one["Kind"] == "decided"]
-        if told["Became"] != doubtful.TAKEN_OFF or "anna" not in told["By"]:
+        if told["Became"] != story.TAKEN_OFF or "anna" not in told["By"]:
             raise Difference(f"a decision: {told}")
 
 
@@ -108,7 +115,9 @@ def test_an_inbox_that_is_away_is_tried_again(site: Site) -> None:
 
 
 def test_a_log_in_that_may_not_decide(site: Site) -> None:
-    """The log-in of somebody who may decide is asked for on the red screen, for this decision alone."""
+    """The log-in of somebody who may decide is asked for on the red screen, for this decision
+    alone.
+    """
     (site.room / "etc/deciders").write_text(site.lines["qm"])
     with opened(site, CLOCKS) as it:
         it.ready().scan("B/anna")

@@ -92,6 +92,17 @@ test("an action that is scanned twice is not for the next slot", async () => {
   assert.equal(between.acted.length, 2);
 });
 
+test("an action that was scanned long ago is a new one", async () => {
+  const { told, scan } = page();
+  for (const codes of [["K-1", "A/OPEN"], ["A/OPEN", "K-2"]]) {
+    scan.touched -= SETUP.heldSeconds * 1000 + 1;
+    for (const code of codes) {
+      await scan.take(code);
+    }
+  }
+  assert.equal(told.acted.length, 2);
+});
+
 test("the same action code within a second counts once", async () => {
   const { told, scan } = page();
   await scan.take("K-1");
