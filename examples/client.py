@@ -1,5 +1,6 @@
 #!/usr/bin/env python3
-"""A client in a few lines of the package `tracedesk`: makes a message for each board that it reads, and sends it until it is answered.
+"""A client in a few lines of the package `tracedesk`: makes a message for each board that it reads,
+and sends it until it is answered.
 
 usage: examples/client.py [--url URL] [--spool FOLDER] MACHINE
 
@@ -7,12 +8,14 @@ examples:
   echo SN-117 | examples/client.py M1
   examples/client.py --url http://127.0.0.1:8080 --spool m1 M1 < boards.txt
 
-Each line of standard input is the name of a board, and gives a WorkStarted of MACHINE. With --spool the message is on disk before
-it is sent, and whatever ends the program, the next run sends the rest. A program with messages of its own, a log-in or a
-certificate is made like this one; tracedesk-send is the program for lines that are messages already.
+Each line of standard input is the name of a board, and gives a WorkStarted of MACHINE. With --spool
+the message is on disk before it is sent, and whatever ends the program, the next run sends the
+rest. A program with messages of its own, a log-in or a certificate is made like this one;
+tracedesk-send is the program for lines that are messages already.
 
-Exit status: 0 each message was taken; 1 some were not, and standard error says why; 2 bad command line, a board's name
-that no desk takes, or what sending again doesn't mend; 5 an error of this program.
+Exit status: 0 each message was taken; 1 some were not, and standard error says why; 2 bad command
+line, a board's name that no desk takes, or what sending again doesn't mend; 5 an error of this
+program.
 """
 import argparse
 import pathlib

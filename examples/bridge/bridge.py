@@ -1,4 +1,6 @@
-"""Takes messages as they come: each gives messages in the spool, is passed over, or is a dead letter."""
+"""Takes messages as they come: each gives messages in the spool, is passed over, or is a dead
+letter.
+"""
 from __future__ import annotations
 
 import collections
@@ -47,7 +49,9 @@ GAP = re.compile(r"[\s,]*")
 
 
 def messages_in(data: bytes) -> list[tuple[bytes, Any, Optional[str]]]:
-    """The messages of a line or of a body, each with its bytes; one that is no JSON is none, with why."""
+    """The messages of a line or of a body, each with its bytes; one that is no JSON is none, with
+    why.
+    """
     try:
         text = data.decode(json.detect_encoding(data), "surrogatepass")
         told = JSON.decode(text)
@@ -111,7 +115,9 @@ class Bridge:
         return Came(["kept " + " ".join(name for name, _ in put)], [name for name, _ in put])
 
     def record(self, text: bytes, message: Any, reason: str) -> None:
-        """Keeps a record of a dead letter that is a report of work, or may be one, as of a refused report."""
+        """Keeps a record of a dead letter that is a report of work, or may be one, as of a refused
+        report.
+        """
         told = {} if message is None else self.table.report_of(message)
         if told is None or self.dead.has(text):
             return

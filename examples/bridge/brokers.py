@@ -20,7 +20,9 @@ FIRST_PAUSE, LONGEST_PAUSE = 0.2, 10.0  # seconds without a broker
 
 
 def plain(value: Any) -> Any:
-    """A value of a broker as JSON has it. What is neither text nor number nor a list or a map of them is spelled as Python does."""
+    """A value of a broker as JSON has it. What is neither text nor number nor a list or a map of
+    them is spelled as Python does.
+    """
     if isinstance(value, dict):
         return {str(plain(name)): plain(it) for name, it in value.items()}
     if isinstance(value, (list, tuple)):
@@ -62,13 +64,16 @@ def message_of(proton: Any) -> Any:
 
 
 def connection_of(proton: Any) -> Any:
-    """Connections that also tell when the broker ends their session: so RabbitMQ says that there is no such queue."""
+    """Connections that also tell when the broker ends their session: so RabbitMQ says that there is
+    no such queue.
+    """
     handlers = importlib.import_module("proton._handlers")
     utils = importlib.import_module("proton.utils")
 
     vars(handlers)["Message"] = message_of(proton)  # proton has no other place for it
 
-    class Connection(utils.BlockingConnection):  # type: ignore[misc,name-defined]  # proton has no types
+    # proton has no types
+    class Connection(utils.BlockingConnection):  # type: ignore[misc,name-defined]  # see above
         def on_session_remote_close(self, event: Any) -> None:
             if not self.closing:
                 raise proton.SessionException(str(event.session.remote_condition))
@@ -109,7 +114,9 @@ class Queue:
         return all(map(self.bridge.kept.is_answered, names))
 
     def take(self, link: Any) -> None:
-        """Takes from a connection. What came first is acknowledged first, once its answers are on disk."""
+        """Takes from a connection. What came first is acknowledged first, once its answers are on
+        disk.
+        """
         receiver = link.create_receiver(self.asked.queue, credit=0)
         open_ones: collections.deque[list[str]] = collections.deque()
         while True:
@@ -126,7 +133,9 @@ class Queue:
                     link.wait(lambda: self.is_answered(open_ones[0]), timeout=LOOK)
 
     def run(self) -> None:
-        """Takes without an end, and connects again whenever that breaks: what isn't acknowledged comes again."""
+        """Takes without an end, and connects again whenever that breaks: what isn't acknowledged
+        comes again.
+        """
         while True:
             link = None
             try:

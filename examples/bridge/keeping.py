@@ -31,8 +31,9 @@ class Kept:
         self.read()
 
     def read(self) -> None:
-        """Looks at the messages that wait, and then at those that were answered: the sender moves them in this direction. One that was
-        refused is known by its copy in `sent` even if somebody deletes it aside."""
+        """Looks at the messages that wait, and then at those that were answered: the sender moves
+        them in this direction. One that was refused is known by its copy in `sent` even if somebody
+        deletes it aside."""
         self.known = {}
         for folder in (self.spool.waiting, self.spool.aside, self.spool.sent):
             for path in sorted(it for it in folder.iterdir() if it.suffix in (".json", ".refused")):
@@ -45,7 +46,9 @@ class Kept:
         self.remember_refused()
 
     def remember_refused(self) -> None:
-        """Keeps the UniqueIDs of reports of work that were not taken, also for when somebody has deleted them aside."""
+        """Keeps the UniqueIDs of reports of work that were not taken, also for when somebody has
+        deleted them aside.
+        """
         found, self.due = dict(self.refused), time.monotonic() + AN_HOUR
         for path in [*self.spool.aside.glob("*.json"), *self.spool.sent.glob("*.refused")]:
             with contextlib.suppress(FileNotFoundError, ValueError, AttributeError, TypeError):
@@ -58,8 +61,9 @@ class Kept:
             self.refused = found
 
     def put(self, message: forms.Message) -> tuple[str, bool]:
-        """Puts a message in where it isn't there yet: its name in the spool, and whether it is new. A report of work that was not taken is
-        never put in again, whatever it is made of now: a person decides about it."""
+        """Puts a message in where it isn't there yet: its name in the spool, and whether it is new.
+        A report of work that was not taken is never put in again, whatever it is made of now: a
+        person decides about it."""
         if time.monotonic() >= self.due:
             self.remember_refused()
         if message.unique_id in self.refused and records.is_report(
@@ -81,7 +85,8 @@ class Kept:
 
 
 class Dead:
-    """A folder of messages as they came, each with its reason. One that comes again has its place already. It has at most so many:
+    """A folder of messages as they came, each with its reason. One that comes again has its place
+    already. It has at most so many:
     then whoever brings one more waits until somebody has looked at them."""
 
     def __init__(self, folder: pathlib.Path, most: int) -> None:
@@ -114,7 +119,8 @@ class Dead:
             self.read()
             if len(self.places) >= self.most:
                 raise OSError(
-                    f"{self.folder} has {len(self.places)} messages, and --dead says no more: look at their reasons, and delete what is done with"
+                    f"{self.folder} has {len(self.places)} messages, and --dead says no more: look"
+                    " at their reasons, and delete what is done with"
                 )
         if known not in self.places:
             self.last += 1

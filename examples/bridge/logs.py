@@ -54,8 +54,9 @@ def take_lines(bridge: Bridge, stream: BinaryIO) -> None:
 
 
 class Opened:
-    """An open file, and how far it was read. What it began with, and what it had last before that place, are looked at again with each
-    piece: other bytes there are other lines, which are read from the beginning."""
+    """An open file, and how far it was read. What it began with, and what it had last before that
+    place, are looked at again with each piece: other bytes there are other lines, which are read
+    from the beginning."""
 
     def __init__(self, path: pathlib.Path, told: Optional[Told] = None) -> None:
         self.file, self.id = open_log(path)
@@ -131,7 +132,9 @@ class Opened:
 
 
 def open_log(path: pathlib.Path) -> tuple[IO[bytes], tuple[int, int]]:
-    """A file of lines, with the device and the inode of its path. What is packed is unpacked into a file without a name."""
+    """A file of lines, with the device and the inode of its path. What is packed is unpacked into a
+    file without a name.
+    """
     file: IO[bytes] = open(path, "rb", buffering=0)
     there = os.fstat(file.fileno())
     if path.suffix in PACKED:
@@ -162,7 +165,9 @@ def begins_so(head: bytes, known: Told) -> bool:
 
 
 def read_position(spool: Spool) -> dict[str, Any]:
-    """How far the files of a spool were read, by their paths. Up to version 0.3.0 there was no list of known files."""
+    """How far the files of a spool were read, by their paths. Up to version 0.3.0 there was no list
+    of known files.
+    """
     place = spool.folder / ".position"
     try:
         told: dict[str, Any] = json.loads(place.read_text())
@@ -183,16 +188,19 @@ def read_position(spool: Spool) -> dict[str, Any]:
         return {}
     except (ValueError, KeyError, TypeError, AttributeError):
         raise SpoolError(
-            f"{place} is damaged, and says no more how far files were read: give what wasn't read by standard input, and delete {place}. "
-            "Then a file is read from its beginning, and rotated ones aren't read"
+            f"{place} is damaged, and says no more how far files were read: give what wasn't read"
+            f" by standard input, and delete {place}. Then a file is read from its beginning, and"
+            " rotated ones aren't read"
         ) from None
 
 
 class Following:
-    """The file of a path, and those that were moved away from there and may still get lines, the oldest first.
+    """The file of a path, and those that were moved away from there and may still get lines, the
+    oldest first.
 
-    Each rotated file of its folder is known or new. A new one is read, whenever it came and whatever the clock says of it. At the first
-    run with a spool all that are there are known, and aren't read."""
+    Each rotated file of its folder is known or new. A new one is read, whenever it came and
+    whatever the clock says of it. At the first run with a spool all that are there are known, and
+    aren't read."""
 
     def __init__(
         self,
@@ -231,7 +239,9 @@ class Following:
         console.tell(f"a gap: {why}")
 
     def candidates(self) -> list[tuple[pathlib.Path, os.stat_result]]:
-        """The rotated files of the folder that have something, with what the system says of them, the oldest first."""
+        """The rotated files of the folder that have something, with what the system says of them,
+        the oldest first.
+        """
         found = []
         for path in self.path.parent.iterdir():
             with contextlib.suppress(FileNotFoundError):
@@ -246,8 +256,9 @@ class Following:
         return sorted(found, key=lambda it: (it[1].st_mtime_ns, it[0].name))
 
     def found(self, told: Told) -> Optional[Opened]:
-        """The file of which this was kept: here, or under a new name in the same folder, and packed where it is there in no other way.
-        One that is there and can't be read now is an OSError, and no gap: it is waited for."""
+        """The file of which this was kept: here, or under a new name in the same folder, and packed
+        where it is there in no other way. One that is there and can't be read now is an OSError,
+        and no gap: it is waited for."""
         files: list[Opened] = []
         others = sorted(it for it in self.path.parent.iterdir() if it != self.path)
         there = [self.path, *others]
@@ -273,12 +284,15 @@ class Following:
             it.file.close()
         if not files and told["At"]:
             self.gap(
-                f"{self.path}: the file that was read to byte {told['At']} is not there any more. What it had is given by its new name"
+                f"{self.path}: the file that was read to byte {told['At']} is not there any more."
+                " What it had is given by its new name"
             )
         return files[0] if files else None
 
     def look_for_another(self) -> None:
-        """Opens the file of the path, if that is another one than before, after those that came and were moved away meanwhile."""
+        """Opens the file of the path, if that is another one than before, after those that came and
+        were moved away meanwhile.
+        """
         there, folder = os.stat(self.path), os.stat(self.path.parent).st_mtime_ns
         if folder != self.folder:
             self.folder, self.changed = folder, time.monotonic()
@@ -290,7 +304,9 @@ class Following:
                 self.files.append(same or Opened(self.path))
 
     def new_ones(self, newest: os.stat_result) -> list[Opened]:
-        """The rotated files that aren't known, each opened, up to one that can't be read yet: those after it wait, so that lines stay in their order."""
+        """The rotated files that aren't known, each opened, up to one that can't be read yet: those
+        after it wait, so that lines stay in their order.
+        """
         found: list[Opened] = []
         open_ones = {it.id[1] for it in self.files} | {newest.st_ino}
         candidates = self.candidates()
@@ -317,7 +333,8 @@ class Following:
                 ):
                     break
                 self.gap(
-                    f"{path} can't be read: {fault or repr(fault)}. What it had is given by its name, once it is mended"
+                    f"{path} can't be read: {fault or repr(fault)}. What it had is given by its"
+                    " name, once it is mended"
                 )
                 self.known.append(identity(there.st_ino, head))
             self.unreadable.pop(path, None)
@@ -325,7 +342,9 @@ class Following:
         return found
 
     def opened(self, path: pathlib.Path) -> Optional[Opened]:
-        """A new file, opened; from how far that was read where it is a copy of one that is being read, and none where it is one of a known one."""
+        """A new file, opened; from how far that was read where it is a copy of one that is being
+        read, and none where it is one of a known one.
+        """
         for old in [it.told() for it in self.files]:
             it = Opened(path, old)
             if it.is_of(old):
@@ -345,8 +364,8 @@ class Following:
             self.bridge.look()
 
     def look(self) -> bool:
-        """Takes what is there of each file; whether that was anything. The newest is read first and taken last: a writer that goes on
-        to a new file has written to the old one before."""
+        """Takes what is there of each file; whether that was anything. The newest is read first and
+        taken last: a writer that goes on to a new file has written to the old one before."""
         try:
             self.look_for_another()
         except FileNotFoundError:
@@ -397,9 +416,13 @@ class Following:
 
 
 def usual_names(path: pathlib.Path) -> str:
-    """Of rotated files: the name with more behind it, or with digits and signs of a time before it or before its ending."""
+    """Of rotated files: the name with more behind it, or with digits and signs of a time before it
+    or before its ending.
+    """
     time_ = r"[\d._:TZ-]*"
-    return f"{re.escape(path.name)}.+|{time_}{re.escape(path.stem)}{time_}{re.escape(path.suffix)}(?:{'|'.join(map(re.escape, PACKED))})?"
+    packed = "|".join(map(re.escape, PACKED))
+    stem, ending = re.escape(path.stem), re.escape(path.suffix)
+    return f"{re.escape(path.name)}.+|{time_}{stem}{time_}{ending}(?:{packed})?"
 
 
 def take_file(

@@ -1,4 +1,6 @@
-"""Turns messages of another vocabulary into a desk's, by a table. tables.md says what a table has."""
+"""Turns messages of another vocabulary into a desk's, by a table. tables.md says what a table
+has.
+"""
 from __future__ import annotations
 
 import contextlib
@@ -33,6 +35,8 @@ from values import (
 
 WORDS = {it.WORD: it for it in MESSAGES}
 RECORDED = {it.partition(words.PREFIX)[2] for it in words.RECORDED}
+# of a receipt: the desk skips them, and the line's book of attributes has them
+ATTRIBUTES = ("DateCode", "Supplier", "MakerPart", "Order")
 TIME = re.compile(r"(\d{4}-\d\d-\d\d)[Tt ](\d\d:\d\d:\d\d)(?:\.\d+)?(?:[Zz]|([+-]\d\d:\d\d))")
 
 
@@ -41,7 +45,9 @@ class BadTable(Exception):
 
 
 def members_of(place: str, given: Any, *wanted: str, **optional: Any) -> list[Any]:
-    """The members of an object of a table, which has these and no others; of an optional one that is not there what stands for it."""
+    """The members of an object of a table, which has these and no others; of an optional one that
+    is not there what stands for it.
+    """
     if not isinstance(given, dict) or not set(wanted) <= set(given) <= {*wanted, *optional}:
         raise BadTable(
             f"{place} is no object with {', '.join(wanted)}"
@@ -97,7 +103,8 @@ def row_of(place: str, given: Any, names: dict[str, Names], kind: type[Kind]) ->
     needed = {name for name, (_, form) in known.items() if not isinstance(form, forms.Where)}
     if not needed <= set(given) <= set(known):
         raise BadTable(
-            f"{place} has {', '.join(given) or 'nothing'}, and {kind.__name__} has {', '.join(known)}"
+            f"{place} has {', '.join(given) or 'nothing'}, and {kind.__name__} has"
+            f" {', '.join(known)}"
         )
     made_of: dict[str, Form] = {}
     for name, it in given.items():
@@ -129,14 +136,17 @@ class Where:
 
 
 class Entry:
-    """How one message is made, or one for each element of a list, or for each of those that have a text in common."""
+    """How one message is made, or one for each element of a list, or for each of those that have a
+    text in common.
+    """
 
     def __init__(self, place: str, given: Any, names: dict[str, Names]) -> None:
         wanted = ("Word", "UniqueID", "Source", "TimeStamp", "Members")
-        more = {"Each": None, "By": None, "Where": None, "Once": False, "MachineReels": None}
-        word, uid, source, time, body, self.each, by, where, self.is_once, reels = members_of(
-            place, given, *wanted, **more
+        more = {"Each": None, "By": None, "Where": None, "Once": False}
+        word, uid, source, time, body, self.each, by, where, self.is_once, *besides = members_of(
+            place, given, *wanted, **more, MachineReels=None, Attributes={}
         )
+        reels, attributes = besides
         if not isinstance(word, str) or word not in WORDS:
             raise BadTable(f"{place}: {word!r:.100} is none of {', '.join(WORDS)}")
         self.word = word
@@ -150,6 +160,7 @@ class Entry:
         self.where = Where(f"{place}, Where", where, names) if where is not None else None
         self.block = (self.each, json.dumps(by), id(self) if self.is_once or not self.each else 0)
         self.reels = reels_of(f"{place}, MachineReels", reels, names, word)
+        self.attributes = attributes_of(f"{place}, Attributes", attributes, names, word)
         self.uid = form_of(f"{place}, UniqueID", uid, names)
         self.source, self.time = form_of(f"{place}, Source", source, names), form_of(
             f"{place}, TimeStamp", time, names
@@ -159,7 +170,8 @@ class Entry:
         is_one = self.each is None or self.is_once
         if not is_one and NUMBER not in getattr(self.uid, "paths", ()):
             raise BadTable(
-                f"{place}: the UniqueID has to have {{#}}, since there is a message for each element of {self.each}"
+                f"{place}: the UniqueID has to have {{#}}, since there is a message for each"
+                f" element of {self.each}"
             )
 
     def one(self, scope: Scope, number: int) -> forms.Message:
@@ -168,7 +180,10 @@ class Entry:
             made = self.body.made(scope, number).message(source, unique_id=uid, at=moment(time))
         except OutOfRange as fault:
             raise NotMapped(f"{self.body.kind.__name__}: {fault}") from None
-        return with_reels(made, self.reels.made(scope, number)) if self.reels else made
+        if self.reels:
+            return with_reels(made, self.reels.made(scope, number))
+        known = {name: str(it.made(scope, number)) for name, it in self.attributes.items()}
+        return with_more(made, {name: text for name, text in known.items() if text})
 
     def scopes(self, message: Any) -> list[tuple[Scope, int]]:
         """The scopes of its messages, each with its number."""
@@ -183,7 +198,9 @@ class Entry:
         return [(it, number) for number, it in enumerate(its, 1)]
 
     def guessed(self, message: Any) -> dict[str, Any]:
-        """What can be read of a message that gives none of the desk's: its kind, its machine, and its board or slot."""
+        """What can be read of a message that gives none of the desk's: its kind, its machine, and
+        its board or slot.
+        """
         body, known = {}, {name: form for name, form, _ in self.body.kind.MEMBERS}
         for name in ("Machine", "Board", "Slot", "Reel"):
             with contextlib.suppress(Exception):
@@ -201,17 +218,31 @@ def reels_of(place: str, given: Any, names: dict[str, Names], word: str) -> Opti
     return Each(path_of(place, path), form_of(place, each, names))
 
 
-def with_reels(made: forms.Message, named: list[Any]) -> forms.Message:
-    """An install with the reels that the machine names, one for each designator, if it names any.
+def attributes_of(place: str, given: Any, names: dict[str, Names], word: str) -> dict[str, Form]:
+    """The forms of what a receipt says of its reel besides."""
+    if not isinstance(given, dict) or not set(given) <= set(ATTRIBUTES):
+        raise BadTable(f"{place} is no object with any of {', '.join(ATTRIBUTES)}")
+    if given and word != "ReelReceived":
+        raise BadTable(f"{place}: it is for ReelReceived")
+    return {name: form_of(f"{place}, {name}", it, names) for name, it in given.items()}
 
-    The desk skips that member.
+
+def with_reels(made: forms.Message, named: list[Any]) -> forms.Message:
+    """An install with the reels that the machine names, one for each designator, if it names
+    any.
     """
-    told = json.loads(made.text)
-    names, reels = told["MessageBody"]["Designators"], [reel or None for reel in named]
+    names, reels = json.loads(made.text)["MessageBody"]["Designators"], [it or None for it in named]
     if len(reels) != len(names):
         raise NotMapped(f"MachineReels: {len(reels)} reels are named for {len(names)} pieces")
-    if any(reels):
-        told["MessageBody"]["MachineReels"] = reels
+    return with_more(made, {"MachineReels": reels} if any(reels) else {})
+
+
+def with_more(made: forms.Message, more: dict[str, Any]) -> forms.Message:
+    """A message with members that the desk skips."""
+    if not more:
+        return made
+    told = json.loads(made.text)
+    told["MessageBody"].update(more)
     text = json.dumps(told, separators=(",", ":")).encode()
     return dataclasses.replace(made, text=text)
 
@@ -288,7 +319,9 @@ class Table:
         return as_text(self.name, found_at(self.name, (message,), 0))
 
     def report_of(self, message: Any) -> Optional[dict[str, Any]]:
-        """What can be read of a message that gives none of the desk's; none where it has a name that gives no report, load, splice or unload."""
+        """What can be read of a message that gives none of the desk's; none where it has a name
+        that gives no report, load, splice or unload.
+        """
         try:
             entries = self.entries.get(self.name_of(message), ())
         except NotMapped:
@@ -296,8 +329,9 @@ class Table:
         return next((it.guessed(message) for it in entries if it.word in RECORDED), None)
 
     def made(self, message: Any) -> list[forms.Message]:
-        """The desk's messages that it gives, all or none; none where the table passes it over. Entries of the same list, one behind the
-        other, are made element by element, and an element for which one of them has nothing to say gives none.
+        """The desk's messages that it gives, all or none; none where the table passes it over.
+        Entries of the same list, one behind the other, are made element by element, and an element
+        for which one of them has nothing to say gives none.
         """
         found = []
         its = self.entries.get(self.name_of(message), ())

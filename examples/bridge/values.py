@@ -1,4 +1,6 @@
-"""The values that a table finds in a message, and what it makes of them: texts, numbers, names, lists and rows."""
+"""The values that a table finds in a message, and what it makes of them: texts, numbers, names,
+lists and rows.
+"""
 from __future__ import annotations
 
 import decimal
@@ -27,8 +29,9 @@ class NothingToSay(Exception):
     """It is of a machine that the table passes over, or of an empty list."""
 
 
-# --- Where something stands. A path is a JSON Pointer. With `/` in front it leads from the top of the message, else from the
-# element of the list that is gone through; `../` leads to the element around that. A scope is the message and these elements.
+# --- Where something stands. A path is a JSON Pointer. With `/` in front it leads from the top of
+# the message, else from the element of the list that is gone through; `../` leads to the element
+# around that. A scope is the message and these elements.
 
 
 def found_at(path: str, scope: Scope, number: int) -> Any:
@@ -59,7 +62,8 @@ def whole(path: str, value: Any) -> int:
     if isinstance(value, (int, float, decimal.Decimal)) and not isinstance(value, bool):
         if not -ROUNDED < value < ROUNDED:
             raise NotMapped(
-                f"{path} is {value!s:.100}, and many programs round numbers from 2^53 on: it has to come as a text"
+                f"{path} is {value!s:.100}, and many programs round numbers from 2^53 on: it has to"
+                " come as a text"
             )
         if value == int(value):
             return int(value)
@@ -86,7 +90,9 @@ def listed(path: str, scope: Scope, number: int) -> list[Any]:
 
 
 def scopes_of(path: str, scope: Scope, number: int) -> list[Scope]:
-    """The scope of each element of a list; of `LIST/*/LIST` those of the lists in each element of the first."""
+    """The scope of each element of a list; of `LIST/*/LIST` those of the lists in each element of
+    the first.
+    """
     outer, star, inner = path.partition("/*/")
     scopes = [(*scope, it) for it in listed(outer, scope, number)]
     if star:
@@ -105,7 +111,9 @@ class Form(Protocol):
 
 
 class Text:
-    """A text, in which {PATH} stands for the value there, and {PATH|OTHER} for OTHER where there is none."""
+    """A text, in which {PATH} stands for the value there, and {PATH|OTHER} for OTHER where there is
+    none.
+    """
 
     def __init__(self, text: str) -> None:
         self.text = text
@@ -134,7 +142,9 @@ class Number:
 
 
 class Named:
-    """What a list of names has for a text: another text, or null, where the message is passed over."""
+    """What a list of names has for a text: another text, or null, where the message is passed
+    over.
+    """
 
     def __init__(self, text: Text, which: str, names: Names) -> None:
         self.text, self.which, self.names = text, which, names

@@ -1,4 +1,6 @@
-"""RabbitMQ with AMQP 1.0 and TLS, from which the bridge takes the messages of a day, and which is killed too."""
+"""RabbitMQ with AMQP 1.0 and TLS, from which the bridge takes the messages of a day, and which is
+killed too.
+"""
 from __future__ import annotations
 
 import contextlib
@@ -45,8 +47,10 @@ class Broker:
         (at / "password").write_text("guest\n")
         (at / "enabled_plugins").write_text("[rabbitmq_amqp1_0].\n")
         (at / "rabbitmq.conf").write_text(
-            f"listeners.tcp.default = 127.0.0.1:{self.port}\nlisteners.ssl.default = 127.0.0.1:{self.safe}\n"
-            f"ssl_options.cacertfile = {at}/broker.crt\nssl_options.certfile = {at}/broker.crt\nssl_options.keyfile = {at}/broker.key\n"
+            f"listeners.tcp.default = 127.0.0.1:{self.port}\nlisteners.ssl.default ="
+            f" 127.0.0.1:{self.safe}\nssl_options.cacertfile ="
+            f" {at}/broker.crt\nssl_options.certfile = {at}/broker.crt\nssl_options.keyfile ="
+            f" {at}/broker.key\n"
         )
         self.words: list[Any] = [
             "--broker",
@@ -126,7 +130,9 @@ class Broker:
     def sender(self, link: Any) -> Any:
         """Sends to a queue that outlives the broker: the first call makes it."""
 
-        class Lasting(amqp().reactor.SenderOption):  # type: ignore[misc,name-defined]  # it has no types
+        option = amqp().reactor.SenderOption
+
+        class Lasting(option):  # type: ignore[misc,valid-type]  # proton has no types
             def apply(self, sender: Any) -> None:
                 sender.target.durability = amqp().Terminus.DELIVERIES
 
@@ -153,7 +159,9 @@ class Broker:
 
 
 class RunByBroker(Run):
-    """The machine sends to a broker, one message after the other, again where it doesn't know whether the broker has it."""
+    """The machine sends to a broker, one message after the other, again where it doesn't know
+    whether the broker has it.
+    """
 
     def __init__(
         self, program: pathlib.Path, at: pathlib.Path, seed: int, panels: int, kills: int

@@ -1,11 +1,16 @@
-"""A day of a machine that the bridge translates, while the bridge, the sender and the desk are killed.
+"""A day of a machine that the bridge translates, while the bridge, the sender and the desk are
+killed.
 
-A machine writes the messages of the day, some of them twice, into a file that the bridge follows with the example's table.
-tracedesk-send sends the bridge's messages to `serve`. At random moments the bridge, the sender or the program gets SIGKILL
-and is started again; some kills hit two of them. After that
-  - each table of the desk has the rows that `feed` leaves of the messages, each given once and in order;
-  - the answers are those that `feed` gives, in order, and the trace of each board has the reel of each piece;
-  - each refused message is set aside, and nothing else; a line that lacks a member is a dead letter, and nothing else.
+A machine writes the messages of the day, some of them twice, into a file that the bridge follows
+with the example's table. tracedesk-send sends the bridge's messages to `serve`. At random moments
+the bridge, the sender or the program gets SIGKILL and is started again; some kills hit two of them.
+After that
+  - each table of the desk has the rows that `feed` leaves of the messages, each given once and in
+    order;
+  - the answers are those that `feed` gives, in order, and the trace of each board has the reel of
+    each piece;
+  - each refused message is set aside, and nothing else; a line that lacks a member is a dead
+    letter, and nothing else.
 """
 from __future__ import annotations
 
@@ -32,7 +37,8 @@ SENDER = ROOT / "clients/python/tracedesk-send"
 class DayOf:
     """What a machine of the example says in a day, and which reel each piece is of.
 
-    An operator loads and splices two slots, and panels of three boards are built. Reels are opened, sealed and baked before.
+    An operator loads and splices two slots, and panels of three boards are built. Reels are opened,
+    sealed and baked before.
     """
 
     slots = {"1": ("CAP-100N", ["C1", "C2", "C3"]), "2": ("RES-10K", ["R1", "R2"])}
@@ -249,7 +255,9 @@ class Run(killed.Run):
         return False
 
     def look_at_all(self) -> None:
-        """Each message acted once and in order, and each board's trace has the reel of each piece."""
+        """Each message acted once and in order, and each board's trace has the reel of each
+        piece.
+        """
         self.look_at(self.wanted)
         assert [line.rstrip(b"\n") for line in self.room.dead()] == self.wanted_dead
         for board in {board for board, _ in self.day.pieces}:

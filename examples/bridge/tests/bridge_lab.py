@@ -1,4 +1,6 @@
-"""What the bridge's tests share: messages of machines and of the desk, a table, and a folder with a spool."""
+"""What the bridge's tests share: messages of machines and of the desk, a table, and a folder with a
+spool.
+"""
 from __future__ import annotations
 
 import contextlib
@@ -106,7 +108,9 @@ def installed(*units: tuple[Any, list[str]]) -> dict[str, Any]:
 
 
 def elements_of(board: str, slot: str, pieces: Iterable[tuple[str, Any]]) -> list[dict[str, Any]]:
-    """What a machine says of the pieces of a unit from one slot, after IPC's SDK: an element for each unit and material."""
+    """What a machine says of the pieces of a unit from one slot, after IPC's SDK: an element for
+    each unit and material.
+    """
     carrier, _, position = board.rpartition("-")
     found: dict[Any, list[dict[str, str]]] = {}
     for name, reel in pieces:

@@ -1,4 +1,6 @@
-"""The fixture of the bridge's tests: a folder with a spool and a table, in which no bridge is left running."""
+"""The fixture of the bridge's tests: a folder with a spool and a table, in which no bridge is left
+running.
+"""
 import pathlib
 from typing import Iterator
 

@@ -1,4 +1,6 @@
-"""The bridge takes from RabbitMQ, which is killed under it; it wants rabbitmq-server, python3-qpid-proton and openssl."""
+"""The bridge takes from RabbitMQ, which is killed under it; it wants rabbitmq-server,
+python3-qpid-proton and openssl.
+"""
 from __future__ import annotations
 
 import pathlib
@@ -63,7 +65,9 @@ def test_what_a_broker_refuses_is_reported(
 
 
 def test_what_no_one_can_read_is_a_dead_letter(room: Room, broker: Broker) -> None:
-    """A map with binary keys, and a text that is no UTF-8: both are acknowledged, and what comes next too."""
+    """A map with binary keys, and a text that is no UTF-8: both are acknowledged, and what comes
+    next too.
+    """
     text = message("QQQQ")
 
     class Odd:

@@ -1,4 +1,6 @@
-"""Where the bridge's messages come from: standard input, and a file that grows, is gone, or can't be read."""
+"""Where the bridge's messages come from: standard input, and a file that grows, is gone, or can't
+be read.
+"""
 from __future__ import annotations
 
 import gzip
@@ -201,7 +203,9 @@ def test_what_passes_is_waited_out(room: Room) -> None:
 
 
 def test_a_refused_report_of_work_is_not_put_in_again(room: Room) -> None:
-    """Not even by another table, and once its copies are deleted; a request that was refused may be."""
+    """Not even by another table, and once its copies are deleted; a request that was refused may
+    be.
+    """
     table = simple()
     table["Messages"]["load"] = [
         {

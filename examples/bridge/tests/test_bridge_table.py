@@ -22,7 +22,9 @@ def texts(made: list[forms.Message]) -> list[bytes]:
 
 
 def carrier(*units: tuple[str, str, dict[str, Any]]) -> dict[str, Any]:
-    """An install of IPC's SDK, of units with a slot and the reel of each piece; none where the machine names no reel."""
+    """An install of IPC's SDK, of units with a slot and the reel of each piece; none where the
+    machine names no reel.
+    """
     elements = [
         it for board, slot, pieces in units for it in elements_of(board, slot, pieces.items())
     ]
@@ -166,7 +168,9 @@ def test_a_message_with_a_fault_is_refused_with_its_reason(message: Any, why: st
 
 
 def test_a_dead_letter_that_is_a_report_has_a_record(room: Room) -> None:
-    """Also one that is no JSON, or has a member twice, since nobody knows what it was; with each byte as it came."""
+    """Also one that is no JSON, or has a member twice, since nobody knows what it was; with each
+    byte as it came.
+    """
     start = line_of(said("CFX.Production.WorkStarted"))
     twice = start.replace(b'{"MessageName"', b'{"UniqueID":"x","MessageName"')
     loaded = line_of(said("CFX.Materials.Management.MaterialsOpened", Materials=[{}]))
@@ -217,6 +221,14 @@ FAULTS_OF_TABLES: list[tuple[Change, str]] = [
     (
         lambda table, start, install: start["Members"].update(Board=7),
         "is no object with Of, Names",
+    ),
+    (
+        lambda table, start, install: start.update(Attributes={"DateCode": "{/Code}"}),
+        "Attributes: it is for ReelReceived",
+    ),
+    (
+        lambda table, start, install: start.update(Attributes={"Colour": "red"}),
+        "Attributes is no object with any of DateCode, Supplier",
     ),
     (lambda table, start, install: install.update(UniqueID="{/UniqueID}"), "has to have {#}"),
     (lambda table, start, install: install.update(Each=7), "7 is no path"),
@@ -381,6 +393,31 @@ OF_ALL_FORMS: list[tuple[Any, list[bytes]]] = [
 def test_all_forms_give_what_was_worked_out(message: Any, wanted: list[bytes]) -> None:
     """Rows, numbers, hashes, names for all others, the element around, and a list of panels."""
     assert texts(mapping.Table(ALL_FORMS).made(message)) == wanted
+
+
+NAMED = {
+    "DateCode": "{/code|}",
+    "Supplier": {"Of": "{/by|none}", "Names": "makers"},
+    "MakerPart": "{/part|}",
+    "Order": "{/order|}",
+}
+SUPPLIED = {"code": 2614, "by": "m1", "part": "<b>GRM</b>", "order": None}
+SAID_BESIDES = {"DateCode": "2614", "Supplier": "Maker One", "MakerPart": "<b>GRM</b>"}
+
+
+@pytest.mark.parametrize("more, wanted", [(SUPPLIED, SAID_BESIDES), ({}, {})])
+def test_a_receipt_has_the_attributes_that_its_message_names(
+    more: dict[str, Any], wanted: dict[str, str]
+) -> None:
+    """Behind the members that the desk reads."""
+    table = json.loads(json.dumps(ALL_FORMS))
+    table["Names"]["makers"] = {"m1": "Maker One", "none": ""}
+    (entry,) = table["Messages"]["reel"]
+    entry["Attributes"] = NAMED
+    message, (plain,) = OF_ALL_FORMS[1]
+    told = json.loads(plain)
+    told["MessageBody"].update(wanted)
+    assert texts(mapping.Table(table).made({**message, **more})) == [line_of(told)]
 
 
 ODD: tuple[Any, ...] = (
