@@ -1,6 +1,7 @@
 """How messages and answers are spelled, for the scripts of the cases.
 
-Each answer is still worked out by hand in the case that needs it: nothing here knows what a desk does.
+Each answer is still worked out by hand in the case that needs it: nothing here knows what a desk
+does.
 """
 import datetime
 import json

@@ -1,7 +1,7 @@
 """A board of 50,000 pieces off ten reels, all placed past floor life, and what its reports say.
 
-Slot n feeds 5,000 designators off the reel Kn. The reels are opened by their loads at minute 0 and have 1,440 minutes;
-the board is begun a minute before that and built at the minute.
+Slot n feeds 5,000 designators off the reel Kn. The reels are opened by their loads at minute 0 and
+have 1,440 minutes; the board is begun a minute before that and built at the minute.
 """
 import pathlib
 from typing import Any

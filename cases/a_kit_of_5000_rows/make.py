@@ -1,7 +1,7 @@
 """A sheet of as many rows as may be, by turns of two parts, and the kit of it for two boards.
 
-Of P there are a hundred reels with one piece each, so the first fifty rows of P get two reels each. Of Q there is one
-reel: the first row of Q gets it whole, and none of the others has one.
+Of P there are a hundred reels with one piece each, so the first fifty rows of P get two reels each.
+Of Q there is one reel: the first row of Q gets it whole, and none of the others has one.
 """
 import pathlib
 

@@ -1,4 +1,6 @@
-"""A machine with as many slots as a sheet may have rows: each is loaded, and a board takes a piece off each."""
+"""A machine with as many slots as a sheet may have rows: each is loaded, and a board takes a piece
+off each.
+"""
 from typing import Any
 from spelling import accepted, message, refused, write
 

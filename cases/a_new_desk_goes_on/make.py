@@ -1,9 +1,11 @@
-"""A desk with a reel for each thing that has to be kept, and the messages with which a new one begins where it ended.
+"""A desk with a reel for each thing that has to be kept, and the messages with which a new one
+begins where it ended.
 
-The old desk ends at minute 2,000. K1 was out of its bag for 100 minutes, and lies on slot 1 since 300: 1,800
-minutes, more than the 1,440 of level 5a, so it has expired on its slot. K2, behind it, is out since 400, and has 8,480
-of level 3's 10,080 minutes. K3 was baked, and has used up its label's 60 minutes. K4 is spent. K5 was out from 500 to
-800, so 4,020 of level 4's 4,320 minutes are left.
+The old desk ends at minute 2,000. K1 was out of its bag for 100 minutes, and lies on slot 1 since
+300: 1,800 minutes, more than the 1,440 of level 5a, so it has expired on its slot. K2, behind it,
+is out since 400, and has 8,480 of level 3's 10,080 minutes. K3 was baked, and has used up its
+label's 60 minutes. K4 is spent. K5 was out from 500 to 800, so 4,020 of level 4's 4,320 minutes are
+left.
 """
 import pathlib
 from typing import Any, Iterator
@@ -67,8 +69,8 @@ OLD: list[Any] = [(0, *it, {}) for it in SETUP] + [
     (2000, "ClockSet", {}, {}),
 ]
 
-# of the new one: K2's exposure of 1,600 minutes is the longest, so it begins at minute 400. K1 is told as out for its
-# whole floor life, from 560 on, and K2 can't stand behind it before
+# of the new one: K2's exposure of 1,600 minutes is the longest, so it begins at minute 400. K1 is
+# told as out for its whole floor life, from 560 on, and K2 can't stand behind it before
 NEW: list[Any] = [(400, *it, {}) for it in SETUP] + [
     (400, *receipt("K1", "P", "L1", "5a", 9), {}),
     (400, *receipt("K2", "P", "L1", "3", 30), {}),
@@ -81,12 +83,9 @@ NEW: list[Any] = [(400, *it, {}) for it in SETUP] + [
     (1700, "ReelOpened", {"Reel": "K5"}, {}),
     (1940, "ReelOpened", {"Reel": "K3"}, {}),
     (2000, "ReelSealed", {"Reel": "K5"}, {}),
-    (
-        2000,
-        "ClockSet",
-        {},
-        {},
-    ),  # desk-begun, by which the desk says that it was begun from another; else u20 would have number 20 in both
+    # desk-begun: the new desk says that it was begun from another. Its minute moves no clock
+    # Without it u20 would have number 20 in both
+    (0, "ClockSet", {}, {}),
 ]
 KNOWN = [
     (f"u{n}", minute) for n, (minute, *_) in reversed(list(enumerate(OLD, 1)))
@@ -95,7 +94,9 @@ ALL = len(NEW) + len(KNOWN) + 1  # the last command is a ClockSet of its own
 
 
 def own(number: int) -> str:
-    """The UniqueID of a message that begins the new desk; all but the last name the checksum of the old desk's file, which is the same in each run."""
+    """The UniqueID of a message that begins the new desk; all but the last name the checksum of the
+    old desk's file, which is the same in each run.
+    """
     return "desk-begun" if number == len(NEW) else f"begin-fd09d4110d58226e648b787d-{number}"
 
 
@@ -114,7 +115,9 @@ def lines(name: str, them: Any) -> None:
 
 
 def later(first: int) -> Iterator[Any]:
-    """What both desks are told afterwards, of which the second is one number behind the first, and their answers."""
+    """What both desks are told afterwards, of which the second is one number behind the first, and
+    their answers.
+    """
     yield message("v1", "MaterialsLoaded", 2000, Machine="M", Slot="2", Reel="K3"), refused(
         "v1", "Expired", "K3"
     )
@@ -141,7 +144,9 @@ def later(first: int) -> Iterator[Any]:
 
 
 def again() -> Iterator[Any]:
-    """What the old desk accepted is sent to the new one, and once more as a ClockSet, by which the message is known."""
+    """What the old desk accepted is sent to the new one, and once more as a ClockSet, by which the
+    message is known.
+    """
     for place, (uid, minute) in enumerate(KNOWN, len(NEW) + 1):
         _, word, body, _ = OLD[int(uid[1:]) - 1]
         if word != "ClockSet":
@@ -177,7 +182,8 @@ lines("again_new.jsonl", [told for _, told in again()])
 lines("later.jsonl", [asked for asked, _ in later(1)])
 lines("later_old.jsonl", [told for _, told in later(len(OLD) + 1)])
 lines("later_new.jsonl", [told for _, told in later(ALL + 1)])
-# of both desks: K3 is expired, so of the free reels K5 alone is for the kit, with more than the 5 pieces of slot 1
+# of both desks: K3 is expired, so of the free reels K5 alone is for the kit, with more than the 5
+# pieces of slot 1
 lines(
     "slots.csv",
     [

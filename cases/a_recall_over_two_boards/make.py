@@ -1,4 +1,6 @@
-"""Looks that the reports and the queries of this case, and what they give, are those of docs/recall.md."""
+"""Looks that the reports and the queries of this case, and what they give, are those of
+docs/recall.md.
+"""
 import csv
 import io
 import json

@@ -39,7 +39,9 @@ first.close()
 
 with link(PORT) as second:  # three in one piece, and then half of one
     second.sendall(
-        b"GET /trace/board?board=SN-117&detail=1 HTTP/1.1\r\n\r\nGET /trace/board?board=SN-118&detail=1 HTTP/1.1\r\n\r\nGET /overdue HTTP/1.1\r\n\r\nGET /over"
+        b"GET /trace/board?board=SN-117&detail=1 HTTP/1.1\r\n\r\nGET"
+        b" /trace/board?board=SN-118&detail=1 HTTP/1.1\r\n\r\nGET /overdue HTTP/1.1\r\n\r\nGET"
+        b" /over"
     )
     second.shutdown(socket.SHUT_WR)
     got = b""

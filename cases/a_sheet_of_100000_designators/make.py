@@ -1,4 +1,6 @@
-"""A sheet of 20 rows with 5,000 designators each, and one whose last designator is the first one again."""
+"""A sheet of 20 rows with 5,000 designators each, and one whose last designator is the first one
+again.
+"""
 from typing import Any
 from spelling import accepted, message, refused, write
 

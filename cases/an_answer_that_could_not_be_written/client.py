@@ -1,7 +1,8 @@
-"""A client that is gone before its answer is written, and then sends the same request again on new connections.
+"""A client that is gone before its answer is written, and then sends the same request again on new
+connections.
 
-The desk serves one connection at a time. So while the first one is held, the second is opened, sends its request and
-is reset: the desk finds the whole request, and no one to write to.
+The desk serves one connection at a time. So while the first one is held, the second is opened,
+sends its request and is reset: the desk finds the whole request, and no one to write to.
 """
 import socket
 import struct

@@ -1,4 +1,6 @@
-"""Ignored messages whose names, and so whose answers, have each length up to 2,100 bytes, and some longer ones."""
+"""Ignored messages whose names, and so whose answers, have each length up to 2,100 bytes, and some
+longer ones.
+"""
 from spelling import answer, text, write
 
 names = [

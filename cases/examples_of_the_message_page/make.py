@@ -1,7 +1,9 @@
-"""Takes the examples out of docs/messages.md: the first line of each is a message and the second its answer.
+"""Takes the examples out of docs/messages.md: the first line of each is a message and the second
+its answer.
 
-It also looks that each of the seventeen messages has one, that the page names each refusal and each fault that some
-case shows, and that docs/files.md names each fault of an import that some case shows.
+It also looks that each of the seventeen messages has one, that the page names each refusal and each
+fault that some case shows, and that docs/files.md names each fault of an import that some case
+shows.
 """
 import pathlib
 import re

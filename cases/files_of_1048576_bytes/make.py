@@ -1,4 +1,6 @@
-"""Files of as many bytes as may be, and of one byte more, by the lines of no byte after what they say."""
+"""Files of as many bytes as may be, and of one byte more, by the lines of no byte after what they
+say.
+"""
 import pathlib
 from typing import Any
 

@@ -1,4 +1,6 @@
-"""Two reels of level 6 with the least and the greatest label, baked and opened at once, on a machine of two slots."""
+"""Two reels of level 6 with the least and the greatest label, baked and opened at once, on a
+machine of two slots.
+"""
 from typing import Any
 from spelling import accepted, faulty, message, refused, write
 

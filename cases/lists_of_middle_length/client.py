@@ -1,4 +1,6 @@
-"""Requests the trace of each board and the kit of each product, and prints how many lines they have."""
+"""Requests the trace of each board and the kit of each product, and prints how many lines they
+have.
+"""
 import http.client
 import sys
 
@@ -15,7 +17,6 @@ def lines(target: str) -> int:
 desk = http.client.HTTPConnection("127.0.0.1", PORT, timeout=PATIENCE)
 desk.sock = link(PORT)
 for n in sorted(int(board[1:]) for board in BOARDS):
-    print(
-        f"{n}: {lines(f'/trace/board?board=B{n}&detail=4')} {lines(f'/kit?product=PR{n}&machine=M&boards=1')}"
-    )
+    trace = lines(f"/trace/board?board=B{n}&detail=4")
+    print(f"{n}: {trace} {lines(f'/kit?product=PR{n}&machine=M&boards=1')}")
 desk.close()

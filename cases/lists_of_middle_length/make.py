@@ -1,4 +1,6 @@
-"""Installs, sheets and counts of 16 lengths from 3 to 3,072, and a lot whose boards have as many pieces."""
+"""Installs, sheets and counts of 16 lengths from 3 to 3,072, and a lot whose boards have as many
+pieces.
+"""
 import pathlib
 from typing import Any
 

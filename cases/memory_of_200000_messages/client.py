@@ -1,4 +1,6 @@
-"""Requests one report 200,000 times on one connection, fifty at a time, and prints how many came."""
+"""Requests one report 200,000 times on one connection, fifty at a time, and prints how many
+came.
+"""
 import sys
 from typing import Any
 

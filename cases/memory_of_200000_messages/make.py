@@ -1,4 +1,6 @@
-"""A part, a reel, and 200,000 messages that change nothing: ignored, refused and repeated ones by turns."""
+"""A part, a reel, and 200,000 messages that change nothing: ignored, refused and repeated ones by
+turns.
+"""
 import pathlib
 
 from spelling import accepted, answer, message, refused, text, write

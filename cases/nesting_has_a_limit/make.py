@@ -1,4 +1,6 @@
-"""Messages with a skipped member that nests arrays, beside the envelope, which is one level itself."""
+"""Messages with a skipped member that nests arrays, beside the envelope, which is one level
+itself.
+"""
 from spelling import accepted, faulty, message, write
 
 

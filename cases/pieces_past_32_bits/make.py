@@ -1,4 +1,6 @@
-"""860 counts of one reel, of 1 and of 10,000,000 pieces by turns: each of the second kind finds 9,999,999."""
+"""860 counts of one reel, of 1 and of 10,000,000 pieces by turns: each of the second kind finds
+9,999,999.
+"""
 from spelling import accepted, message, write
 
 row = {"Slot": "1", "PartNumber": "P", "Designators": ["R1"]}

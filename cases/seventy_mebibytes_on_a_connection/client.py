@@ -1,4 +1,6 @@
-"""Defines seventy parts on one connection, each in a body as long as may be, and prints the answers."""
+"""Defines seventy parts on one connection, each in a body as long as may be, and prints the
+answers.
+"""
 import http.client
 import json
 import sys
