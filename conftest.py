@@ -1,13 +1,14 @@
 """The options, markers and programs of all tests by pytest.
 
-    /usr/bin/python3 -m pytest ops/tests/test_backup.py::test_sums_are_cut --program /usr/bin/tracedesk
-    /usr/bin/python3 -m pytest ops/tests -m gate -n 2
+    /usr/bin/python3 -m pytest ops/tests/test_backup.py::test_sums_are_cut --program
+    /usr/bin/tracedesk /usr/bin/python3 -m pytest ops/tests -m gate -n 2
 
-The program under test is that of --program, else PROGRAM in the environment, else the repository's own. tracedesk-chain is
-that of CHAIN in the environment, else the one next to the program.
+The program under test is that of --program, else PROGRAM in the environment, else the repository's
+own. tracedesk-chain is that of CHAIN in the environment, else the one next to the program.
 
-A test has the marker `gate`, unless it has `whole` (it takes minutes), `root` or `browser`; one of these may have `gate`
-too. `needs` names commands of dev/packages.txt: without one of them a test is skipped.
+A test has the marker `gate`, unless it has `whole` (it takes minutes), `root` or `browser`; one of
+these may have `gate` too. `needs` names commands of dev/packages.txt: without one of them a test is
+skipped.
 """
 import os
 import pathlib

@@ -1,36 +1,44 @@
 """Copies a desk again and again while senders send, and compares each copy with what was sent.
 
-usage: dev/bench/run copies [--pieces N] [--desk FILE] [--copies N] [--senders N] [--proxy] [--faults] [--planted] [--holds]
+usage: dev/bench/run copies [--pieces N] [--desk FILE] [--copies N] [--senders N] [--proxy]
+[--faults] [--planted] [--holds]
                             [--pause SECONDS] [--minutes N] [--seed N] [--program FILE] [FOLDER]
 
 examples:
   dev/bench/run copies --pieces 1000000 --copies 300             one sender at full rate
-  dev/bench/run copies --pieces 2000 --copies 1000 --faults      and the tool that copies is disturbed
+  dev/bench/run copies --pieces 2000 --copies 1000 --faults      and the tool that copies is
+                                                                 disturbed
   dev/bench/run copies --pieces 2000 --senders 12 --proxy        through the packaged nginx
-  dev/bench/run copies --pieces 2000 --planted                   a copy that holds nothing has to be found
+  dev/bench/run copies --pieces 2000 --planted                   a copy that holds nothing has to be
+                                                                 found
 
-A desk with so many placed pieces is made in FOLDER, or in the folder for temporary files. Each sender waits for an answer
-before it sends again; straight to the desk each message has a connection of its own. The first sender goes on with the work
-of the line, so that boards get their pieces; the others define parts.
+A desk with so many placed pieces is made in FOLDER, or in the folder for temporary files. Each
+sender waits for an answer before it sends again; straight to the desk each message has a connection
+of its own. The first sender goes on with the work of the line, so that boards get their pieces; the
+others define parts.
 
-Each copy is made as tracedesk-backup makes one: from a held connection, judged by an audit, and kept under its name if that
-found just the commands until its marker. A kept copy is wrong if its list is not the beginning of the desk's last one, does
-not end in its marker, or lacks a command that was acknowledged before the copy was begun. The desk's last list must have
-each answer that a sender got. This comparison is the tool's own: it reads the lists by SQL, and asks no audit.
+Each copy is made as tracedesk-backup makes one: from a held connection, judged by an audit, and
+kept under its name if that found just the commands until its marker. A kept copy is wrong if its
+list is not the beginning of the desk's last one, does not end in its marker, or lacks a command
+that was acknowledged before the copy was begun. The desk's last list must have each answer that a
+sender got. This comparison is the tool's own: it reads the lists by SQL, and asks no audit.
 
 --desk     a file that this tool or `starts` made with so many pieces, without a log: it is copied
 --pause    of each sender between two messages, if the machine is to have time for the copies (0)
 --minutes  after which no more copies are made (1,000)
---faults   every other copy is disturbed: its tool is killed or stopped, at any moment or while it holds the connection, its
-           disk is full (root alone can mount one), or slow
---holds    the copies are made, and neither audited nor kept: what senders wait for is measured alone
---planted  the copies are made without holding the connection, and by any lawful audit: one has to be found wrong
+--faults   every other copy is disturbed: its tool is killed or stopped, at any moment or while it
+           holds the connection, its disk is full (root alone can mount one), or slow
+--holds    the copies are made, and neither audited nor kept: what senders wait for is measured
+           alone
+--planted  the copies are made without holding the connection, and by any lawful audit: one has to
+           be found wrong
 
-Printed is a row for FIGURES: the copies that were kept, the tries of each, how long the connection was held, and the longest
-time for an answer, next to a copy and without one, in seconds; and how often the log began anew.
+Printed is a row for FIGURES: the copies that were kept, the tries of each, how long the connection
+was held, and the longest time for an answer, next to a copy and without one, in seconds; and how
+often the log began anew.
 
-Exit status: 0 no kept copy is wrong, or a planted one was found; 1 otherwise; 2 bad command line, or something that is
-needed is not there.
+Exit status: 0 no kept copy is wrong, or a planted one was found; 1 otherwise; 2 bad command line,
+or something that is needed is not there.
 """
 from __future__ import annotations
 
@@ -333,6 +341,7 @@ class Copies:
         with contextlib.suppress(EOFError):
             while not isinstance(told, tuple):
                 told = said.recv()
+        told = told if isinstance(told, tuple) else None  # else it said why there is no copy
         if told:
             self.held.append(told[2])
             self.tries.append(told[3])
@@ -437,8 +446,8 @@ def row(
         "| pieces | senders | answers | copies kept | tries, most | held, median, s | held, most |"
     )
     print(
-        f"| {asked.pieces:,} | {asked.senders} | {told:,} | {len(copies.kept)} | {max(tries, default=0)}"
-        f" | {statistics.median(ordered):.3f} | {ordered[-1]:.3f} |"
+        f"| {asked.pieces:,} | {asked.senders} | {told:,} | {len(copies.kept)} |"
+        f" {max(tries, default=0)} | {statistics.median(ordered):.3f} | {ordered[-1]:.3f} |"
     )
     for how, (most, late) in sorted(waits.items()):
         print(f"longest answer next to {how}: {most:.3f} s, 99.9 % within {late:.3f}")

@@ -1,21 +1,26 @@
-"""Measures a day of a line at three sizes, to a file, in memory and over HTTP, beside stock SQLite; prints tables for docs/figures.md.
+"""Measures a day of a line at three sizes, to a file, in memory and over HTTP, beside stock SQLite;
+prints tables for docs/figures.md.
 
-usage: dev/bench/run day [--program FILE] [--boards N,N,..] [--commands N,N,..] [--turns N] [--seed N] [--folder FOLDER]
+usage: dev/bench/run day [--program FILE] [--boards N,N,..] [--commands N,N,..] [--turns N] [--seed
+N] [--folder FOLDER]
 
 examples:
   dev/bench/run day --boards 60 --turns 1                    both tables (make bench)
   dev/bench/run day --boards '' --commands 1000,3000,10000   the second table alone
 
-The messages are those of dev/tracedesk_dev/shift.py. Figures are medians of --turns turns, one after the other. Rates
-of `feed --db` are of all lines at once. Latencies are of lines that are sent one by one, to `feed` over a pipe and to
-`serve` over one connection, from the last byte of the message to the last byte of its answer; the rates of `serve` are by
-the sum of these. Opening is a run on the finished file without a line. SQLite is Python's sqlite3 in WAL mode with
-synchronous FULL: the same tables, and in one transaction a command the same rows of `accepted` and `placement` and an
-UPDATE of each reel that a piece comes off; it reads and judges nothing. The files are made in FOLDER, on the disk that
-is measured. It wants Debian's package time, for the memory.
+The messages are those of dev/tracedesk_dev/shift.py. Figures are medians of --turns turns, one
+after the other. Rates of `feed --db` are of all lines at once. Latencies are of lines that are sent
+one by one, to `feed` over a pipe and to `serve` over one connection, from the last byte of the
+message to the last byte of its answer; the rates of `serve` are by the sum of these. Opening is a
+run on the finished file without a line. SQLite is Python's sqlite3 in WAL mode with synchronous
+FULL: the same tables, and in one transaction a command the same rows of `accepted` and `placement`
+and an UPDATE of each reel that a piece comes off; it reads and judges nothing. The files are made
+in FOLDER, on the disk that is measured. It wants Debian's package time, for the memory.
 
-The second table is `feed` without a file, over the first N commands of the line, and with one over the same lines:
-both have to give the same answers. It has the processor time a piece, which should not grow with the history.
+The second table is `feed` without a file, over the first N commands of the line, and with one over
+the same lines:
+both have to give the same answers. It has the processor time a piece, which should not grow with
+the history.
 """
 import argparse
 import contextlib
@@ -82,7 +87,9 @@ def first_commands(lines: Any, commands: int) -> Any:
 
 
 def in_memory(asked: argparse.Namespace, folder: pathlib.Path, lines: Any) -> Any:
-    """The figures of `feed` without a file and with one, over the same lines, each a median; the answers have to be the same."""
+    """The figures of `feed` without a file and with one, over the same lines, each a median; the
+    answers have to be the same.
+    """
     file = folder / "desk"
     told: dict[str, list[float]] = {}
     given: dict[str, Any] = {}
@@ -154,7 +161,9 @@ def serve_latencies(asked: argparse.Namespace, folder: pathlib.Path, lines: Any)
 
 
 def by_sqlite(folder: pathlib.Path, desk: Any) -> Any:
-    """Seconds in which stock SQLite writes the rows of a desk, a transaction a command, and its file's size."""
+    """Seconds in which stock SQLite writes the rows of a desk, a transaction a command, and its
+    file's size.
+    """
     copy = folder / "sqlite"
     trial.remove(copy)
     with contextlib.closing(sqlite3.connect(desk)) as source:
@@ -191,7 +200,10 @@ def by_sqlite(folder: pathlib.Path, desk: Any) -> Any:
                 )
                 for name in {piece[reel] for piece in pieces}:
                     base.execute(
-                        "UPDATE reel SET placed = placed + 1, received = received + 1 WHERE reel = ?",
+                        (
+                            "UPDATE reel SET placed = placed + 1, received = received + 1 WHERE"
+                            " reel = ?"
+                        ),
                         [name],
                     )
             base.execute("COMMIT")
@@ -289,7 +301,10 @@ def main(asked: argparse.Namespace, _reader: argparse.ArgumentParser) -> None:
             in_memory(asked, folder, first_commands(lines, commands)) for commands in asked.commands
         ]
     print(
-        f"{platform.system()} {platform.machine()}, {os.cpu_count()} cores, load {load:.1f} at the start; a write of 4 KiB with its sync takes {probe:.0f} us; SQLite {sqlite3.sqlite_version}; {'one turn' if asked.turns == 1 else f'medians of {asked.turns} turns'}."
+        f"{platform.system()} {platform.machine()}, {os.cpu_count()} cores, load {load:.1f} at the"
+        f" start; a write of 4 KiB with its sync takes {probe:.0f} us; SQLite"
+        f" {sqlite3.sqlite_version};"
+        f" {'one turn' if asked.turns == 1 else f'medians of {asked.turns} turns'}."
     )
     for heads, figures in ((asked.boards, told), (asked.commands, beside)):
         if figures:

@@ -1,25 +1,35 @@
-"""Loads made-up archives into a PostgreSQL of its own folder and asks for a lot, a reel and a board: how long, how large?
+"""Loads made-up archives into a PostgreSQL of its own folder and asks for a lot, a reel and a
+board: how long, how large?
 
-usage: dev/bench/run plant [--program FILE] [--folder FOLDER] [--archives N] [--boards BOARDS] [--files N] [--minutes N]
-       dev/bench/run plant --recall [--program FILE] [--folder FOLDER] [--archives N] [--pieces N] [--minutes N]
+usage: dev/bench/run plant [--program FILE] [--folder FOLDER] [--archives N] [--boards BOARDS]
+[--files N] [--minutes N]
+       dev/bench/run plant --recall [--program FILE] [--folder FOLDER] [--archives N] [--pieces N]
+       [--minutes N]
 
 examples:
-  dev/bench/run plant                                       1,000 files of 200,000 pieces: 25 GB of disk, and an hour
+  dev/bench/run plant                                       1,000 files of 200,000 pieces: 25 GB of
+                                                            disk, and an hour
   dev/bench/run plant --boards 1 --files 10000              10,000 files of 178 pieces: 3 GB
-  dev/bench/run plant --archives 41 --boards 5180 --files 40    40 archives of a million pieces, all loaded by ops/tracedesk-plant-load
-  dev/bench/run plant --recall                              52 archives of 810,000 pieces: 10 GB of disk, and an hour
+  dev/bench/run plant --archives 41 --boards 5180 --files 40    40 archives of a million pieces, all
+                                                                loaded by ops/tracedesk-plant-load
+  dev/bench/run plant --recall                              52 archives of 810,000 pieces: 10 GB of
+                                                            disk, and an hour
 
-One shift of dev/tracedesk_dev/shift.py is fed to the program: that is the first archive. The others, each of a line of its own, are its
-bytes with other names of boards, machines, reels and lots of the same length; the audit of the second must be lawful.
-Each archive is loaded by ops/tracedesk-plant-load, by a catalogue of its own, and then removed. SQL then copies the rows of
-the first one, by the same statements and with other names, until there are --files. Two reels in five of the files become the lot.
-PostgreSQL has its default settings, and fsync is on; while SQL copies, it is off, and no log is written. Cold is after a
-new start of it, with its files out of the system's cache.
+One shift of dev/tracedesk_dev/shift.py is fed to the program: that is the first archive. The
+others, each of a line of its own, are its bytes with other names of boards, machines, reels and
+lots of the same length; the audit of the second must be lawful. Each archive is loaded by
+ops/tracedesk-plant-load, by a catalogue of its own, and then removed. SQL then copies the rows of
+the first one, by the same statements and with other names, until there are --files. Two reels in
+five of the files become the lot. PostgreSQL has its default settings, and fsync is on; while SQL
+copies, it is off, and no log is written. Cold is after a new start of it, with its files out of the
+system's cache.
 
-With --recall they are the archives of one line that rolls over, each begun by ops/tracedesk-begin from the one before. A lot with
-pieces in two of them is asked for, and a board, by tracedesk-chain and by ops/tracedesk-recall, and each file is audited: the same
-reading, so that is compared. The lot is also asked for in the four parts that tracedesk-recall reads side by side if four processors
-are free, one after the other: each is timed as if it were alone. tracedesk-chain is the one next to the program, or that of CHAIN. PostgreSQL isn't needed then.
+With --recall they are the archives of one line that rolls over, each begun by ops/tracedesk-begin
+from the one before. A lot with pieces in two of them is asked for, and a board, by tracedesk-chain
+and by ops/tracedesk-recall, and each file is audited: the same reading, so that is compared. The
+lot is also asked for in the four parts that tracedesk-recall reads side by side if four processors
+are free, one after the other: each is timed as if it were alone. tracedesk-chain is the one next to
+the program, or that of CHAIN. PostgreSQL isn't needed then.
 
 --folder   where all of it lies; it is new, and is removed at the end
 --archives made by the program: 52 with --recall, else 4; the last is loaded after all others
@@ -53,7 +63,9 @@ COLD, WARM = 3, 15  # turns
 
 
 def taken(server: Any) -> Any:
-    """Seconds by the clock, and of the processor: of ended children of this tool and of ended sessions of the server, where there is one."""
+    """Seconds by the clock, and of the processor: of ended children of this tool and of ended
+    sessions of the server, where there is one.
+    """
     own = resource.getrusage(resource.RUSAGE_CHILDREN)
     return time.monotonic(), own.ru_utime + own.ru_stime + (
         server.processor_seconds() if server else 0
@@ -74,10 +86,9 @@ def loads(asked: argparse.Namespace, server: Any, room: pathlib.Path) -> Iterato
 
     for number, file in made(asked, room, folder_of):
         its, at, size = line_of(file, f"L{number + 1}"), file.parent, file.stat().st_size
-        catalogue.add(at / catalogue.FILE_NAME, its)
         began = taken(server)
         subprocess.run(
-            [ROOT / "ops/tracedesk-plant-load", at / catalogue.FILE_NAME],
+            [ROOT / "ops/tracedesk-plant-load", "--line", its.desk, at / catalogue.FILE_NAME],
             check=True,
             stdout=subprocess.DEVNULL,
         )
@@ -89,7 +100,9 @@ def loads(asked: argparse.Namespace, server: Any, room: pathlib.Path) -> Iterato
 
 
 def chain_of(asked: argparse.Namespace, at: Any) -> Any:
-    """Makes the archives of one line that rolls over, and its catalogue; the path of each, and how many pieces there are."""
+    """Makes the archives of one line that rolls over, and its catalogue; the path of each, and how
+    many pieces there are.
+    """
     messages, pieces, ticks = bench_line.Line().messages(), 0, program.Ticks()
     files: list[Any] = []
     end = time.monotonic() + 60 * asked.minutes
@@ -129,16 +142,15 @@ def chain_of(asked: argparse.Namespace, at: Any) -> Any:
             whole(desk)
             files.append(at / f"archive-{number}")
             shutil.move(desk, files[-1])
-        catalogue.add(
-            at / catalogue.FILE_NAME, line_of(files[-1], "L1", files[-2].name if number else "")
-        )
         pieces += placed
         ticks.tell(f"{number + 1} archives")
     return files, pieces
 
 
 def measured(*words: Any) -> Any:
-    """Seconds of a call by the clock and of the processor, the most memory that it had in bytes, and how many lines it printed."""
+    """Seconds of a call by the clock and of the processor, the most memory that it had in bytes,
+    and how many lines it printed.
+    """
     with tempfile.NamedTemporaryFile(
         "r"
     ) as used:  # by `time`: a child of this process has its memory too at first
@@ -154,13 +166,16 @@ def measured(*words: Any) -> Any:
 
 
 def recall_bench(asked: argparse.Namespace, room: pathlib.Path) -> None:
-    """A lot of a reel that was carried over amid the chain, and a board, by each road; and the audit of each file, which reads the same."""
+    """A lot of a reel that was carried over amid the chain, and a board, by each road; and the
+    audit of each file, which reads the same.
+    """
     at = room / "archive"
     at.mkdir()
     files, pieces = chain_of(asked, at)
     with catalogue.opened(files[len(files) // 2]) as database:
         ((lot, board),) = database.execute(
-            "SELECT lot, board FROM placement JOIN reel USING (reel) WHERE remaining > 0 ORDER BY placement.number DESC LIMIT 1"
+            "SELECT lot, board FROM placement JOIN reel USING (reel) WHERE remaining > 0 ORDER BY"
+            " placement.number DESC LIMIT 1"
         )
     tell(
         {
@@ -204,14 +219,9 @@ def recall_bench(asked: argparse.Namespace, room: pathlib.Path) -> None:
         "--program",
         asked.program,
     ]
-    for words in (
-        ["lot", lot, "--quick"],
-        ["board", board, "--quick"],
-        ["lot", lot],
-        ["board", board],
-    ):
+    for words in (["lot", lot], ["board", board]):
         of(
-            "ops/tracedesk-recall " + " ".join((words[0], *words[2:])),
+            f"ops/tracedesk-recall {words[0]}",
             measured(ROOT / "ops/tracedesk-recall", *words, *line),
         )
 
@@ -228,7 +238,9 @@ def out_of_cache(folder: pathlib.Path) -> None:
 
 
 def timed(server: Any, *words: Any) -> Any:
-    """The seconds of one call of psql by the clock and of the processor, its start among them, and what it printed."""
+    """The seconds of one call of psql by the clock and of the processor, its start among them, and
+    what it printed.
+    """
     began = taken(server)
     told = postgres.asked("--csv", "-t", *words)
     clock, _ = since(server, began)
@@ -245,7 +257,9 @@ def least(pairs: Any) -> Any:
 
 
 def restarted(server: Any, **options: Any) -> None:
-    """A new start of the server, with its files out of the system's cache; `options` are not its defaults."""
+    """A new start of the server, with its files out of the system's cache; `options` are not its
+    defaults.
+    """
     postgres.asked("-c", "CHECKPOINT")
     server.stop()
     out_of_cache(server.data)
@@ -255,7 +269,8 @@ def restarted(server: Any, **options: Any) -> None:
     server.start()
 
 
-# a copy of what ops/tracedesk-plant-load made of the first archive, with other names, as that makes it
+# a copy of what ops/tracedesk-plant-load made of the first archive, with other names, as that makes
+# it
 COPIES = """DO $$ DECLARE its text; BEGIN FOR it IN {first} .. {last} LOOP
     its := 'placement_' || it;
     INSERT INTO file SELECT it, 'C' || it % 10, 'archive-' || it, md5(it::text), first_minute, last_minute, commands, last_uid, pieces, '', false, 0, said, md5(it::text) FROM file WHERE id = 1;
@@ -272,7 +287,10 @@ SIZES = """SELECT json_build_object('pieces', (SELECT sum(pieces) FROM plant.fil
     'placements', (SELECT sum(pg_table_size(inhrelid)) FROM pg_inherits WHERE inhparent = 'plant.placement'::regclass),
     'their indexes', (SELECT sum(pg_indexes_size(inhrelid)) FROM pg_inherits WHERE inhparent = 'plant.placement'::regclass), 'command', pg_total_relation_size('plant.command'),
     'reel', pg_total_relation_size('plant.reel'), 'start', pg_total_relation_size('plant.start'))"""
-RENAMED = "CREATE FUNCTION plant.renamed(name text, number integer) RETURNS text LANGUAGE sql AS $$ SELECT lpad(to_hex(number), 4, '0') || substr(name, 5) $$"
+RENAMED = (
+    "CREATE FUNCTION plant.renamed(name text, number integer) RETURNS text LANGUAGE sql AS $$"
+    " SELECT lpad(to_hex(number), 4, '0') || substr(name, 5) $$"
+)
 
 
 def copied(asked: argparse.Namespace, server: Any, last: Any) -> Any:
@@ -301,7 +319,9 @@ def copied(asked: argparse.Namespace, server: Any, last: Any) -> Any:
 
 
 def ask(server: Any) -> None:
-    """Asks for the lot, one of its reels and a board, cold and warm, and for no piece; and how many pages of 8,192 bytes are read, cold."""
+    """Asks for the lot, one of its reels and a board, cold and warm, and for no piece; and how many
+    pages of 8,192 bytes are read, cold.
+    """
     board, reel = postgres.asked(
         "-At",
         "-F",
@@ -326,7 +346,10 @@ def ask(server: Any) -> None:
             postgres.asked(
                 "-At",
                 "-c",
-                f"EXPLAIN (ANALYZE, BUFFERS, FORMAT JSON) SELECT FROM plant.pieces_of('{kind}', '{name}')",
+                (
+                    f"EXPLAIN (ANALYZE, BUFFERS, FORMAT JSON) SELECT FROM plant.pieces_of('{kind}',"
+                    f" '{name}')"
+                ),
             )
         )[0]["Plan"]
         tell(
@@ -375,7 +398,11 @@ def postgres_bench(asked: argparse.Namespace) -> None:
             for it in of_the_lot:
                 postgres.asked(
                     "-c",
-                    f"UPDATE plant.reel SET lot = '{LOT}' WHERE file = {it} AND reel IN (SELECT reel FROM plant.placement_{it} GROUP BY reel ORDER BY count(*) DESC, reel LIMIT 2)",
+                    (
+                        f"UPDATE plant.reel SET lot = '{LOT}' WHERE file = {it} AND reel IN (SELECT"
+                        f" reel FROM plant.placement_{it} GROUP BY reel ORDER BY count(*) DESC,"
+                        " reel LIMIT 2)"
+                    ),
                 )
             postgres.asked(
                 "-c",

@@ -1,4 +1,5 @@
-"""How fast several senders get their messages answered: straight to the desk, and through the packaged nginx.
+"""How fast several senders get their messages answered: straight to the desk, and through the
+packaged nginx.
 
 usage: dev/bench/run proxy [--senders N] [--messages N] [--turns N] [--program FILE]
 
@@ -6,16 +7,19 @@ examples:
   dev/bench/run proxy
   dev/bench/run proxy --senders 1 --messages 500
 
-Each sender is a process with a log-in of its own. It sends one message after the other, each once the one before it is answered:
-to the desk with a connection for each message, since `serve` answers one connection at a time; to nginx over one connection with
-TLS. The ways take turns in one run, so that a busy machine slows all of them. A row for each way has the messages a second over
-all senders, the median and the 99th percentile of the time for one message, and the processor time of nginx for one.
+Each sender is a process with a log-in of its own. It sends one message after the other, each once
+the one before it is answered:
+to the desk with a connection for each message, since `serve` answers one connection at a time; to
+nginx over one connection with TLS. The ways take turns in one run, so that a busy machine slows all
+of them. A row for each way has the messages a second over all senders, the median and the 99th
+percentile of the time for one message, and the processor time of nginx for one.
 
 --senders N   12
 --messages N  of each sender, 100
 --turns N     3
 
-Exit status: 0 done; 1 a message was not accepted; 2 bad command line, or there is no program, nginx or openssl.
+Exit status: 0 done; 1 a message was not accepted; 2 bad command line, or there is no program, nginx
+or openssl.
 """
 import argparse
 import base64
@@ -42,14 +46,18 @@ TICKS = os.sysconf("SC_CLK_TCK")
 
 
 def salted(password: str) -> str:
-    """A password as docs/operations-access.md writes it into the file of the proxy: one round of SHA-1 with a salt."""
+    """A password as docs/operations-access.md writes it into the file of the proxy: one round of
+    SHA-1 with a salt.
+    """
     salt = secrets.token_bytes(8)
     digest = hashlib.sha1(password.encode() + salt).digest()
     return "{SSHA}" + base64.b64encode(digest + salt).decode()
 
 
 def slow(password: str) -> str:
-    """A password as `openssl passwd -6` writes it: five thousand rounds of SHA-512 at each request."""
+    """A password as `openssl passwd -6` writes it: five thousand rounds of SHA-512 at each
+    request.
+    """
     words = ["openssl", "passwd", "-6", password]
     return subprocess.run(words, check=True, capture_output=True, text=True).stdout.strip()
 

@@ -1,22 +1,25 @@
-"""Rolls a desk over while a sender sends through the packaged nginx: how long it has no answer, and where its commands are.
+"""Rolls a desk over while a sender sends through the packaged nginx: how long it has no answer, and
+where its commands are.
 
-usage: dev/bench/run rollovers [--pieces N] [--desk FILE] [--turns N] [--pause SECONDS] [--program FILE] [FOLDER]
+usage: dev/bench/run rollovers [--pieces N] [--desk FILE] [--turns N] [--pause SECONDS] [--program
+FILE] [FOLDER]
 
 examples:
   dev/bench/run rollovers --pieces 1000000
   dev/bench/run rollovers --pieces 2000 --turns 5
 
-A desk with so many placed pieces is made in FOLDER, or in the folder for temporary files. The sender goes on with the work of the
-line, and pauses at moments that have no board in work. Answered with 503 it sends again each 20 ms. At the end each of its commands
-has to be in the desk or in one archive, once, with what it was told: this is looked up by SQL.
+A desk with so many placed pieces is made in FOLDER, or in the folder for temporary files. The
+sender goes on with the work of the line, and pauses at moments that have no board in work. Answered
+with 503 it sends again each 20 ms. At the end each of its commands has to be in the desk or in one
+archive, once, with what it was told: this is looked up by SQL.
 
 --pieces  200,000
 --desk    a file that `starts` or `copies` made with so many pieces, without a log: it is copied
 --turns   roll-overs of the desk, one after the other (1)
 --pause   of the sender between two messages (0.02)
 
-Exit status: 0 done; 1 a command is missing or there twice, or a roll-over failed; 2 bad command line, or something that is needed is
-not there.
+Exit status: 0 done; 1 a command is missing or there twice, or a roll-over failed; 2 bad command
+line, or something that is needed is not there.
 """
 from __future__ import annotations
 
@@ -85,7 +88,9 @@ def paused(work: Iterator[tuple[bytes, int]]) -> Iterator[bytes]:
 
 
 def own(file: pathlib.Path) -> list[str]:
-    """The UniqueIDs of what a desk took behind its beginning, which repeats those of the archive."""
+    """The UniqueIDs of what a desk took behind its beginning, which repeats those of the
+    archive.
+    """
     rows = list(copies.listed(file))
     begun = [number for number, uid, *_ in rows if uid.startswith("begin-")]
     return [uid for number, uid, *_ in rows if number > max(begun, default=0)]

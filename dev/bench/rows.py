@@ -1,4 +1,5 @@
-"""Measures the cost of an accepted command, in memory, in a file and next to SQLite, and of a repeat.
+"""Measures the cost of an accepted command, in memory, in a file and next to SQLite, and of a
+repeat.
 
 usage: dev/bench/run rows [--program FILE] [--rows ROWS] [--turns TURNS] [FOLDER]
 
@@ -6,9 +7,10 @@ examples:
   dev/bench/run rows --turns 9 /srv
 
 The files are made in FOLDER, or in the folder for temporary files, so on the disk to measure. Each
-message is a ClockSet, which a desk judges without a search: measured is the reading of a message, its row and its
-answer. SQLite is Python's sqlite3 with the same table, a transaction for each row, in WAL mode with synchronous FULL,
-so one sync a row as in the program. Printed are medians of the turns, in microseconds a row.
+message is a ClockSet, which a desk judges without a search: measured is the reading of a message,
+its row and its answer. SQLite is Python's sqlite3 with the same table, a transaction for each row,
+in WAL mode with synchronous FULL, so one sync a row as in the program. Printed are medians of the
+turns, in microseconds a row.
 """
 import argparse
 import contextlib

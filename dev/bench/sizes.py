@@ -1,12 +1,18 @@
-"""Prints the table of sizes that docs/figures.md begins with.
+"""Prints the lines of each crate, and how well they can be read.
 
 usage: dev/bench/run sizes
+
+Lines are neither empty nor comments; the share of `use` is that of code without tests. A long line
+has more than 120 columns. A clause has a reason where a comment stands above it.
 """
 import argparse
 import re
 from typing import Any
 
 from tracedesk_dev.program import CRATES
+
+USE = re.compile(r"^ *(?:pub |ghost )?use [^;]*;", re.M)
+CLAUSE = re.compile(r"^( *//[^/!].*\n)? *(?:ensures|requires)\b", re.M)
 
 
 def names() -> list[str]:
@@ -39,11 +45,7 @@ def sizes(crate: Any) -> list[int]:
         return [it for it in (crate / folder).rglob("*.antt") if "tests" not in it.parts]
 
     sources = list((crate / "src").rglob("*.rt"))
-    code = [
-        it
-        for it in sources
-        if it.name != "tests.rt" and "tests" not in it.parts and not crate.name.endswith("_tests")
-    ]
+    code = code_of(crate)
     texts = [it.read_text(encoding="utf-8") for it in code]
     return [
         lines(code, "//"),
@@ -56,13 +58,47 @@ def sizes(crate: Any) -> list[int]:
     ]
 
 
+def code_of(crate: Any) -> list[Any]:
+    """The files of a crate's code, without tests."""
+    return [
+        it
+        for it in (crate / "src").rglob("*.rt")
+        if it.name != "tests.rt" and "tests" not in it.parts and not crate.name.endswith("_tests")
+    ]
+
+
+def readable(crates: list[Any]) -> list[str]:
+    """The share of `use`, long lines, and clauses with a reason."""
+    texts = [it.read_text(encoding="utf-8") for crate in crates for it in code_of(crate)]
+    code = [line for text in texts for line in text.splitlines() if line.strip()]
+    code = [line for line in code if not line.strip().startswith("//")]
+    uses = sum(len(use.splitlines()) for text in texts for use in USE.findall(text))
+    proofs = (it for crate in crates for it in (crate / "proofs").rglob("*.antt"))
+    long = [
+        line
+        for it in proofs
+        for line in it.read_text(encoding="utf-8").splitlines()
+        if len(line) > 120
+    ]
+    clauses = [bool(reason) for text in texts for reason in CLAUSE.findall(text)]
+    return [
+        f"{uses:,} of {len(code):,} lines of code are `use`: {uses / len(code):.1%}",
+        (
+            f"{len(long):,} lines of proofs have more than 120 columns, the longest"
+            f" {max(map(len, long), default=0)}"
+        ),
+        f"{sum(clauses):,} of {len(clauses):,} clauses have a reason",
+    ]
+
+
 def words(_reader: argparse.ArgumentParser) -> None:
     pass
 
 
 def main(_asked: Any, _reader: argparse.ArgumentParser) -> None:
     print(
-        "| Crate | Code | Definitions | Proofs | Public functions | Tests | Wrong bodies in the gate | outside it |"
+        "| Crate | Code | Definitions | Proofs | Public functions | Tests | Wrong bodies in the"
+        " gate | outside it |"
     )
     print("|" + "---|" * 8)
     rows = [(f"`{name}`", sizes(CRATES / name)) for name in names()]
@@ -71,3 +107,5 @@ def main(_asked: Any, _reader: argparse.ArgumentParser) -> None:
         ("together", [sum(column) for column in zip(*(row for _, row in rows))]),
     ]:
         print(f"| {name} | {' | '.join(f'{number:,}' for number in row)} |")
+    print()
+    print(*readable([CRATES / name for name in names()]), sep="\n")

@@ -1,17 +1,23 @@
-"""Measures how long `serve` takes to start, and its memory, by the pieces in the desk's file; writes figures' section.
+"""Measures how long `serve` takes to start, and its memory, by the pieces in the desk's file;
+writes figures' section.
 
-usage: dev/bench/run starts [--program FILE] [--commit COMMIT] [--pieces N,N,..] [--turns N] [--into PAGE] [FOLDER]
+usage: dev/bench/run starts [--program FILE] [--commit COMMIT] [--pieces N,N,..] [--turns N] [--into
+PAGE] [FOLDER]
 
 examples:
-  dev/bench/run starts --into docs/figures.md && make pictures          all of it, on an idle machine: half an hour
-  dev/bench/run starts --pieces 10000,100000 --turns 1                  a first look; the section is printed
-  dev/bench/run starts --commit 9f39f1f --program ./tracedesk /srv      another program than that of this checkout, on this disk
+  dev/bench/run starts --into docs/figures.md && make pictures          all of it, on an idle
+                                                                        machine: half an hour
+  dev/bench/run starts --pieces 10000,100000 --turns 1                  a first look; the section is
+                                                                        printed
+  dev/bench/run starts --commit 9f39f1f --program ./tracedesk /srv      another program than that of
+                                                                        this checkout, on this disk
 
-One file grows in FOLDER, or in the folder for temporary files, and is measured at each size: a line of four machines
-with 40 slots each. Each board passes all four and gets 100 pieces on each, and reels of 2,000 pieces are spliced. A
-start is the time from the run of the program to its first answer over HTTP, by the clock and of the processor. Resident
-is the memory that it has then, and most the most that it had until then (VmRSS and VmHWM of /proc). The medians of the
-turns are told. Where PAGE is named, its section of this name gives way to the new one, and the picture of
+One file grows in FOLDER, or in the folder for temporary files, and is measured at each size: a line
+of four machines with 40 slots each. Each board passes all four and gets 100 pieces on each, and
+reels of 2,000 pieces are spliced. A start is the time from the run of the program to its first
+answer over HTTP, by the clock and of the processor. Resident is the memory that it has then, and
+most the most that it had until then (VmRSS and VmHWM of /proc). The medians of the turns are told.
+Where PAGE is named, its section of this name gives way to the new one, and the picture of
 docs/long-life.md is drawn from there.
 """
 import argparse
@@ -37,7 +43,9 @@ SIZES = "10000,100000,400000,1000000,4000000"
 
 
 class Figure(NamedTuple):
-    """What was measured of a file: pieces, commands, bytes, seconds by the clock and of the processor, bytes of memory."""
+    """What was measured of a file: pieces, commands, bytes, seconds by the clock and of the
+    processor, bytes of memory.
+    """
 
     pieces: int
     commands: int
@@ -70,7 +78,9 @@ def grown(
 
 
 def started(asked: argparse.Namespace, file: pathlib.Path) -> Any:
-    """Seconds of a start, by the clock and of the processor; its resident memory at the end and the most until then, in bytes."""
+    """Seconds of a start, by the clock and of the processor; its resident memory at the end and the
+    most until then, in bytes.
+    """
     began = time.perf_counter()
     with trial.served(asked.program, file) as (process, connection):
         connection.request("GET", "/overdue")
@@ -125,7 +135,10 @@ def sourced(asked: argparse.Namespace) -> str:
 def section(asked: argparse.Namespace, load: Any, rows: Any) -> str:
     loads = load, os.getloadavg()[0]
     turns = "single runs" if asked.turns == 1 else f"medians of {asked.turns} starts"
-    at = f"{datetime.date.today()}, on {platform.system()} {platform.machine()}, {os.cpu_count()} cores, load {loads[0]:.1f} at the begin and {loads[1]:.1f} at the end"
+    at = (
+        f"{datetime.date.today()}, on {platform.system()} {platform.machine()},"
+        f" {os.cpu_count()} cores, load {loads[0]:.1f} at the begin and {loads[1]:.1f} at the end"
+    )
     busy = (
         " The machine was busy with other work, so the seconds by the clock say little."
         if max(loads) > os.cpu_count()
@@ -139,7 +152,8 @@ def section(asked: argparse.Namespace, load: Any, rows: Any) -> str:
 |---:|---:|---:|---:|---:|---:|---:|
 """
     return text + "".join(
-        f"| {it.pieces:,} | {it.commands:,} | {it.size / 1e6:.1f} | {it.start:.2f} | {it.processor:.2f} | {it.resident / 1e6:.1f} | {it.most / 1e6:.1f} |\n"
+        f"| {it.pieces:,} | {it.commands:,} | {it.size / 1e6:.1f} | {it.start:.2f} |"
+        f" {it.processor:.2f} | {it.resident / 1e6:.1f} | {it.most / 1e6:.1f} |\n"
         for it in rows
     )
 
@@ -188,7 +202,8 @@ def main(asked: argparse.Namespace, reader: argparse.ArgumentParser) -> None:
     for it in figures(asked):
         rows.append(it)
         program.tell(
-            f"{it.pieces:,} pieces: {it.start:.2f} s, {it.processor:.2f} s of the processor, {it.resident / 1e6:.0f} MB"
+            f"{it.pieces:,} pieces: {it.start:.2f} s, {it.processor:.2f} s of the processor,"
+            f" {it.resident / 1e6:.0f} MB"
         )
     text = section(asked, load, rows)
     if asked.into:

@@ -1,38 +1,49 @@
-"""Fails each call of the program in turn, and looks whether each answered command is in its file, and acts once when sent again.
+"""Fails each call of the program in turn, and looks whether each answered command is in its file,
+and acts once when sent again.
 
-usage: dev/faults/run calls [--program FILE] [--jobs N] [--most N] [--seconds N] [--patience N] [--seed N] [--only WORD]
+usage: dev/faults/run calls [--program FILE] [--jobs N] [--most N] [--seconds N] [--patience N]
+[--seed N] [--only WORD]
                             [--folder FOLDER] [PART..]
        dev/faults/run calls --planted    calls that report success without it, which must be found
        dev/faults/run calls --gate       the part of `make test`, in two minutes on four cores
 
 The parts, all of them where none is named:
-  wire    each read of input and each write of an answer: it fails, or one byte goes, or none; and the
-          same with all of them in pieces of one byte, so that it fails at each place of the bytes.
+  wire    each read of input and each write of an answer: it fails, or one byte goes, or none; and
+          the same with all of them in pieces of one byte, so that it fails at each place of the
+          bytes.
   memory  each allocation is refused, alone, and together with all that come after it.
-  disk    each read, write, sync and other call on the desk's file, its log and their folder: it fails, once or from
-          there on; it fails in the middle, or at its end; or it does a part of it and reports no error.
-  kill    the program is killed at each change of the disk, in the midst of each, and at each answer.
-  power   the power fails at each change of the disk and behind each answer: any part of the unsynced bytes is lost,
-          by writes, by sectors and by bytes, and past the synced end there may be anything. Also while the file is
-          opened again after that, and after a sync that failed, whose writes may be lost for good.
+  disk    each read, write, sync and other call on the desk's file, its log and their folder: it
+          fails, once or from there on; it fails in the middle, or at its end; or it does a part of
+          it and reports no error.
+  kill    the program is killed at each change of the disk, in the midst of each, and at each
+          answer.
+  power   the power fails at each change of the disk and behind each answer: any part of the
+          unsynced bytes is lost, by writes, by sectors and by bytes, and past the synced end there
+          may be anything. Also while the file is opened again after that, and after a sync that
+          failed, whose writes may be lost for good.
 
-It runs `feed` (with a file, and in memory), the two imports, `migrate` and `audit` on worked cases, and `serve`
-and `report` where the program has them. Where there are more than --most points in one of these, a seeded choice of so
-many is taken. A run goes on undisturbed, and before each call that is a point a copy of its process is made, with copies
-of its files, in which the call fails: so the calls before it are made once for all of them. The connection of `serve` is a
-pair of files, and only each 25th copy gives memory back, since that would cost most of the time. After each failure:
-  - the answers are those of an undisturbed run of the lines that were not answered Unavailable, and the last of them
-    may be cut; the status and the messages are the ones for such a failure;
-  - `audit` says lawful, and the tables are those of the lines that were answered, or of one more that was being answered;
-  - everything sent again to the file that was left is answered as an undisturbed desk answers it a second time, and
-    the tables are that desk's.
+It runs `feed` (with a file, and in memory), the two imports, `migrate` and `audit` on worked cases,
+and `serve` and `report` where the program has them. Where there are more than --most points in one
+of these, a seeded choice of so many is taken. A run goes on undisturbed, and before each call that
+is a point a copy of its process is made, with copies of its files, in which the call fails: so the
+calls before it are made once for all of them. The connection of `serve` is a pair of files, and
+only each 25th copy gives memory back, since that would cost most of the time. After each failure:
+  - the answers are those of an undisturbed run of the lines that were not answered Unavailable, and
+    the last of them may be cut; the status and the messages are the ones for such a failure;
+  - `audit` says lawful, and the tables are those of the lines that were answered, or of one more
+    that was being answered;
+  - everything sent again to the file that was left is answered as an undisturbed desk answers it a
+    second time, and the tables are that desk's.
   - where one allocation alone was refused, at most one answer is Unavailable.
-Wanted are a C compiler, cc, and Python 3.11. `dev/faults/run calls --only import wire` tries a little of it.
+Wanted are a C compiler, cc, and Python 3.11. `dev/faults/run calls --only import wire` tries a
+little of it.
 
-With --gate every point is tried of: `wire` of `feed` and `serve` on the first case; `memory` of `feed` and `serve` on it, and of the
-imports; `disk`, `kill` and `power` of `feed` with a file, and of `migrate`. Of all others one point in eight is tried, by a
-seed that is the commit's hash. Then the part of --planted for `feed`, which must be found. The last line is 'N passed,
-M failed', over the parts of each story and the planted faults. Without a C compiler it is reported as skipped, with status 0.
+With --gate every point is tried of: `wire` of `feed` and `serve` on the first case; `memory` of
+`feed` and `serve` on it, and of the imports; `disk`, `kill` and `power` of `feed` with a file, and
+of `migrate`. Of all others one point in eight is tried, by a seed that is the commit's hash. Then
+the part of --planted for `feed`, which must be found. The last line is 'N passed, M failed', over
+the parts of each story and the planted faults. Without a C compiler it is reported as skipped, with
+status 0.
 """
 import argparse
 import collections
@@ -77,19 +88,19 @@ WHOLE = {
 ONE_IN = 8  # of the other points that --gate tries
 
 
-# ---- one run -----------------------------------------------------------------------------------------------------
+# ---- one run -------------------------------------------------------------------------------------
 
 
-# ---- what has to be ----------------------------------------------------------------------------------------------
+# ---- what has to be ------------------------------------------------------------------------------
 
 
-# ---- what a power cut leaves -------------------------------------------------------------------------------------
+# ---- what a power cut leaves ---------------------------------------------------------------------
 
 
-# ---- each point --------------------------------------------------------------------------------------------------
+# ---- each point ----------------------------------------------------------------------------------
 
 
-# ---- what is run ---------------------------------------------------------------------------------------------------
+# ---- what is run ---------------------------------------------------------------------------------
 
 
 PLANTED = {
@@ -101,8 +112,8 @@ PLANTED = {
         (stopped, "write", f"write {number} {number} lie")
         for number in range(1, counts["write"] + 1)
     ),
-    "syncs that are told as done, and are not, and the power failing": lambda story, counts, one_in: power(
-        story, counts, f"sync 1 {EVER} lie", one_in
+    "syncs that are told as done, and are not, and the power failing": (
+        lambda story, counts, one_in: power(story, counts, f"sync 1 {EVER} lie", one_in)
     ),
 }
 PARTS: dict[str, Callable[..., Iterator[Any]]] = {
@@ -156,7 +167,9 @@ def many(story: Story, base: str, points: Any) -> Any:
 
 
 def tasks_of(story: Story, points: Any, until: Any) -> Iterator[Any]:
-    """The runs for these points: for those that differ in what fails first alone, one run for many of them."""
+    """The runs for these points: for those that differ in what fails first alone, one run for many
+    of them.
+    """
     waiting = collections.defaultdict(list)
     for point in points:
         if time.monotonic() > until:
@@ -204,7 +217,9 @@ def tried(asked: argparse.Namespace, points_of: Any, story: Story, until: Any) -
 
 
 def points_for(asked: argparse.Namespace, name: str, story: Story) -> Any:
-    """What makes the points of a part: all of them, or with --gate, outside of WHOLE, one in so many by the seed."""
+    """What makes the points of a part: all of them, or with --gate, outside of WHOLE, one in so
+    many by the seed.
+    """
     if not asked.gate or story.name in WHOLE[name]:
         return PARTS[name]
     if name == "power":
@@ -216,14 +231,17 @@ def points_for(asked: argparse.Namespace, name: str, story: Story) -> Any:
 
 
 def part_of(asked: argparse.Namespace, name: str, story: Story) -> Any:
-    """Tries a part of a story, tells it in a line, and gives how many points there were and what was found."""
+    """Tries a part of a story, tells it in a line, and gives how many points there were and what
+    was found.
+    """
     begun = time.monotonic()
     if story.wanted is not None and story.known(story.all).answers != story.wanted:
         count, seen, found = (
             0,
             {},
             [
-                f"an undisturbed run has not the case's answers, but {story.known(story.all).answers!r}"
+                "an undisturbed run has not the case's answers, but"
+                f" {story.known(story.all).answers!r}"
             ],
         )
     else:
@@ -233,7 +251,10 @@ def part_of(asked: argparse.Namespace, name: str, story: Story) -> Any:
     time_up = ", and its time was up" if time.monotonic() - begun > asked.seconds else ""
     told = "; ".join(f"{number} {word}" for word, number in sorted(seen.items()))
     print(
-        f"{name}, {story.name}: {count} points in {time.monotonic() - begun:.0f} s{time_up}: {told}",
+        (
+            f"{name}, {story.name}: {count} points in {time.monotonic() - begun:.0f} s{time_up}:"
+            f" {told}"
+        ),
         flush=True,
     )
     for it in found[:20]:
@@ -244,7 +265,9 @@ def part_of(asked: argparse.Namespace, name: str, story: Story) -> Any:
 
 
 def parts(asked: argparse.Namespace, points: Any, ends: Any) -> None:
-    """Tries all parts; adds up the points of each, and how many stories of parts passed and failed."""
+    """Tries all parts; adds up the points of each, and how many stories of parts passed and
+    failed.
+    """
     its = list(stories(asked))
     for name in asked.parts or PARTS:
         for story in its:
@@ -278,7 +301,8 @@ def gate(asked: argparse.Namespace, points: Any, ends: Any) -> None:
     planted(asked, ("feed first_run",), points, ends, ONE_IN)
     kinds = ", ".join(f"{name} {count:,}" for name, count in points.items())
     print(
-        f"points: {kinds}; {points.total():,} in all, in {time.monotonic() - begun:.0f} s; the seed of the choice: {asked.seed}"
+        f"points: {kinds}; {points.total():,} in all, in {time.monotonic() - begun:.0f} s; the seed"
+        f" of the choice: {asked.seed}"
     )
     print(f"{ends['passed']} passed, {ends['failed']} failed", flush=True)
 
@@ -311,7 +335,8 @@ def main(asked: argparse.Namespace, reader: argparse.ArgumentParser) -> int:
         reader.error(f"the parts are {', '.join(PARTS)}")
     if asked.gate and not program.can_compile():
         print(
-            "skipped: there is no C compiler here with the C library's headers: apt-get install gcc libc6-dev\n0 passed, 0 failed"
+            "skipped: there is no C compiler here with the C library's headers: apt-get install gcc"
+            " libc6-dev\n0 passed, 0 failed"
         )
         return 0
     program.want("cc", "gcc libc6-dev")

@@ -1,16 +1,20 @@
 """Damages a desk's file, and looks at the answer of `audit`.
 
-usage: dev/faults/run damage [--program FILE] [--boards N] [--pages N] [--seconds N] [--seed N] [--folder FOLDER]
+usage: dev/faults/run damage [--program FILE] [--boards N] [--pages N] [--seconds N] [--seed N]
+[--folder FOLDER]
 
-The file is that of the beginning of a shift (dev/tracedesk_dev/shift.py). It is cut at the end of each of its pages, within some
-of them, each page is filled with zeros in turn, and single bytes at random places get another value. So at most
---pages of each (all pages of the file where it has fewer), and for at most --seconds. Of each damaged copy:
+The file is that of the beginning of a shift (dev/tracedesk_dev/shift.py). It is cut at the end of
+each of its pages, within some of them, each page is filled with zeros in turn, and single bytes at
+random places get another value. So at most --pages of each (all pages of the file where it has
+fewer), and for at most --seconds. Of each damaged copy:
 
-- `audit` ends within PATIENCE seconds (60, by the environment), with status 3, no word on standard output and a fault's name on standard error; or
-  with `lawful` and the number of all commands, and then the file is sound to stock SQLite, and the rows of each table
-  are those of the whole file: the damaged bytes were in use for nothing. Of a turned bit alone another thing may
-  come: a command with another source, or another minute of its own where that is not the one at which it took effect.
-  No rule speaks of these, and no table but `accepted` has them, so the list is a lawful one.
+- `audit` ends within PATIENCE seconds (60, by the environment), with status 3, no word on standard
+  output and a fault's name on standard error; or with `lawful` and the number of all commands, and
+  then the file is sound to stock SQLite, and the rows of each table are those of the whole file:
+  the damaged bytes were in use for nothing. Of a turned bit alone another thing may come: a command
+  with another source, or another minute of its own where that is not the one at which it took
+  effect. No rule speaks of these, and no table but `accepted` has them, so the list is a lawful
+  one.
 - the copy's bytes are unchanged if `audit` reported a fault.
 """
 import argparse
@@ -120,7 +124,8 @@ def tried(asked: argparse.Namespace, folder: pathlib.Path) -> int:
             print(f"{kind}, byte {at}: {said}", flush=True)
         told[kind][said.split(",")[0]] += 1
     print(
-        f"{count} commands in {len(whole)} bytes, {len(whole) // page} pages of {page}; {time.monotonic() - begun:.0f} s"
+        f"{count} commands in {len(whole)} bytes, {len(whole) // page} pages of {page};"
+        f" {time.monotonic() - begun:.0f} s"
     )
     for kind, words in told.items():
         print(

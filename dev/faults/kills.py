@@ -1,27 +1,33 @@
-"""Kills the program, and fails its disk, while it takes commands, and looks whether each acknowledged command is in its file.
+"""Kills the program, and fails its disk, while it takes commands, and looks whether each
+acknowledged command is in its file.
 
-usage: dev/faults/run kills [--program FILE] [--kills N] [--seconds N] [--seed N] [--folder FOLDER] [PART..]
-       dev/faults/run kills --planted      the same on dev/faults/early-answers, which must be found by `feed`, `serve` and `order`
+usage: dev/faults/run kills [--program FILE] [--kills N] [--seconds N] [--seed N] [--folder FOLDER]
+[PART..]
+       dev/faults/run kills --planted      the same on dev/faults/early-answers, which must be found
+                                           by `feed`, `serve` and `order`
 
 examples:
   dev/faults/run kills --kills 20 feed
 
 The parts, all of them where none is named:
-  feed    `feed --db` gets a shift of a line (dev/tracedesk_dev/shift.py) as fast as it takes it, and is killed by SIGKILL at a
-          random moment; one kill in ten hits `audit` in its place. It is killed --kills times (200), and begins a new
-          shift on a new file whenever one is done.
+  feed    `feed --db` gets a shift of a line (dev/tracedesk_dev/shift.py) as fast as it takes it,
+          and is killed by SIGKILL at a random moment; one kill in ten hits `audit` in its place. It
+          is killed --kills times (200), and begins a new shift on a new file whenever one is done.
   serve   the same with `serve`, over one connection, where the program has it.
-  order   strace's order of calls: the bytes of each Accepted answer go out after the sync of its commit has returned.
-          (A kill alone can't show it, since the system keeps written bytes that are not yet synced.)
-  disk    a limit on the size of files, with and without its signal; a full file system, where this user may mount one.
+  order   strace's order of calls: the bytes of each Accepted answer go out after the sync of its
+          commit has returned. (A kill alone can't show it, since the system keeps written bytes
+          that are not yet synced.)
+  disk    a limit on the size of files, with and without its signal; a full file system, where this
+          user may mount one.
 
 `dev/faults/run calls` kills the program at each change of its disk, and fails each single call.
 
-After each kill or failure: `audit` says lawful (or no desk was made yet and nothing was acknowledged); the accepted
-commands are those that were acknowledged, in their order and with these very answers, and at most the one that was
-sent besides; the last lines, sent again, get their first answers; the next run goes on with the same file. When a
-shift is done, each table is that of a run that nothing disturbed. A run or an answer that takes longer than PATIENCE
-seconds (120, by the environment) counts as a hang: give more on a machine that is busy with other things. Wanted are
+After each kill or failure: `audit` says lawful (or no desk was made yet and nothing was
+acknowledged); the accepted commands are those that were acknowledged, in their order and with these
+very answers, and at most the one that was sent besides; the last lines, sent again, get their first
+answers; the next run goes on with the same file. When a shift is done, each table is that of a run
+that nothing disturbed. A run or an answer that takes longer than PATIENCE seconds (120, by the
+environment) counts as a hang: give more on a machine that is busy with other things. Wanted are
 strace.
 """
 import argparse
@@ -58,7 +64,7 @@ from tracedesk_dev.fault_desks import (
 )
 
 
-# ---- kills -------------------------------------------------------------------------------------------------------
+# ---- kills ---------------------------------------------------------------------------------------
 
 
 def killed(asked: argparse.Namespace, folder: pathlib.Path, take_for: Any) -> str:
@@ -93,18 +99,22 @@ def killed(asked: argparse.Namespace, folder: pathlib.Path, take_for: Any) -> st
         for name in ("while commands were taken", "before an answer", "of audit")
     )
     return (
-        f"{seen['kills']} kills in {time.monotonic() - begun:.0f} s ({where}); each audit said lawful; {seen['commands']} commands acknowledged, none missing; "
-        f"{seen['left one command more']} times the one that was sent besides was there; {seen['shifts']} shifts done, with the tables of an undisturbed run"
+        f"{seen['kills']} kills in {time.monotonic() - begun:.0f} s ({where}); each audit said"
+        f" lawful; {seen['commands']} commands acknowledged, none missing;"
+        f" {seen['left one command more']} times the one that was sent besides was there;"
+        f" {seen['shifts']} shifts done, with the tables of an undisturbed run"
     )
 
 
-# ---- the order of calls ------------------------------------------------------------------------------------------
+# ---- the order of calls --------------------------------------------------------------------------
 CALLS = "write,writev,pwrite64,pwritev,sendto,sendmsg,fdatasync,fsync"
 CALL = re.compile(r"^(?:(\d+) +)?(?:<\.\.\. (\w+) resumed>|(\w+)\((\d+)<([^>]*)>)(.*)$")
 
 
 def ordered(log: Any, file: str) -> int:
-    """Goes through strace's calls: how many Accepted answers went out, each after the sync of its commit."""
+    """Goes through strace's calls: how many Accepted answers went out, each after the sync of its
+    commit.
+    """
     open_writes: set[str] = set()
     written, answered = False, set()
     calls: dict[Any, Any] = {}
@@ -185,10 +195,13 @@ def order_of_serve(asked: argparse.Namespace, folder: pathlib.Path, log: Any) ->
         kill(process)
     desk.take(0, answers)
     with open(log, errors="replace") as lines:
-        return f"serve: {ordered(lines, desk.file)} Accepted answers, each after the sync of its commit"
+        return (
+            f"serve: {ordered(lines, desk.file)} Accepted answers, each after the sync of its"
+            " commit"
+        )
 
 
-# ---- disks that stop ---------------------------------------------------------------------------------------------
+# ---- disks that stop -----------------------------------------------------------------------------
 
 
 def failed(desk: Any, how: Any, start: Any, seen: Any) -> None:
@@ -205,7 +218,8 @@ def failed(desk: Any, how: Any, start: Any, seen: Any) -> None:
     status, told = talk(desk, plain)
     if not desk.done():
         raise Found(
-            f"{how}: the next run stopped after {len(desk.answers)} lines: status {status}, {told!r}"
+            f"{how}: the next run stopped after {len(desk.answers)} lines: status {status},"
+            f" {told!r}"
         )
     desk.look()
     desk.end()
@@ -274,7 +288,7 @@ def full(
     return f"a full file system, with room later: {shown(seen)}"
 
 
-# ---- all of it ---------------------------------------------------------------------------------------------------
+# ---- all of it -----------------------------------------------------------------------------------
 PARTS = {
     "feed": lambda asked, folder: killed(asked, folder, feed_for),
     "serve": lambda asked, folder: killed(asked, folder, serve_for),

@@ -6,9 +6,9 @@ examples:
   dev/faults/run large             some minutes, and 200 MB of disk
   dev/faults/run large 100000      the same of a smaller desk
 
-What a command reads and writes is counted by Linux, in /proc/PID/io: so the outcome doesn't depend on the machine's load.
-The last hundred commands may move at most twice the bytes of a hundred that came after the first thousand, and an audit has to find
-the desk lawful.
+What a command reads and writes is counted by Linux, in /proc/PID/io: so the outcome doesn't depend
+on the machine's load. The last hundred commands may move at most twice the bytes of a hundred that
+came after the first thousand, and an audit has to find the desk lawful.
 """
 import argparse
 import json
@@ -83,7 +83,8 @@ def main(asked: argparse.Namespace, reader: argparse.ArgumentParser) -> int:
         status = process.wait()
         audit = subprocess.run([its, "audit", "--db", desk], capture_output=True, text=True)
     print(
-        f"{BATCH} commands moved {early} bytes after the first thousand, {late} at {asked.commands}; status {status}, {audit.stdout.strip() or audit.stderr.strip()}"
+        f"{BATCH} commands moved {early} bytes after the first thousand, {late} at"
+        f" {asked.commands}; status {status}, {audit.stdout.strip() or audit.stderr.strip()}"
     )
     is_right = late <= 2 * early and status == 0 and audit.stdout == f"lawful {asked.commands}\n"
     return 0 if is_right else 1

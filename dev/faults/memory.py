@@ -2,14 +2,18 @@
 
 A test may then go well, or fail as out of memory, and for nothing else.
 
-usage: [TESTS=FILE] dev/faults/run memory [--jobs N] CRATE [WORD]       as in  dev/faults/run memory store_tests
-       dev/faults/run memory [--jobs N] --gate      the tests of `make test` that are made for it, as `rt ci` built them
+usage: [TESTS=FILE] dev/faults/run memory [--jobs N] CRATE [WORD]       as in  dev/faults/run memory
+                                                                        store_tests
+       dev/faults/run memory [--jobs N] --gate      the tests of `make test` that are made for it,
+                                                    as `rt ci` built them
 
-A crate's tests are proved and built first. With a word, only those that have it in their names; with TESTS, those of a
-program that was proved and built already, crates/CRATE/out/CRATE_tests or a copy of it. Wanted is a C compiler, cc, for
-dev/faults/memory.c; without one --gate is told as skipped. A line for each test; the last one is 'N passed, M failed'.
+A crate's tests are proved and built first. With a word, only those that have it in their names;
+with TESTS, those of a program that was proved and built already, crates/CRATE/out/CRATE_tests or a
+copy of it. Wanted is a C compiler, cc, for dev/faults/memory.c; without one --gate is told as
+skipped. A line for each test; the last one is 'N passed, M failed'.
 
-Some tests tell on standard error what a refusal came to. Where that never came, the test has failed: SHOWN names them.
+Some tests tell on standard error what a refusal came to. Where that never came, the test has
+failed: SHOWN names them.
 """
 import argparse
 import concurrent.futures
@@ -33,7 +37,9 @@ SECONDS = 120  # for one run
 
 
 def told(library: Any, tests: Any, name: str, number: int) -> Any:
-    """A run in which the allocation of this number is refused, with 0 none: whether it went well, and what it told."""
+    """A run in which the allocation of this number is refused, with 0 none: whether it went well,
+    and what it told.
+    """
     try:
         done = subprocess.run(
             [tests, name],
@@ -83,7 +89,8 @@ def tried(pool: Any, library: Any, tests: Any, name: str) -> str:
             f"each of its {len(its)} allocations was refused, and never was told that {shown}"
         )
     return (
-        f"{len(its)} allocations, each refused once: {well} times it went well, {len(its) - well} times it said that it is out of memory"
+        f"{len(its)} allocations, each refused once: {well} times it went well,"
+        f" {len(its) - well} times it said that it is out of memory"
         + (f"; {times} times {shown}" if shown else "")
     )
 
@@ -128,7 +135,8 @@ def main(words: argparse.Namespace, reader: argparse.ArgumentParser) -> int:
         reader.error(f"there is no crate {words.crate}")
     if words.gate and not program.can_compile():
         print(
-            "skipped: there is no C compiler here with the C library's headers: apt-get install gcc libc6-dev\n0 passed, 0 failed"
+            "skipped: there is no C compiler here with the C library's headers: apt-get install gcc"
+            " libc6-dev\n0 passed, 0 failed"
         )
         return 0
     program.want("cc", "gcc libc6-dev")

@@ -1,13 +1,15 @@
-"""Gives `feed` one byte a read, without a call of the system, as often as a run may read: 4,294,967,294 times.
+"""Gives `feed` one byte a read, without a call of the system, as often as a run may read:
+4,294,967,294 times.
 
 usage: dev/faults/run reads [--program FILE] [READS]
 
 examples:
   dev/faults/run reads             a minute or two
-  dev/faults/run reads 10000000    the input ends after so many reads, of 2,000,000 at least, and the second line is LineTooLong
+  dev/faults/run reads 10000000    the input ends after so many reads, of 2,000,000 at least, and
+                                   the second line is LineTooLong
 
-The first line is answered, the second never ends, and then the run has to say TooManyReads, with status 4, and to have
-read no further. It wants a C compiler, cc.
+The first line is answered, the second never ends, and then the run has to say TooManyReads, with
+status 4, and to have read no further. It wants a C compiler, cc.
 """
 import argparse
 import os
@@ -79,6 +81,7 @@ def main(asked: argparse.Namespace, reader: argparse.ArgumentParser) -> int:
         print(f"FOUND status {done.returncode}, {done.stdout[:1000]!r} {done.stderr[:1000]!r}")
         return 1
     print(
-        f"{done.stderr.decode()}in {time.monotonic() - begun:.0f} s, {resource.getrusage(resource.RUSAGE_CHILDREN).ru_utime:.0f} s of the processor"
+        f"{done.stderr.decode()}in {time.monotonic() - begun:.0f} s,"
+        f" {resource.getrusage(resource.RUSAGE_CHILDREN).ru_utime:.0f} s of the processor"
     )
     return 0

@@ -21,7 +21,9 @@ def good_value(table: Table, member: Member) -> Any:
 
 
 def values_of(table: Table, member: Member) -> Iterator[Any]:
-    """Values of a member beside its limits, on both sides; what comes of them the schema and the program say."""
+    """Values of a member beside its limits, on both sides; what comes of them the schema and the
+    program say.
+    """
     yield from (None, True, [], {}, 1.5, -1, "", "x" * 65)
     if "most" in member:
         good = good_value(table, member)
@@ -78,7 +80,9 @@ def changed(table: Table, members: list[Member], body: Member) -> Iterator[Membe
 
 
 def times() -> Iterator[str]:
-    """Texts beside the forms of a time, good and bad: a date, a time of day, an offset, and names in brackets."""
+    """Texts beside the forms of a time, good and bad: a date, a time of day, an offset, and names
+    in brackets.
+    """
     days = (
         "2026-0302",
         "202603-02",
@@ -147,7 +151,9 @@ def times() -> Iterator[str]:
 
 
 def made_up(table: Table) -> Iterator[Any]:
-    """Messages of all words, good and faulty. A desk without a part refuses the good ones, and so keeps none of most of them."""
+    """Messages of all words, good and faulty. A desk without a part refuses the good ones, and so
+    keeps none of most of them.
+    """
     for message in table["messages"]:
         body = {it["name"]: good_value(table, it) for it in message["members"]}
         whole = {

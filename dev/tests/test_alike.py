@@ -1,6 +1,8 @@
-"""Pairs of desk files, compared by tracedesk-chain: each prints the line that was worked out by hand.
+"""Pairs of desk files, compared by tracedesk-chain: each prints the line that was worked out by
+hand.
 
-The pairs of alike-pairs.json have one or more for each way in which a new desk can be wrong, and three that are alike.
+The pairs of alike-pairs.json have one or more for each way in which a new desk can be wrong, and
+three that are alike.
 """
 import json
 import pathlib
@@ -13,7 +15,9 @@ CASES = json.loads(pathlib.Path(__file__).with_name("alike-pairs.json").read_tex
 
 
 def make(program: pathlib.Path, file: pathlib.Path, lines: list[str]) -> None:
-    """Makes a desk that accepted these commands: a minute and a command's stored text, with spaces for tabs."""
+    """Makes a desk that accepted these commands: a minute and a command's stored text, with spaces
+    for tabs.
+    """
     messages = []
     for number, line in enumerate(lines):
         minute, text = line.replace(" ", "\t").split("\t", 1)

@@ -1,7 +1,8 @@
-"""The schemas of docs/api, tried on the messages and answers of cases/, and on faults that are made up.
+"""The schemas of docs/api, tried on the messages and answers of cases/, and on faults that are made
+up.
 
-A schema looks at values alone, so it can't refuse a line that is too long or no JSON by the desk's rules, a day that is in
-no calendar, or 1.0 in the place of 1.
+A schema looks at values alone, so it can't refuse a line that is too long or no JSON by the desk's
+rules, a day that is in no calendar, or 1.0 in the place of 1.
 """
 import copy
 import gzip
@@ -95,7 +96,9 @@ def test_each_answer_of_a_case_is_taken_and_each_example_is_one_of_them(
 
 
 def test_openapi_has_each_answer_of_a_case_with_its_status(of_cases: list[Vector]) -> None:
-    """It isn't known which route a request asks that a case spells as a whole: some route has to have the answer."""
+    """It isn't known which route a request asks that a case spells as a whole: some route has to
+    have the answer.
+    """
     document = read("openapi.json")
     calls: dict[tuple[str, int | None], schemas.Schema] = {}
     routes = [route for path in document["paths"].values() for route in path.values()]
@@ -125,7 +128,9 @@ def test_openapi_has_each_answer_of_a_case_with_its_status(of_cases: list[Vector
 
 
 def connection_of(program: pathlib.Path, exchange: Exchange, work: pathlib.Path) -> bytes:
-    """What comes back on the one connection to a new desk. Another program may take a port that was free."""
+    """What comes back on the one connection to a new desk. Another program may take a port that was
+    free.
+    """
     limit = [] if exchange.greatest is None else ["--greatest", str(exchange.greatest)]
     for _ in range(3):
         for old in work.iterdir():
@@ -199,7 +204,9 @@ def test_the_schema_says_of_faults_that_are_made_up_what_the_program_says(
 
 
 def of_python(schema: Any) -> Any:
-    r"""The schema with patterns of Python's: to Python `$` lets a line feed follow, so it becomes `\Z`."""
+    r"""The schema with patterns of Python's: to Python `$` lets a line feed follow, so it becomes
+    `\Z`.
+    """
     if isinstance(schema, dict):
         return {
             name: re.sub(r"(?<!\\)\$", r"\\Z", one) if name == "pattern" else of_python(one)
@@ -209,8 +216,9 @@ def of_python(schema: Any) -> Any:
 
 
 def values_for_another(of_cases: list[Vector]) -> Iterator[tuple[int, Any]]:
-    """Pairs of a schema's number, 0 of a message and 1 of an answer, and a value. Of Accepted they are the first ones of
-    cases. Lists of 5,000 rows take that validator a second each, and are left out."""
+    """Pairs of a schema's number, 0 of a message and 1 of an answer, and a value. Of Accepted they
+    are the first ones of cases. Lists of 5,000 rows take that validator a second each, and are left
+    out."""
     table = read("messages.json")
     yield from ((0, it) for it in made_up(table) if len(str(it)) < 100_000)
     for definition in read("message.schema.json")["$defs"].values():

@@ -1,7 +1,9 @@
-"""tracedesk-chain is asked about chains of desk files with gaps: each answer is one that was worked out by hand.
+"""tracedesk-chain is asked about chains of desk files with gaps: each answer is one that was worked
+out by hand.
 
-`tracedesk feed` makes three files, two of them begun by tracedesk-begin from the one before, and a chain of twenty. Then the
-program is asked about them in order, with one missing, one twice, two turned round, and older copies. No file is changed.
+`tracedesk feed` makes three files, two of them begun by tracedesk-begin from the one before, and a
+chain of twenty. Then the program is asked about them in order, with one missing, one twice, two
+turned round, and older copies. No file is changed.
 """
 import hashlib
 import pathlib
@@ -40,7 +42,8 @@ SPENT = [
     "16 MaterialsSpliced M 1 K2",
     "17 MaterialsScrapped M 1 999",
 ]
-# Three boards of three reels, of which the second is of the first one's lot, and the third of another.
+# Three boards of three reels, of which the second is of the first one's lot, and the third of
+# another.
 REELS = [
     *board("B7", 20),
     "25 ReelReceived K3 P L1 1 1 0",
@@ -109,7 +112,9 @@ class Files:
         subprocess.run(words, input=text, capture_output=True, text=True, check=True)
 
     def say(self, name: str, prefix: str, lines: list[str]) -> None:
-        """Has a desk accept these commands: a minute and a command's stored text, with spaces for tabs."""
+        """Has a desk accept these commands: a minute and a command's stored text, with spaces for
+        tabs.
+        """
         messages = []
         for number, line in enumerate(lines):
             minute, text = line.replace(" ", "\t").split("\t", 1)
@@ -120,7 +125,9 @@ class Files:
         return hashlib.sha256((self.folder / name).read_bytes()).hexdigest()
 
     def begin(self, old: str, new: str, mark: str = "") -> None:
-        """Begins a desk from an old one. Its UniqueIDs have this mark in place of the old file's checksum."""
+        """Begins a desk from an old one. Its UniqueIDs have this mark in place of the old file's
+        checksum.
+        """
         tool = [sys.executable, str(ROOT / "ops/tracedesk-begin"), str(self.folder / old)]
         words = [*tool, "--program", str(self.program)]
         begun = subprocess.run(words, capture_output=True, text=True, check=True).stdout
@@ -181,7 +188,8 @@ def files(
         # what a chain can't see: the newest file is missing
         (["lot", "L1", "a.db", "b.db"], "board,file\nB1,a.db\nB2,b.db\nB3,b.db\n"),
         (["lot", "L1", "--from-middle", "b.db", "c.db"], "board,file\nB2,b.db\nB3,b.db\nB4,c.db\n"),
-        # in the next file the first lot is used up, and a board of the same name gets a piece of another lot
+        # in the next file the first lot is used up, and a board of the same name gets a piece of
+        # another lot
         (["board", "B1", "a.db", "e.db"], "lot,file\nL1,a.db\nL2,e.db\n"),
         (["lot", "L2", "a.db", "e.db"], "board,file\nB1,e.db\n"),
         (["reel", "K2", "a.db", "e.db"], "board,file\nB1,e.db\n"),
@@ -226,6 +234,24 @@ def test_a_file_names_the_one_before_it_so_no_gap_and_no_other_order_has_an_answ
     first = names[0 if names[0] == "b.db" else -1]
     mark = files.checksum(before)[:24]
     files.stops(5, f"{first}: begun from {mark}", *question, *names)
+
+
+@pytest.mark.parametrize(
+    "names, follows",
+    [
+        (["a.db", "b.db", "fork.db"], ["fork.db: follows a.db"]),
+        (["a.db", "b.db", "c.db", "fork.db"], ["fork.db: follows a.db"]),
+        (["a.db", "c.db"], []),
+        (["c.db", "b.db"], []),
+    ],
+)
+def test_of_a_fork_the_file_that_both_follow_is_named(
+    names: list[str], follows: list[str], files: Files
+) -> None:
+    words = [str(files.chain), "check", *names]
+    said = subprocess.run(words, capture_output=True, text=True, cwd=files.folder).stderr
+    told = [it for it in said.splitlines()[:-1] if "commands" not in it]
+    assert told == [f"tracedesk-chain: {it}" for it in follows]
 
 
 @pytest.mark.parametrize(

@@ -1,4 +1,6 @@
-"""The gate counts what passed, failed and was skipped, and where nothing may be skipped a skip has failed."""
+"""The gate counts what passed, failed and was skipped, and where nothing may be skipped a skip has
+failed.
+"""
 import pathlib
 import re
 

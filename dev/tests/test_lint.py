@@ -14,6 +14,7 @@ PLANTED = {
     "pyflakes": (CLEAN.replace("\n\n\n", "\nimport os\n\n\n", 1), 2),
     "reasons": (CLEAN + '\n\nprint(twice("2"))' + IGNORED, 8),
     "length": (CLEAN + "# a line\n" * 500, 501),
+    "columns": (CLEAN.replace("A tool.", "A tool." + " It is wide." * 8), 1),
 }
 
 
@@ -27,7 +28,7 @@ def test_a_clean_file_passes(tmp_path: pathlib.Path) -> None:
     file = tmp_path / "tool"
     file.write_text("#!/usr/bin/env python3\n" + CLEAN)
     done = lint(file)
-    assert (done.returncode, done.stdout.splitlines()[-1]) == (0, "5 passed, 0 failed, 0 skipped")
+    assert (done.returncode, done.stdout.splitlines()[-1]) == (0, "6 passed, 0 failed, 0 skipped")
 
 
 @pytest.mark.needs("black", "mypy", "pyflakes3")

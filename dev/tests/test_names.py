@@ -32,7 +32,9 @@ def texts() -> dict[str, str]:
 
 
 def is_told(name: str) -> bool:
-    """Whether a text in backquotes names code: it has a part of a path, an underscore or letters of two cases."""
+    """Whether a text in backquotes names code: it has a part of a path, an underscore or letters of
+    two cases.
+    """
     return bool(re.search(r"_|::|[a-z][A-Z]", name))
 
 

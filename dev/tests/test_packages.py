@@ -1,9 +1,11 @@
-"""What dev/dist makes: Debian's packages, the tarball, man pages and completions. Nothing of this machine is changed.
+"""What dev/dist makes: Debian's packages, the tarball, man pages and completions. Nothing of this
+machine is changed.
 
-All are built twice, in two folders, under two time zones and masks for new files, and are compared byte by
-byte. Then their files are compared with each other and with the repository, lintian is asked, the man pages are rendered,
-and bash is asked for completions. Where root calls it, Debian's packages are installed, run a day (debian/tests/day) and
-are purged in a root laid over this one, which goes away. `make plant-test` installs them, and takes them away.
+All are built twice, in two folders, under two time zones and masks for new files, and are compared
+byte by byte. Then their files are compared with each other and with the repository, lintian is
+asked, the man pages are rendered, and bash is asked for completions. Where root calls it, Debian's
+packages are installed, run a day (debian/tests/day) and are purged in a root laid over this one,
+which goes away. `make plant-test` installs them, and takes them away.
 """
 import concurrent.futures
 import json
@@ -51,7 +53,9 @@ def run(
 
 
 class Packages:
-    """What was made, unpacked: `deb` (of all three) and `tar` are trees from / on, `control` has a folder of each .deb's own files."""
+    """What was made, unpacked: `deb` (of all three) and `tar` are trees from / on, `control` has a
+    folder of each .deb's own files.
+    """
 
     def __init__(self, program: str, room: pathlib.Path) -> None:
         self.program, self.room = program, room
@@ -109,7 +113,9 @@ def files_below(tree: pathlib.Path) -> dict[str, pathlib.Path]:
 
 
 def test_both_packages_have_the_same_files(packages: Packages) -> None:
-    """Both packages have the same files, below /usr and /usr/local; what differs is what each package manager wants."""
+    """Both packages have the same files, below /usr and /usr/local; what differs is what each
+    package manager wants.
+    """
     deb = {
         re.sub("^(?:usr/)?lib/systemd", "usr/lib/systemd", name)
         for name in files_below(packages.deb)
@@ -134,7 +140,9 @@ def test_both_packages_have_the_same_files(packages: Packages) -> None:
 
 
 def test_each_unit_and_tool_is_there(packages: Packages) -> None:
-    """Each unit, list of users and folders, and tool is there, the tools run, and the bytes of the programs are theirs."""
+    """Each unit, list of users and folders, and tool is there, the tools run, and the bytes of the
+    programs are theirs.
+    """
     for pattern, at in (
         ("*.service", "lib/systemd/system/{}"),
         ("*.timer", "lib/systemd/system/{}"),
@@ -169,7 +177,9 @@ def test_each_unit_and_tool_is_there(packages: Packages) -> None:
 
 
 def test_each_command_has_the_version(packages: Packages) -> None:
-    """Each command that has --version says the same one; the page and the package of Python do too."""
+    """Each command that has --version says the same one; the page and the package of Python do
+    too.
+    """
     wanted, without = packages.version(), []
     for it in packages.commands():
         done = run(it, "--version")
@@ -182,7 +192,9 @@ def test_each_command_has_the_version(packages: Packages) -> None:
 
 
 def test_what_a_plant_edits_is_a_conffile(packages: Packages) -> None:
-    """What a plant edits is a conffile, and nothing else is; the scripts are shell that dash takes."""
+    """What a plant edits is a conffile, and nothing else is; the scripts are shell that dash
+    takes.
+    """
     told = (packages.control / "tracedesk-plant/conffiles").read_text().split()
     others = [it.parent.name for it in packages.control.glob("*/conffiles")]
     assert others == ["tracedesk-plant"]
@@ -203,7 +215,9 @@ def test_what_a_plant_edits_is_a_conffile(packages: Packages) -> None:
 
 
 def test_each_package_stands_alone_or_names_what_it_needs(packages: Packages) -> None:
-    """The desk wants no Python, the sender neither of the others, and the tools the very versions of both."""
+    """The desk wants no Python, the sender neither of the others, and the tools the very versions
+    of both.
+    """
     control = {name: (packages.control / name / "control").read_text() for name in NAMES}
     needs = {name: re.findall(r"^Depends: (.*)", text, re.M)[0] for name, text in control.items()}
     version = re.findall(r"^Version: (.*)", control["tracedesk"], re.M)[0]
@@ -244,7 +258,9 @@ runuser -u tracedesk -- tracedesk audit --db /var/lib/tracedesk/desk
 
 
 def test_it_is_installed_and_purged_in_a_root_that_goes_away(packages: Packages) -> None:
-    """Installed, installed over itself and purged in a root that goes away: nothing is switched on, changes and the desk stay."""
+    """Installed, installed over itself and purged in a root that goes away: nothing is switched on,
+    changes and the desk stay.
+    """
     if os.geteuid() or not shutil.which("unshare") or not shutil.which("systemd-sysusers"):
         pytest.skip("it wants root, and a Debian with systemd")
     if shutil.which("tracedesk", path="/usr/bin:/usr/local/bin"):
@@ -259,7 +275,11 @@ def test_it_is_installed_and_purged_in_a_root_that_goes_away(packages: Packages)
         pytest.skip("no root can be laid over this one")
     for wanted in (
         "\ndisabled\ndisabled\ndisabled\n",
-        "\n/etc/tracedesk root www-data 750\n/var/lib/tracedesk tracedesk tracedesk 710\n/var/lib/tracedesk/archive tracedesk tracedesk 700\n/var/lib/tracedesk/untraced tracedesk tracedesk 2770\n/var/lib/tracedesk/status tracedesk tracedesk 2770\n",
+        (
+            "\n/etc/tracedesk root www-data 750\n/var/lib/tracedesk tracedesk tracedesk"
+            " 710\n/var/lib/tracedesk/archive tracedesk tracedesk 700\n/var/lib/tracedesk/untraced"
+            " tracedesk tracedesk 2770\n/var/lib/tracedesk/status tracedesk tracedesk 2770\n"
+        ),
         f"\npackage {packages.version()} /usr/lib/python3/dist-packages/tracedesk/__init__.py\n",
         f"\ntracedesk-send {packages.version()}\n",
         "\na day passed\n",
@@ -268,7 +288,10 @@ def test_it_is_installed_and_purged_in_a_root_that_goes_away(packages: Packages)
         "\nchanged\n",
         "tracedesk: /var/lib/tracedesk is kept",
         "tracedesk-plant: /etc/tracedesk is kept",
-        "\nleft /etc/tracedesk /var/lib/tracedesk /var/lib/tracedesk/desk /var/lib/tracedesk/desk-wal\n",
+        (
+            "\nleft /etc/tracedesk /var/lib/tracedesk /var/lib/tracedesk/desk"
+            " /var/lib/tracedesk/desk-wal\n"
+        ),
         "\nlawful 0\n",
     ):
         if done.returncode or wanted not in done.stdout:
@@ -360,7 +383,9 @@ def completed(packages: Packages, *words: str) -> list[str]:
 
 
 def test_bash_completes_commands_options_and_files(packages: Packages) -> None:
-    """Bash is asked: for the program's commands, each command's options, words of a choice, files and folders."""
+    """Bash is asked: for the program's commands, each command's options, words of a choice, files
+    and folders.
+    """
     (packages.room / "some folder").mkdir()
     (packages.room / "some-file").touch()
     for it in packages.commands():
@@ -417,7 +442,9 @@ def test_zsh_completes_options(packages: Packages) -> None:
 
 
 def test_the_container_stops_without_a_desk(packages: Packages) -> None:
-    """The container runs the program with the unit's words, and stops where the desk's file is missing, as the unit does."""
+    """The container runs the program with the unit's words, and stops where the desk's file is
+    missing, as the unit does.
+    """
     text = (ROOT / "packaging/Containerfile").read_text(encoding="utf-8")
     words = json.loads(re.findall(r"^CMD (\[.*\])$", text, re.M)[0])
     unit = re.findall(
@@ -433,7 +460,9 @@ def test_the_container_stops_without_a_desk(packages: Packages) -> None:
 
 
 def test_a_fault_leaves_nothing(packages: Packages) -> None:
-    """Bad words, a program that isn't one, and a machine without pandoc are told, and nothing is left."""
+    """Bad words, a program that isn't one, and a machine without pandoc are told, and nothing is
+    left.
+    """
     to = packages.room / "none"
     faults: list[tuple[list[str], int, str, dict[str, str]]] = [
         (["--nowhere"], 2, "--nowhere", {}),

@@ -1,9 +1,12 @@
-"""The packaged nginx before a desk: what it answers by itself, whom it lets send, and the folders of a line.
+"""The packaged nginx before a desk: what it answers by itself, whom it lets send, and the folders
+of a line.
 
-nginx and the desk run in a folder of their own, on free ports of this machine. The rules of packaging/limits against
-connections that never finish a request are tried by root, in a network of its own:
+nginx and the desk run in a folder of their own, on free ports of this machine. The rules of
+packaging/limits against connections that never finish a request are tried by root, in a network of
+its own:
 
-    unshare --net sh -c 'ip link set lo up && /usr/bin/python3 -m pytest dev/tests/test_proxy.py -m root'
+    unshare --net sh -c 'ip link set lo up && /usr/bin/python3 -m pytest dev/tests/test_proxy.py -m
+    root'
 """
 import base64
 import contextlib
@@ -58,10 +61,15 @@ def agree(what: str, wanted: object, got: object) -> None:
 
 
 def test_own_answers_are_json(site: Site) -> None:
-    """Requests that nginx refuses before the desk sees them, also those whose line it can't read."""
+    """Requests that nginx refuses before the desk sees them, also those whose line it can't
+    read.
+    """
 
     def request(line: str, *headers: str, body: str = "") -> str:
-        return f"{line} HTTP/1.1\r\nHost: localhost\r\nConnection: close\r\n{LOGGED_IN}{''.join(it + chr(13) + chr(10) for it in headers)}\r\n{body}"
+        return (
+            f"{line} HTTP/1.1\r\nHost: localhost\r\nConnection:"
+            f" close\r\n{LOGGED_IN}{''.join(it + chr(13) + chr(10) for it in headers)}\r\n{body}"
+        )
 
     message = ("Content-Type: application/json", "Content-Length: 2")
     worked = {
@@ -148,7 +156,9 @@ def test_certificates_are_compared_letter_by_letter(site: Site) -> None:
 
 
 def test_nobody_logs_in_as_the_tools(site: Site) -> None:
-    """A user and a certificate with the name of the tools' own source get JSON with 403, everybody else goes on."""
+    """A user and a certificate with the name of the tools' own source get JSON with 403, everybody
+    else goes on.
+    """
     for name in ("readers", "senders"):
         file = site.room / "etc" / name
         file.write_text(
@@ -170,7 +180,7 @@ def test_nobody_logs_in_as_the_tools(site: Site) -> None:
 def test_untraced_work_is_put_once(site: Site) -> None:
     record = '{"At":"2026-11-27T14:55:02Z","Kind":"refused","Version":1}\n'
     name = hashlib.sha256(record.encode()).hexdigest()[:32]
-    path, file = f"/line/untraced/{name}.json", site.room / f"line/untraced/{name}.json"
+    path, file = f"/line/untraced/{name}.json", site.room / f"line/untraced/op~{name}.json"
     other = {"Origin": "https://elsewhere.example", "Sec_Fetch_Site": "cross-site"}
     worked: list[tuple[str, str, Any, Any, dict[str, str], int]] = [
         ("PUT", path, None, record, {}, 401),
@@ -206,7 +216,7 @@ def test_untraced_work_is_put_once(site: Site) -> None:
         (204, record),
         (site.asked("PUT", path, "op", "other")[0], file.read_text()),
     )
-    agree("by a certificate", 204, site.asked("PUT", path, None, record, "m2")[0])
+    agree("by a certificate", 201, site.asked("PUT", path, None, record, "m2")[0])
     agree(
         "by a reader's",
         401,
@@ -261,7 +271,9 @@ def rules_of_the_firewall() -> str:
 
 @pytest.mark.needs("fail2ban-regex")
 def test_guesses_can_be_counted(site: Site) -> None:
-    """fail2ban finds a wrong password in the log by the packaged expression, and no reader who asks whether to send."""
+    """fail2ban finds a wrong password in the log by the packaged expression, and no reader who asks
+    whether to send.
+    """
     packaged = (ROOT / "packaging/limits/fail2ban-filter.conf").read_text(encoding="utf-8")
     rule = re.findall(r"^failregex = (.*)$", packaged, re.M)[0]
     for user, password in (
@@ -307,7 +319,9 @@ def held(site: Site, count: int) -> list[ssl.SSLSocket]:
 @pytest.mark.root
 @pytest.mark.needs("nft")
 def test_a_firewall_limits_unfinished_requests(site: Site) -> None:
-    """Without the rules one address takes each connection of nginx; with them it gets as many as they say, and others go on."""
+    """Without the rules one address takes each connection of nginx; with them it gets as many as
+    they say, and others go on.
+    """
     site.stop_nginx()
     file = site.room / "nginx.conf"
     file.write_text(
@@ -334,10 +348,12 @@ def test_a_firewall_limits_unfinished_requests(site: Site) -> None:
         link, server_hostname="localhost"
     ) as other:
         other.sendall(
-            f"GET /overdue HTTP/1.1\r\nHost: localhost\r\nConnection: close\r\n{LOGGED_IN}\r\n".encode()
+            b"GET /overdue HTTP/1.1\r\nHost: localhost\r\nConnection: close\r\n"
+            + f"{LOGGED_IN}\r\n".encode()
         )
         said = other.recv(15).decode()
     if free < 200 or len(links) != 100 or said != "HTTP/1.1 200 OK":
         raise Difference(
-            f"without the rules {free} connections, with them {len(links)}; another address got {said!r}"
+            f"without the rules {free} connections, with them {len(links)}; another address got"
+            f" {said!r}"
         )

@@ -1,11 +1,13 @@
-"""dev/wrong-bodies finds the function that an edit names, and each public function has a wrong body of its own."""
+"""dev/wrong-bodies finds the function that an edit names, and each public function has a wrong body
+of its own.
+"""
 import pathlib
 import subprocess
 import sys
 
 import pytest
 from tracedesk_dev import ROOT, own_bodies
-from tracedesk_dev.edits import NotApplied, edits_in, find_functions, texts_of
+from tracedesk_dev.edits import NotApplied, edits_in, find_functions, name_of_impl, texts_of
 
 SOURCE = """pub struct Pair;
 
@@ -56,14 +58,38 @@ def test_an_edit_changes_the_function_that_it_names(tmp_path: pathlib.Path) -> N
 def test_a_function_has_a_wrong_body_or_a_reason(tmp_path: pathlib.Path) -> None:
     lines = "function: Pair::first", "old:         self.0", "new:         self.0 / 2", ""
     crate(tmp_path, "file: src/lib.rt", *lines)
-    rows, faults = own_bodies.table(str(tmp_path), ["pairs"], {})
-    assert rows[1].split() == ["pairs", "2", "1", "0"]
+    rows, faults = own_bodies.table(str(tmp_path), ["pairs"], {}, set())
+    assert rows[1].split() == ["pairs", "2", "1", "1", "0"]
     assert faults == ["pairs Pair::second has no wrong body"]
     excused = {"pairs Pair::second": "it is its field", "pairs Pair::first": "it is its field"}
-    _, faults = own_bodies.table(str(tmp_path), ["pairs"], excused)
+    _, faults = own_bodies.table(str(tmp_path), ["pairs"], excused, set())
     assert faults == ["pairs Pair::first has a wrong body, or isn't there"]
+
+
+def test_an_untried_wrong_body_does_not_count_as_refused(tmp_path: pathlib.Path) -> None:
+    lines = "function: Pair::first", "old:         self.0", "new:         self.0 / 2", ""
+    crate(tmp_path, "file: src/lib.rt", *lines)
+    (tmp_path / "untried.txt").write_text("# not tried\npairs/half\npairs/third\n")
+    untried = own_bodies.untried_in(str(tmp_path / "untried.txt"))
+    rows, faults = own_bodies.table(str(tmp_path), ["pairs"], {"pairs Pair::second": ""}, untried)
+    assert rows[1].split() == ["pairs", "2", "1", "0", "0"]
+    assert faults == ["there is no wrong body pairs/third, said to be untried"]
 
 
 def test_an_unknown_name_is_refused() -> None:
     assert "there is no wrong body reels/nothing" in tool("reels/nothing").stderr
     assert "crates.txt has no crate nothing" in tool("nothing").stderr
+
+
+@pytest.mark.parametrize(
+    "head, name",
+    (
+        ("impl<S: Alter> LineStore<S> ", "LineStore"),
+        ("impl Stored for u64 ", "U64Stored"),
+        ("impl<A: Stored, B: Stored> Stored for (A, B) ", "Tuple2Stored"),
+        ("impl<'a> Row for (&'a (u64, Id), &'a Mount) ", "Tuple2RefTuple2U64IdRefMountRow"),
+        ("impl From<sqlite::Error> for Fault ", "FaultFromSqliteError"),
+    ),
+)
+def test_the_functions_of_an_impl_have_the_names_that_a_check_prints(head: str, name: str) -> None:
+    assert name_of_impl(head) == name

@@ -1,4 +1,6 @@
-"""What the tools and tests of dev/ share. Importing it lets them import the packages of ops/ and of clients/python too."""
+"""What the tools and tests of dev/ share. Importing it lets them import the packages of ops/ and of
+clients/python too.
+"""
 import pathlib
 import sys
 

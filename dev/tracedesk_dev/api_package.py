@@ -1,4 +1,6 @@
-"""The words.py of the package for senders and the station's kinds.js, as made from the table docs/api/messages.json."""
+"""The words.py of the package for senders and the station's kinds.js, as made from the table
+docs/api/messages.json.
+"""
 import json
 import re
 import subprocess
@@ -69,7 +71,10 @@ def python_forms(table: Table) -> Iterator[str]:
         elif schema["type"] == "integer":
             yield f"{name.upper()} = forms.Whole({schema['minimum']}, {schema['maximum']})"
         elif name != "time":
-            yield f"{name.upper()} = forms.Text({schema['maxLength']}, r{schema['pattern']!r}, {told!r})"
+            yield (
+                f"{name.upper()} = forms.Text({schema['maxLength']}, r{schema['pattern']!r},"
+                f" {told!r})"
+            )
 
 
 def python_document(message: Member) -> str:
@@ -95,9 +100,8 @@ def recorded(table: Table) -> list[str]:
 def station_kinds(table: Table) -> str:
     names = [f"  {json.dumps(name)},\n" for name in recorded(table)]
     return (
-        "// Messages about what was done, or handled: their refusals are recorded. Made by dev/api from\n"
-        "// docs/api/messages.json.\n"
-        f"export const RECORDED = [\n{''.join(names)}];\n"
+        "// Messages about what was done, or handled: their refusals are recorded. Made by dev/api"
+        f" from\n// docs/api/messages.json.\nexport const RECORDED = [\n{''.join(names)}];\n"
     )
 
 
@@ -116,7 +120,10 @@ def python_table(name: str, kind: str, pairs: Iterable[tuple[object, object]]) -
 
 def words(table: Table) -> str:
     lines = [
-        '"""The words of a desk, with their ranges. Made by dev/api from docs/api/messages.json: change that one, and run dev/api."""',
+        (
+            '"""The words of a desk, with their ranges. Made by dev/api from'
+            ' docs/api/messages.json: change that one, and run dev/api."""'
+        ),
         "from __future__ import annotations",
         "",
         "import dataclasses",
@@ -164,7 +171,10 @@ def words(table: Table) -> str:
     )
     lines += [
         "",
-        "# What a status says to a sender: an answer of this kind, once more, or stop and tell a person why.",
+        (
+            "# What a status says to a sender: an answer of this kind, once more, or stop and tell"
+            " a person why."
+        ),
     ]
     for name, means, of in (("ANSWERS", "answer", "answer"), ("STOPS", "stop", "why")):
         lines += python_table(
@@ -175,9 +185,15 @@ def words(table: Table) -> str:
     again = tuple(it["status"] for it in table["statuses"] if it["means"] == "again")
     lines += [
         f"AGAIN: Tuple[int, ...] = {again!r}",
-        f"FAULTS_OF_A_REQUEST: Tuple[str, ...] = {tuple(it['fault'] for it in table['request_faults'])!r}",
+        (
+            "FAULTS_OF_A_REQUEST: Tuple[str, ...] ="
+            f" {tuple(it['fault'] for it in table['request_faults'])!r}"
+        ),
         "",
-        "# Minutes of floor life left: a number; none at level 1, where there is no limit; or unbaked, or short in a kit.",
+        (
+            "# Minutes of floor life left: a number; none at level 1, where there is no limit; or"
+            " unbaked, or short in a kit."
+        ),
         "Minutes = Union[int, str, None]",
     ]
     for it in table["reports"]:

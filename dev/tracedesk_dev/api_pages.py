@@ -1,4 +1,6 @@
-"""The tables of docs/messages.md as made from the table docs/api/messages.json, and what pages and the table say apart."""
+"""The tables of docs/messages.md as made from the table docs/api/messages.json, and what pages and
+the table say apart.
+"""
 import json
 import re
 from typing import Any, Iterable, Iterator, TypeVar
@@ -193,4 +195,7 @@ def differences_in_examples(
         if not all(map(any, taken)) or not all(
             any(it[number] for it in taken) for number in range(len(looks))
         ):
-            yield f"answer_examples of {name} has one that the schema refuses, or none of a shape that it may have"
+            yield (
+                f"answer_examples of {name} has one that the schema refuses, or none of a shape"
+                " that it may have"
+            )

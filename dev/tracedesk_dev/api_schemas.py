@@ -42,7 +42,8 @@ def sentence(text: str) -> str:
     return text[:1].upper() + text[1:] + ("" if text.endswith(".") else ".")
 
 
-# --- Schemas. `at` is where the definitions stand: "#/$defs/", or of an OpenAPI document "#/components/schemas/".
+# --- Schemas. `at` is where the definitions stand: "#/$defs/", or of an OpenAPI document
+# "#/components/schemas/".
 
 
 def ref(at: str, name: str) -> Schema:
@@ -68,7 +69,9 @@ def member_schema(member: Member, at: str) -> Schema:
 
 
 def object_schema(members: list[Member], at: str) -> Schema:
-    """An object with these members; others are skipped, and one that is read in a case alone is wanted in it alone."""
+    """An object with these members; others are skipped, and one that is read in a case alone is
+    wanted in it alone.
+    """
     always = [it for it in members if "where" not in it]
     made = {
         "type": "object",
@@ -293,10 +296,8 @@ def responses_of(table: Table, route: Member, at: str) -> Schema:
 
 def header_text(table: Table, path: str) -> str:
     shapes = [it for it in table["reports"] if it["path"] == path]
-    return " ".join(
-        f"{'With detail ' + str(it['detail']) + ': ' if 'detail' in it else 'Columns: '}{','.join(it['columns'])}."
-        for it in shapes
-    )
+    heads = (f"With detail {it['detail']}" if "detail" in it else "Columns" for it in shapes)
+    return " ".join(f"{head}: {','.join(it['columns'])}." for head, it in zip(heads, shapes))
 
 
 def parameter_of(table: Table, name: str, at: str) -> Schema:
@@ -334,7 +335,10 @@ def openapi(table: Table, examples: dict[str, list[Any]]) -> Schema:
         "title": "trace desk",
         "version": "1",
         "license": {"name": "MIT", "identifier": "MIT"},
-        "description": "Feeder verification and lot traces beside a surface-mount line. The desk's own port has no log-in; nginx in front of it asks for a password or a certificate.",
+        "description": (
+            "Feeder verification and lot traces beside a surface-mount line. The desk's own port"
+            " has no log-in; nginx in front of it asks for a password or a certificate."
+        ),
     }
     schemes = {
         "password": {"type": "http", "scheme": "basic"},

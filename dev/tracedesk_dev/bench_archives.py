@@ -10,11 +10,13 @@ import sys
 import tempfile
 from typing import Any, Iterator
 from tracedesk_dev import shift
-from tracedesk_ops import catalogue, plant
+from tracedesk_ops import catalogue, plant, store
 
 MEMORY = "/dev/shm"
 LOT = "LOT-RECALL"
-BASE = "ZQZQ"  # no part of another name, and longer than two numbers of a row: so its bytes in a file are those of the names that begin with it
+# no part of another name, and longer than two numbers of a row: so its bytes in a file are those of
+# the names that begin with it
+BASE = "ZQZQ"
 LETTERS = "ABCDEFGHIJKLMNOPQRSTUVWXYZ"
 
 
@@ -26,7 +28,9 @@ def whole(file: pathlib.Path) -> None:
 
 
 def first_archive(asked: argparse.Namespace, file: pathlib.Path) -> None:
-    """Feeds the shift to a desk, in memory where there is a folder for that: no sync is waited for."""
+    """Feeds the shift to a desk, in memory where there is a folder for that: no sync is waited
+    for.
+    """
     lines = [it.text for it in shift.Shift(1, asked.boards, BASE).lines]
     with tempfile.TemporaryDirectory(dir=MEMORY if os.path.isdir(MEMORY) else None) as room:
         desk = pathlib.Path(room, "desk")
@@ -42,7 +46,9 @@ def first_archive(asked: argparse.Namespace, file: pathlib.Path) -> None:
 
 
 def another(first: Any, number: int, file: pathlib.Path) -> None:
-    """Writes the bytes of the first archive with names of its own; a name that lies on two pages is changed by a statement."""
+    """Writes the bytes of the first archive with names of its own; a name that lies on two pages is
+    changed by a statement.
+    """
     two = f"{LETTERS[number // 10]}{number % 10}"
     changes = (f"{BASE}-", f"{two}ZQ-"), ("LOT-", f"Z{two}-")
     for old, new in changes:
@@ -57,7 +63,10 @@ def another(first: Any, number: int, file: pathlib.Path) -> None:
         ):  # no other text goes beyond a page
             for old, new in changes:
                 database.execute(
-                    f"UPDATE {table} SET {column} = replace({column}, ?1, ?2) WHERE instr({column}, ?1)",
+                    (
+                        f"UPDATE {table} SET {column} = replace({column}, ?1, ?2) WHERE"
+                        f" instr({column}, ?1)"
+                    ),
                     [old, new],
                 )
 
@@ -67,7 +76,10 @@ def of_its_own(file: pathlib.Path, number: int) -> None:
     with contextlib.closing(sqlite3.connect(file, isolation_level=None)) as database:
         database.execute("PRAGMA journal_mode = DELETE")
         database.execute(
-            "UPDATE accepted SET uid = ?1, detail = replace(detail, uid, ?1) WHERE number = (SELECT max(number) FROM accepted)",
+            (
+                "UPDATE accepted SET uid = ?1, detail = replace(detail, uid, ?1) WHERE number ="
+                " (SELECT max(number) FROM accepted)"
+            ),
             [f"last-{number}"],
         )
 
@@ -79,7 +91,7 @@ def line_of(file: pathlib.Path, desk: Any, before: Any = "") -> Any:
         )
         ((pieces,),) = database.execute("SELECT count(*) FROM placement")
     return catalogue.Archive(
-        file.name, catalogue.sha256_of(file), desk, first, last, commands, pieces, before
+        file.name, store.sha256_of(file), desk, first, last, commands, pieces, before
     )
 
 

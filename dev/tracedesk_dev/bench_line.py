@@ -31,7 +31,9 @@ class Line:
         )
 
     def sheet(self, machine: int) -> dict[str, list[str]]:
-        """The slots of a machine with their designators: three on the first half, two on the others."""
+        """The slots of a machine with their designators: three on the first half, two on the
+        others.
+        """
         names = iter(f"{'CRUL'[machine]}{number}" for number in range(1, 1_000))
         return {
             str(slot): [next(names) for _ in range(3 if slot <= SLOTS // 2 else 2)]

@@ -48,7 +48,9 @@ REFUSED_REPORTS: dict[str, dict[str, Any]] = {
 
 
 def spelled_request(request: Any, bytes_of: BytesOf) -> bytes:
-    """The bytes of a request: as given, of a file of the case, or of a GET or a POST with its length."""
+    """The bytes of a request: as given, of a file of the case, or of a GET or a POST with its
+    length.
+    """
     if isinstance(request, str):
         return bytes_of_text(request)
     if "file" in request:
@@ -64,7 +66,9 @@ def spelled_request(request: Any, bytes_of: BytesOf) -> bytes:
 
 
 def spelled_answer(answer: Any) -> bytes:
-    """The bytes of an answer: as they stand, or of a status, a body, and what stands beside them."""
+    """The bytes of an answer: as they stand, or of a status, a body, and what stands beside
+    them.
+    """
     if isinstance(answer, str):
         return bytes_of_text(answer)
     status, kind = answer.get("status", 200), "text/csv" if "csv" in answer else "application/json"
@@ -82,7 +86,9 @@ def spelled_answer(answer: Any) -> bytes:
 
 
 def connected(port: int, process: subprocess.Popen[bytes]) -> socket.socket | None:
-    """The one connection that is taken, once the desk is opened; a refused try is none. None where the program has ended."""
+    """The one connection that is taken, once the desk is opened; a refused try is none. None where
+    the program has ended.
+    """
     end = time.monotonic() + SECONDS_FOR_A_RUN
     while time.monotonic() < end:
         link = socket.socket()
@@ -102,7 +108,9 @@ def connected(port: int, process: subprocess.Popen[bytes]) -> socket.socket | No
 def exchanged(
     link: socket.socket, pieces: Sequence[bytes], wanted: Sequence[bytes] | None
 ) -> bytes:
-    """What comes back for these pieces. With `wanted`, a piece is sent once the answer to the one before it is there."""
+    """What comes back for these pieces. With `wanted`, a piece is sent once the answer to the one
+    before it is there.
+    """
     got = bytearray()
 
     def listen() -> None:
@@ -135,7 +143,8 @@ def compare_line(process: subprocess.Popen[bytes], number: int, answered: int) -
     line = next_line(process.stdout)
     if line is None:
         raise Difference(
-            f"connection {number} had no line after {SECONDS_FOR_AN_ANSWER} seconds; the next one waits for it"
+            f"connection {number} had no line after {SECONDS_FOR_AN_ANSWER} seconds; the next one"
+            " waits for it"
         )
     compare(f"line of connection {number}", f"{number} {answered}\n".encode(), line)
 
@@ -147,7 +156,9 @@ def take_connections(
     connections: Sequence[Connection],
     work: pathlib.Path,
 ) -> None:
-    """One run with these connections, one after the other: of each the pieces, the answers, and how the pieces are sent."""
+    """One run with these connections, one after the other: of each the pieces, the answers, and how
+    the pieces are sent.
+    """
     for _ in range(3):
         port = free_port()
         all_words = words_of(
@@ -188,7 +199,9 @@ def take_connections(
 
 
 def clients(program: str, step: Step, bytes_of: BytesOf, work: pathlib.Path) -> None:
-    """One run, and a client of the case's own, which gets the port and makes its own connections."""
+    """One run, and a client of the case's own, which gets the port and makes its own
+    connections.
+    """
     for name in step.get("files", []):
         (work / name).write_bytes(bytes_of(name))
     port = str(free_port())
@@ -229,7 +242,9 @@ def clients(program: str, step: Step, bytes_of: BytesOf, work: pathlib.Path) -> 
 
 
 def cuts_of(data: bytes, cut: object) -> list[list[list[bytes]]]:
-    """The ways in which bytes are sent: for each run of the program a list of its connections, each a list of pieces."""
+    """The ways in which bytes are sent: for each run of the program a list of its connections, each
+    a list of pieces.
+    """
     if cut == "everywhere":
         return [
             [[data[n : n + 1] for n in range(len(data))]],
@@ -241,7 +256,9 @@ def cuts_of(data: bytes, cut: object) -> list[list[list[bytes]]]:
 
 
 def serve(program: str, step: Step, bytes_of: BytesOf, work: pathlib.Path) -> None:
-    """A client's connections, `times` over. With `cut` its one connection is also cut, each time on a copy of the desk."""
+    """A client's connections, `times` over. With `cut` its one connection is also cut, each time on
+    a copy of the desk.
+    """
     connections = [
         ([spelled_request(it, bytes_of) for it in sent], [spelled_answer(it) for it in told])
         for sent, told in step["connections"]
@@ -279,7 +296,9 @@ def serve(program: str, step: Step, bytes_of: BytesOf, work: pathlib.Path) -> No
 
 
 def reports(program: str, step: Step, bytes_of: BytesOf, work: pathlib.Path) -> None:
-    """Reports of a desk, each by a run of `report`, and then all of them on one connection to `serve`."""
+    """Reports of a desk, each by a run of `report`, and then all of them on one connection to
+    `serve`.
+    """
     answers = []
     for target, told in step["cases"]:
         done = subprocess.run(

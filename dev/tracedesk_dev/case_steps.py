@@ -1,8 +1,8 @@
 """The kinds of steps of a case that run the program on files, or look at a file.
 
-Each is called with the program, the step, a call that gives the bytes of a file of the case, and the folder that the
-program works in. It raises Difference where something else comes out. `look` and `change` open a copy of the desk's file,
-and the file itself, by sqlite3.
+Each is called with the program, the step, a call that gives the bytes of a file of the case, and
+the folder that the program works in. It raises Difference where something else comes out. `look`
+and `change` open a copy of the desk's file, and the file itself, by sqlite3.
 """
 import contextlib
 import fcntl
@@ -133,7 +133,9 @@ def run(program: str, step: Step, bytes_of: BytesOf, work: pathlib.Path) -> None
 
 
 def tool(program: str, step: Step, bytes_of: BytesOf, work: pathlib.Path) -> None:
-    """One run of a tool of this repository, which finds the program in PROGRAM where it needs one."""
+    """One run of a tool of this repository, which finds the program in PROGRAM where it needs
+    one.
+    """
     words, environment = [str(ROOT / "ops" / step["tool"][0]), *step["tool"][1:]], {
         **os.environ,
         "PROGRAM": program,
@@ -167,7 +169,9 @@ def next_line(pipe: IO[bytes]) -> bytes | None:
 
 
 def talk(program: str, step: Step, bytes_of: BytesOf, work: pathlib.Path) -> None:
-    """One run, in which each line is sent once the line before it is answered, as a machine does."""
+    """One run, in which each line is sent once the line before it is answered, as a machine
+    does.
+    """
     sent, wanted = (io.BytesIO(bytes_of(step[name])).readlines() for name in ("input", "output"))
     if len(sent) != len(wanted):
         raise Difference(
@@ -190,7 +194,8 @@ def talk(program: str, step: Step, bytes_of: BytesOf, work: pathlib.Path) -> Non
                 answer = next_line(process.stdout)
                 if answer is None:
                     raise Difference(
-                        f"line {number} had no answer after {SECONDS_FOR_AN_ANSWER} seconds; line {number + 1} waits for it"
+                        f"line {number} had no answer after {SECONDS_FOR_AN_ANSWER} seconds; line"
+                        f" {number + 1} waits for it"
                     )
                 got += answer
                 compare("standard output", b"".join(wanted[:number]), got)
@@ -236,7 +241,9 @@ def tables_in(file: pathlib.Path) -> dict[str, list[Any]]:
 
 
 def compare_tables(wanted: dict[str, list[Any]], got: dict[str, list[Any]], when: str) -> None:
-    """The tables that are wanted; `version` and `accepted` are left out where they are not named."""
+    """The tables that are wanted; `version` and `accepted` are left out where they are not
+    named.
+    """
     for name in sorted({*wanted, *got} - ({"version", "accepted"} - set(wanted))):
         if wanted.get(name) != got.get(name):
             raise Difference(f"table {name}{when}: wanted {wanted.get(name)}, got {got.get(name)}")
@@ -265,8 +272,9 @@ def take_one(
 
 
 def each(program: str, step: Step, bytes_of: BytesOf, work: pathlib.Path) -> None:
-    """A run for each line of the input. After each the tables are those before it, but for what is said to go and to come.
-    `version` and `accepted` are compared from the line on that first names them."""
+    """A run for each line of the input. After each the tables are those before it, but for what is
+    said to go and to come. `version` and `accepted` are compared from the line on that first names
+    them."""
     lines, wanted, changes = (
         io.BytesIO(bytes_of(step[name])).readlines() for name in ("input", "output", "tables")
     )
@@ -293,7 +301,9 @@ def texts(program: str, step: Step, bytes_of: BytesOf, work: pathlib.Path) -> No
 
 
 def holds(program: str, step: Step, bytes_of: BytesOf, work: pathlib.Path) -> None:
-    """All rows of all tables, those of `version` and `accepted` where they are named. A table that is not named has none."""
+    """All rows of all tables, those of `version` and `accepted` where they are named. A table that
+    is not named has none.
+    """
     wanted: dict[str, list[Any]] = dict.fromkeys(STATE_TABLES, [])
     wanted.update({name: sorted(rows) for name, rows in step["tables"].items()})
     compare_tables(wanted, tables_in(work / step["holds"]), "")
@@ -305,7 +315,9 @@ def write(program: str, step: Step, bytes_of: BytesOf, work: pathlib.Path) -> No
 
 
 def change(program: str, step: Step, bytes_of: BytesOf, work: pathlib.Path) -> None:
-    """Runs statements on a database, which is made where it is missing; or has them refused, where that is said."""
+    """Runs statements on a database, which is made where it is missing; or has them refused, where
+    that is said.
+    """
     with contextlib.closing(
         sqlite3.connect(work / step["change"], isolation_level=None)
     ) as database:

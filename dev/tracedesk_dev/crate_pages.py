@@ -13,7 +13,9 @@ NAMED_FILE = re.compile(
 
 
 def braced(names: str) -> list[str]:
-    """The names of the last part of a `use`: those between braces, or the one behind the last `::`."""
+    """The names of the last part of a `use`: those between braces, or the one behind the last
+    `::`.
+    """
     inner = re.search(r"\{(.*)\}", names, re.S)
     return (
         [it.strip() for it in inner[1].split(",") if it.strip()]
@@ -23,7 +25,9 @@ def braced(names: str) -> list[str]:
 
 
 class Module:
-    """What a source file has: its functions, types, methods and modules, with whether each is `pub`."""
+    """What a source file has: its functions, types, methods and modules, with whether each is
+    `pub`.
+    """
 
     def __init__(self, path: pathlib.Path) -> None:
         text = re.sub(r"^\s*//.*$", "", path.read_text(encoding="utf-8"), flags=re.M)
@@ -101,8 +105,9 @@ class Crate:
     def publish(
         self, module: Module, names: set[str] | None, before: str, all_of_it: bool = False
     ) -> None:
-        """Adds what a module shows: the names that a `use` asks for, or all that is `pub` where none are asked for.
-        Of a program, which nobody calls, that is what each of its modules shows to `main`."""
+        """Adds what a module shows: the names that a `use` asks for, or all that is `pub` where
+        none are asked for. Of a program, which nobody calls, that is what each of its modules shows
+        to `main`."""
         self.functions |= {
             f"{before}{it}" for it in module.functions if names is None or it in names
         }
@@ -196,7 +201,9 @@ def file_faults(text: str, folder: pathlib.Path) -> Iterator[str]:
 
 
 def contract_faults(text: str, crate: Crate) -> Iterator[str]:
-    """Names with which a bullet or a row under "Main contracts" begins, and that the crate doesn't have."""
+    """Names with which a bullet or a row under "Main contracts" begins, and that the crate doesn't
+    have.
+    """
     part = sections(text).get("Main contracts", "")
     heads = [cells[0] for _, cells in rows_of(part)] + re.findall(
         r"^- ((?:`[^`]+`(?:, | and )?)+)", part, re.M

@@ -22,13 +22,15 @@ FORMS = {"Designator": r"[A-Za-z0-9_.-]{1,16}", "Level": "1|2a?|3|4|5a?|6"}
 
 
 def fields_of(value: Any, name: str) -> list[str]:
-    """Returns the fields that a member has in a stored text: a list's length, and then those of its elements. A value that
-    no desk takes is a ValueError."""
+    """Returns the fields that a member has in a stored text: a list's length, and then those of its
+    elements. A value that no desk takes is a ValueError."""
     if name in (*LISTS, "Designators") and isinstance(value, list) and 0 < len(value) <= 5_000:
         elements = (
-            [(key, it["Quantity" if key == "Counted" else key]) for key in LISTS[name]]
-            if name in LISTS
-            else [("Designator", it)]
+            (
+                [(key, it["Quantity" if key == "Counted" else key]) for key in LISTS[name]]
+                if name in LISTS
+                else [("Designator", it)]
+            )
             for it in value
         )
         return [
@@ -54,7 +56,9 @@ def fields_of(value: Any, name: str) -> list[str]:
 
 
 def line_of(message: str, kinds: dict[str, list[dict[str, Any]]]) -> str | None:
-    """Returns the line of a message, or None if it isn't the desk's or has a member missing or of another kind."""
+    """Returns the line of a message, or None if it isn't the desk's or has a member missing or of
+    another kind.
+    """
     try:
         envelope = json.loads(message)
         word, body = envelope["MessageName"].removeprefix("TraceDesk."), envelope["MessageBody"]

@@ -15,8 +15,8 @@ Judged = TypeVar("Judged")
 
 @dataclasses.dataclass
 class Edit:
-    """An edit's file and its name; a sum of the texts that it is tried on; the functions that it changes, if nothing else;
-    and whether others may call one whose contract it changes."""
+    """An edit's file and its name; a sum of the texts that it is tried on; the functions that it
+    changes, if nothing else; and whether others may call one whose contract it changes."""
 
     path: str
     label: str
@@ -49,7 +49,9 @@ def files_of(folder: str, *parts: str) -> list[str]:
 
 
 def edits_in(owner: str, *folders: str) -> list[Edit]:
-    """Returns the edits in a crate's folders, or in that of the wrong programs: what lies there and is no page."""
+    """Returns the edits in a crate's folders, or in that of the wrong programs: what lies there and
+    is no page.
+    """
     paths = [
         f"{folder}/{it}"
         for folder in folders
@@ -61,7 +63,9 @@ def edits_in(owner: str, *folders: str) -> list[Edit]:
 
 
 def span_of(function: str, path: str, text: str) -> tuple[int, int]:
-    """Returns where a function's text begins and ends in its file, or the whole file where no function is named."""
+    """Returns where a function's text begins and ends in its file, or the whole file where no
+    function is named.
+    """
     if not function:
         return 0, len(text)
     rows = text.split("\n")
@@ -80,7 +84,9 @@ def span_of(function: str, path: str, text: str) -> tuple[int, int]:
 
 
 def texts_of(edits: list[Edit], folder: str) -> tuple[dict[str, str], dict[str, str]]:
-    """Returns the texts of the files that edits change, before and after, by their paths in the folder."""
+    """Returns the texts of the files that edits change, before and after, by their paths in the
+    folder.
+    """
     path, function, old = "", "", ""
     before: dict[str, str] = {}
     after: dict[str, str] = {}
@@ -133,8 +139,31 @@ def with_edits(edits: list[Edit], folder: str, judge: Callable[[dict[str, str]],
             write(f"{folder}/{path}", text)
 
 
+def owner_name(text: str) -> str:
+    """Returns the name of an impl's type: of a tuple its length, then the parts that are no type
+    parameters, and `Ref` before a type that is borrowed.
+    """
+    text = re.sub(r"^&'\w+\s", "&", text.strip())
+    if text.startswith("&"):
+        return "Ref" + owner_name(text[1:])
+    if not text.startswith("("):
+        name = re.sub(r"<.*", "", text).split("::")[-1]
+        return name[:1].upper() + name[1:]
+    depth, parts = 0, [""]
+    for c in text[1:-1]:
+        depth += (c in "(<") - (c in ")>")
+        if c == "," and depth == 0:
+            parts.append("")
+        else:
+            parts[-1] += c
+    names = [owner_name(it) for it in parts if it.strip()]
+    return f"Tuple{len(names)}" + "".join(it for it in names if len(it) > 1)
+
+
 def name_of_impl(head: str) -> str:
-    """Returns the name by which a check tells of an impl's functions: its type, then its trait with its arguments."""
+    """Returns the name by which a check tells of an impl's functions: its type, then its trait with
+    its arguments.
+    """
     depth, plain = 0, ""
     for at, c in enumerate(head):
         depth += c == "<"
@@ -152,13 +181,16 @@ def name_of_impl(head: str) -> str:
     def word(text: str) -> str:
         return re.sub(r"<.*", "", text.strip().lstrip("&")).split("::")[-1]
 
-    owner = word(re.sub(r"^<\S*\s", "", owner.split(" where ")[0].rstrip(" {")))
+    owner = owner_name(re.sub(r"^<\S*\s", "", owner.split(" where ")[0].rstrip(" {")))
     args = re.search(r"<(.*)", trait)
-    return owner + word(trait) + ("".join(re.findall(r"\w+", args[1])) if args else "")
+    words = re.findall(r"\w+", args[1]) if args else []
+    return owner + word(trait) + "".join(it[0].upper() + it[1:] for it in words)
 
 
 def functions_at(path: str, text: str, lines: list[int]) -> dict[str, bool]:
-    """Returns the functions that hold these lines, each with whether one is above its body, or nothing where a line is in none."""
+    """Returns the functions that hold these lines, each with whether one is above its body, or
+    nothing where a line is in none.
+    """
     rows = text.split("\n")
     found: dict[str, bool] = {}
     module = [
@@ -204,14 +236,18 @@ def functions_at(path: str, text: str, lines: list[int]) -> dict[str, bool]:
 
 
 def is_named(function: str, folder: str) -> bool:
-    """Returns whether more than a function's own line has its name, as what calls it would: comments and lists of names have it too."""
+    """Returns whether more than a function's own line has its name, as what calls it would:
+    comments and lists of names have it too.
+    """
     rows = [row for it in files_of(folder, "src") for row in read(it).split("\n")]
     rows = [it for it in rows if not re.match(r"\s*(?://|(?:pub )?use |[\w:{}, ]+[,;]$)", it)]
     return sum(1 for it in rows if re.search(rf"\b{function.split('::')[-1]}\b", it)) > 1
 
 
 def find_functions(edit: Edit, folder: str) -> None:
-    """Finds the functions that an edit changes, if nothing besides, and whether others may call one whose contract it changes."""
+    """Finds the functions that an edit changes, if nothing besides, and whether others may call one
+    whose contract it changes.
+    """
     found: dict[str, bool] = {}
     before, after = texts_of([edit], folder)
     for path, text in after.items():

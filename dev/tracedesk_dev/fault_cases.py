@@ -90,7 +90,9 @@ def report_of(story: Story, count: int, target: str) -> bytes:
 
 
 def served(asked: argparse.Namespace, case: str, targets: Sequence[str]) -> Story:
-    """A case's messages as requests, a report after each of them, and the first message once more."""
+    """A case's messages as requests, a report after each of them, and the first message once
+    more.
+    """
     feeding = fed(asked, case)
     posts = [
         b"POST /messages HTTP/1.1\r\nContent-Length: %d\r\n\r\n%s" % (len(line) - 1, line[:-1])

@@ -44,7 +44,9 @@ class Desk:
         return sum(said.wanted == "Accepted" for said, _answer in zip(self.said, self.answers))
 
     def take(self, first: int, answers: list[bytes]) -> None:
-        """Takes in the answers to the lines from this one on, of which the first may be known already."""
+        """Takes in the answers to the lines from this one on, of which the first may be known
+        already.
+        """
         for number, answer in enumerate(answers, first):
             if number < len(self.answers):
                 known = self.answers[number]
@@ -55,7 +57,8 @@ class Desk:
                 continue
             if answer != self.said[number].answer:
                 raise Found(
-                    f"line {number + 1}: wanted {self.said[number].answer[:300]!r}, got {answer[:300]!r}"
+                    f"line {number + 1}: wanted {self.said[number].answer[:300]!r}, got"
+                    f" {answer[:300]!r}"
                 )
             self.answers.append(answer)
 
@@ -127,8 +130,11 @@ def kill(process: subprocess.Popen[bytes]) -> None:
 
 
 def feed_for(desk: Desk, first: int, seconds: float) -> list[bytes]:
-    """Lets `feed` take the lines from this one on for a while, then kills it, and gives the whole answers."""
-    with tempfile.TemporaryFile() as given, tempfile.TemporaryFile() as taken, tempfile.TemporaryFile() as told:
+    """Lets `feed` take the lines from this one on for a while, then kills it, and gives the whole
+    answers.
+    """
+    pipe = tempfile.TemporaryFile
+    with pipe() as given, pipe() as taken, pipe() as told:
         given.writelines(said.text + b"\n" for said in desk.said[first:])
         given.seek(0)
         words = [desk.program, "feed", "--db", desk.file]
@@ -147,7 +153,9 @@ def feed_for(desk: Desk, first: int, seconds: float) -> list[bytes]:
 
 
 def serve_for(desk: Desk, first: int, seconds: float) -> list[bytes]:
-    """Posts the lines from this one on to `serve` for a while, then kills it, and gives the whole answers."""
+    """Posts the lines from this one on to `serve` for a while, then kills it, and gives the whole
+    answers.
+    """
     port, answers = free_port(), []
     words = [
         desk.program,
@@ -211,7 +219,9 @@ def answer_of(process: subprocess.Popen[bytes]) -> Any:
 
 
 def talk(desk: Desk, start: Any) -> tuple[int, str]:
-    """Sends the lines one by one to what `start` starts, one that is Unavailable three times; gives the end's status, and what was told."""
+    """Sends the lines one by one to what `start` starts, one that is Unavailable three times; gives
+    the end's status, and what was told.
+    """
     with tempfile.TemporaryFile() as told:
         process = start(
             [desk.program, "feed", "--db", desk.file],

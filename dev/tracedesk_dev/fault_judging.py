@@ -5,14 +5,17 @@ from tracedesk_dev.trial import Difference as Found
 
 
 def judge(story: Story, got: Got, files: Files, seen: Seen, may_be_done: bool = True) -> None:
-    """Judges what a run answered, and the files that it left; where it may be, a part at hand may be done in them."""
+    """Judges what a run answered, and the files that it left; where it may be, a part at hand may
+    be done in them.
+    """
     done = tuple(
         part for part, answer in enumerate(got.answers) if not story.is_unavailable(answer)
     )
     known = story.known(done).answers
     if [got.answers[part] for part in done] != known:
         raise Found(
-            f"answers {got.answers!r}, where an undisturbed run of those that were not Unavailable gives {known!r}"
+            f"answers {got.answers!r}, where an undisturbed run of those that were not Unavailable"
+            f" gives {known!r}"
         )
     may = [done] + [done + (part,) for part in at_hand(story, got)]
     if got.rest and not any(
@@ -31,8 +34,8 @@ def judge(story: Story, got: Got, files: Files, seen: Seen, may_be_done: bool = 
 
 
 def at_hand(story: Story, got: Got) -> list[int]:
-    """The parts of which one may be done without an answer that says so: the one behind the last answer, and those
-    that were answered Unavailable since the last that was Accepted."""
+    """The parts of which one may be done without an answer that says so: the one behind the last
+    answer, and those that were answered Unavailable since the last that was Accepted."""
     last = max(
         (part for part, answer in enumerate(got.answers) if b'"Answer":"Accepted"' in answer),
         default=-1,
@@ -64,9 +67,11 @@ def judge_files(story: Story, files: Files, may: Any, seen: Seen) -> None:
             )
         order = orders[0]
         seen[
-            "files: no more was done than was answered"
-            if order == may[0]
-            else "files: the part at hand was done"
+            (
+                "files: no more was done than was answered"
+                if order == may[0]
+                else "files: the part at hand was done"
+            )
         ] += 1
     wanted = story.known(order + story.all)
     answers, _status, after = story.plainly(story.all, files)
@@ -77,7 +82,9 @@ def judge_files(story: Story, files: Files, may: Any, seen: Seen) -> None:
 
 
 def judge_status(story: Story, got: Got, kind: str) -> None:
-    """The status, and what was told, of a run whose answers are judged, and in which calls of this kind failed."""
+    """The status, and what was told, of a run whose answers are judged, and in which calls of this
+    kind failed.
+    """
     told = got.told.decode(errors="replace")
     if not told and story.is_whole(got) and got.status in story.statuses(got.answers):
         return

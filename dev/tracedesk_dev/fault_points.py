@@ -1,4 +1,6 @@
-"""The points at which a run fails: each call, allocation, change of the disk, kill and cut of the power."""
+"""The points at which a run fails: each call, allocation, change of the disk, kill and cut of the
+power.
+"""
 import argparse
 import collections
 import random
@@ -23,7 +25,9 @@ SECTOR = 512
 
 
 def changes_in(record: bytes) -> Iterator[Change]:
-    """The changes of the disk and the bytes that were put out, in their order, as dev/faults/calls.c records them."""
+    """The changes of the disk and the bytes that were put out, in their order, as
+    dev/faults/calls.c records them.
+    """
     at = 0
     while at < len(record):
         end = record.index(b"\n", at)
@@ -43,7 +47,9 @@ def apply(text: bytearray, change: Change) -> None:
 
 
 class Disk:
-    """What a disk surely has of each file, the changes since that it may have, and the names that it may have."""
+    """What a disk surely has of each file, the changes since that it may have, and the names that
+    it may have.
+    """
 
     def __init__(self, files: Files) -> None:
         self.sure = dict(files)
@@ -108,8 +114,8 @@ class Disk:
         )
 
     def mixed(self, size: int, chance: random.Random) -> Files:
-        """The files where each piece of this size is old or new by chance, and past the sure end of a file its length
-        is anywhere, and any byte may be anything where pieces are of a byte."""
+        """The files where each piece of this size is old or new by chance, and past the sure end of
+        a file its length is anywhere, and any byte may be anything where pieces are of a byte."""
         old, new, share = (
             self.with_these(()),
             self.with_these(self.unsure()),
@@ -182,7 +188,9 @@ def recorded(story: Story, fail: str = "", files: Files | None = None) -> Got:
 
 
 def cut(story: Story, got: Got, files: Files, seen: Seen, once_more: random.Random | None) -> None:
-    """A power cut that left these files; and a second one, while the file is audited after the first."""
+    """A power cut that left these files; and a second one, while the file is audited after the
+    first.
+    """
     judge(story, got, files, seen)
     seen["power cuts"] += 1
     if once_more is None:
@@ -197,7 +205,9 @@ def cut(story: Story, got: Got, files: Files, seen: Seen, once_more: random.Rand
 
 
 def chosen(asked: argparse.Namespace, count: int) -> Sequence[int]:
-    """The numbers from 1 on, or a seeded choice where they are too many; the first and the last are in it."""
+    """The numbers from 1 on, or a seeded choice where they are too many; the first and the last are
+    in it.
+    """
     if count <= asked.most:
         return range(1, count + 1)
     return sorted(
@@ -259,7 +269,9 @@ def kill(story: Story, counts: dict[str, int]) -> Iterator[Any]:
 
 
 def power(story: Story, counts: dict[str, int], always: Any = "", one_in: Any = 1) -> Iterator[Any]:
-    """Power cuts at each change of a run, or at one in so many; and of runs in which a sync fails, at some changes behind it."""
+    """Power cuts at each change of a run, or at one in so many; and of runs in which a sync fails,
+    at some changes behind it.
+    """
     for number in range(1 if always else counts["sync"] + 1):
         chance = random.Random(f"{story.asked.seed} {number}")
         fail = f"sync {number} {number} {EIO}" if number else always

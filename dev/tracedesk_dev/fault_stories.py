@@ -1,4 +1,6 @@
-"""Runs of the program that fault injection repeats: what it is given, what it has to answer, and how it is judged."""
+"""Runs of the program that fault injection repeats: what it is given, what it has to answer, and
+how it is judged.
+"""
 from __future__ import annotations
 
 import argparse
@@ -88,7 +90,9 @@ def files_in(room: pathlib.Path) -> Files:
 
 
 def tables(text: bytes) -> dict[str, list[Any]]:
-    """All rows of a desk's file, which has taken its log in. SQLite reads it from memory, and so without a log."""
+    """All rows of a desk's file, which has taken its log in. SQLite reads it from memory, and so
+    without a log.
+    """
     with contextlib.closing(sqlite3.connect(":memory:")) as database:
         database.deserialize(text[:18] + b"\1\1" + text[20:])
         return rows_in(database)
@@ -109,9 +113,11 @@ def ended(process: subprocess.Popen[bytes], patience: float) -> None:
 
 
 class Story:
-    """What the program is asked, in parts that get an answer each: the lines of `feed`, requests, or one command.
+    """What the program is asked, in parts that get an answer each: the lines of `feed`, requests,
+    or one command.
 
-    `start` has the desk's files before it, `beside` other files, and `wanted` the answers that a worked case has.
+    `start` has the desk's files before it, `beside` other files, and `wanted` the answers that a
+    worked case has.
     """
 
     def __init__(
@@ -166,7 +172,9 @@ class Story:
         return (room / "out").read_bytes(), (room / "told").read_bytes(), process.returncode
 
     def once(self, room: pathlib.Path, order: Sequence[int], env: Env = None) -> Taken:
-        """One run on these parts: the whole answers, what is behind them, what was told, and the status."""
+        """One run on these parts: the whole answers, what is behind them, what was told, and the
+        status.
+        """
         return self.taken(
             *self.ran(room, self.words, b"".join(self.parts[part] for part in order), env)
         )
@@ -182,7 +190,9 @@ class Story:
         return answer == UNAVAILABLE
 
     def statuses(self, answers: list[bytes]) -> tuple[int, ...]:
-        """How a run ends that gave these answers, and in which nothing failed but what was answered Unavailable."""
+        """How a run ends that gave these answers, and in which nothing failed but what was answered
+        Unavailable.
+        """
         return (
             (0,)
             if all(re.match(rb'{"Answer":"(Accepted|Ignored)"', answer) for answer in answers)
@@ -190,7 +200,9 @@ class Story:
         )
 
     def faults(self, kind: str) -> list[Any]:
-        """What is told, and how a run ends, where calls of this kind failed and no answer could say so."""
+        """What is told, and how a run ends, where calls of this kind failed and no answer could say
+        so.
+        """
         return [
             {"input": ("tracedesk: Read\n", 4), "output": ("tracedesk: Write\n", 4)}.get(
                 kind, ("tracedesk: Unavailable\n", 3)
@@ -232,8 +244,9 @@ class Story:
         )
 
     def branched(self, base: str, points: Points) -> Any:
-        """One run in which the calls of `base` fail, and at each point a copy of it, in which the calls of the point
-        fail: what each copy gave, in the order of the points; where the run came to no such point, what it gave itself.
+        """One run in which the calls of `base` fail, and at each point a copy of it, in which the
+        calls of the point fail: what each copy gave, in the order of the points; where the run came
+        to no such point, what it gave itself.
         """
         room = self.asked.rooms.room({**self.start, **self.beside})
         copies = room.with_name(room.name + ".copies")
@@ -305,7 +318,9 @@ class Story:
         return ()
 
     def plainly(self, order: Sequence[int], files: Files) -> Any:
-        """A run of these parts on these files in which nothing fails: its answers, its status, and the files after it."""
+        """A run of these parts on these files in which nothing fails: its answers, its status, and
+        the files after it.
+        """
         room = self.asked.rooms.room({**files, **self.beside})
         answers, rest, told, status = self.once(room, order)
         if rest or told:
@@ -340,7 +355,9 @@ class Story:
 
 
 class Command(Story):
-    """One command: an import, an audit, a migration, a report. A fault of the desk's file counts as its answer."""
+    """One command: an import, an audit, a migration, a report. A fault of the desk's file counts as
+    its answer.
+    """
 
     def once(self, room: pathlib.Path, order: Sequence[int], env: Env = None) -> Taken:
         answers, rest, told, status = [], b"", b"", 0
@@ -374,11 +391,16 @@ class Command(Story):
 
 
 class Served(Story):
-    """Requests on one connection to `serve`. What it answered is what it wrote: a connection that breaks loses more."""
+    """Requests on one connection to `serve`. What it answered is what it wrote: a connection that
+    breaks loses more.
+    """
 
     def __init__(self, *its: Any, **more: Any) -> None:
         super().__init__(*its, **more)
-        head = "HTTP/1.1 503 Service Unavailable\r\nContent-Type: application/json\r\nContent-Length: 24\r\n"
+        head = (
+            "HTTP/1.1 503 Service Unavailable\r\nContent-Type: application/json\r\nContent-Length:"
+            " 24\r\n"
+        )
         self.refusals = tuple(
             (head + end + "\r\n").encode() + UNAVAILABLE for end in ("", "Connection: close\r\n")
         )
@@ -436,5 +458,7 @@ class Served(Story):
         return [*super().faults(kind), *super().faults("input" if kind == "call" else kind)]
 
     def is_whole(self, got: Got) -> bool:
-        """A connection that breaks is no fault of the run: the line that tells of it has the fault."""
+        """A connection that breaks is no fault of the run: the line that tells of it has the
+        fault.
+        """
         return True

@@ -1,4 +1,6 @@
-"""Runs the steps of a test: what each came to, what it cost, and what it skipped, with the reasons."""
+"""Runs the steps of a test: what each came to, what it cost, and what it skipped, with the
+reasons.
+"""
 import os
 import pathlib
 import re
@@ -20,7 +22,9 @@ PROOFS = "rt ci"
 
 
 class Step(NamedTuple):
-    """A command of the test, or a folder of pytest. `counts` says whether its last line has its numbers; else it is one."""
+    """A command of the test, or a folder of pytest. `counts` says whether its last line has its
+    numbers; else it is one.
+    """
 
     name: str
     words: tuple[str, ...]

@@ -1,8 +1,10 @@
-"""Reads what a command prints for --help: its summary, usage, examples, options, commands and exit statuses.
+"""Reads what a command prints for --help: its summary, usage, examples, options, commands and exit
+statuses.
 
-Two forms are known: that of the program (headings `Usage:`, `Commands:`, `Options:`, `Exit status:`), and that of the
-tools: a docstring with `usage:`, `examples:` and `Exit status: ..`, behind which argparse puts its lists. What is in
-neither form stops the reader: a page that lacks something would not be noticed else.
+Two forms are known: that of the program (headings `Usage:`, `Commands:`, `Options:`, `Exit
+status:`), and that of the tools: a docstring with `usage:`, `examples:` and `Exit status: ..`,
+behind which argparse puts its lists. What is in neither form stops the reader: a page that lacks
+something would not be noticed else.
 """
 import os
 import re
@@ -77,7 +79,9 @@ def entries(lines: list[str]) -> list[Entry]:
 
 
 def statuses(lines: list[str]) -> list[Entry | str]:
-    """`0 done; 1 not done. Of --due: 0 not due` as entries, with `Of --due:` between them as a text."""
+    """`0 done; 1 not done. Of --due: 0 not due` as entries, with `Of --due:` between them as a
+    text.
+    """
     if re.match(r"  \d+  ", lines[0]):
         return [*entries(lines)]
     found: list[Entry | str] = []
@@ -120,7 +124,9 @@ def read(words: Sequence[str], name: str) -> Help:
 
 
 def with_what_is_told(page: Help) -> Help:
-    """What the paragraphs say of an option, in lines of columns, goes to the option: each has one text."""
+    """What the paragraphs say of an option, in lines of columns, goes to the option: each has one
+    text.
+    """
     listed = {name: it for it in (*page.arguments, *page.options) for name in it.names}
     told: dict[Entry, list[str]] = {}
     body = []

@@ -1,9 +1,10 @@
-"""What a plant installs, and where it lies: one list for Debian's packages, below /usr, and for the tarball, below /usr/local.
+"""What a plant installs, and where it lies: one list for Debian's packages, below /usr, and for the
+tarball, below /usr/local.
 
-What stands in a folder by a rule needs no line here: all units, users and folders of packaging/, all queries, pages of
-the station, schemas and documents, and each tool of ops/, with the package tracedesk_ops.
-A folder of packaging/ goes to share/tracedesk. Sources name the places below /usr; `place` writes those of another
-prefix, and `divide` gives each of Debian's packages its files.
+What stands in a folder by a rule needs no line here: all units, users and folders of packaging/,
+all queries, pages of the station, schemas and documents, and each tool of ops/, with the package
+tracedesk_ops. A folder of packaging/ goes to share/tracedesk. Sources name the places below /usr;
+`place` writes those of another prefix, and `divide` gives each of Debian's packages its files.
 """
 import concurrent.futures
 import fnmatch
@@ -38,11 +39,8 @@ OF_PACKAGES = {  # the files of each of Debian's packages, below /; all others a
         "usr/lib/tracedesk/bridge/*",
     ],
 }
-FOR_SENDERS = (
-    "connect",
-    "messages",
-    "interlock",
-)  # the pages that tracedesk-send has, for a machine without the others
+# the pages that tracedesk-send has, for a machine without the others
+FOR_SENDERS = ("connect", "messages", "interlock")
 LINK = re.compile(
     r'<a href="(?:\.\./)?[A-Za-z_-]+(?:/[^"]*)?">([^<]*(?:<code>[^<]*</code>)?[^<]*)</a>'
 )
@@ -150,7 +148,9 @@ def manual(below: pathlib.Path, date: str, version: str) -> None:
 
 
 def documents(folder: pathlib.Path) -> None:
-    """The pages as HTML, all in one folder and those for senders in another; a link that leads out is left as its text."""
+    """The pages as HTML, all in one folder and those for senders in another; a link that leads out
+    is left as its text.
+    """
     pages = [ROOT / it for it in ("README.md", "CONTRIBUTING.md", "CHANGELOG.md")] + sorted(
         (ROOT / "docs").glob("*.md")
     )
@@ -222,8 +222,8 @@ def place(base: pathlib.Path, tree: pathlib.Path, prefix: str) -> None:
 
 
 def divide(base: pathlib.Path, trees: pathlib.Path) -> None:
-    """Each of Debian's packages gets its files, in a folder of its name: units lie where Debian 12 has them, and what
-    Python starts names Debian's."""
+    """Each of Debian's packages gets its files, in a folder of its name: units lie where Debian 12
+    has them, and what Python starts names Debian's."""
     whole = trees / "whole"
     place(base, whole, "/usr")
     for path in sorted(whole.rglob("*")):

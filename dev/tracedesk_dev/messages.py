@@ -10,7 +10,9 @@ Refusal = tuple[str, str]  # its word, and the name at which it is
 
 
 class Said(NamedTuple):
-    """A line without its end; whether it is Accepted, Refused, Ignored or a Repeat of an accepted one; its answer's bytes."""
+    """A line without its end; whether it is Accepted, Refused, Ignored or a Repeat of an accepted
+    one; its answer's bytes.
+    """
 
     text: bytes
     wanted: str
@@ -50,7 +52,9 @@ class Messages:
         refusal: Refusal | None = None,
         **more: object,
     ) -> int:
-        """Says a message, which is accepted, or refused at a name; `more` is what an accepted one's answer tells besides."""
+        """Says a message, which is accepted, or refused at a name; `more` is what an accepted one's
+        answer tells besides.
+        """
         unique = str(uuid.UUID(int=self.random.getrandbits(128), version=4))
         when = (when or self.now).replace(microsecond=0)
         message = {

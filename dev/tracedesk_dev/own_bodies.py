@@ -5,6 +5,7 @@ from typing import Iterable, Iterator
 
 from tracedesk_dev.edits import (
     HEAD,
+    Edit,
     NotApplied,
     edits_in,
     files_of,
@@ -15,6 +16,7 @@ from tracedesk_dev.edits import (
 
 TRAIT = re.compile(r"^pub (?:unsafe )?trait (\w+)", re.M)
 BLOCK = re.compile(r"(?:pub(?:\([^)]*\))? )?(?:unsafe )?(?:impl|trait)\b")
+HEADS = f"{'crate':16} functions have one refused must-fail"
 FUNCTION = re.compile(rf"\s*{HEAD}\w+")
 
 
@@ -37,7 +39,9 @@ def is_of_own_trait(head: str, traits: set[str]) -> bool:
 
 
 def lines_with_code(rows: list[str], traits: set[str]) -> Iterator[int]:
-    """Yields the lines at which public functions begin, and methods of our own traits, but for laws without code."""
+    """Yields the lines at which public functions begin, and methods of our own traits, but for laws
+    without code.
+    """
     head = ""
     for at, row in enumerate(rows):
         if BLOCK.match(row):
@@ -56,7 +60,9 @@ def lines_with_code(rows: list[str], traits: set[str]) -> Iterator[int]:
 
 
 def functions_of(folder: str, traits: set[str]) -> list[str]:
-    """Returns the public functions of a crate that have code, as a check names them, in the order of its files."""
+    """Returns the public functions of a crate that have code, as a check names them, in the order
+    of its files.
+    """
     found: list[str] = []
     for path in sources(folder):
         text = read(path)
@@ -65,10 +71,12 @@ def functions_of(folder: str, traits: set[str]) -> list[str]:
     return found
 
 
-def with_a_body(crate: str, folder: str, *kinds: str) -> set[str]:
-    """Returns the functions that wrong bodies of these folders change, where they change functions alone."""
+def with_a_body(edits: Iterable[Edit], folder: str) -> set[str]:
+    """Returns the functions that these edits of a crate change, where they change functions
+    alone.
+    """
     found: set[str] = set()
-    for edit in edits_in(crate, *(f"{folder}/{kind}" for kind in kinds)):
+    for edit in edits:
         try:
             find_functions(edit, folder)
         except NotApplied:
@@ -77,36 +85,55 @@ def with_a_body(crate: str, folder: str, *kinds: str) -> set[str]:
     return found
 
 
-def table(top: str, crates: Iterable[str], excused: dict[str, str]) -> tuple[list[str], list[str]]:
-    """Returns the table by crate, and what is wrong: a function with neither a wrong body nor an excuse, and an
-    excuse of a function that has one or isn't there."""
+def table(
+    top: str, crates: Iterable[str], excused: dict[str, str], untried: set[str]
+) -> tuple[list[str], list[str]]:
+    """Returns the table by crate, and what is wrong: a function with neither a wrong body nor an
+    excuse, an excuse of a function that has one or isn't there, and an untried wrong body that
+    isn't there."""
     folders = {it: f"{top}/crates/{it}" for it in crates}
     folders = {it: folder for it, folder in folders.items() if not it.endswith("_tests")}
     traits = own_traits(folders.values())
-    rows, faults, sums = [], [], [0, 0, 0]
+    rows, faults, sums = [], [], [0, 0, 0, 0]
     seen: set[str] = set()
+    labels: set[str] = set()
     for crate, folder in folders.items():
-        functions = functions_of(folder, traits)
-        own = with_a_body(crate, folder, "must-fail", "wrong-bodies")
-        lacking = [f"{crate} {it}" for it in functions if it not in own]
+        functions = {*functions_of(folder, traits)}
+        gate = edits_in(crate, f"{folder}/must-fail")
+        edits = gate + edits_in(crate, f"{folder}/wrong-bodies")
+        labels |= {it.label for it in edits}
+        own = with_a_body(edits, folder)
+        tried = with_a_body([it for it in edits if it.label not in untried], folder)
+        lacking = [f"{crate} {it}" for it in sorted(functions - own)]
         faults += [f"{it} has no wrong body" for it in lacking if it not in excused]
         seen |= {*lacking}
-        counts = [
-            len(functions),
-            len(functions) - len(lacking),
-            len(with_a_body(crate, folder, "must-fail") & {*functions}),
-        ]
+        kinds = (functions, own, tried, with_a_body(gate, folder))
+        counts = [len(functions & it) for it in kinds]
         sums = [a + b for a, b in zip(sums, counts)]
         if functions:
-            rows.append(f"{crate:16} {counts[0]:9} {counts[1]:7} {counts[2]:9}")
+            rows.append(line_of(crate, counts))
     faults += [f"{it} has a wrong body, or isn't there" for it in excused if it not in seen]
-    rows.append(f"{'all':16} {sums[0]:9} {sums[1]:7} {sums[2]:9}")
-    return [f"{'crate':16} functions refused must-fail", *rows], faults
+    faults += [
+        f"there is no wrong body {it}, said to be untried" for it in sorted(untried - labels)
+    ]
+    return [HEADS, *rows, line_of("all", sums)], faults
+
+
+def line_of(crate: str, counts: list[int]) -> str:
+    return f"{crate:16} {counts[0]:9} {counts[1]:8} {counts[2]:7} {counts[3]:9}"
 
 
 def excuses(path: str) -> dict[str, str]:
-    """Returns the functions that can have no wrong body, each with the reason: `CRATE FUNCTION: REASON`."""
+    """Returns the functions that can have no wrong body, each with the reason: `CRATE FUNCTION:
+    REASON`.
+    """
     if not os.path.exists(path):
         return {}
     lines = [it for it in read(path).split("\n") if it and not it.startswith("#")]
     return {name: why for name, _, why in (it.partition(": ") for it in lines)}
+
+
+def untried_in(path: str) -> set[str]:
+    """Returns the wrong bodies that no run has tried yet, as `CRATE/NAME`."""
+    lines = read(path).split("\n") if os.path.exists(path) else []
+    return {it for it in lines if it and not it.startswith("#")}

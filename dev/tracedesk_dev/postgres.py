@@ -3,8 +3,8 @@
     with postgres.Server(folder):
         postgres.asked("-f", "ops/plant/schema.sql")
 
-It is reached by a socket in the folder and by no port. As root it runs as the user postgres, which Debian's package
-postgresql makes.
+It is reached by a socket in the folder and by no port. As root it runs as the user postgres, which
+Debian's package postgresql makes.
 """
 import os
 import pathlib
@@ -86,7 +86,9 @@ class Server:
         subprocess.run(["cp", "-a", self.folder / name, self.folder / to], check=True)
 
     def processor_seconds(self) -> float:
-        """What all sessions that ended have taken of the processor, since the start of the server."""
+        """What all sessions that ended have taken of the processor, since the start of the
+        server.
+        """
         number = (self.data / "postmaster.pid").read_text().split()[0]
         fields = pathlib.Path(f"/proc/{number}/stat").read_text().rpartition(")")[2].split()
         return (int(fields[13]) + int(fields[14])) / os.sysconf("SC_CLK_TCK")
@@ -103,7 +105,9 @@ class Server:
 
 
 def asked(*words: object, status: int = 0) -> Any:
-    """What psql prints, on standard output and on standard error; it has to end with this status."""
+    """What psql prints, on standard output and on standard error; it has to end with this
+    status.
+    """
     done = subprocess.run(
         ["psql", "-X", "-q", "-v", "ON_ERROR_STOP=1", *map(str, words)],
         capture_output=True,

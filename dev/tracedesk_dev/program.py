@@ -1,5 +1,6 @@
-"""The program that the tools use: the file that PROGRAM in the environment names (so `make day PROGRAM=FILE`); without that,
-crates/tracedesk/out/tracedesk, where no file that it is built of is newer. Tools ask `to_use`, which proves nothing: dev/build does.
+"""The program that the tools use: the file that PROGRAM in the environment names (so `make day
+PROGRAM=FILE`); without that, crates/tracedesk/out/tracedesk, where no file that it is built of is
+newer. Tools ask `to_use`, which proves nothing: dev/build does.
 """
 import argparse
 import os
@@ -19,14 +20,16 @@ BUILT = CRATES / CRATE / "out" / CRATE
 CHAIN = "tracedesk_chain"
 NAME = os.path.relpath(os.path.realpath(sys.argv[0]), ROOT)
 NONE = (
-    "{}. `make build` proves and builds it, in some 35 minutes on four cores. To prove nothing, name a program that is there, as that of a "
-    "package: PROGRAM=/usr/bin/tracedesk; or call `make demo`, which runs it before its proof"
+    "{}. `make build` proves and builds it, in some 35 minutes on four cores. To prove nothing,"
+    " name a program that is there, as that of a package: PROGRAM=/usr/bin/tracedesk; or call `make"
+    " demo`, which runs it before its proof"
 )
 NO_KIT = (
-    "there is no rt, the command of Rattle's kit, which proves and builds. All but make build, test and wrong-bodies "
-    "work without it on a program that is built: make day PROGRAM=FILE"
+    "there is no rt, the command of Rattle's kit, which proves and builds. All but make build, test"
+    " and wrong-bodies work without it on a program that is built: make day PROGRAM=FILE"
 )
-# How long a line of code takes to be proved, on four cores: until this build has shown its own pace.
+# How long a line of code takes to be proved, on four cores: until this build has shown its own
+# pace.
 SECONDS_A_LINE = 0.09
 LINES_THAT_SHOW = 1000
 
@@ -99,7 +102,9 @@ def proved_in_turn(crate: str = CRATE) -> list[str]:
 
 
 def sources(program: str = CRATE) -> Iterator[pathlib.Path]:
-    """The files that the program is built of, and their folders, whose times tell of files that are gone."""
+    """The files that the program is built of, and their folders, whose times tell of files that are
+    gone.
+    """
     yield CRATES.with_suffix(".txt")
     yield ROOT / "HANDLES"
     for crate in proved_in_turn(program):
@@ -132,7 +137,9 @@ def can_run(file: str | pathlib.Path) -> bool:
 
 
 def lines_of(crate: str) -> int:
-    """How many lines of code a crate has without its tests, which stand for the work of its proof."""
+    """How many lines of code a crate has without its tests, which stand for the work of its
+    proof.
+    """
     files = [
         it
         for it in (CRATES / crate / "src").rglob("*.rt")
@@ -163,7 +170,8 @@ class Progress:
             self.crate = chosen[1]
             at = self.crates.index(self.crate)
             tell(
-                f"proving {self.crate} ({at + 1} of {len(self.crates)}), about {self.minutes_left(at)} min to go"
+                f"proving {self.crate} ({at + 1} of {len(self.crates)}), about"
+                f" {self.minutes_left(at)} min to go"
             )
         elif line.startswith("so far:"):
             tell(f"  {line.strip()}")
@@ -174,9 +182,12 @@ def tell(text: str) -> None:
 
 
 def build(crate: str) -> None:
-    """Proves and builds the program; where that fails, all that rt said is told, and the tool ends with its status."""
+    """Proves and builds the program; where that fails, all that rt said is told, and the tool ends
+    with its status.
+    """
     tell(
-        f"{NAME}: proving and building the program, some 40 minutes on four cores; `make demo` shows it at work before that"
+        f"{NAME}: proving and building the program, some 40 minutes on four cores; `make demo`"
+        " shows it at work before that"
     )
     progress, said, began = Progress(crate), [], time.time_ns()
     # rt runs what it built: once, for its help
@@ -196,7 +207,8 @@ def build(crate: str) -> None:
         sys.stderr.writelines(said)
         tell(f"{NAME}: the program was not built: rt ended with status {building.returncode}")
         sys.exit(building.returncode if building.returncode == 1 else 2)
-    # rt goes by what the files say: a source written anew with the same text leaves the program as old as it was
+    # rt goes by what the files say: a source written anew with the same text leaves the program as
+    # old as it was
     if built(crate).stat().st_mtime_ns < newest(crate).stat().st_mtime_ns < began:
         os.utime(built(crate))
 
@@ -228,7 +240,8 @@ def to_use(named: str | None = None) -> str:
         return own()
     if not can_run(named):
         stop(
-            f"{named} is {'not executable' if os.path.isfile(named) else 'not there'}: PROGRAM and --program name a program that is built"
+            f"{named} is {'not executable' if os.path.isfile(named) else 'not there'}: PROGRAM and"
+            " --program name a program that is built"
         )
     return os.path.abspath(named)
 
@@ -238,7 +251,10 @@ def offer(reader: argparse.ArgumentParser) -> None:
     reader.add_argument(
         "--program",
         metavar="FILE",
-        help="the program; else PROGRAM in the environment, else the repository's own, which make build proves and builds",
+        help=(
+            "the program; else PROGRAM in the environment, else the repository's own, which make"
+            " build proves and builds"
+        ),
     )
 
 

@@ -1,7 +1,7 @@
 """Habits that make technical English hard to read, and where a page has them.
 
-dev/pages uses it. A finding is a place to look at: some of these words are right in their sentence, and a text without
-any of them can still be bad. So a page may have some.
+dev/pages uses it. A finding is a place to look at: some of these words are right in their sentence,
+and a text without any of them can still be bad. So a page may have some.
 """
 import re
 from typing import Iterator
@@ -41,7 +41,9 @@ HABITS = {  # what is found: what to write in its place
 
 
 def running_text(page: str) -> Iterator[tuple[int, str]]:
-    """Yields each line of a page that isn't code, with its number. Link targets are left out, and names in backquotes are one word."""
+    """Yields each line of a page that isn't code, with its number. Link targets are left out, and
+    names in backquotes are one word.
+    """
     fenced = False
     for number, line in enumerate(page.splitlines(), 1):
         if line.lstrip().startswith("```"):
@@ -55,7 +57,9 @@ def words_of(page: str) -> int:
 
 
 def findings(page: str) -> Iterator[tuple[int, str, str]]:
-    """Yields the number of a line, what was found there with the words around it, and what to write instead."""
+    """Yields the number of a line, what was found there with the words around it, and what to write
+    instead.
+    """
     for number, text in running_text(page):
         for better, pattern in HABITS.values():
             for found in re.finditer(pattern, text):

@@ -1,8 +1,9 @@
 """The reports of a desk, by queries on its tables: for dev/ask, examples/day and ops/plant.
 
-A target is that of the reports (`/slots?machine=M1`), and the text is the CSV of docs/definitions.md, or one JSON
-object that says what was not found. Everything is read by Python's sqlite3 off a copy of the file and its log
-(copies.py), so this is a second way to the same answers: examples/day compares the two.
+A target is that of the reports (`/slots?machine=M1`), and the text is the CSV of
+docs/definitions.md, or one JSON object that says what was not found. Everything is read by Python's
+sqlite3 off a copy of the file and its log (copies.py), so this is a second way to the same answers:
+examples/day compares the two.
 """
 import csv
 import io
@@ -93,7 +94,10 @@ def reel_card(database: sqlite3.Connection, reel: str) -> str:
 
 def slot_list(database: sqlite3.Connection, machine: str) -> str:
     exists(database, "Machine", "sheet_row", machine=machine)
-    query = "SELECT slot, row_number() OVER (PARTITION BY slot ORDER BY since), reel, part, lot, remaining FROM mount JOIN reel USING (reel) WHERE machine = ? ORDER BY slot, since"
+    query = (
+        "SELECT slot, row_number() OVER (PARTITION BY slot ORDER BY since), reel, part, lot,"
+        " remaining FROM mount JOIN reel USING (reel) WHERE machine = ? ORDER BY slot, since"
+    )
     return csv_text(
         "slot,position,reel,part,lot,remaining,minutes_left",
         [(*row, minutes_left(database, row[2])) for row in database.execute(query, [machine])],
@@ -101,7 +105,9 @@ def slot_list(database: sqlite3.Connection, machine: str) -> str:
 
 
 def free_reels(database: sqlite3.Connection, part: str) -> list[tuple[Any, ...]]:
-    """Reels that may stand where a sheet says this part, in the order in which a kit gives them: name, pieces, minutes left."""
+    """Reels that may stand where a sheet says this part, in the order in which a kit gives them:
+    name, pieces, minutes left.
+    """
     query = """SELECT reel, remaining FROM reel WHERE remaining > 0 AND reel NOT IN (SELECT reel FROM mount)
                AND (part = ?1 OR part IN (SELECT alternate FROM alternate WHERE part = ?1)) ORDER BY reel"""
     told = [
@@ -119,7 +125,10 @@ def kit_list(database: sqlite3.Connection, product: str, machine: str, boards: s
         raise ValueError(boards)
     exists(database, "Sheet", "sheet_row", product=product, machine=machine)
     given, rows = set(), []
-    query = "SELECT slot, part, designators FROM sheet_row WHERE product = ? AND machine = ? ORDER BY place"
+    query = (
+        "SELECT slot, part, designators FROM sheet_row WHERE product = ? AND machine = ? ORDER BY"
+        " place"
+    )
     for slot, part, designators in database.execute(query, [product, machine]).fetchall():
         needed = missing = int(boards) * len(designators.split())
         for reel, pieces, left in free_reels(database, part):
@@ -133,7 +142,10 @@ def kit_list(database: sqlite3.Connection, product: str, machine: str, boards: s
 
 
 def overdue_list(database: sqlite3.Connection) -> str:
-    query = "SELECT board, designator, reel, effective FROM placement JOIN accepted USING (number) WHERE overdue ORDER BY number, place"
+    query = (
+        "SELECT board, designator, reel, effective FROM placement JOIN accepted USING (number)"
+        " WHERE overdue ORDER BY number, place"
+    )
     return csv_text("board,designator,reel,minute", database.execute(query))
 
 

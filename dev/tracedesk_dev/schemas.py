@@ -1,8 +1,10 @@
-"""A validator of JSON Schema (2020-12) with the keywords that dev/api writes: for dev/api and dev/tests/test_api.py.
+"""A validator of JSON Schema (2020-12) with the keywords that dev/api writes: for dev/api and
+dev/tests/test_api.py.
 
-It needs no package. A keyword that it doesn't know raises, so that no schema says more than is looked at. Patterns are those
-of ECMA-262 that Python spells alike; `$` is the end of the text, as there. A schema is made into calls once: each takes a
-value, and gives none or what is wrong with it, as a text that begins with its place.
+It needs no package. A keyword that it doesn't know raises, so that no schema says more than is
+looked at. Patterns are those of ECMA-262 that Python spells alike; `$` is the end of the text, as
+there. A schema is made into calls once: each takes a value, and gives none or what is wrong with
+it, as a text that begins with its place.
 """
 import re
 from typing import Any, Callable
@@ -34,7 +36,9 @@ def same(left: Any, right: Any) -> bool:
 
 
 class Schema:
-    """A schema, and the document with the definitions that it refers to: itself, where none is named."""
+    """A schema, and the document with the definitions that it refers to: itself, where none is
+    named.
+    """
 
     def __init__(self, schema: Any, document: Any = None) -> None:
         self.document = document or schema
@@ -72,25 +76,23 @@ class Schema:
 
     def of_type(self, wanted: Any, _: Any) -> Look:
         kinds = [KINDS[it] for it in ([wanted] if isinstance(wanted, str) else wanted)]
-        return (
-            lambda value: None
-            if any(it(value) for it in kinds)
-            else f": it is not of type {wanted}"
+        return lambda value: (
+            None if any(it(value) for it in kinds) else f": it is not of type {wanted}"
         )
 
     def of_const(self, wanted: Any, _: Any) -> Look:
         return lambda value: None if same(wanted, value) else f": it is not {wanted!r}"
 
     def of_enum(self, wanted: Any, _: Any) -> Look:
-        return (
-            lambda value: None
+        return lambda value: (
+            None
             if any(same(it, value) for it in wanted)
             else f": it is none of {', '.join(map(repr, wanted[:20]))}"
         )
 
     def of_required(self, wanted: Any, _: Any) -> Look:
-        return (
-            lambda value: next((f"/{it}: it is missing" for it in wanted if it not in value), None)
+        return lambda value: (
+            next((f"/{it}: it is missing" for it in wanted if it not in value), None)
             if isinstance(value, dict)
             else None
         )
@@ -110,16 +112,16 @@ class Schema:
         if wanted is not False:
             raise ValueError("additionalProperties is false or left out")
         known = set(schema["properties"])
-        return (
-            lambda value: next((f"/{it}: no such member" for it in value if it not in known), None)
+        return lambda value: (
+            next((f"/{it}: no such member" for it in value if it not in known), None)
             if isinstance(value, dict)
             else None
         )
 
     def of_items(self, wanted: Any, _: Any) -> Look:
         call = self.call_of(wanted)
-        return (
-            lambda value: next(
+        return lambda value: (
+            next(
                 (f"/{number}{told}" for number, it in enumerate(value) if (told := call(it))), None
             )
             if isinstance(value, list)
@@ -161,46 +163,46 @@ class Schema:
 
     def of_pattern(self, wanted: Any, _: Any) -> Look:
         pattern = re.compile(re.sub(r"(?<!\\)\$", r"\\Z", wanted))
-        return (
-            lambda value: f": it is not of the form {wanted}"
+        return lambda value: (
+            f": it is not of the form {wanted}"
             if isinstance(value, str) and not pattern.search(value)
             else None
         )
 
     def of_minLength(self, wanted: Any, _: Any) -> Look:
-        return (
-            lambda value: f": it has fewer than {wanted} characters"
+        return lambda value: (
+            f": it has fewer than {wanted} characters"
             if isinstance(value, str) and len(value) < wanted
             else None
         )
 
     def of_maxLength(self, wanted: Any, _: Any) -> Look:
-        return (
-            lambda value: f": it has more than {wanted} characters"
+        return lambda value: (
+            f": it has more than {wanted} characters"
             if isinstance(value, str) and len(value) > wanted
             else None
         )
 
     def of_minItems(self, wanted: Any, _: Any) -> Look:
-        return (
-            lambda value: f": it has fewer than {wanted} items"
+        return lambda value: (
+            f": it has fewer than {wanted} items"
             if isinstance(value, list) and len(value) < wanted
             else None
         )
 
     def of_maxItems(self, wanted: Any, _: Any) -> Look:
-        return (
-            lambda value: f": it has more than {wanted} items"
+        return lambda value: (
+            f": it has more than {wanted} items"
             if isinstance(value, list) and len(value) > wanted
             else None
         )
 
     def of_minimum(self, wanted: Any, _: Any) -> Look:
-        return (
-            lambda value: f": it is below {wanted}" if is_whole(value) and value < wanted else None
+        return lambda value: (
+            f": it is below {wanted}" if is_whole(value) and value < wanted else None
         )
 
     def of_maximum(self, wanted: Any, _: Any) -> Look:
-        return (
-            lambda value: f": it is above {wanted}" if is_whole(value) and value > wanted else None
+        return lambda value: (
+            f": it is above {wanted}" if is_whole(value) and value > wanted else None
         )

@@ -1,15 +1,20 @@
-"""A shift of a surface-mount line as the messages that its machines, its store, its oven and its host send.
+"""A shift of a surface-mount line as the messages that its machines, its store, its oven and its
+host send.
 
-Used by dev/day, dev/faults/run kills, dev/faults/run damage, dev/bench/run day and ops/plant. The same words give the same bytes.
+Used by dev/day, dev/faults/run kills, dev/faults/run damage, dev/bench/run day and ops/plant. The
+same words give the same bytes.
 
-A line has a chip shooter of 40 slots and a second machine of 38, and makes two products with one changeover. The
-day before, the host tells parts and sheets and the store receives reels. From 05:40 on reels are baked and loaded,
-and from 06:00 on boards go through both machines, one board behind the other. On the way it happens what happens:
-reels are spliced before a tape runs out, a wrong reel is scanned, a reel is scanned twice, pieces are scrapped, a
-shelf is counted, a message comes late and some come twice, and the floor life of a reel ends while it is on its slot.
+A line has a chip shooter of 40 slots and a second machine of 38, and makes two products with one
+changeover. The day before, the host tells parts and sheets and the store receives reels. From 05:40
+on reels are baked and loaded, and from 06:00 on boards go through both machines, one board behind
+the other. On the way it happens what happens:
+reels are spliced before a tape runs out, a wrong reel is scanned, a reel is scanned twice, pieces
+are scrapped, a shelf is counted, a message comes late and some come twice, and the floor life of a
+reel ends while it is on its slot.
 
-Beside each message stands the answer that it has to get, byte for byte: this file keeps books of its own on the pieces
-and the floor life of each reel, which are much simpler than a desk's, since it knows what it will do next.
+Beside each message stands the answer that it has to get, byte for byte: this file keeps books of
+its own on the pieces and the floor life of each reel, which are much simpler than a desk's, since
+it knows what it will do next.
 """
 import collections
 import dataclasses
@@ -48,7 +53,9 @@ RECALLED = "LOT-C7731"
 
 @dataclasses.dataclass
 class Reel:
-    """`used` is the minutes out of the bag before it was last put back, and `since` is when it was taken out."""
+    """`used` is the minutes out of the bag before it was last put back, and `since` is when it was
+    taken out.
+    """
 
     name: str
     part: str
@@ -76,7 +83,9 @@ class Reel:
 
 
 class Shift(Messages):
-    """`lines` are the messages in their order; `moments` says of some of them which line they are, from 0 on."""
+    """`lines` are the messages in their order; `moments` says of some of them which line they are,
+    from 0 on.
+    """
 
     def __init__(
         self,
@@ -102,7 +111,7 @@ class Shift(Messages):
         self.store()
         self.work()
 
-    # ---- the day before ------------------------------------------------------------------------------------------
+    # ---- the day before --------------------------------------------------------------------------
     def host(self) -> None:
         self.say("ClockSet", {}, "host")
         for part in PASSIVES + ACTIVES:
@@ -203,7 +212,7 @@ class Shift(Messages):
         self.shelf[part].insert(1, self.shelf[part].pop())
         self.facts["recalled"] = rest.name
 
-    # ---- the shift -----------------------------------------------------------------------------------------------
+    # ---- the shift -------------------------------------------------------------------------------
     def work(self) -> None:
         boards, changeover = self.serials, len(self.serials) * 2 // 3
         self.at("05:40")
@@ -247,7 +256,9 @@ class Shift(Messages):
             getattr(self, self.due.pop(0)[1])()
 
     def produce(self, names: list[str]) -> None:
-        """Boards one behind the other: while one is on the second machine, the next is on the first."""
+        """Boards one behind the other: while one is on the second machine, the next is on the
+        first.
+        """
         for turn in range(len(names) + 1):
             pairs = [
                 (machine, names[turn - place])
@@ -268,7 +279,9 @@ class Shift(Messages):
             self.later(self.pace * 0.25 + self.random.uniform(-1, 1) * self.pace * 0.05)
 
     def expires_now(self) -> bool:
-        """The floor life of the 5a reel ends at 10:10: the board that is started just before gets its piece after it."""
+        """The floor life of the 5a reel ends at 10:10: the board that is started just before gets
+        its piece after it.
+        """
         before = self.day.replace(hour=10, minute=9, second=10)
         if (
             "expired" in self.facts
@@ -353,7 +366,9 @@ class Shift(Messages):
         return reel
 
     def fill_all(self, first: bool = False) -> None:
-        """Each slot has the pieces of two boards more: else a reel is loaded, or spliced to the tape that runs out."""
+        """Each slot has the pieces of two boards more: else a reel is loaded, or spliced to the
+        tape that runs out.
+        """
         for machine in self.machines:
             for slot, part, names in self.sheets[self.product, machine]:
                 if first and machine == self.machines[0] and slot == "17":
@@ -369,7 +384,7 @@ class Shift(Messages):
                 if first:
                     self.later(8)
 
-    # ---- what happens besides ------------------------------------------------------------------------------------
+    # ---- what happens besides --------------------------------------------------------------------
     def wrong_reel(self, machine: str, slot: str) -> None:
         """The operator takes the reel beside the right one."""
         other = self.shelf[self.sheets[self.product, machine][int(slot)][1]][0]
@@ -406,7 +421,9 @@ class Shift(Messages):
         self.scrap(when=self.now - datetime.timedelta(minutes=12))
 
     def count(self) -> None:
-        """A shelf is counted: on one reel pieces are missing, on another some are found, on others all is right."""
+        """A shelf is counted: on one reel pieces are missing, on another some are found, on others
+        all is right.
+        """
         reels = [
             reel for part in sorted(self.shelf) for reel in self.shelf[part] if reel.left > 50
         ][:5]
@@ -440,7 +457,9 @@ class Shift(Messages):
             self.repeat(number)
 
     def change_over(self, product: str) -> int:
-        """The slots whose part is another are emptied; reels that count minutes go back into a bag."""
+        """The slots whose part is another are emptied; reels that count minutes go back into a
+        bag.
+        """
         begun = len(self.lines)
         for machine in self.machines:
             old = {slot: part for slot, part, _names in self.sheets[self.product, machine]}
@@ -462,7 +481,9 @@ class Shift(Messages):
                 self.seal(reel, machine)
 
     def end_of_shift(self) -> None:
-        """Reels that count minutes go back into their bags, and the store receives most of what tomorrow takes."""
+        """Reels that count minutes go back into their bags, and the store receives most of what
+        tomorrow takes.
+        """
         for machine in self.machines:
             for slot, _part, _names in self.sheets[self.product, machine]:
                 tape = self.tapes.get((machine, slot))

@@ -1,4 +1,6 @@
-"""Reads the sources of the crates: a code without its comments and literals, and where its functions stand."""
+"""Reads the sources of the crates: a code without its comments and literals, and where its
+functions stand.
+"""
 import re
 
 LITERAL = re.compile(
@@ -26,7 +28,9 @@ def closing(text: str, at: int) -> int:
 
 
 def code_of(source: str, no_code: re.Pattern[str]) -> tuple[str, dict[int, str]]:
-    """Returns a source without comments, literals and the texts that no_code finds, and its literals by place."""
+    """Returns a source without comments, literals and the texts that no_code finds, and its
+    literals by place.
+    """
     code = source
     literals: dict[int, str] = {}
     for found in LITERAL.finditer(source):

@@ -1,4 +1,6 @@
-"""What tests and measurements share: tools as modules, subcommands, a free port, a run of `serve`, and the rows of a file."""
+"""What tests and measurements share: tools as modules, subcommands, a free port, a run of `serve`,
+and the rows of a file.
+"""
 import argparse
 import contextlib
 import http.client
@@ -34,7 +36,9 @@ def wanting(wanted: dict[str, str]) -> list[str]:
 
 
 def tried(calls: Sequence[Callable[..., object]], *given: object, folder: str | None = None) -> int:
-    """Calls each with what is given and a fresh folder: a line with what it returns, or why it failed; the status of all."""
+    """Calls each with what is given and a fresh folder: a line with what it returns, or why it
+    failed; the status of all.
+    """
     failed = 0
     for call in calls:
         name = call.__name__.replace("_", " ")
@@ -68,7 +72,9 @@ def reader_of(about: str | None) -> argparse.ArgumentParser:
 
 
 def subcommand(about: str | None, names: Sequence[str]) -> int:
-    """Runs the module of that name in the tool's folder: its `words` adds arguments, its `main` gets them and returns the status."""
+    """Runs the module of that name in the tool's folder: its `words` adds arguments, its `main`
+    gets them and returns the status.
+    """
     reader = reader_of(about)
     if sys.argv[1:2] and sys.argv[1] in names:
         module = importlib.import_module(sys.argv[1])
@@ -97,7 +103,8 @@ def rows_in(database: sqlite3.Connection) -> dict[str, list[Any]]:
     names = [
         name
         for (name,) in database.execute(
-            "SELECT name FROM sqlite_schema WHERE type = 'table' AND name NOT LIKE 'sqlite\\_%' ESCAPE '\\'"
+            "SELECT name FROM sqlite_schema WHERE type = 'table' AND name NOT LIKE 'sqlite\\_%'"
+            " ESCAPE '\\'"
         )
     ]
     return {name: sorted(database.execute(f"SELECT * FROM {name}")) for name in names}
@@ -107,7 +114,9 @@ def rows_in(database: sqlite3.Connection) -> dict[str, list[Any]]:
 def served(
     program: str, file: object, patience: float = 300
 ) -> Iterator[tuple[subprocess.Popen[bytes], http.client.HTTPConnection]]:
-    """A run of `serve` for one connection, and that connection; the caller closes it, and then the run ends."""
+    """A run of `serve` for one connection, and that connection; the caller closes it, and then the
+    run ends.
+    """
     port = free_port()
     process = subprocess.Popen(
         [program, "serve", "--db", str(file), "--port", str(port), "--connections", "1"],

@@ -1,5 +1,6 @@
-"""The messages of cases/ with their answers, for dev/tests/test_api.py, and whole exchanges of cases/ for other languages, for dev/api.
-They were worked out by hand, and no program is run for them."""
+"""The messages of cases/ with their answers, for dev/tests/test_api.py, and whole exchanges of
+cases/ for other languages, for dev/api. They were worked out by hand, and no program is run for
+them."""
 import base64
 import contextlib
 import io
@@ -11,7 +12,9 @@ from tracedesk_dev.case_files import BytesOf, Step
 
 
 class Vector(NamedTuple):
-    """A message of a case and its answer; of an answer to something else the message is none. Over HTTP it has a status."""
+    """A message of a case and its answer; of an answer to something else the message is none. Over
+    HTTP it has a status.
+    """
 
     case: str
     message: bytes | None
@@ -45,7 +48,9 @@ def of_lines(case: str, asked: bytes, told: bytes) -> list[Vector]:
 def of_connection(
     case: str, sent: list[Any], told: list[Any], bytes_of: BytesOf
 ) -> Iterator[Vector]:
-    """Vectors of the requests of a connection. A request that is spelled whole, and one of another route, has its answer alone."""
+    """Vectors of the requests of a connection. A request that is spelled whole, and one of another
+    route, has its answer alone.
+    """
     for number, answer in enumerate(told):
         request = sent[number] if number < len(sent) else None
         body = None
@@ -86,8 +91,9 @@ def all_of(names: Iterable[str] = ()) -> Iterator[Vector]:
 
 
 class Exchange(NamedTuple):
-    """What goes to a fresh desk and what comes back, to the end of both: the lines of `feed`, or a connection of `serve`.
-    `greatest` is how many commands it may take, none for the usual number; `status` the exit status of `feed`.
+    """What goes to a fresh desk and what comes back, to the end of both: the lines of `feed`, or a
+    connection of `serve`. `greatest` is how many commands it may take, none for the usual number;
+    `status` the exit status of `feed`.
     """
 
     cases: tuple[str, ...]
@@ -142,7 +148,9 @@ def spelled(name: str, data: bytes) -> tuple[str, str]:
 
 
 def asked_of(words: list[str]) -> tuple[str, str | None, int | None] | None:
-    """The command, the file and the greatest number that the words of a command line name; none of others."""
+    """The command, the file and the greatest number that the words of a command line name; none of
+    others.
+    """
     options = dict(zip(words[1::2], words[2::2]))
     if (
         words[:1] not in (["feed"], ["serve"])
@@ -164,7 +172,9 @@ def names_no_file(step: Step) -> bool:
 
 
 def of_fresh_desk(step: Step, is_fresh: bool, bytes_of: BytesOf) -> Iterator[tuple[Any, ...]]:
-    """The exchanges of a step: form, greatest, status, request and answer, and what is put behind the step's number."""
+    """The exchanges of a step: form, greatest, status, request and answer, and what is put behind
+    the step's number.
+    """
     kind = next((it for it in ("run", "talk", "serve") if it in step), None)
     asked = asked_of(step[kind]) if kind else None
     if asked is None or {
@@ -193,7 +203,9 @@ def of_fresh_desk(step: Step, is_fresh: bool, bytes_of: BytesOf) -> Iterator[tup
 
 
 def exchanges(names: Iterable[str] = ()) -> list[Exchange]:
-    """All exchanges of cases, or of these, with a fresh desk, each once, in the order of their first cases."""
+    """All exchanges of cases, or of these, with a fresh desk, each once, in the order of their
+    first cases.
+    """
     found: dict[tuple[Any, ...], tuple[list[str], str]] = {}
     for folder in case_files.folders(names):
         with case_files.opened(folder) as (case, bytes_of):

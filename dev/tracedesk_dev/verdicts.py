@@ -4,9 +4,12 @@ from typing import Iterable
 
 
 def unread(said: str, changed: Iterable[str]) -> str | None:
-    """Returns what a check said of an edited text that cannot be read, as rt must-fail knows it from
-    an error that only says that something is not proved."""
-    words = "is not in scope|has no field|is no name|operand is missing|expected the end|cannot continue"
+    """Returns what a check said of an edited text that cannot be read, as rt must-fail knows it
+    from an error that only says that something is not proved."""
+    words = (
+        "is not in scope|has no field|is no name|operand is missing|expected the end|cannot"
+        " continue"
+    )
     for line in said.split("\n"):
         at = re.match(r"(?:\./)?(\S+?):\d+:\d+: error: (?:(`[^`]*`): )?(.*)", line)
         if not at or not (at[1] in changed or at[1].startswith(("src/", "specs/"))):
