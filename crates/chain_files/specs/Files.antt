@@ -44,7 +44,7 @@ use Rattle.chain_files.specs.declared.closed.ClosedChain.{ClosedChain}
 
 -- ---- the closed files
 
--- What the files with these paths held, each when it was opened at its place.
+-- What each file with one of these paths held when it was opened.
 abbrev pub placed : (List ℕ → ℕ → Image) → List (List ℕ) → ℕ → Image
 placed image paths place = image (get_or paths place []) place
 
@@ -67,12 +67,12 @@ abbrev pub StillHold : {D : Type 0} → disk.Ghosts D → Files D → Tables →
 StillHold g f tables = (image : Image)
     → (image ≡ image_of g f) ⊎ outcomes g f.log f.db image → IsWhole tables image
 
--- They held the tables of this lawful history when they were opened, and still do.
+-- The files held the tables of this lawful history when they were opened, and still do.
 abbrev pub HoldHistory : {D : Type 0} → disk.Ghosts D → Image → Files D → History → Type 0
 HoldHistory g image f H = (greatest : ℕ) × HasTables image (ledger_tables greatest H)
     × StillHold g f (ledger_tables greatest H) × IsLawful Two greatest H × IsConsistent H
 
--- So did each of these, the newest first.
+-- Each of these files holds its history. The newest comes first.
 abbrev pub HoldEach : {D : Type 0} → disk.Ghosts D → (ℕ → Image) → List (Files D) → List DeskFile
     → Type 0
 HoldEach g image [] [] = ⊤
@@ -87,13 +87,14 @@ oldest_first (x ∷ older) = oldest_first older ++ x ∷ []
 
 -- ---- one file
 
--- The files held a history, which says this.
+-- The files held a history, and this was seen in it.
 abbrev pub HoldsSaid : {D : Type 0} → disk.Ghosts D → Image → Question → Files D
     → Looked StateDesk → Type 0
 HoldsSaid g image question f looked = (H : History) × HoldHistory g image f H
     × Says state.Stands H question looked
 
--- One more was closed. If it is honest, it held such a history, and this is wanted of the next.
+-- One more file was closed. If its disk never lied, this was seen in the history that it held, and this is wanted of the
+-- next file.
 abbrev pub Takes : {D : Type 0} → disk.Ghosts D → Image → Question → Bool → List (Files D)
     → List (Files D) → Taken → Type 0
 Takes {D} g image question without_marks closed closed' taken =
@@ -101,12 +102,12 @@ Takes {D} g image question without_marks closed closed' taken =
     × (AreClean g f.log f.db → HasOursFirst image → HoldsSaid g image question f taken.looked)
     × (AreClean g f.log f.db → WantsNext without_marks g f taken.wanted)
 
--- What is known of files with these contents.
+-- The start of files with these contents.
 abbrev pub start_of : Image → start.Ghosts ⊤
 start_of image = record { log = image.log; db = image.db; is_mixing = false }
 
--- A file was refused for this fault, and closed if it was opened. If its disk never lied, the fault is in its contents,
--- and these are unchanged. Or it could not be read or closed, or memory was refused.
+-- A file was refused for this fault, and closed if it was opened. Either the fault is in its contents, which are unchanged
+-- if its disk never lied. Or the file could not be read or closed, or memory was refused.
 abbrev pub IsRefused : {D : Type 0} → disk.Ghosts D → Image → List (Files D) → List (Files D)
     → OpenFault → Type 0
 IsRefused {D = D} g image closed closed' fault = (files : Option (Files D))
@@ -114,7 +115,7 @@ IsRefused {D = D} g image closed closed' fault = (files : Option (Files D))
     × ((fault ≡ open_fault.Unavailable)
     ⊎ ((how : Close) × RefusesTo how (start_of image) g files None fault))
 
--- The fault of a file that was refused is in it. That a file is missing or empty is reported without one.
+-- The fault is in the file, unless it is missing, empty or could not be read.
 abbrev pub IsFaultOf : Image → OpenFault → Type 0
 IsFaultOf image fault = (fault ≡ open_fault.Unavailable)
     ⊎ (fault ≡ open_fault.NotADesk) ⊎ IsFaultFor image None fault
@@ -125,7 +126,7 @@ IsFaultOf image fault = (fault ≡ open_fault.Unavailable)
 abbrev pub Answer : Type 0
 Answer = Writer (Vec ℕ Global)
 
--- These files are the chain so far.
+-- The chain so far is of these files.
 abbrev pub Continues : Option Chain → List DeskFile → Type 0
 Continues None files = files ≡ []
 Continues (Some chain) files = IsSoFar chain files
@@ -134,12 +135,12 @@ Continues (Some chain) files = IsSoFar chain files
 abbrev pub HasWanted : Wanted → History → Type 0
 HasWanted wanted H = (mark : Option (List ℕ)) × IsMarkOf H mark × IsWanted wanted mark
 
--- A file behind these was begun with these commands of its history, by its UniqueIDs.
+-- The file after these was begun with these commands of its history. Its UniqueIDs say so.
 abbrev pub IsBegunBehind : List DeskFile → History → History → Type 0
 IsBegunBehind [] H begun = ⊤
 IsBegunBehind (before ∷ older) H begun = IsBegunWith H (length begun)
 
--- So was each of these files but the oldest.
+-- Each of these files but the oldest was begun with the commands that its UniqueIDs say.
 abbrev pub AreBegun : List DeskFile → Type 0
 AreBegun [] = ⊤
 AreBegun (file ∷ older) = IsBegunBehind older file.whole file.begun × AreBegun older

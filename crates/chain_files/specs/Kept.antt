@@ -1,4 +1,4 @@
--- The contents of each file that a run closed, whatever its exit status.
+-- What each file that a run closed holds, whatever the exit status.
 use Rattle.std.specs.Prelude.{◌≡◌, ◌⊎◌, ⊤, ℕ, Option, IfSome, None, List, [], ◌∷◌, ◌++◌, length}
 use Rattle.std.specs.Option.{option_to_list}
 use Rattle.sqlite_disk.specs.declared.Disk as disk
@@ -18,14 +18,14 @@ use Rattle.chain_files.specs.declared.words.Asked.{Asked}
 use Rattle.chain_files.specs.Files.{oldest_first, placed}
 use Rattle.chain_files.specs.Words.{AsksOf, AsksToCompare}
 
--- A file was closed in this way, and holds the tables of the lawful history that it held when it was opened.
+-- A file was closed in this way. It holds the same tables as when it was opened: those of a lawful history.
 abbrev pub KeepsHistory : {D : Type 0} → Close → disk.Ghosts D → Image → Files D → Type 0
 KeepsHistory how g image f = (greatest : ℕ) × (H : History)
     × HasTables image (ledger_tables greatest H) × HoldsTables how g f (ledger_tables greatest H)
     × IsLawful Two greatest H × IsConsistent H
 
--- If its disk never lied, and the file held only a desk's tables, or those first, it holds what it held: the tables of a
--- lawful history, or the database in which a fault was found. It does so now and after any crash.
+-- The file holds the same as when it was opened, now and after any crash: the tables of a lawful history, or the database
+-- in which a fault was found. Its disk must never lie, and it must have held only a desk's tables, or those first.
 abbrev pub IsKept : {D : Type 0} → disk.Ghosts D → Image → Files D → Type 0
 IsKept g image f = AreClean g f.log f.db → HasOursFirst image
     → (how : Close) × (KeepsHistory how g image f ⊎ HoldsFound how g f image (LeavesMade None))
@@ -36,7 +36,7 @@ abbrev pub AddsKept : {D : Type 0} → disk.Ghosts D → Image → List (Files D
 AddsKept {D = D} g image closed closed' = (files : Option (Files D))
     × (closed' ≡ closed ++ option_to_list files) × IfSome files (IsKept g image)
 
--- Each of these files, the newest first, holds what it held.
+-- Each of these files holds what it held. The newest comes first.
 abbrev pub KeepEach : {D : Type 0} → disk.Ghosts D → (ℕ → Image) → List (Files D) → Type 0
 KeepEach g image [] = ⊤
 KeepEach g image (f ∷ older) = IsKept g (image (length older)) f × KeepEach g image older
@@ -54,7 +54,7 @@ NameFiles words paths =
     ⊎ ((old : List ℕ) × (new : List ℕ) × AsksToCompare words old new
     × (paths ≡ old ∷ new ∷ []))
 
--- No file was closed, or each that was is the next one that the words name, and holds what it held.
+-- The closed files are the first ones that the words name, in their order, and each holds what it held.
 abbrev pub KeepsNamed : {D : Type 0} → disk.Ghosts D → (List ℕ → ℕ → Image) → List (Files D)
     → List (List ℕ) → Type 0
 KeepsNamed g image closed words = (closed ≡ [])

@@ -1,4 +1,5 @@
-//! From which file each desk of a chain has to have been begun: the checksum in its first UniqueID.
+//! The file from which each desk of a chain must have been begun. Its first UniqueID names that
+//! file's checksum.
 
 ghost use Rattle.std.specs.Prelude.{◌≡◌, ◌≤◌, ◌↔◌, ℕ, None, Option, List, false, true, IfOk, IsTrue, length, string_bytes, take};
 ghost use Rattle.std.specs.Option.{option_map};
@@ -19,11 +20,11 @@ use std::alloc::Global;
 pub struct Links {
     /// The first file may have been begun from another.
     pub from_middle: bool,
-    /// A later file needs not name the checksum of the file before it.
+    /// A later file need not name the checksum of the file before it.
     pub without_marks: bool,
 }
 
-/// What the first UniqueID of the next file has to name.
+/// What the first UniqueID of the next file must name.
 #[derive(Drop)]
 pub enum Wanted {
     Anything,
@@ -33,13 +34,13 @@ pub enum Wanted {
     Checksum(String),
 }
 
-/// The bytes of a file that are read at once.
+/// How many bytes of a file are read at a time.
 const PART: usize = 16384;
 
 /// The fewest digits of a checksum that a UniqueID names.
 const FEWEST: usize = 24;
 
-/// Returns what the first file has to name.
+/// Returns what the first file must name.
 pub fn wanted_first(links: Links) -> Wanted
     ensures { (mark : Option (List ℕ))
         → IsWanted result mark ↔ (links.from_middle ≡ false → mark ≡ None) }
@@ -66,7 +67,7 @@ pub fn is_wanted(wanted: &Wanted, mark: &Option<String>) -> bool
     }
 }
 
-/// Returns whether a mark names a checksum: by its first digits, all of which are compared.
+/// Returns whether a mark names a checksum: all digits of the mark are the checksum's first ones.
 pub fn names_checksum(checksum: &str, mark: &str) -> bool
     ensures yes { result ≡ true → NamesChecksum checksum.now mark.now }
     ensures no { result ≡ false → ¬ NamesChecksum checksum.now mark.now }
@@ -74,7 +75,7 @@ pub fn names_checksum(checksum: &str, mark: &str) -> bool
     FEWEST <= mark.len() && begins_with(checksum, mark)
 }
 
-/// Returns what the file after this closed one has to name, whose bytes are read for that.
+/// Reads this closed file, and returns what the file after it must name.
 pub fn wanted_after<D: Disk + Drop>(
     alloc: Global,
     files: Files<D>,

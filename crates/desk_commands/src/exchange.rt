@@ -34,20 +34,20 @@ pub fn feed_in_memory<R: Read, W: Write, E: Write>(
 ) -> u8
     requires least { 1 ≤ greatest }
     requires most { greatest ≤ MOST_ENTRIES }
-    // Counts of reads and failures are numbers of the program, which must not overflow.
+    // The program counts reads and failures in numbers that must not overflow.
     requires few { HaveFewCounts input.old output.old errors.old }
     ensures ends { FeedEnds R.remaining W.contents E.contents
         input.old input.new output.old output.new errors.old errors.new
         (RunsInMemory greatest)
         (TellsLine E.contents errors.old errors.new (refusal_line Unavailable)) result }
-    // The bound by which a caller shows that the count of reads didn't overflow.
+    // By this bound a caller shows that the count of reads didn't overflow.
     ensures few_reads { reads_of input.new ≤ reads_of input.old + MOST_READS }
 {
     match in_memory::<StateDesk>(alloc, greatest) {
         Ok(store) => {
             let mut store = store;
             let status = feed_lines(alloc, input, output, errors, &mut store);
-            // Closed, since a drop would prove again how each part of the store is dropped.
+            // It is closed here: a drop would need a proof of how each part of the store is dropped.
             let _ = store.into_connection().close();
             status
         }
@@ -69,7 +69,7 @@ pub fn feed_in_file<T: Start, R: Read, W: Write, E: Write>(
     requires least { 1 ≤ greatest }
     requires most { greatest ≤ MOST_ENTRIES }
     requires few { HaveFewCounts input.old output.old errors.old }
-    // Each way to end, with what was read, written and told, and the status that belongs to it.
+    // For each way to end: what was read, written and told, and the status.
     ensures ends { FeedEnds R.remaining W.contents E.contents
         input.old input.new output.old output.new errors.old errors.new
         (RunsOn T.Start (Some greatest) result.1)

@@ -74,13 +74,13 @@ impl ReelRow {
     /// Returns the remaining minutes of floor life at this minute, 0 if expired, or none without a
     /// limit.
     pub fn minutes_left(&self, minute: Minute) -> Option<u64>
-        // Of the row alone, whatever history it is from.
+        // A law of the row alone, for a caller that has no history.
         ensures value { exposure_at self.now minute ≤ minute
             → result ≡ minutes_left_at self.now minute }
-        // Of a history's row, what the definitions say: nothing of the reel is looked up again.
+        // If the row is a history's, this is the definition's value for that history.
         ensures left { (H : History) (name : Name) → IsRowOf H name self.now
             → now_of H ≤ minute → result ≡ minutes_left H name minute }
-        // So an answer can write it as a number of a known width.
+        // An answer writes it as a number, whose width is bounded so.
         ensures bound { self.now.label ≤ GREATEST_LABEL
             → IfSome result (λ left. left ≤ GREATEST_LABEL) }
     {
@@ -91,10 +91,10 @@ impl ReelRow {
 
     /// Returns whether the exposure has reached its limit by this minute.
     pub fn is_expired(&self, minute: Minute) -> bool
-        // Of the row alone, whatever history it is from.
+        // A law of the row alone, for a caller that has no history.
         ensures value { exposure_at self.now minute ≤ minute
             → result ≡ is_expired_at self.now minute }
-        // Of a history's row, what the definitions say: nothing of the reel is looked up again.
+        // If the row is a history's, this is the definition's value for that history.
         ensures expired { (H : History) (name : Name) → IsRowOf H name self.now
             → now_of H ≤ minute → result ≡ is_expired H name minute }
     {
@@ -109,7 +109,7 @@ impl ReelRow {
     /// receipt.
     pub fn is_unbaked(&self) -> bool
         ensures value { result ≡ is_unbaked_row self.now }
-        // Of a history's row, what the definitions say: nothing of the reel is looked up again.
+        // If the row is a history's, this is the definition's value for that history.
         ensures unbaked { (H : History) (name : Name) → IsRowOf H name self.now
             → result ≡ is_unbaked H name }
     {

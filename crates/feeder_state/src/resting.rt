@@ -20,9 +20,9 @@ use std::collections::{BTreeMap, BTreeSet};
 
 /// Whether a reel has pieces left and is on no slot.
 pub fn is_at_rest(row: &ReelRow, on_slot: bool) -> bool
-    // Of the row alone, whatever history it is from.
+    // A law of the row alone, for a caller that has no history.
     ensures row { result ≡ row_rests on_slot row.now }
-    // Of a history's row, what the definitions say of the reel.
+    // If the row is a history's, this is the definition's value for that history.
     ensures listed { (H : History) (name : Name) → IsRowOf H name row.now
         → on_slot ≡ is_mounted H name → result ≡ rests H name }
 {

@@ -101,7 +101,7 @@ impl<S: Alter, D: KeepsRows + Drop> LineStore<S, D> {
     ) -> Result<LineStore<S, D>, (OpenFault, Connection<S>)>
         ensures opened { IfOk result (λ store. (L : Kept)
             × OpensStore S.Store D.Stands D.kept_rows conn store L) }
-        // Each fault is of the tables as they were: none is invented.
+        // The tables, as they were, have the fault that is reported.
         ensures fault { IfErr result
             (λ e. IsReported Two (state S.Store conn) (state S.Store e.1) e.0) }
         // A file that is refused isn't changed.
@@ -225,13 +225,13 @@ impl<S: Alter, D: KeepsRows + Drop> LineStore<S, D> {
     /// sent again.
     pub fn command(&mut self, stamped: &Stamped) -> Answer
         requires stands { (L : Kept) × Stands S.Store D.Stands self.old L }
-        // Some history, also on a disk that lies: the next call needs one.
+        // It stands for some history, even on a disk that lies. The next call needs one.
         ensures kept { (L : Kept) × Stands S.Store D.Stands self.new L }
-        // For each history that it stood for, on an honest disk and in tables of its own.
+        // The answer is right for each history that it stood for.
         ensures answers { ForKept S.Store D.Stands self.old self.new
             (λ L. Answers S.Store D.Stands D.kept_rows self.old self.new L
             stamped.now result) }
-        // A crash at any moment of the call leaves the rows of others.
+        // The tables of other people stay, whenever a crash comes.
         ensures file { LeavesFile (state_of S.Store self.old) (state_of S.Store self.new) (λ _. ⊤) }
     {
         match self.answer(stamped) {
