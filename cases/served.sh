@@ -1,15 +1,15 @@
 # shellcheck shell=bash disable=SC2016,SC2034  # scripts that source this use its names
 # For scripts of cases that a step of the kind `tool` runs: sourced by them, in the folder where the case runs. The desk in `desk` is
-# served at a free port, and `here` are the words by which ops/tracedesk-rollover and ops/tracedesk-backup know that service.
+# served at PORT, and `here` are the words by which ops/tracedesk-rollover and ops/tracedesk-backup know that service.
 set -u
 export PYTHONDONTWRITEBYTECODE=1
 ops="$(cd "$(dirname "$0")/../../ops" && pwd)"
-port="$(python3 -c 'import socket; it = socket.socket(); it.bind(("127.0.0.1", 0)); print(it.getsockname()[1])')"
+port="${PORT:?dev/cases gives one}"
 here=(--db desk --port "$port" --drained drained --stop 'kill "$(cat pid)" 2> /dev/null || true' --start 'sh ./start')
 cat > start <<END
 "$PROGRAM" serve --db desk --port $port --connections 10000 > served.txt 2>&1 < /dev/null & echo \$! > pid
 END
-trap 'kill "$(cat pid)"' EXIT
+trap stop EXIT
 
 # told COMMAND..   what a command says and its status; for what is another in each run, as seconds, stands `..`
 told() {
@@ -20,20 +20,26 @@ told() {
 # without_digits   archives' names without the digits of their checksums
 without_digits() { sed -E 's/-[0-9a-f]{24}/-../g'; }
 
+# has_ended        whether the desk has ended; it has too where nobody has asked for its status yet
+has_ended() { ! grep -qs '^State:.[^ZX]' "/proc/$(cat pid)/status"; }
+
 # ready            waits until the desk answers
 ready() {
-  for _ in $(seq 6000); do
-    if curl -s -o ready.txt "http://127.0.0.1:$port/overdue"; then return; fi
+  until curl -s -o ready.txt "http://127.0.0.1:$port/overdue"; do
+    if has_ended; then
+      echo "the desk has ended: $(cat served.txt)"
+      exit 1
+    fi
     sleep 0.05
   done
-  echo "the desk does not answer"
 }
 
-# cut_off          kills the desk, and waits until it is gone: its port and its lock are free only then
-cut_off() {
-  kill -9 "$(cat pid)"
-  tail --pid="$(cat pid)" -f /dev/null
+# stop, cut_off    ends the desk, and waits until it is gone: its port and its lock are free only then
+stop() {
+  has_ended || kill "$@" "$(cat pid)"
+  until has_ended; do sleep 0.02; done
 }
+cut_off() { stop -9; }
 
 # ask TARGET       a report of the running desk
 ask() { curl -sS "http://127.0.0.1:$port$1"; }

@@ -47,8 +47,9 @@ from typing import Any, Iterator
 
 from tracedesk_dev import program
 from tracedesk_dev.program import ROOT
+from tracedesk_dev.ports import free_port
 from tracedesk_dev.trial import Difference as Found
-from tracedesk_dev.trial import free_port, has_serve, remove
+from tracedesk_dev.trial import has_serve, remove
 from tracedesk_dev.fault_desks import (
     Desk,
     LOGS,

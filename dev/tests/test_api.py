@@ -16,7 +16,7 @@ from typing import Any, Iterator
 import pytest
 from made_up import made_up
 from tracedesk_dev import ROOT, case_connections, schemas, vectors
-from tracedesk_dev.trial import free_port
+from tracedesk_dev.ports import lent
 from tracedesk_dev.vectors import Exchange, Vector
 
 API = ROOT / "docs/api"
@@ -128,23 +128,20 @@ def test_openapi_has_each_answer_of_a_case_with_its_status(of_cases: list[Vector
 
 
 def connection_of(program: pathlib.Path, exchange: Exchange, work: pathlib.Path) -> bytes:
-    """What comes back on the one connection to a new desk. Another program may take a port that was
-    free.
-    """
+    """What comes back on the one connection to a new desk."""
     limit = [] if exchange.greatest is None else ["--greatest", str(exchange.greatest)]
-    for _ in range(3):
-        for old in work.iterdir():
-            old.unlink()
-        port = free_port()
+    for old in work.iterdir():
+        old.unlink()
+    with lent() as port:
         words = ["--db", str(work / "desk"), "--port", str(port), "--connections", "1", *limit]
         process = subprocess.Popen([program, "serve", *words], stdout=subprocess.DEVNULL)
         try:
-            if link := case_connections.connected(port, process):
-                return case_connections.exchanged(link, [exchange.request], None)
+            link = case_connections.connected(port, process)
+            assert link, "the program has ended"
+            return case_connections.exchanged(link, [exchange.request], None)
         finally:
             process.kill()
             process.wait()
-    raise AssertionError("no port could be bound")
 
 
 def answered(

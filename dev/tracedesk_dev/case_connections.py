@@ -23,7 +23,8 @@ from tracedesk_dev.case_steps import (
     next_line,
     words_of,
 )
-from tracedesk_dev.trial import Difference, free_port
+from tracedesk_dev.ports import lent
+from tracedesk_dev.trial import Difference
 
 Connection = tuple[Sequence[bytes], Sequence[bytes], bool]  # pieces, answers, and whether by turns
 
@@ -159,8 +160,7 @@ def take_connections(
     """One run with these connections, one after the other: of each the pieces, the answers, and how
     the pieces are sent.
     """
-    for _ in range(3):
-        port = free_port()
+    with lent() as port:
         all_words = words_of(
             program, [*words, "--port", str(port), "--connections", str(len(connections))]
         )
@@ -188,14 +188,10 @@ def take_connections(
         finally:
             process.kill()
             process.wait()
-        if link is None and errors == b"tracedesk: Read\n":
-            continue  # another program has taken the port
-        compare("standard output behind the connections' lines", b"", rest)
-        compare_end(step, errors, process.returncode)
-        if link is None:
-            raise Difference(f"the program had ended when connection {number} was made")
-        return
-    raise Difference("no port could be bound")
+    compare("standard output behind the connections' lines", b"", rest)
+    compare_end(step, errors, process.returncode)
+    if link is None:
+        raise Difference(f"the program had ended when connection {number} was made")
 
 
 def clients(program: str, step: Step, bytes_of: BytesOf, work: pathlib.Path) -> None:
@@ -204,35 +200,34 @@ def clients(program: str, step: Step, bytes_of: BytesOf, work: pathlib.Path) -> 
     """
     for name in step.get("files", []):
         (work / name).write_bytes(bytes_of(name))
-    port = str(free_port())
-    words = words_of(
-        program, [*step["clients"], "--port", port, "--connections", str(len(step["answered"]))]
-    )
-    process = subprocess.Popen(
-        words,
-        cwd=work,
-        stdin=subprocess.DEVNULL,
-        stdout=subprocess.PIPE,
-        stderr=subprocess.PIPE,
-        preexec_fn=limited(step),
-    )
-    try:
-        asked = subprocess.run(
-            [*step["by"], port],
+    with lent() as port:
+        count = str(len(step["answered"]))
+        process = subprocess.Popen(
+            words_of(program, [*step["clients"], "--port", str(port), "--connections", count]),
             cwd=work,
-            env={**os.environ, "PYTHONPATH": str(CASES), "PYTHONDONTWRITEBYTECODE": "1"},
             stdin=subprocess.DEVNULL,
-            capture_output=True,
-            timeout=SECONDS_FOR_A_RUN,
+            stdout=subprocess.PIPE,
+            stderr=subprocess.PIPE,
+            preexec_fn=limited(step),
         )
-        compare("standard error of the client", b"", asked.stderr)
-        compare("standard output of the client", bytes_of(step.get("output")), asked.stdout)
-        out, errors = process.communicate(timeout=SECONDS_FOR_AN_ANSWER)
-    except subprocess.TimeoutExpired:
-        raise Difference("the client or the program did not end")
-    finally:
-        process.kill()
-        process.wait()
+        try:
+            asked = subprocess.run(
+                [*step["by"], str(port)],
+                cwd=work,
+                env={**os.environ, "PYTHONPATH": str(CASES), "PYTHONDONTWRITEBYTECODE": "1"},
+                stdin=subprocess.DEVNULL,
+                capture_output=True,
+                timeout=SECONDS_FOR_A_RUN,
+            )
+            compare("standard error of the client", b"", asked.stderr)
+            compare("standard output of the client", bytes_of(step.get("output")), asked.stdout)
+            out, errors = process.communicate(timeout=SECONDS_FOR_AN_ANSWER)
+        except subprocess.TimeoutExpired as late:
+            said = (late.output or b"")[-1000:].decode(errors="replace")
+            raise Difference(f"the client or the program did not end; the last it said: {said!r}")
+        finally:
+            process.kill()
+            process.wait()
     compare(
         "standard output",
         "".join(f"{number} {told}\n" for number, told in enumerate(step["answered"], 1)).encode(),

@@ -18,13 +18,13 @@ import tempfile
 import time
 from typing import IO, Any, Callable, Iterator
 
-from tracedesk_dev import ROOT
+from tracedesk_dev import ROOT, ports, processes
 from tracedesk_dev.case_files import BytesOf, Step, bytes_of_text, object_line
 from tracedesk_dev.trial import Difference
 
 # limits that no machine meets that has much to do: what is over one of them hangs
 SECONDS_FOR_A_RUN = 600
-SECONDS_FOR_A_TOOL = 1_800  # it runs the program many times
+SECONDS_FOR_A_TOOL = 900  # it runs the program many times
 SECONDS_FOR_AN_ANSWER = 300
 STATE_TABLES = (
     "part",
@@ -133,26 +133,48 @@ def run(program: str, step: Step, bytes_of: BytesOf, work: pathlib.Path) -> None
 
 
 def tool(program: str, step: Step, bytes_of: BytesOf, work: pathlib.Path) -> None:
-    """One run of a tool of this repository, which finds the program in PROGRAM where it needs
-    one.
+    """One run of a tool of this repository. It finds the program in PROGRAM, and in PORT a port for a
+    service. What it started ends with it.
     """
-    words, environment = [str(ROOT / "ops" / step["tool"][0]), *step["tool"][1:]], {
-        **os.environ,
-        "PROGRAM": program,
-    }
-    try:
-        done = subprocess.run(
-            words,
+    with ports.lent() as port, tempfile.TemporaryFile() as out, tempfile.TemporaryFile() as errors:
+        process = subprocess.Popen(
+            [str(ROOT / "ops" / step["tool"][0]), *step["tool"][1:]],
             cwd=work,
-            env=environment,
+            env={
+                **os.environ,
+                "PROGRAM": program,
+                "PORT": str(port),
+                "PYTHONPATH": str(ROOT / "dev"),
+            },
             stdin=subprocess.DEVNULL,
-            capture_output=True,
-            timeout=SECONDS_FOR_A_TOOL,
+            stdout=out,
+            stderr=errors,
+            start_new_session=True,
         )
-    except subprocess.TimeoutExpired:
-        raise Difference(f"the tool had not ended after {SECONDS_FOR_A_TOOL} seconds")
-    compare("standard output", bytes_of(step.get("output")), done.stdout)
-    compare_end(step, done.stderr, done.returncode)
+        late = ""
+        try:
+            process.wait(SECONDS_FOR_A_TOOL)
+        except subprocess.TimeoutExpired:
+            late = (
+                f"the tool had not ended after {SECONDS_FOR_A_TOOL} seconds; there run:"
+                f" {processes.told_of(process.pid)}"
+            )
+        finally:
+            processes.end_session(process.pid)
+            process.wait()
+        said = [(file.seek(0), file.read())[1] for file in (out, errors)]
+    if late:
+        for name, text in zip(("it", "standard error", "the desk"), [*said, served(work)]):
+            late += f"; {name} said {text[-2000:].decode('utf-8', 'backslashreplace')!r}"
+        raise Difference(late)
+    compare("standard output", bytes_of(step.get("output")), said[0])
+    compare_end(step, said[1], process.returncode)
+
+
+def served(work: pathlib.Path) -> bytes:
+    """What the desk of cases/served.sh said."""
+    file = work / "served.txt"
+    return file.read_bytes() if file.exists() else b""
 
 
 def next_line(pipe: IO[bytes]) -> bytes | None:

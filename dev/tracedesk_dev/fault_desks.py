@@ -16,9 +16,9 @@ import tempfile
 import threading
 import time
 from typing import Any, Callable
-from tracedesk_dev import shift
+from tracedesk_dev import ports, shift
 from tracedesk_dev.trial import Difference as Found
-from tracedesk_dev.trial import free_port, remove, rows_in
+from tracedesk_dev.trial import remove, rows_in
 
 PATIENCE = float(os.environ.get("PATIENCE", "600"))  # seconds for a run of audit, or for an answer
 LOGS = ("", "-wal", "-journal")  # the desk's file, and what it is whole with
@@ -156,7 +156,12 @@ def serve_for(desk: Desk, first: int, seconds: float) -> list[bytes]:
     """Posts the lines from this one on to `serve` for a while, then kills it, and gives the whole
     answers.
     """
-    port, answers = free_port(), []
+    with ports.lent() as port:
+        return posted_for(desk, first, seconds, port)
+
+
+def posted_for(desk: Desk, first: int, seconds: float, port: int) -> list[bytes]:
+    answers = []
     words = [
         desk.program,
         "serve",

@@ -1,5 +1,5 @@
-"""What tests and measurements share: tools as modules, subcommands, a free port, a run of `serve`,
-and the rows of a file.
+"""What tests and measurements share: tools as modules, subcommands, a run of `serve`, and the rows of
+a file.
 """
 import argparse
 import contextlib
@@ -16,6 +16,8 @@ import tempfile
 import time
 import types
 from typing import Any, Callable, Iterator, Sequence
+
+from tracedesk_dev.ports import lent
 
 ROOT = pathlib.Path(__file__).resolve().parents[2]
 
@@ -86,12 +88,6 @@ def subcommand(about: str | None, names: Sequence[str]) -> int:
     return 2
 
 
-def free_port() -> int:
-    with socket.socket() as link:
-        link.bind(("127.0.0.1", 0))
-        return int(link.getsockname()[1])
-
-
 def remove(file: object) -> None:
     """Removes a desk's file with all that may lie next to it."""
     for more in ("", "-wal", "-shm", "-journal", ".copy"):
@@ -117,27 +113,27 @@ def served(
     """A run of `serve` for one connection, and that connection; the caller closes it, and then the
     run ends.
     """
-    port = free_port()
-    process = subprocess.Popen(
-        [program, "serve", "--db", str(file), "--port", str(port), "--connections", "1"],
-        stdin=subprocess.DEVNULL,
-        stdout=subprocess.DEVNULL,
-    )
-    connection = http.client.HTTPConnection("127.0.0.1", port, timeout=patience)
-    try:
-        while connection.sock is None:
-            if process.poll() is not None:
-                sys.exit(f"serve ended with status {process.returncode}")
-            with contextlib.suppress(ConnectionRefusedError):
-                connection.connect()
-            time.sleep(0.0005)
-        connection.sock.setsockopt(socket.IPPROTO_TCP, socket.TCP_NODELAY, 1)
-        yield process, connection
-        connection.close()
-        process.wait(patience)
-    finally:
-        process.kill()
-        process.wait()
+    with lent() as port:
+        process = subprocess.Popen(
+            [program, "serve", "--db", str(file), "--port", str(port), "--connections", "1"],
+            stdin=subprocess.DEVNULL,
+            stdout=subprocess.DEVNULL,
+        )
+        connection = http.client.HTTPConnection("127.0.0.1", port, timeout=patience)
+        try:
+            while connection.sock is None:
+                if process.poll() is not None:
+                    sys.exit(f"serve ended with status {process.returncode}")
+                with contextlib.suppress(ConnectionRefusedError):
+                    connection.connect()
+                time.sleep(0.0005)
+            connection.sock.setsockopt(socket.IPPROTO_TCP, socket.TCP_NODELAY, 1)
+            yield process, connection
+            connection.close()
+            process.wait(patience)
+        finally:
+            process.kill()
+            process.wait()
 
 
 def memory_of(process: subprocess.Popen[bytes], name: str) -> int:

@@ -14,8 +14,8 @@ from tracedesk import words
 from lab.desk import rows_of_archive
 from lab.recalls import last_minute, lot_of, recall, recalled
 from lab.tools import Word, run_changed
-from lab.waits import free_port
 from lab.world import RUNNING, World
+from tracedesk_dev.ports import free_port
 
 pytestmark = [pytest.mark.xdist_group("recall_desks")]
 

@@ -14,7 +14,8 @@ from lab.messages import part
 from lab.programs import wrapped
 from lab.shifted import Shifted
 from lab.tools import run, started
-from lab.waits import PATIENCE, free_port, stays, wait_for
+from lab.waits import PATIENCE, stays, wait_for
+from tracedesk_dev.ports import free_port
 from tracedesk_ops import service
 
 AS_IT_WAS = "the old desk is as it was"

@@ -12,7 +12,8 @@ from typing import Any
 
 from station_operator import Operator, chain_of
 from station_plant import DISK, accepted, agrees, folder, plant
-from station_site import Site, free_ports, wait_for
+from station_site import Site, wait_for
+from tracedesk_dev.ports import free_port
 from tracedesk_dev.trial import Difference
 
 
@@ -105,7 +106,7 @@ class LossySite(Site):
     """A site whose nginx reaches the desk through what loses answers."""
 
     def __init__(self, program: str, where: Any, dice: random.Random) -> None:
-        (self.lossy_port,) = free_ports(1)
+        self.lossy_port = free_port()
         super().__init__(program, where)
         self.losses = Losses(self.lossy_port, self.desk_port, dice)
         self.losses.start()

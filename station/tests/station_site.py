@@ -19,6 +19,7 @@ import time
 import uuid
 from typing import Any, Callable, Sequence
 
+from tracedesk_dev.ports import free_port
 from tracedesk_dev.trial import Difference, wanting
 
 ROOT = pathlib.Path(__file__).resolve().parents[2]
@@ -67,15 +68,6 @@ def wait_for(what: str, holds: Callable[[], Any], seconds: float = PATIENCE) -> 
         pause = min(1.2 * pause, 0.25)
 
 
-def free_ports(count: int) -> list[int]:
-    with contextlib.ExitStack() as held:
-        links = [held.enter_context(socket.socket()) for _ in range(count)]
-        for it in links:
-            it.bind(("127.0.0.1", 0))
-        ports = [it.getsockname()[1] for it in links]
-    return ports
-
-
 def certificate(folder: pathlib.Path, name: str, subject: str, by: str | None = None) -> None:
     """A key and a certificate for localhost; one that signs itself, or by another's key."""
     words = (
@@ -105,7 +97,7 @@ class Site:
     def __init__(self, program: str, folder: str | None = None) -> None:
         self.program = program
         self.room = pathlib.Path(tempfile.mkdtemp(prefix="station-", dir=folder))
-        self.port, self.desk_port, self.inner_port = free_ports(3)
+        self.port, self.desk_port, self.inner_port = (free_port() for _ in range(3))
         self.desk: Any = None
         self.nginx: Any = None
         self.last_look: Any = (

@@ -20,7 +20,7 @@ import time
 from typing import Any, Callable, Iterable, Iterator, NamedTuple, Optional
 
 from tracedesk_dev import ROOT
-from tracedesk_dev.trial import free_port
+from tracedesk_dev.ports import free_port
 
 SENDER = ROOT / "clients/python/tracedesk-send"
 

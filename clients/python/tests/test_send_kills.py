@@ -14,7 +14,7 @@ import pytest
 from proxy_lab import SENDER, answered, serving
 from station_site import Site
 from tracedesk_dev import shift
-from tracedesk_dev.trial import free_port
+from tracedesk_dev.ports import free_port
 
 LINES_OF_A_BOARD = 8  # of a shift, at least
 

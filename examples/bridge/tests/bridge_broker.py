@@ -15,7 +15,7 @@ from typing import Any, Optional
 
 from bridge_day import Run
 from station_site import certificate
-from tracedesk_dev.trial import free_port
+from tracedesk_dev.ports import free_port
 
 PATIENCE = 600  # seconds without a broker, or without a message of its queue
 QUEUE = "said"

@@ -29,7 +29,7 @@ import killed
 import mapping
 from bridge_lab import EXAMPLE, MACHINE, Room, elements_of, line_of, ours, said
 from tracedesk_dev import ROOT
-from tracedesk_dev.trial import free_port
+from tracedesk_dev.ports import free_port
 
 SENDER = ROOT / "clients/python/tracedesk-send"
 

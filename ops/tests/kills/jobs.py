@@ -29,8 +29,8 @@ from kills.points import (
 )
 from kills.sequence import Steps
 from lab.tools import KILLED, Ended
-from lab.waits import free_port
 from tracedesk_dev import postgres
+from tracedesk_dev.ports import free_port
 from tracedesk_ops import plant
 
 SEQUENCES = 3000

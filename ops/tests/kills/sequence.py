@@ -9,7 +9,7 @@ from typing import Callable, NamedTuple, Optional, Sequence
 from kills.line import LOST_ANSWERS, KilledLine, Pieces, pieces_in
 from lab.here import call_here
 from lab.tools import Word
-from lab.waits import free_port
+from tracedesk_dev.ports import free_port
 
 UNEXPECTED = 9
 YEAR = 31_536_000

@@ -11,7 +11,9 @@ from typing import Any, Iterable, Iterator, Optional, Sequence
 
 from lab import Answer, messages
 from lab.tools import Word, run
-from lab.waits import PATIENCE, free_port, wait_for
+from lab.waits import PATIENCE, wait_for
+from tracedesk_dev.ports import free_port
+from tracedesk_dev.processes import wait_until_ended
 from tracedesk_ops import copies, plant
 
 START = """#!/bin/sh
@@ -71,9 +73,14 @@ class Desk:
             return False
 
     def end(self, how: int = signal.SIGKILL) -> None:
-        """Ends the service by this signal, if it runs, and waits until the file is closed."""
+        """Ends the service by this signal, if it runs, and waits until it has: its file is free
+        before its port is."""
         with contextlib.suppress(FileNotFoundError, ProcessLookupError, ValueError):
-            os.kill(int(self.pid_file.read_text()), how)
+            pid = int(self.pid_file.read_text())
+            words = pathlib.Path(f"/proc/{pid}/cmdline").read_bytes()
+            if os.fsencode(self.file) in words:  # else that number is another's by now
+                os.kill(pid, how)
+                wait_until_ended(pid)
         plant.wait_until_closed(self.file, PATIENCE)
 
     @contextlib.contextmanager
