@@ -36,8 +36,10 @@ ready() {
 
 # stop, cut_off    ends the desk, and waits until it is gone: its port and its lock are free only then
 stop() {
-  has_ended || kill "$@" "$(cat pid)"
-  until has_ended; do sleep 0.02; done
+  if grep -qsxz "$port" "/proc/$(cat pid)/cmdline"; then
+    kill "$@" "$(cat pid)"
+    until has_ended; do sleep 0.02; done
+  fi
 }
 cut_off() { stop -9; }
 

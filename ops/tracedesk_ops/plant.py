@@ -259,7 +259,7 @@ def wait_for_lock(take: Callable[[], object], seconds: float, held: str) -> None
         except BlockingIOError:
             if time.monotonic() > end:
                 raise Fault(f"{held}, for {seconds} seconds now: end it, or wait for it") from None
-        if not is_told and time.monotonic() > end - seconds + QUIET:
+        if not is_told and time.monotonic() > end - seconds + 10 * QUIET:
             tell(f"{held}; it is waited for")
             is_told = True
         time.sleep(0.1)

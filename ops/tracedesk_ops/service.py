@@ -14,6 +14,7 @@ from tracedesk_ops.plant import PATIENCE, QUIET, Fault, as_caller, is_open, star
 from tracedesk_ops.plant import wait_until_closed
 
 SECONDS = 20  # that an answer may take
+CLOSING = 5  # seconds within which a service that closed its file gives up its port
 CONNECTED, LISTENING = ("01", "08"), "0A"  # in /proc/net/tcp: open, or closed by the client alone
 
 
@@ -99,10 +100,10 @@ class Service:
         self.call("stop")
         if self.db.exists():  # after a loss of the disk, or of the file, it is not
             wait_until_closed(self.db, PATIENCE)
-        end = time.monotonic() + QUIET
-        while self.is_taken() and time.monotonic() < end:
+        end = time.monotonic() + CLOSING
+        while (taken := self.is_taken()) and time.monotonic() < end:
             time.sleep(0.05)
-        if self.is_taken():
+        if taken:
             raise Fault(
                 f"the service is stopped, and something answers on port {self.port}: say by --port"
                 " where this desk answers"
