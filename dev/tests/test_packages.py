@@ -417,7 +417,7 @@ ZSH_ASKED = r"""
 zmodload zsh/zpty
 zpty -b shell zsh -f -i
 got=
-until_there() { for _ in {1..300}; do [[ $got == *$1* ]] && return; sleep 0.1; while zpty -r -t shell part 2> /dev/null; do got+=$part; done; done }
+until_there() { for _ in {1..3000}; do [[ $got == *$1* ]] && return; sleep 0.1; while zpty -r -t shell part 2> /dev/null; do got+=$part; done; done }
 zpty -w shell "fpath=($1 \$fpath); autoload -U compinit; compinit -u -D; PS1='> '; echo be''gun"
 until_there begun
 got=
@@ -434,7 +434,7 @@ def test_zsh_completes_options(packages: Packages) -> None:
     for it in files:
         if (done := run("zsh", "-n", it)).returncode or done.stdout:
             raise Difference(f"{it.name}: {done.stdout}")
-    said = run("zsh", "-f", "-c", ZSH_ASKED, "asked", files[0].parent, timeout=120).stdout
+    said = run("zsh", "-f", "-c", ZSH_ASKED, "asked", files[0].parent, timeout=600).stdout
     if lacking := [
         it for it in ("--db", "--port", "--connections", "--greatest") if it not in said
     ]:

@@ -27,7 +27,7 @@ from tracedesk_dev import ROOT
 from tracedesk_dev.trial import Difference
 
 sys.path.append(str(ROOT / "station/tests"))
-from station_site import Site  # noqa: E402
+from station_site import PATIENCE, Site  # noqa: E402
 
 pytestmark = [pytest.mark.needs("nginx", "openssl"), pytest.mark.xdist_group("proxy")]
 LOGGED_IN = "Authorization: Basic b3A6b3A=\r\n"  # op:op
@@ -43,7 +43,7 @@ def site(program: pathlib.Path) -> Iterator[Site]:
 def raw(site: Site, text: str) -> tuple[str, str, str]:
     """The status line, the headers and the body of what nginx answers to these bytes."""
     link = ssl.create_default_context(cafile=site.room / "etc/server.crt").wrap_socket(
-        socket.create_connection(("127.0.0.1", site.port), 20), server_hostname="localhost"
+        socket.create_connection(("127.0.0.1", site.port), PATIENCE), server_hostname="localhost"
     )
     with link:
         link.sendall(text.encode())
@@ -117,7 +117,7 @@ def test_own_answers_are_json(site: Site) -> None:
         ):
             raise Difference(f"{what}: wanted {status} with JSON, got {head!r} {body[:200]!r}")
     here.unlink()
-    link = socket.create_connection(("127.0.0.1", site.port), 20)
+    link = socket.create_connection(("127.0.0.1", site.port), PATIENCE)
     with link:
         link.sendall(b"GET /overdue HTTP/1.1\r\nHost: localhost\r\nConnection: close\r\n\r\n")
         got = link.makefile("rb").read().decode()

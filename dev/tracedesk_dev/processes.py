@@ -31,20 +31,33 @@ def wait_until_ended(pid: int) -> None:
         time.sleep(0.005)
 
 
+def words_of(pid: int) -> list[bytes]:
+    """The command line of a process; nothing where it has ended."""
+    try:
+        return pathlib.Path(f"/proc/{pid}/cmdline").read_bytes().split(b"\0")[:-1]
+    except (FileNotFoundError, ProcessLookupError):
+        return []
+
+
+def running() -> list[int]:
+    return [int(it) for it in os.listdir("/proc") if it.isdecimal()]
+
+
+def that_have(word: str) -> list[int]:
+    """The processes that have this word in their command lines."""
+    return [it for it in running() if os.fsencode(word) in words_of(it)]
+
+
 def of_session(session: int) -> list[int]:
     """The processes of a session that have not ended."""
-    found = [int(it) for it in os.listdir("/proc") if it.isdecimal()]
-    return [it for it in found if fields_of(it)[3:4] == [str(session)] and not has_ended(it)]
+    its = [it for it in running() if fields_of(it)[3:4] == [str(session)]]
+    return [it for it in its if not has_ended(it)]
 
 
 def told_of(session: int) -> str:
     """The command lines of a session's processes."""
-    told = []
-    for pid in of_session(session):
-        with contextlib.suppress(OSError):
-            words = pathlib.Path(f"/proc/{pid}/cmdline").read_bytes().rstrip(b"\0")
-            told.append(words.replace(b"\0", b" ").decode("utf-8", "backslashreplace")[:300])
-    return "; ".join(told)
+    told = [b" ".join(words_of(it)) for it in of_session(session)]
+    return "; ".join(it.decode("utf-8", "backslashreplace")[:300] for it in told)
 
 
 def end_session(session: int) -> None:

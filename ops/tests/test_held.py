@@ -17,7 +17,7 @@ import pytest
 from lab import ROOT, messages
 from lab.desk import Desk
 from lab.tools import run
-from lab.waits import wait_for
+from lab.waits import PATIENCE, wait_for
 from tracedesk_ops import copies, held, plant, service
 
 TRY = """
@@ -91,8 +91,10 @@ def commands(file: pathlib.Path) -> dict[str, int]:
 
 @pytest.mark.gate
 def test_a_copy_under_load_ends_in_its_marker_and_has_what_was_acknowledged(
-    served: Desk, sender: Sender, folder: pathlib.Path
+    served: Desk, sender: Sender, folder: pathlib.Path, monkeypatch: pytest.MonkeyPatch
 ) -> None:
+    for name in ("LONGEST", "SLOW"):
+        monkeypatch.setattr(held, name, PATIENCE)  # a busy machine is no slow disk
     wait_for("some messages are answered", lambda: len(sender.numbers) > 20)
     for number in range(10):
         to = folder / f"copy-{number}"
@@ -119,10 +121,10 @@ def tried(served: Desk, folder: pathlib.Path, script: str = TRY) -> "subprocess.
 def test_a_tool_that_hangs_or_is_killed_holds_nobody(
     served: Desk, folder: pathlib.Path, how: signal.Signals
 ) -> None:
+    began = time.monotonic()
     with tried(served, folder) as tool:
         assert tool.stdout is not None and tool.stdout.readline() == b"held\n"
         os.killpg(tool.pid, how)
-        began = time.monotonic()
         assert served.say("PartDefined", PartNumber="AFTER")["Answer"] == "Accepted"
         waited = time.monotonic() - began
         assert tool.wait() == -signal.SIGKILL

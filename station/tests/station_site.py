@@ -31,7 +31,7 @@ SETUP: dict[str, Any] = {
     "boards": 50,
     "expires": 60,
 }
-PATIENCE = 90  # seconds: of a machine that has much to do
+PATIENCE = 600  # seconds: of a machine that has much to do
 BOUNCE = 1.2  # seconds: the same action code within one is taken for one that was read twice
 slower = 1  # each wait takes so many times as long: station-test --slower
 
@@ -290,7 +290,7 @@ class Site:
 
     def get(self, target: str) -> Any:
         """The body of a GET of the desk's own port."""
-        link = http.client.HTTPConnection("127.0.0.1", self.desk_port, timeout=20)
+        link = http.client.HTTPConnection("127.0.0.1", self.desk_port, timeout=PATIENCE)
         try:
             link.request("GET", target, headers={"Connection": "close"})
             return link.getresponse().read().decode()
@@ -314,7 +314,7 @@ class Site:
             trust.load_cert_chain(
                 self.room / f"etc/{certificate}.crt", self.room / f"etc/{certificate}.key"
             )
-        link = http.client.HTTPSConnection("localhost", self.port, timeout=30, context=trust)
+        link = http.client.HTTPSConnection("localhost", self.port, timeout=PATIENCE, context=trust)
         if method == "POST":
             headers = {"Content_Type": "application/json", **headers}
         given = {
@@ -346,7 +346,7 @@ class Site:
             "TimeStamp": at.strftime("%Y-%m-%dT%H:%M:%SZ"),
             "MessageBody": body,
         }
-        link = http.client.HTTPConnection("127.0.0.1", self.desk_port, timeout=30)
+        link = http.client.HTTPConnection("127.0.0.1", self.desk_port, timeout=PATIENCE)
         try:
             link.request("POST", "/messages", json.dumps(told), {"Connection": "close"})
             return json.loads(link.getresponse().read())
@@ -408,7 +408,9 @@ def browser(room: pathlib.Path | str, name: str, size: tuple[int, int] = (1920, 
     ):  # a machine that has much to do may not begin it within the driver's minute
         try:
             page = webdriver.Chrome(
-                service=Service(str(shutil.which("chromedriver")), log_path=os.devnull),
+                service=Service(
+                    str(shutil.which("chromedriver")), free_port(), log_path=os.devnull
+                ),
                 options=options,
             )
             break

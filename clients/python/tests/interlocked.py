@@ -40,6 +40,7 @@ import time
 from typing import Any, Callable, Dict, Iterator, List, Optional, Tuple, TypeVar
 
 from desk_model import Model, Server
+from tracedesk_dev import processes
 
 SENDER = pathlib.Path(__file__).resolve().parents[1] / "tracedesk-send"
 YOUNG = 0.5  # seconds that a call permits for
@@ -78,10 +79,13 @@ class Plant:
         )
 
     def kill(self) -> None:
-        """Kills the sender. A call of its command that goes on is a session of its own."""
+        """Kills the sender, and waits for a call of its command that goes on: it is a session of its
+        own."""
         self.sender.kill()
         self.sender.wait()
-        time.sleep(0.05)
+        end = time.monotonic() + PATIENCE
+        while processes.that_have(str(self.room / "permit")) and time.monotonic() < end:
+            time.sleep(0.01)
 
     def end(self) -> None:
         self.kill()

@@ -22,6 +22,7 @@ from typing import Any, Callable, Iterable, Iterator, NamedTuple, Optional
 from tracedesk_dev import ROOT
 from tracedesk_dev.ports import free_port
 
+PATIENCE = 600  # seconds for what must come: a machine may be busy
 SENDER = ROOT / "clients/python/tracedesk-send"
 
 
@@ -49,11 +50,12 @@ def served(program: pathlib.Path, folder: pathlib.Path) -> Iterator[int]:
         serving(program, folder, port), stdout=subprocess.DEVNULL, stderr=subprocess.DEVNULL
     )
     try:
-        for _ in range(500):
+        while True:
             with contextlib.suppress(ConnectionRefusedError), socket.create_connection(
                 ("127.0.0.1", port)
             ):
                 break
+            assert desk.poll() is None, f"the desk ended with status {desk.returncode}"
             time.sleep(0.02)
         yield port
     finally:
@@ -100,7 +102,7 @@ def sent(folder: pathlib.Path, url: str, *words: Any, **how: Any) -> Sent:
         [sys.executable, SENDER, "--url", url, *words, folder / "messages", folder / "answers"],
         capture_output=True,
         text=True,
-        timeout=100,
+        timeout=PATIENCE,
         **how,
     )
     return Sent(done.returncode, answered(folder), done.stderr)
@@ -159,7 +161,7 @@ class Request(http.server.BaseHTTPRequestHandler):
         return self.rfile.read(int(self.headers["Content-Length"]))
 
     def asked_of_desk(self) -> tuple[int, bytes]:
-        desk = http.client.HTTPConnection("127.0.0.1", self.server.desk, timeout=20)
+        desk = http.client.HTTPConnection("127.0.0.1", self.server.desk, timeout=PATIENCE)
         desk.request("POST", self.path, self.body(), {"Connection": "close"})
         answer = desk.getresponse()
         told = answer.status, answer.read()

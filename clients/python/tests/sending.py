@@ -11,6 +11,7 @@ import time
 from typing import Any, Callable, Dict, Tuple
 
 Said = Tuple[int, Dict[str, str], Dict[str, Any]]  # a status, headers and an answer
+PATIENCE = 600  # seconds for what must come: a machine may be busy
 SENDER = pathlib.Path(__file__).resolve().parents[1] / "tracedesk-send"
 
 
@@ -117,7 +118,7 @@ class Lab:
         ]
 
     def send(self, *more: Any, given: bytes = b"") -> "subprocess.CompletedProcess[bytes]":
-        return subprocess.run(self.words(*more), input=given, capture_output=True, timeout=120)
+        return subprocess.run(self.words(*more), input=given, capture_output=True, timeout=PATIENCE)
 
     def uids(self) -> list[str]:
         return [uid for _, uid in self.server.came]
@@ -126,7 +127,7 @@ class Lab:
         return sorted(it.name for it in (self.spool / "waiting").iterdir())
 
     def wait_for(self, call: Callable[[], object]) -> None:
-        end = time.monotonic() + 90
+        end = time.monotonic() + PATIENCE
         while not call():
             assert time.monotonic() < end
             time.sleep(0.05)
@@ -141,5 +142,5 @@ class Lab:
                 *map(str, words),
             ],
             capture_output=True,
-            timeout=60,
+            timeout=PATIENCE,
         )

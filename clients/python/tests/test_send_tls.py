@@ -10,7 +10,7 @@ import sys
 from typing import Any
 
 import pytest
-from proxy_lab import Proxy, expect, parts, passed_on, says, sent, served
+from proxy_lab import PATIENCE, Proxy, expect, parts, passed_on, says, sent, served
 from station_site import certificate
 from tracedesk_dev import ROOT
 
@@ -47,7 +47,7 @@ def test_tls_is_spoken(program: pathlib.Path, tmp_path: pathlib.Path) -> None:
 
 def example(*words: Any, boards: str) -> "subprocess.CompletedProcess[str]":
     words = (sys.executable, ROOT / "examples/client.py", *words, "M1")
-    return subprocess.run(words, input=boards, capture_output=True, text=True, timeout=100)
+    return subprocess.run(words, input=boards, capture_output=True, text=True, timeout=PATIENCE)
 
 
 @pytest.mark.parametrize("with_spool", [False, True])

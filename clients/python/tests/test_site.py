@@ -215,7 +215,7 @@ class Sender:
         until(lambda: last().startswith(state) and why in last(), last)
 
 
-def until(holds: Callable[[], bool], last: Callable[[], str], seconds: float = 60.0) -> None:
+def until(holds: Callable[[], bool], last: Callable[[], str], seconds: float = 600.0) -> None:
     end = time.monotonic() + seconds
     while not holds():
         assert time.monotonic() < end, f"it doesn't come: {last()}"

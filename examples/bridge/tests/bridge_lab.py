@@ -16,7 +16,7 @@ from tracedesk_dev import ROOT
 BRIDGE = ROOT / "examples/bridge/tracedesk-bridge"
 EXAMPLE = ROOT / "examples/bridge/cfx-names.json"
 MACHINE = "Vendor1.Model1.Machine34"
-PATIENCE = 60  # seconds for what must come: a machine may be busy
+PATIENCE = 600  # seconds for what must come: a machine may be busy
 
 
 def line_of(message: Any) -> bytes:
@@ -143,7 +143,7 @@ class Room:
     def run(
         self, *more: Any, given: bytes = b"", status: int = 0
     ) -> subprocess.CompletedProcess[bytes]:
-        done = subprocess.run(self.command(*more), input=given, capture_output=True, timeout=120)
+        done = subprocess.run(self.command(*more), input=given, capture_output=True, timeout=PATIENCE)
         assert done.returncode == status, done.stderr.decode()
         return done
 

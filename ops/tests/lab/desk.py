@@ -12,8 +12,8 @@ from typing import Any, Iterable, Iterator, Optional, Sequence
 from lab import Answer, messages
 from lab.tools import Word, run
 from lab.waits import PATIENCE, wait_for
+from tracedesk_dev import processes
 from tracedesk_dev.ports import free_port
-from tracedesk_dev.processes import wait_until_ended
 from tracedesk_ops import copies, plant
 
 START = """#!/bin/sh
@@ -77,10 +77,9 @@ class Desk:
         before its port is."""
         with contextlib.suppress(FileNotFoundError, ProcessLookupError, ValueError):
             pid = int(self.pid_file.read_text())
-            words = pathlib.Path(f"/proc/{pid}/cmdline").read_bytes()
-            if os.fsencode(self.file) in words:  # else that number is another's by now
-                os.kill(pid, how)
-                wait_until_ended(pid)
+            if any(os.fsencode(self.file) in word for word in processes.words_of(pid)):
+                os.kill(pid, how)  # else it has ended, and that number may be another's by now
+                processes.wait_until_ended(pid)
         plant.wait_until_closed(self.file, PATIENCE)
 
     @contextlib.contextmanager

@@ -10,6 +10,7 @@ from typing import Any, Iterator
 
 from lab.site import Site
 from lab.tools import SENDER, Ended, Word, run, tool
+from lab.waits import PATIENCE
 
 ODD = 'M "3" \\'  # a machine's name
 NAME, NUMBER = r"[a-zA-Z_:][a-zA-Z0-9_:]*", r"[+-]?(?:\d+(?:\.\d*)?(?:[eE][+-]?\d+)?|Inf|NaN)"
@@ -135,7 +136,7 @@ class Watched:
             "backups": self.backups,
             "clock": self.answer,
             "drained": site.drained,
-            "timeout": 30,
+            "timeout": PATIENCE,
         }
 
     def words(self, **changed: Word) -> list[Word]:
@@ -162,7 +163,7 @@ class Watched:
             "sender": SENDER,
             "answer": self.answer,
             "drained": self.site.drained,
-            "patience": 30,
+            "patience": PATIENCE,
             **changed,
         }
         words = [word for name, value in pairs.items() for word in (f"--{name}", value)]
