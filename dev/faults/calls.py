@@ -60,6 +60,7 @@ from typing import Any, Callable, Iterable, Iterator
 from tracedesk_dev import program
 from tracedesk_dev.program import ROOT
 from tracedesk_dev.trial import Difference as Found
+from tracedesk_dev.trial import in_memory
 from tracedesk_dev.fault_judging import stopped
 from tracedesk_dev.fault_stories import EVER, Rooms, Story
 from tracedesk_dev.fault_points import cut, disk, kill, memory, power, wire
@@ -322,7 +323,7 @@ def words(reader: argparse.ArgumentParser) -> None:
     reader.add_argument("--only", help="the stories alone that have this in their names")
     reader.add_argument(
         "--folder",
-        default="/dev/shm" if os.path.isdir("/dev/shm") else None,
+        default=in_memory(),
         help="where the desks are made",
     )
     reader.add_argument("--planted", action="store_true")

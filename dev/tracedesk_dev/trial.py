@@ -20,6 +20,7 @@ from typing import Any, Callable, Iterator, Sequence
 from tracedesk_dev.ports import lent
 
 ROOT = pathlib.Path(__file__).resolve().parents[2]
+MEMORY = "/dev/shm"
 
 
 class Difference(Exception):
@@ -86,6 +87,12 @@ def subcommand(about: str | None, names: Sequence[str]) -> int:
     reader.add_argument("what", choices=names, help=argparse.SUPPRESS)
     reader.parse_args(sys.argv[1:2])
     return 2
+
+
+def in_memory() -> str | None:
+    """A folder in memory, where it has a GiB of room: a disk would keep each of a million writes."""
+    has_room = os.access(MEMORY, os.W_OK) and shutil.disk_usage(MEMORY).free > 2**30
+    return MEMORY if has_room else None
 
 
 def remove(file: object) -> None:

@@ -20,9 +20,9 @@ from lab import small
 from lab.desk import rows_of_archive
 from lab.tools import Word, call_tool, run
 from lab.world import ArchivedLine
+from tracedesk_dev.trial import in_memory
 from tracedesk_ops.recallpage import view
 
-MEMORY = "/dev/shm" if os.access("/dev/shm", os.W_OK) else None  # a disk would keep each write
 CHAINS, BATCHES = 20, 50  # of a batch; one batch is in the gate
 OTHERS = [pytest.param(number, marks=pytest.mark.whole) for number in range(1, BATCHES)]
 AT_ONCE = 8  # chains, most of whose time is a wait
@@ -123,7 +123,7 @@ class Chain:
 
 @pytest.fixture
 def room() -> Iterator[pathlib.Path]:
-    with tempfile.TemporaryDirectory(prefix="ways-", dir=MEMORY) as name:
+    with tempfile.TemporaryDirectory(prefix="ways-", dir=in_memory()) as name:
         yield pathlib.Path(name)
 
 

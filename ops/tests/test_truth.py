@@ -12,7 +12,6 @@ names each board.
 
 A batch that fails prints the files of each failed run, its refusals, and what really happened.
 """
-import os
 import pathlib
 import tempfile
 from typing import Any, Iterator
@@ -20,18 +19,18 @@ from unittest import mock
 
 import pytest
 from tracedesk import asking, interlock, machine, witness
+from tracedesk_dev.trial import in_memory
 
 from truth.batch import Batch
 from truth.world import simulated
 
-MEMORY = "/dev/shm" if os.access("/dev/shm", os.W_OK) else None  # a disk would keep each write
 BATCHES, RUNS = 100, 100  # of the whole test
 RUNS_PLANTED = 30  # until a fault of the rules at the line is found
 
 
 @pytest.fixture
 def room() -> Iterator[pathlib.Path]:
-    with tempfile.TemporaryDirectory(prefix="truth-", dir=MEMORY) as name:
+    with tempfile.TemporaryDirectory(prefix="truth-", dir=in_memory()) as name:
         yield pathlib.Path(name)
 
 

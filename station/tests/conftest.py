@@ -7,8 +7,9 @@ from typing import Iterator
 import pytest
 
 import station_site
-from station_plant import agrees, folder, plant
+from station_plant import agrees, plant
 from station_site import Site
+from tracedesk_dev.trial import in_memory
 
 
 def pytest_addoption(parser: pytest.Parser) -> None:
@@ -32,7 +33,7 @@ def browses() -> None:
 
 @pytest.fixture
 def site(program: pathlib.Path, browses: None) -> Iterator[Site]:
-    with Site(str(program), folder()) as made:
+    with Site(str(program), in_memory()) as made:
         plant(made)
         made.last_look = agrees
         yield made

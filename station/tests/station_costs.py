@@ -8,9 +8,9 @@ from typing import Any
 
 from station_looks import SCREENS
 from station_operator import Operator
-from station_plant import folder, long_line, plant
+from station_plant import long_line, plant
 from station_site import SETUP, Site
-from tracedesk_dev.trial import Difference
+from tracedesk_dev.trial import Difference, in_memory
 
 A_DAY, KITS = 86_400, 300  # seconds; the second is the page's period of its sheets
 MILLION = 1_000_000
@@ -117,9 +117,9 @@ def measure(program: str, scans: Any) -> Any:
     def say(name: str, value: Any) -> None:
         print(json.dumps({name: value}), flush=True)
 
-    with Site(program, folder()) as site:
+    with Site(program, in_memory()) as site:
         say("from scan to verdict, milliseconds", to_a_verdict(site))
-    with Site(program, folder()) as site:
+    with Site(program, in_memory()) as site:
         plant(site)
         with Operator(site) as it:
             it.ready()

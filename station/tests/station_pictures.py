@@ -9,9 +9,9 @@ from typing import Any
 from station_line import real_line, shown_tiles, view
 from station_looks import SCREEN, set_up
 from station_operator import Operator
-from station_plant import LABEL, SHEET, asks, folder, machines_say, plant, type_label
+from station_plant import LABEL, SHEET, asks, machines_say, plant, type_label
 from station_site import SETUP, Site, wait_for
-from tracedesk_dev.trial import Difference
+from tracedesk_dev.trial import Difference, in_memory
 
 SIZES = {"machines": (1280, 800), "tablet": (768, 1024), "phone": (360, 640)}
 LANGUAGES = ("de", "es", "zh")
@@ -96,7 +96,7 @@ def logged_out(it: Operator, into: pathlib.Path) -> None:
 def pictures(program: str, into: pathlib.Path) -> int:
     """Takes each picture; the exit status."""
     into.mkdir(parents=True, exist_ok=True)
-    with Site(program, folder()) as site:
+    with Site(program, in_memory()) as site:
         plant(site)
         more_reels(site)
         site.set_up({**SETUP, "places": PLACES})
@@ -114,7 +114,7 @@ def pictures(program: str, into: pathlib.Path) -> int:
             in_languages(it, into)
             it.load("&lang=en")
             logged_out(it.ready(), into)
-    with Site(program, folder()) as site:
+    with Site(program, in_memory()) as site:
         told = real_line(site)
         site.say("MaterialsUnloaded", {"Machine": told.machines[0], "Slot": "3"})
         first, second = told.machines[:2]

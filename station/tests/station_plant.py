@@ -3,8 +3,6 @@ import collections
 import contextlib
 import datetime
 import json
-import os
-import shutil
 import sqlite3
 from typing import Any, Sequence
 
@@ -13,7 +11,6 @@ from station_line import line_is_as_reported
 from station_site import SETUP, Site, wait_for
 from tracedesk_dev.trial import Difference
 
-MEMORY = "/dev/shm"
 SHEET = [
     ("1", "CAP", ["C1", "C2"]),
     ("2", "RES", ["R1"]),
@@ -145,12 +142,6 @@ def asks(operator: Operator, question: str, name: str, detail: str = "1") -> Any
         ),
     )
     return operator.rows()
-
-
-def folder() -> str | None:
-    return (
-        MEMORY if os.access(MEMORY, os.W_OK) and shutil.disk_usage(MEMORY).free > 2**30 else None
-    )
 
 
 DAY = 86_400_000  # milliseconds

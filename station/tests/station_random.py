@@ -11,10 +11,10 @@ import time
 from typing import Any
 
 from station_operator import Operator, chain_of
-from station_plant import DISK, accepted, agrees, folder, plant
+from station_plant import DISK, accepted, agrees, plant
 from station_site import Site, wait_for
 from tracedesk_dev.ports import free_port
-from tracedesk_dev.trial import Difference
+from tracedesk_dev.trial import Difference, in_memory
 
 
 REELS = [f"K-{number}" for number in range(1, 9)] + ["K-99", "1000234"]
@@ -316,7 +316,7 @@ def batch(program: str, seed: int, count: int, seconds: float | None = None) -> 
     losses.
     """
     dice, sums, done = random.Random(seed), [0, 0, 0], 0
-    with LossySite(program, folder(), dice) as site:
+    with LossySite(program, in_memory(), dice) as site:
         plant(site)
         if not seconds:
             site.last_look = agrees

@@ -5,11 +5,11 @@ import time
 import pytest
 from station_commands import COMMANDS, OUTAGES, ROUND, one_round
 from station_operator import Operator
-from station_plant import folder, plant
+from station_plant import plant
 from station_random import LossySite
 from station_site import Site
 from tracedesk_dev.program import Ticks
-from tracedesk_dev.trial import Difference
+from tracedesk_dev.trial import Difference, in_memory
 
 pytestmark = pytest.mark.browser
 
@@ -19,7 +19,7 @@ def test_commands_under_outages(site: Site, count: int = COMMANDS, seed: int = 1
     is killed or slow.
     """
     dice, sums, begun, ticks = random.Random(seed), [0, 0, 0], time.monotonic(), Ticks()
-    with LossySite(site.program, folder(), dice) as lossy:
+    with LossySite(site.program, in_memory(), dice) as lossy:
         plant(lossy)
         with Operator(lossy, size=(1024, 600)) as it:
             it.ready()

@@ -1,7 +1,6 @@
 """Senders and bridges under a model of what is outside: none lost, none twice, none reordered, and
 each status true.
 """
-import os
 import sys
 import tempfile
 import time
@@ -10,8 +9,8 @@ from typing import Counter
 import pytest
 from outside_run import run
 from outside_way import bridge_program, modelled
+from tracedesk_dev.trial import in_memory
 
-SHM = "/dev/shm" if os.access("/dev/shm", os.W_OK) else None
 NEWS = 100  # runs between two lines
 
 
@@ -23,7 +22,7 @@ def test_each_message_acts_once_and_in_order_whatever_fails(request: pytest.Fixt
     bridge, counts, begun = bridge_program(), Counter[str](), time.monotonic()
     with modelled(bridge):
         for seed in range(first, first + runs):
-            with tempfile.TemporaryDirectory(dir=SHM) as room:
+            with tempfile.TemporaryDirectory(dir=in_memory()) as room:
                 try:
                     counts.update(run(seed, bridge, room))
                 except BaseException as fault:

@@ -10,7 +10,7 @@ import tempfile
 
 from kills.jobs import SCENARIOS, Asked, all_tried
 from kills.process import is_armed
-from tracedesk_dev import postgres
+from tracedesk_dev import postgres, trial
 from tracedesk_dev import program as programs
 from tracedesk_ops.cmd import recall
 
@@ -37,7 +37,7 @@ def words(about: str) -> argparse.Namespace:
         reader.add_argument(f"--{name}", type=int, metavar="N", default=default, help=about_it)
     reader.add_argument(
         "--folder",
-        default="/dev/shm" if os.path.isdir("/dev/shm") else None,
+        default=trial.in_memory(),
         help="where the plants are made",
     )
     reader.add_argument(
