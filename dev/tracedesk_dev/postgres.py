@@ -14,6 +14,7 @@ from typing import Any
 
 from tracedesk_dev import program
 
+PLACE, VERSION = pathlib.Path("/usr/lib/postgresql"), "15"
 SQL = program.ROOT / "ops/plant"
 PATIENCE = "600"  # seconds that a start or a stop may take on a busy machine
 
@@ -23,8 +24,10 @@ class Fault(Exception):
 
 
 def found(name: str) -> str | None:
-    """A command of the newest PostgreSQL that is here, or none."""
-    its = sorted(pathlib.Path("/usr/lib/postgresql").glob(f"*/bin/{name}"))
+    """A command of PostgreSQL, or none: of Debian's, for which dev/packages.txt has an extension, and
+    else of another one that is here.
+    """
+    its = sorted(PLACE.glob(f"*/bin/{name}"), key=lambda it: (it.parts[4] == VERSION, it))
     return str(its[-1]) if its else shutil.which(name)
 
 

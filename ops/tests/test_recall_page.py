@@ -6,6 +6,7 @@ import html
 import importlib
 import io
 import multiprocessing
+import os
 import pathlib
 import re
 import shutil
@@ -18,6 +19,7 @@ from lab import small
 from lab.line import Line
 from lab.tools import KILL_AFTER, KILLED, Word, run, tool
 from lab.waits import wait_for
+from tracedesk_dev import processes
 from tracedesk_ops.recallpage import jobs, papers, view
 from tracedesk_ops.recallpage.jobs import Queue
 from tracedesk_ops.recallpage.worker import Worker
@@ -186,11 +188,11 @@ def test_a_recall_ends_with_its_worker(site: Site) -> None:
     )
     worker.start()
     wait_for("the recall runs", file.exists)
-    running = pathlib.Path("/proc", file.read_text(), "cmdline")
-    assert str(slow) in running.read_text()
+    running = int(file.read_text())
+    assert os.fsencode(slow) in processes.words_of(running)
     worker.kill()
     worker.join()
-    wait_for("its end", lambda: not running.exists() or not running.read_text())
+    wait_for("its end", lambda: processes.has_ended(running))
 
 
 def test_a_full_disk_begins_no_recall(site: Site, monkeypatch: pytest.MonkeyPatch) -> None:

@@ -87,7 +87,7 @@ def test_what_a_person_has_to_mend_is_reported_and_tried_seldom(lab: Lab) -> Non
         (200, b"no answer of a desk"),
     ):
         lab.server.script = [(status, {}, {"Answer": "Proxy", "Fault": "x"})]
-        done = lab.send("--patience", "2")
+        done = lab.send("--patience", "3")
         assert (done.returncode, lab.waits(), lab.server.script) == (4, ["000000000001.json"], [])
         assert told in done.stderr
     assert len(lab.uids()) == 4
