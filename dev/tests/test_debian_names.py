@@ -75,9 +75,10 @@ def test_what_cannot_be_installed_is_named(
     absent: list[str], calls: list[str], fault: str, monkeypatch: pytest.MonkeyPatch
 ) -> None:
     called: list[list[str]] = []
+    monkeypatch.setattr(packages, "PAUSES", (0, 0))
     monkeypatch.setattr(packages, "missing", lambda: ["gauges", "python3-weasyprint"])
     monkeypatch.setattr(packages, "unknown", lambda names: absent)
     monkeypatch.setattr(packages, "has_lists", lambda: True)
     monkeypatch.setattr(subprocess, "run", lambda words, check: called.append(words))
     assert (packages.installed() or "").startswith(fault)
-    assert [next(it for it in words if it in ("update", "install")) for words in called] == calls
+    assert [next(it for it in words if it in ("update", "install")) for words in called] == 2 * calls

@@ -13,6 +13,7 @@ import re
 import shutil
 import subprocess
 import sys
+import time
 from typing import Iterable, Iterator
 
 from tracedesk_dev import ROOT
@@ -30,7 +31,9 @@ INSTALLS = re.compile(r"\bapt(?:-get)? install ((?:\\\n|[^\n`'\"\\])*)")
 OF_PYTHON = re.compile(r"\bpython3-[a-z0-9-]*[a-z0-9]\b")
 FIELDS = re.compile(r"^(?:Build-)?(?:Depends|Recommends|Suggests):((?:.*\n)(?:[ \t].*\n)*)", re.M)
 OUR_OWN = re.compile(r"^Package: (\S+)$", re.M)
-APT = ("apt-get", "-qq", "--yes", "--no-install-recommends")
+APT = ("apt-get", "-qq", "--yes", "--no-install-recommends", "-o", "Acquire::Retries=3")
+APT += ("-o", "DPkg::Lock::Timeout=600")  # seconds, for another run of apt that began with the machine
+PAUSES = (0, 20, 60)  # seconds before each try: a mirror may be away for a moment
 
 
 @functools.cache
@@ -142,10 +145,19 @@ def has_lists() -> bool:
 
 
 def installed() -> str | None:
-    """Installs what is missing for the gate. Why something is missing then; none if nothing is."""
-    if not missing():
-        return None
-    subprocess.run(["apt-get", "update", "-qq"], check=False)
+    """Installs what is missing for the gate: packages, and the lists in which a test looks names up.
+    Why something is missing then; none if nothing is.
+    """
+    why = None
+    for pause in PAUSES if missing() or not has_lists() else ():
+        time.sleep(pause)
+        if (why := lacking_after_a_try()) is None:
+            break
+    return why
+
+
+def lacking_after_a_try() -> str | None:
+    subprocess.run([*APT, "update"], check=False)
     wanted = missing()
     if absent := unknown(wanted) if has_lists() else []:
         return f"apt knows no {' and no '.join(absent)}, which dev/packages.txt names"
@@ -153,7 +165,7 @@ def installed() -> str | None:
     importlib.invalidate_caches()
     if still := missing():
         return f"apt-get can't install {' '.join(still)}, which the tests want: see its lines above"
-    return None
+    return None if has_lists() else NO_LISTS
 
 
 if __name__ == "__main__":
