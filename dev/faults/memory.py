@@ -33,7 +33,7 @@ SHOWN = {"refused_memory_is_made_good": "the desk was made again"}
 OUT_OF_MEMORY = re.compile(
     r"^error: (AllocError|AllocFailed|out of memory|(Kind|SqliteFailure)\(OutOfMemory\))", re.M
 )
-SECONDS = 120  # for one run
+SECONDS = 600  # for one run
 
 
 def told(library: Any, tests: Any, name: str, number: int) -> Any:
