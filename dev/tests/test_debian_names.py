@@ -81,4 +81,6 @@ def test_what_cannot_be_installed_is_named(
     monkeypatch.setattr(packages, "has_lists", lambda: True)
     monkeypatch.setattr(subprocess, "run", lambda words, check: called.append(words))
     assert (packages.installed() or "").startswith(fault)
-    assert [next(it for it in words if it in ("update", "install")) for words in called] == 2 * calls
+    assert [
+        next(it for it in words if it in ("update", "install")) for words in called
+    ] == 2 * calls

@@ -31,8 +31,10 @@ INSTALLS = re.compile(r"\bapt(?:-get)? install ((?:\\\n|[^\n`'\"\\])*)")
 OF_PYTHON = re.compile(r"\bpython3-[a-z0-9-]*[a-z0-9]\b")
 FIELDS = re.compile(r"^(?:Build-)?(?:Depends|Recommends|Suggests):((?:.*\n)(?:[ \t].*\n)*)", re.M)
 OUR_OWN = re.compile(r"^Package: (\S+)$", re.M)
-APT = ("apt-get", "-qq", "--yes", "--no-install-recommends", "-o", "Acquire::Retries=3")
-APT += ("-o", "DPkg::Lock::Timeout=600")  # seconds, for another run of apt that began with the machine
+APT = (
+    *("apt-get", "-qq", "--yes", "--no-install-recommends", "-o", "Acquire::Retries=3"),
+    *("-o", "DPkg::Lock::Timeout=600"),  # seconds: another run of apt may begin with the machine
+)
 PAUSES = (0, 20, 60)  # seconds before each try: a mirror may be away for a moment
 
 

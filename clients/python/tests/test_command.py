@@ -15,6 +15,7 @@ from tracedesk.command import LONGEST_CALL
 
 BY_SIGTERM = (-signal.SIGTERM, 128 + signal.SIGTERM)  # a main thread that hangs ends by the latter
 
+
 @pytest.fixture
 def plant(tmp_path: pathlib.Path) -> Iterator[interlocked.Plant]:
     made = interlocked.Plant(tmp_path)

@@ -143,7 +143,9 @@ class Room:
     def run(
         self, *more: Any, given: bytes = b"", status: int = 0
     ) -> subprocess.CompletedProcess[bytes]:
-        done = subprocess.run(self.command(*more), input=given, capture_output=True, timeout=PATIENCE)
+        done = subprocess.run(
+            self.command(*more), input=given, capture_output=True, timeout=PATIENCE
+        )
         assert done.returncode == status, done.stderr.decode()
         return done
 
