@@ -19,6 +19,7 @@ import pytest
 from lab import messages
 from lab.line import Line, NewLine
 from lab.tools import KILL_AFTER
+from lab.waits import PATIENCE
 from tracedesk_ops import held, model, plant, service, short_stop, store
 from tracedesk_ops.cmd import rollover
 from tracedesk_ops.model import File
@@ -26,6 +27,13 @@ from tracedesk_ops.model import File
 STEPS = ("prepared", "tail", "filed", "placed")
 FORK = multiprocessing.get_context("fork")
 TRIES = 1000
+
+
+@pytest.fixture(autouse=True)
+def busy(monkeypatch: pytest.MonkeyPatch) -> None:
+    """A machine that has much to do is no slow disk."""
+    for name in ("LONGEST", "SLOW"):
+        monkeypatch.setattr(held, name, PATIENCE)
 
 
 def board(name: str, minute: int = 0) -> list[bytes]:
