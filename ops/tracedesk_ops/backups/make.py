@@ -237,8 +237,8 @@ class Backup:
         if behind.missing:
             self.faults.append(str(store.broken(self.line, behind)))
         listing.write(its)
-        self.faults += untraced.missing(self.archive, behind.desk.heads)
         recorded = [uid for file in behind.files for uid in file.heads.books]
+        self.faults += untraced.missing(self.archive, recorded)
         self.faults += attributes.rows_of(self.archive, recorded)[1]
         self.want_newest(behind)
         said = {
