@@ -47,6 +47,9 @@ HEADER = (
     "record",
     "chain",
 )
+# columns of tables for readers
+WORK = ("at", "machine", "board", "work", "refusal", "place", "source")
+OUTCOME = ("became", "decided_by", "reason")
 KIND = "untraced"  # of the file's heads, which the line's desk records
 LOST = "lost"  # in place of an id: the rows that no copy has
 HANDLING = ("MaterialsLoaded", "MaterialsSpliced", "MaterialsUnloaded")
@@ -121,21 +124,8 @@ def columns(record: Record) -> list[str]:
         its = [told["At"], told["Machine"], told["Board"], what, "Differs", told["MachineReel"]]
         return [record.id, "differs", *its, "", told["By"], "", "", ""]
     if told["Kind"] == "decided":
-        return [
-            record.id,
-            "decided",
-            told["At"],
-            "",
-            "",
-            "",
-            "",
-            "",
-            "",
-            told["By"],
-            told["Of"],
-            told["Became"],
-            told["Reason"],
-        ]
+        by = [told[name] for name in ("By", "Of", "Became", "Reason")]
+        return [record.id, "decided", told["At"], *[""] * 6, *by]
     message, answer, body = told["Message"], told["Answer"], body_of(record)
     designators = body.get("Designators")
     names = designators if isinstance(designators, list) else []
@@ -158,6 +148,11 @@ def columns(record: Record) -> list[str]:
         "",
         "",
     ]
+
+
+def outcome(by: Record | None) -> list[str]:
+    """What became of untraced work, who decided that, and why; empty if nobody did."""
+    return [by.told[name] for name in ("Became", "By", "Reason")] if by else [""] * len(OUTCOME)
 
 
 def body_of(record: Record) -> dict[str, Any]:

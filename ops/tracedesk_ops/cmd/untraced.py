@@ -40,13 +40,11 @@ which; 9 an unexpected failure.
 from __future__ import annotations
 
 import argparse
-import csv
-import io
 import pathlib
 import time
 
-from tracedesk_ops import around, options, places, plant, reader_of, receipts, settling
-from tracedesk_ops import store, untraced
+from tracedesk_ops import around, catalogue, options, places, plant, reader_of, receipts
+from tracedesk_ops import settling, store, untraced
 
 
 def collect(asked: argparse.Namespace) -> int:
@@ -99,39 +97,10 @@ def show(asked: argparse.Namespace) -> int:
         if it.told["Kind"] != "decided" and (
             asked.all or untraced.is_work(it) and it.id not in decided
         ):
-            by = decided.get(it.id)
-            rows.append(
-                [
-                    *untraced.said(it)[:1],
-                    *untraced.said(it)[2:10],
-                    *(
-                        [by.told["Became"], by.told["By"], by.told["Reason"]]
-                        if by
-                        else ["", "", ""]
-                    ),
-                ]
-            )
-    text = io.StringIO()
-    csv.writer(text, lineterminator="\n").writerows(
-        [
-            [
-                "id",
-                "at",
-                "machine",
-                "board",
-                "work",
-                "refusal",
-                "place",
-                "source",
-                "sender",
-                "became",
-                "decided_by",
-                "reason",
-            ],
-            *rows,
-        ]
-    )
-    plant.write_out(text.getvalue())
+            its = untraced.said(it)[2:10]
+            rows.append([it.id, *its, *untraced.outcome(decided.get(it.id))])
+    header = ["id", *untraced.WORK, "sender", *untraced.OUTCOME]
+    plant.write_out(catalogue.csv_text([header, *rows]))
     for fault in faults:
         plant.tell(fault)
     return 3 if faults else 1 if untraced.undecided(book.records) else 0
