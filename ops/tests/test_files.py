@@ -1,8 +1,10 @@
-"""files.put: a file is replaced whole, also if calls of several tools meet."""
+"""A file is replaced whole, also if calls of several tools meet; and a copy is made equal to it."""
 from __future__ import annotations
 
+import io
 import os
 import pathlib
+import random
 import time
 
 import pytest
@@ -66,3 +68,54 @@ def test_nothing_is_written_through_a_link(tmp_path: pathlib.Path) -> None:
     assert target.read_text() == "kept\n"
     assert path.read_text() == "text\n" and not path.is_symlink()
     assert path.stat().st_mode & 0o777 == 0o640
+
+
+# --- A copy is made equal to a file
+
+SIZES = (0, 1, files.PAGE, files.CHUNK - 1, files.CHUNK, 2 * files.CHUNK + 3 * files.PAGE + 7)
+
+
+def equal(path: pathlib.Path, to: pathlib.Path) -> list[bool]:
+    """Makes a copy equal; of each chunk whether a page was written."""
+    with open(path, "rb", buffering=0) as source, open(to, "r+b", buffering=0) as target:
+        return list(files.made_equal(source, target))
+
+
+@pytest.mark.parametrize("before", SIZES)
+@pytest.mark.parametrize("size", SIZES)
+def test_a_copy_becomes_equal_whatever_it_was(
+    tmp_path: pathlib.Path, size: int, before: int
+) -> None:
+    path, to = tmp_path / "file", tmp_path / "copy"
+    chance = random.Random(size * 31 + before)
+    content, older = bytearray(chance.randbytes(size)), chance.randbytes(before)
+    path.write_bytes(content)
+    to.write_bytes(older)
+    assert any(equal(path, to)) == bool(size)
+    assert to.read_bytes() == content
+    assert not any(equal(path, to))
+    for place in {0, size // 2, size - 1} if size else ():
+        content[place] ^= 1
+        path.write_bytes(content)
+        assert equal(path, to).count(True) == 1
+        assert to.read_bytes() == content
+
+
+def test_only_pages_that_differ_are_written(
+    tmp_path: pathlib.Path, monkeypatch: pytest.MonkeyPatch
+) -> None:
+    path, to = tmp_path / "file", tmp_path / "copy"
+    content = bytearray(random.Random(1).randbytes(3 * files.CHUNK))
+    to.write_bytes(content)
+    content[files.CHUNK + files.PAGE] ^= 1
+    path.write_bytes(content)
+    written: list[tuple[int, int]] = []
+    whole = files.write_at
+
+    def write(file: io.FileIO, page: bytearray, at: int) -> None:
+        written.append((at, len(page)))
+        whole(file, page, at)
+
+    monkeypatch.setattr(files, "write_at", write)
+    assert equal(path, to) == [False, True, False]
+    assert written == [(files.CHUNK + files.PAGE, files.PAGE)]

@@ -181,6 +181,16 @@ def desks_in(folder: Path) -> list[Path]:
     return found
 
 
+def recorded(archive: Path) -> list[str]:
+    """The heads of books that the desks of an archive have recorded, in all of their files: a
+    roll-over carries the newest head of a book alone.
+    """
+    reader = store.Reader(believes_names=True)
+    files = reader.files_in(archive)
+    files += [reader.desk(db) for db in desks_here(archive, [])]
+    return [uid for file in files for uid in file.heads.books]
+
+
 def said_of(line: Line, file: File) -> str:
     if file.path.is_relative_to(line.aside):
         return "a restore put it aside"

@@ -153,8 +153,8 @@ def rows_of(archive: pathlib.Path, recorded: Iterable[str]) -> tuple[list[Row], 
         rows = read(archive)
     except plant.Fault as fault:
         return [], [str(fault)]
-    chains = (row.chain for row in rows)
-    return rows, heads.missing(archive / FILE_NAME, KIND, chains, recorded)
+    is_lost = heads.lost(KIND, (row.chain for row in rows), recorded)
+    return rows, [heads.lacked_by(archive / FILE_NAME)] if is_lost else []
 
 
 def newest(rows: Iterable[Row]) -> dict[str, Reel]:

@@ -79,6 +79,7 @@ def look(
     """
     notes: list[str] = []
     book, faults, pieces = untraced.read(path.parent), [], []
+    recorded: set[str] = set()  # a roll-over carries the newest head of a book alone
     refused, decided = untraced.refused(book.records), untraced.decisions(book.records)
     works = [it for it in refused if untraced.is_work(it)]
     differing = untraced.differing(book.records)
@@ -107,12 +108,10 @@ def look(
                 elif database:
                     name = f"{catalogue.RUNNING} {file.name}".removesuffix(" desk")
                     files[name] = held_open(database)
-            newest = list(files)[len(archives[:-1]) :]  # and running desks
             for name, opened in files.items():
                 with opened() as database:
                     story.read(name, database)
-                    if name in newest:
-                        faults += untraced.missing(path.parent, store.heads_in(database))
+                    recorded.update(store.heads_in(database).books)
             for place, opened in enumerate(files.values()):
                 with opened() as database:
                     story.place(place, database)
@@ -121,6 +120,7 @@ def look(
             pieces += story.contradicted(record) if record.id not in decided else ()
     except (catalogue.CatalogueError, OSError, sqlite3.Error) as fault:
         faults.append(f"{path}: whether pieces may be of other reels isn't known: {fault}")
+    faults += untraced.missing(path.parent, recorded)
     return Line(
         [
             *((it, decided.get(it.id), story.reels_of(work_of(it))) for it in works),

@@ -8,6 +8,7 @@ import contextlib
 import fcntl
 import glob
 import hashlib
+import io
 import os
 import pathlib
 import secrets
@@ -19,6 +20,7 @@ from collections.abc import Iterator
 from typing import BinaryIO
 
 CHUNK = 1 << 20
+PAGE = 4096  # bytes that are written together at least
 ABANDONED = 3600  # seconds after which an unfinished file is one of a call that was killed
 
 
@@ -118,3 +120,38 @@ def sha256_within(file: BinaryIO) -> str:
     while part := file.read(CHUNK):
         checksum.update(part)
     return checksum.hexdigest()
+
+
+def made_equal(source: io.FileIO, target: io.FileIO) -> Iterator[bool]:
+    """Makes a copy equal to a file by writing the pages that differ, chunk by chunk; says of each
+    whether a page of it was written.
+    """
+    chunk, there, at = bytearray(CHUNK), bytearray(CHUNK), 0
+    while count := source.readinto(chunk):
+        known = os.preadv(target.fileno(), [there], at)
+        del chunk[count:], there[min(known, count) :]
+        if is_other := chunk != there:
+            for page in range(0, count, PAGE):
+                its = chunk[page : page + PAGE]
+                if its != there[page : page + PAGE]:
+                    write_at(target, its, at + page)
+        at += count
+        yield is_other
+    target.truncate(at)
+
+
+def write_at(file: io.FileIO, content: bytearray, at: int) -> None:
+    while content:
+        written = os.pwrite(file.fileno(), content, at)
+        del content[:written]
+        at += written
+
+
+def copy_gently(source: io.FileIO, target: io.FileIO) -> None:
+    """Makes a copy equal to a file, and waits for the disk after each chunk: so whoever else waits
+    for the disk meanwhile waits for no more than a chunk.
+    """
+    for is_other in made_equal(source, target):
+        if is_other:
+            os.fdatasync(target.fileno())
+    os.fsync(target.fileno())

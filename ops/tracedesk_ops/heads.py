@@ -50,19 +50,20 @@ def book_head(kind: str, chain: str) -> str:
     return f"{kind}-{chain[:OF_BOOK]}"
 
 
-def missing(
-    path: pathlib.Path, kind: str, chains: Iterable[str], recorded: Iterable[str]
-) -> list[str]:
-    """What is wrong if a book, whose rows have these chains, lacks one whose head a desk has
-    recorded: it is gone, was cut, or is an older one.
+def lost(kind: str, chains: Iterable[str], recorded: Iterable[str]) -> list[str]:
+    """The heads that desks have recorded of a book whose rows have these chains, and that it
+    lacks.
     """
     wanted = {uid for uid in recorded if uid.startswith(f"{kind}-")}
-    if wanted <= {book_head(kind, chain) for chain in chains}:
-        return []
-    return [
+    return sorted(wanted - {book_head(kind, chain) for chain in chains})
+
+
+def lacked_by(path: pathlib.Path) -> str:
+    """What is said of a book that lacks rows: it is gone, was cut, or is an older one."""
+    return (
         f"{path}: it has not the row that the desk has recorded: it is an older one, or was cut."
         " Take it from a copy"
-    ]
+    )
 
 
 def is_of_this_machine(heads: Heads) -> bool:

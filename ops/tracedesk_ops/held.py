@@ -8,7 +8,9 @@ fails is never kept.
 
     copied = held.lawful(desk, 8080, held.new_marker, folder / "desk", program.audit)
 
-The line waits while the connection is held. So a copy that takes too long, as on a slow disk, is
+The line waits while the connection is held, and for a disk that has much to write. So most is
+copied before, and goes to the disk bit by bit. While the connection is held each page of the copy
+is compared, and those that differ are written. A copy that takes too long, as on a slow disk, is
 given up. A watchdog, a process in a session of its own, ends the connection of a tool that hangs,
 or that somebody stopped, and kills the tool. A tool that is killed holds nothing either.
 """
@@ -28,14 +30,13 @@ import sys
 import time
 from collections.abc import Callable, Iterator
 
-from tracedesk_ops import catalogue, model, plant, stored
+from tracedesk_ops import catalogue, files, model, plant, stored
 
 LONGEST = 5.0  # seconds that the connection may be held by a tool that hangs
 SLOW = 2.5  # seconds after which a copy is given up
 TRIES = 3
 ANSWER = 30.0  # seconds for the desk to answer the marker: it may be at a long report
 HEAD = 32  # bytes at the beginning of a log: they change when it begins anew
-BLOCK = 1 << 20
 LOG = "-wal"
 UID = "SELECT uid FROM accepted WHERE number = ?"
 # A letter says how long the next one may take, in seconds: else it kills who started it. From the
@@ -129,8 +130,13 @@ def copy(desk: pathlib.Path, port: int, marker: bytes, to: pathlib.Path) -> Copi
     message that it accepts.
     """
     log, log_to = beside(desk), beside(to)
-    for file in (desk, log):
-        warm(file)
+    pairs = ((desk, to), (log, log_to))
+    try:
+        for _ in range(2):  # the second time it takes a moment, so that hardly a page differs then
+            for source, target in pairs:
+                prepare(source, target)
+    except OSError as fault:
+        raise NoCopy(f"{desk} could not be copied: {fault}") from fault
     with watchdog() as said:
         link = http.client.HTTPConnection("127.0.0.1", port, timeout=ANSWER)
         try:
@@ -140,7 +146,7 @@ def copy(desk: pathlib.Path, port: int, marker: bytes, to: pathlib.Path) -> Copi
             said("h")
             began = time.monotonic()
             before = notes(desk, log)
-            for source, target in ((desk, to), (log, log_to)):
+            for source, target in pairs:
                 copy_bytes(source, target, began + SLOW)
             has_moved = notes(desk, log) != before
             held = time.monotonic() - began
@@ -157,8 +163,7 @@ def copy(desk: pathlib.Path, port: int, marker: bytes, to: pathlib.Path) -> Copi
             f"{desk} changed while its only connection was held: another program writes to it"
         )
     for file in (to, log_to):
-        with open(file, "rb") as copied:
-            os.fsync(copied.fileno())
+        files.keep(file)
     return Copied(number, held)
 
 
@@ -183,26 +188,21 @@ def end(link: http.client.HTTPConnection) -> None:
     link.close()
 
 
-def warm(file: pathlib.Path) -> None:
-    """Reads a file, so that the copy finds it in memory."""
-    with contextlib.suppress(FileNotFoundError), open(file, "rb", buffering=0) as read:
-        room = bytearray(BLOCK)
-        while read.readinto(room):
-            pass
+def prepare(file: pathlib.Path, to: pathlib.Path) -> None:
+    """Copies a file as it is by now, while it may change; a log may not be there yet."""
+    with open(to, "ab"), open(to, "r+b", buffering=0) as target:
+        with contextlib.suppress(FileNotFoundError), open(file, "rb", buffering=0) as source:
+            files.copy_gently(source, target)
 
 
 def copy_bytes(file: pathlib.Path, to: pathlib.Path, until: float) -> None:
-    """Copies a file; an OSError where that takes longer than until this time of the monotonic
-    clock.
+    """Makes a copy that was prepared equal to its file; an OSError where that takes longer than
+    until this time of the monotonic clock.
     """
-    with open(file, "rb", buffering=0) as source, open(to, "xb", buffering=0) as target:
-        room = memoryview(bytearray(BLOCK))
-        while count := source.readinto(room):
+    with open(file, "rb", buffering=0) as source, open(to, "r+b", buffering=0) as target:
+        for _ in files.made_equal(source, target):
             if time.monotonic() > until:
                 raise TimeoutError(f"after {SLOW:g} seconds {file} is not copied: the disk is slow")
-            written = 0
-            while written < count:
-                written += target.write(room[written:count])
 
 
 def notes(desk: pathlib.Path, log: pathlib.Path) -> tuple[bytes, ...]:

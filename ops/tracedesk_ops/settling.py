@@ -92,7 +92,8 @@ def record(archive: pathlib.Path) -> bool:
 
 
 def stamps_of(archive: pathlib.Path) -> "list[tuple[int, int]]":
-    """What changes if a row comes to a book of the line, or if it is another file."""
-    paths = [archive / untraced.FILE_NAME, archive / attributes.FILE_NAME]
-    stats = [path.stat() for path in (*paths, attributes.note_of(archive)) if path.exists()]
+    """What changes if a row comes to a book of the line, or is noted, or if it is another file."""
+    paths = [archive / untraced.FILE_NAME, untraced.inbox_of(archive) / untraced.COLLECTED]
+    paths += [archive / attributes.FILE_NAME, attributes.note_of(archive)]
+    stats = [path.stat() for path in paths if path.exists()]
     return [(its.st_ino, its.st_mtime_ns) for its in stats]

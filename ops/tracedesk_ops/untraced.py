@@ -27,7 +27,7 @@ import pathlib
 from collections.abc import Iterable
 from typing import Any, NamedTuple
 
-from tracedesk_ops import files, heads, inboxes, model, places, plant
+from tracedesk_ops import files, heads, inboxes, places, plant
 
 FILE_NAME, INBOX, COLLECTED, STATUS = "untraced.csv", "untraced", "collected.json", "untraced.json"
 HEADER = (
@@ -47,7 +47,11 @@ HEADER = (
     "record",
     "chain",
 )
+# columns of tables for readers
+WORK = ("at", "machine", "board", "work", "refusal", "place", "source")
+OUTCOME = ("became", "decided_by", "reason")
 KIND = "untraced"  # of the file's heads, which the line's desk records
+LOST = "lost"  # in place of an id: the rows that no copy has
 HANDLING = ("MaterialsLoaded", "MaterialsSpliced", "MaterialsUnloaded")
 BEGIN = "0" * 64
 MOST_DECIDED = 1_000  # ids that the status file names
@@ -120,21 +124,8 @@ def columns(record: Record) -> list[str]:
         its = [told["At"], told["Machine"], told["Board"], what, "Differs", told["MachineReel"]]
         return [record.id, "differs", *its, "", told["By"], "", "", ""]
     if told["Kind"] == "decided":
-        return [
-            record.id,
-            "decided",
-            told["At"],
-            "",
-            "",
-            "",
-            "",
-            "",
-            "",
-            told["By"],
-            told["Of"],
-            told["Became"],
-            told["Reason"],
-        ]
+        by = [told[name] for name in ("By", "Of", "Became", "Reason")]
+        return [record.id, "decided", told["At"], *[""] * 6, *by]
     message, answer, body = told["Message"], told["Answer"], body_of(record)
     designators = body.get("Designators")
     names = designators if isinstance(designators, list) else []
@@ -157,6 +148,11 @@ def columns(record: Record) -> list[str]:
         "",
         "",
     ]
+
+
+def outcome(by: Record | None) -> list[str]:
+    """What became of untraced work, who decided that, and why; empty if nobody did."""
+    return [by.told[name] for name in ("Became", "By", "Reason")] if by else [""] * len(OUTCOME)
 
 
 def body_of(record: Record) -> dict[str, Any]:
@@ -334,30 +330,35 @@ def undecided(records: list[Record]) -> list[Record]:
 
 
 def head_of(archive: pathlib.Path) -> str:
-    """The head of the line's file, which its desk records; empty if it has no row, or is
-    damaged.
+    """The head of the line's file, which its desk records; empty if it has no row, or is not as it
+    was written. A row that isn't noted may not be on disk yet.
     """
-    path = pathlib.Path(archive) / FILE_NAME
-    with contextlib.suppress(OSError):
-        chains = parsed(path, path.read_bytes())[1]
-        return heads.book_head(KIND, chains[-1]) if chains else ""
+    with contextlib.suppress(OSError, ValueError):
+        count, chain = collected_in(inbox_of(archive))
+        if count and not rows_of(archive)[1]:
+            return heads.book_head(KIND, chain)
     return ""
 
 
-def missing(archive: pathlib.Path, known: model.Heads) -> list[str]:
-    """What is wrong if the line's file has not each row that its desk has recorded: it is gone, was
-    cut, or is an older one.
+def lost(archive: pathlib.Path, recorded: Iterable[str]) -> list[str]:
+    """The heads that desks have recorded of the line's file, and whose rows it lacks, but those
+    about which somebody decided. `recorded` has the heads in all files of their chains.
     """
-    path = pathlib.Path(archive) / FILE_NAME
-    if not known.untraced:
-        return []
+    path = archive / FILE_NAME
+    records, chains, _ = parsed(path, path.read_bytes() if path.exists() else b"")
+    return heads.lost(KIND, chains, set(recorded) - decisions(records).keys())
+
+
+def missing(archive: pathlib.Path, recorded: Iterable[str]) -> list[str]:
+    """What is wrong if rows of the line's file are lost: it is gone, was cut, or is an older or
+    another one.
+    """
+    path = archive / FILE_NAME
     try:
-        chains = parsed(path, path.read_bytes())[1]
+        more = f"; if none has it, call tracedesk-untraced decide {LOST}"
+        return [f"{heads.lacked_by(path)}{more}"] if lost(archive, recorded) else []
     except OSError as fault:
-        return [
-            f"{path}: it can't be read, and the desk has recorded it: {fault}. Take it from a copy"
-        ]
-    return heads.missing(path, KIND, chains, known.books)
+        return [f"{path}: it can't be read: {fault}. Take it from a copy"]
 
 
 # --- Writing
@@ -432,12 +433,9 @@ def now() -> str:
 
 
 def decide(archive: pathlib.Path, of: str, by: str, became: str, reason: str) -> Record:
-    """Puts a decision into the inbox and collects it. Returns its record; a Fault where there is no
-    such report of work.
+    """Puts a decision about a record, or about lost rows, into the inbox and collects it. Returns
+    its record.
     """
-    records, _, _ = collect(archive)
-    if of not in {it.id for it in [*refused(records), *differing(records)]}:
-        raise plant.Fault(f"there is no untraced work {of}: tracedesk-untraced list has the ids")
     told = {
         "At": now(),
         "Became": became,

@@ -3,13 +3,13 @@ from __future__ import annotations
 
 import argparse
 import datetime
+import io
 import json
 import os
 import pathlib
 import shutil
 import socket
 import stat
-from typing import BinaryIO
 
 from tracedesk_ops import (
     attributes,
@@ -146,12 +146,12 @@ class Backup:
         except (heads.NoAnswer, plant.Fault) as fault:
             plant.tell(f"it is copied without its heads: {fault}")
 
-    def opened(self, file: Path) -> BinaryIO:
+    def opened(self, file: Path) -> io.FileIO:
         """A file of the desk's folder, opened as its owner: a link there leads to nothing that the
         owner can't read.
         """
         with plant.as_owner(self.db):
-            return open(file, "rb")
+            return open(file, "rb", buffering=0)
 
     def linked(self, archive: File, name: str, to: Path) -> bool:
         """Takes an archive from the newest copy that has it whole; one that is gone from the line's
@@ -198,8 +198,8 @@ class Backup:
         name = self.name_of(archive)
         if not self.want_live(archive, name, "another machine's copy", may_be_link=True):
             return False
-        with self.opened(self.archive / name) as source, open(to, "xb") as target:
-            shutil.copyfileobj(source, target)
+        with self.opened(self.archive / name) as source, open(to, "x+b", buffering=0) as target:
+            files.copy_gently(source, target)
         if not is_whole(archive, to):
             raise plant.Fault(f"{to} is not what was copied: look at the disks")
         return True
@@ -237,8 +237,8 @@ class Backup:
         if behind.missing:
             self.faults.append(str(store.broken(self.line, behind)))
         listing.write(its)
-        self.faults += untraced.missing(self.archive, behind.desk.heads)
         recorded = [uid for file in behind.files for uid in file.heads.books]
+        self.faults += untraced.missing(self.archive, recorded)
         self.faults += attributes.rows_of(self.archive, recorded)[1]
         self.want_newest(behind)
         said = {

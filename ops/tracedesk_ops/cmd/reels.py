@@ -70,11 +70,7 @@ def add(asked: argparse.Namespace) -> int:
 
 
 def show(asked: argparse.Namespace) -> int:
-    reader = store.Reader(believes_names=True)
-    files = reader.files_in(asked.archive)
-    files += [reader.desk(db) for db in around.desks_here(asked.archive, [])]
-    recorded = [uid for file in files for uid in file.heads.books]
-    rows, faults = attributes.rows_of(asked.archive, recorded)
+    rows, faults = attributes.rows_of(asked.archive, around.recorded(asked.archive))
     newest = {row.its.reel: row for row in rows}
     found = [row for row in newest.values() if asked.terms.take(row.its)]
     table = [[*row.its, row.at, row.by] for row in found]

@@ -22,7 +22,8 @@ untraced.csv, next to the catalogue. A recall names each board that is in it, an
 until somebody decided what became of the board. `collect` also takes the attributes of reels out of
 their receipts, into reels.csv. ID may be the beginning of an id, if no other has it. A refused
 load, splice or unload has a record too, and needs no decision. If a recall names pieces as doubtful
-because of it, and nothing was placed from that reel, decide --became 'taken off'.
+because of it, and nothing was placed from that reel, decide --became 'taken off'. If a recall says
+that untraced.csv has not a row, and no copy has it, look for that work on paper, then decide lost.
 
 --line     which line's, where several are set up
 --archive  the folder with the archives and the catalogue (that of the set-up file, else
@@ -33,17 +34,17 @@ because of it, and nothing was placed from that reel, decide --became 'taken off
            taken off
 
 Exit status: 0 done, and of list: nothing is undecided; 1 something is undecided; 2 bad command
-line; 3 a file is damaged or gone, and standard error says which; 9 an unexpected failure.
+line; 3 a file is damaged or gone, or lacks a row that a desk has recorded, and standard error says
+which; 9 an unexpected failure.
 """
 from __future__ import annotations
 
 import argparse
-import csv
-import io
 import pathlib
 import time
 
-from tracedesk_ops import options, places, plant, reader_of, receipts, settling, untraced
+from tracedesk_ops import around, catalogue, options, places, plant, reader_of, receipts
+from tracedesk_ops import settling, store, untraced
 
 
 def collect(asked: argparse.Namespace) -> int:
@@ -90,64 +91,47 @@ def tell_station(asked: argparse.Namespace, records: list[untraced.Record]) -> N
 
 def show(asked: argparse.Namespace) -> int:
     book = untraced.read(asked.archive)
+    faults = [*book.faults, *untraced.missing(asked.archive, around.recorded(asked.archive))]
     decided, rows = untraced.decisions(book.records), []
     for it in book.records:
         if it.told["Kind"] != "decided" and (
             asked.all or untraced.is_work(it) and it.id not in decided
         ):
-            by = decided.get(it.id)
-            rows.append(
-                [
-                    *untraced.said(it)[:1],
-                    *untraced.said(it)[2:10],
-                    *(
-                        [by.told["Became"], by.told["By"], by.told["Reason"]]
-                        if by
-                        else ["", "", ""]
-                    ),
-                ]
-            )
-    text = io.StringIO()
-    csv.writer(text, lineterminator="\n").writerows(
-        [
-            [
-                "id",
-                "at",
-                "machine",
-                "board",
-                "work",
-                "refusal",
-                "place",
-                "source",
-                "sender",
-                "became",
-                "decided_by",
-                "reason",
-            ],
-            *rows,
-        ]
-    )
-    plant.write_out(text.getvalue())
-    for fault in book.faults:
+            its = untraced.said(it)[2:10]
+            rows.append([it.id, *its, *untraced.outcome(decided.get(it.id))])
+    header = ["id", *untraced.WORK, "sender", *untraced.OUTCOME]
+    plant.write_out(catalogue.csv_text([header, *rows]))
+    for fault in faults:
         plant.tell(fault)
-    return 3 if book.faults else 1 if untraced.undecided(book.records) else 0
+    return 3 if faults else 1 if untraced.undecided(book.records) else 0
 
 
 def decide(asked: argparse.Namespace) -> int:
     try:
         records, _, _ = untraced.collect(asked.archive)
-        known = [*untraced.refused(records), *untraced.differing(records)]
-        ids = [it.id for it in known if it.id.startswith(asked.id)]
-        if len(ids) != 1:
-            raise plant.Fault(
-                f"{len(ids) or 'no'} ids begin with {asked.id}: tracedesk-untraced list has them"
-            )
-        untraced.decide(asked.archive, ids[0], asked.by, asked.became, asked.reason)
+        for it in ids_of(asked, records):
+            untraced.decide(asked.archive, it, asked.by, asked.became, asked.reason)
         tell_station(asked, untraced.read(asked.archive).records)
         return 0
     except (plant.Fault, OSError, ValueError) as fault:
         plant.tell(str(fault))
         return 3
+
+
+def ids_of(asked: argparse.Namespace, records: list[untraced.Record]) -> list[str]:
+    """About what somebody decides: the record whose id begins so, or each head of lost rows."""
+    if asked.id == untraced.LOST:
+        ids = untraced.lost(asked.archive, around.recorded(asked.archive))
+        if not ids:
+            raise plant.Fault("no row is lost that a desk has recorded")
+        return ids
+    known = [*untraced.refused(records), *untraced.differing(records)]
+    ids = [it.id for it in known if it.id.startswith(asked.id)]
+    if len(ids) != 1:
+        raise plant.Fault(
+            f"{len(ids) or 'no'} ids begin with {asked.id}: tracedesk-untraced list has them"
+        )
+    return ids
 
 
 def words_of(text: str) -> str:
@@ -184,4 +168,8 @@ def main() -> int:
     asked = reader.parse_args()
     asked.archive = asked.archive.absolute()
     with plant.as_owner(asked.archive.parent / places.DESK.name):
-        return int(asked.call(asked))
+        try:
+            return int(asked.call(asked))
+        except store.LineFault as fault:
+            plant.tell(str(fault))
+            return 3

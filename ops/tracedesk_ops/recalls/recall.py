@@ -342,19 +342,8 @@ class Recall:
         self.faults += its.faults
         self.notes += its.notes
         for it, by, reels in its.works:
-            self.untraced.append(
-                [
-                    name,
-                    *untraced.said(it)[2:9],
-                    it.id,
-                    reels,
-                    *(
-                        [by.told["Became"], by.told["By"], by.told["Reason"]]
-                        if by
-                        else ["", "", ""]
-                    ),
-                ]
-            )
+            said = untraced.said(it)[2:9]
+            self.untraced.append([name, *said, it.id, reels, *untraced.outcome(by)])
         concern = Concern(its.story, self.question)
         self.doubtful += [[name, *it.row()] for it in its.pieces if it in concern]
 

@@ -6,7 +6,7 @@ import html
 from collections.abc import Iterable, Sequence
 from typing import Any
 
-from tracedesk_ops import catalogue, story
+from tracedesk_ops import catalogue, story, untraced
 from tracedesk_ops.firstlook import Piece, Reel
 from tracedesk_ops.recalls.desk import Question
 from tracedesk_ops.recalls.recall import Asked, Recall
@@ -78,21 +78,7 @@ def tables_of(recall: Recall, shipped: Shipped | None) -> dict[str, Table]:
         ],
         "asked": [Asked._fields, *recall.asked],
         "untraced": [
-            [
-                "line",
-                "at",
-                "machine",
-                "board",
-                "work",
-                "refusal",
-                "place",
-                "source",
-                "id",
-                "reels",
-                "became",
-                "decided_by",
-                "reason",
-            ],
+            ["line", *untraced.WORK, "id", "reels", *untraced.OUTCOME],
             *recall.untraced,
         ],
         "doubtful": [["line", *story.HEADER], *recall.doubtful],
