@@ -219,7 +219,7 @@ export class Verdict {
     const texts = TEXTS.verdict;
     const brief = this.current ? this.refused : this.refused.slice(1);
     const count = brief.slice(BRIEF_SHOWN).length;
-    const text = (it) => `\u2717 ${texts.refused}: ${whereOf(it)}: ${wordsOf(it).title}`;
+    const text = (it) => `\u2717 ${refusalWord(it.answer)}: ${whereOf(it)}: ${wordsOf(it).title}`;
     const of = (it) => el("p", { class: "brief", data: { scan: it.uid } }, text(it));
     return [
       ...brief.slice(0, BRIEF_SHOWN).map(of),
