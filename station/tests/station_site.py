@@ -67,6 +67,15 @@ def wait_for(what: str, holds: Callable[[], Any], seconds: float = PATIENCE) -> 
         pause = min(1.2 * pause, 0.25)
 
 
+def settles(what: str, differs: Callable[[], Any]) -> None:
+    """Waits until `differs` tells nothing."""
+    end = time.monotonic() + PATIENCE * slower
+    while (wrong := differs()) and time.monotonic() < end:
+        time.sleep(0.3)
+    if wrong:
+        raise Difference(f"{what}: {wrong}")
+
+
 def free_ports(count: int) -> list[int]:
     with contextlib.ExitStack() as held:
         links = [held.enter_context(socket.socket()) for _ in range(count)]

@@ -278,17 +278,16 @@ def test_whether_it_may_send_is_asked_again(site: Site) -> None:
     """A look at may-send.json that fails makes no reader of a sender."""
     with Operator(site, begin=False) as it:
         it.open()
-        it.page.execute_cdp_cmd("Network.enable", {})
-        it.page.execute_cdp_cmd("Network.setBlockedURLs", {"urls": ["*/may-send.json"]})
-        it.load()
-        wait_for(
-            "it says what is not known", lambda: "whether this log-in may send" in it.text("state")
-        )
-        if "only read" in it.text("state"):
-            raise Difference(it.text("state"))
-        it.does("A/OPEN", "K-1", kind="refused", holds=("not known yet",))
-        it.page.execute_cdp_cmd("Network.setBlockedURLs", {"urls": []})
-        wait_for("it is known", lambda: "log-in" not in it.text("state"), 15)
+        with it.without("*/may-send.json"):
+            it.load()
+            wait_for(
+                "it says what is not known",
+                lambda: "whether this log-in may send" in it.text("state"),
+            )
+            if "only read" in it.text("state"):
+                raise Difference(it.text("state"))
+            it.does("A/OPEN", "K-1", kind="refused", holds=("not known yet",))
+        wait_for("it is known", lambda: "log-in" not in it.text("state"))
         it.does("A/OPEN", "K-1", holds=("OPENED",))
         whole(site, it, 1)
     print("not known, then known without a reload")
