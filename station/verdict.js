@@ -2,7 +2,7 @@
 // what it accepted is green.
 import { aboutOf, isLoad, refusalWord, whatOf, whereOf, wordsOf } from "./answers.js";
 import * as clock from "./clock.js";
-import { button, el } from "./dom.js";
+import { button, el, withoutScrollbars } from "./dom.js";
 import { explained } from "./explain.js";
 import { lifeText } from "./life.js";
 import { said } from "./say.js";
@@ -262,12 +262,14 @@ export class Verdict {
   /** Makes all letters smaller until all of it is on the screen. */
   fit() {
     const { place } = this;
-    for (let size = 100; size >= LEAST_SIZE; size -= 5) {
-      place.style.setProperty("--size", size / 100);
-      if (place.scrollHeight <= place.clientHeight + 1) {
-        break;
+    withoutScrollbars(place, () => {
+      for (let size = 100; size >= LEAST_SIZE; size -= 5) {
+        place.style.setProperty("--size", size / 100);
+        if (place.scrollHeight <= place.clientHeight) {
+          break;
+        }
       }
-    }
+    });
   }
 
   one(scan) {

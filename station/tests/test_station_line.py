@@ -189,6 +189,40 @@ def test_a_real_line_is_on_one_screen(site: Site) -> None:
     )
 
 
+# Of each size of the page: what the Line shows where it got that size, where it is begun anew and
+# where it is drawn again. Given are those of which that isn't the same.
+HISTORIES = """
+const [sizes, done] = arguments, pause = (time) => new Promise((go) => setTimeout(go, time)), frame = () => new Promise((go) => requestAnimationFrame(() => setTimeout(go)));
+const shown = () => [...document.querySelectorAll(".urgent:not(.first) li")].length + " tiles, letters of " + getComputedStyle(document.querySelector(".slots")).fontSize;
+(async () => {
+  const differ = [];
+  for (const [width, height] of sizes) {
+    Object.assign(document.body.style, { width: `${width}px`, height: `${height}px` });
+    await frame(); await frame();
+    const told = [shown()];
+    window.dispatchEvent(new HashChangeEvent("hashchange"));
+    told.push(shown());
+    await pause(250);
+    told.push(shown());
+    if (new Set(told).size > 1) { differ.push([width, height, ...told]); }
+  }
+  done(differ);
+})();
+"""
+
+
+def test_the_same_line_whatever_was_shown_before(site: Site) -> None:
+    """How many slots stand on top, and in which letters all are, is of the page's size alone."""
+    real_line(site)
+    sizes = [(width, height) for width in range(1300, 1921, 62) for height in range(760, 1081, 64)]
+    with Operator(site) as it:
+        view(it, *SCREEN)
+        it.ready().agrees = False
+        if differ := it.page.execute_async_script(HISTORIES, sizes):
+            raise Difference(f"{len(differ)} of {len(sizes)} sizes: {differ[:5]}")
+    print(f"{len(sizes)} sizes")
+
+
 def processor_seconds(it: Operator) -> Any:
     return next(
         told["value"]
