@@ -134,6 +134,19 @@ export function put(place, ...children) {
   }
 }
 
+/**
+ * Does something to a place while it has no scrollbars, and gives what comes of it. One that is
+ * there for larger letters takes room, in which a text may wrap: so it would stay where all fits.
+ */
+export function withoutScrollbars(place, act) {
+  place.style.overflow = "hidden";
+  try {
+    return act();
+  } finally {
+    place.style.overflow = "";
+  }
+}
+
 /** A field with its name. */
 export function field(name, label, attributes = {}) {
   return el("p", { class: "field" }, el("label", { for: name,

@@ -1,6 +1,6 @@
 // The screen Scan: what is held, buttons in place of action codes, a number pad, and the last
 // scans of this station.
-import { whatOf, wordsOf } from "./answers.js";
+import { refusalWord, whatOf, wordsOf } from "./answers.js";
 import * as clock from "./clock.js";
 import { button, el, table } from "./dom.js";
 import { said } from "./say.js";
@@ -60,7 +60,7 @@ export class ScanScreen {
       const words = it.answer ? wordsOf(it) : null;
       const answer = !words ? texts.waiting
         : words.kind === "accepted" ? said(TEXTS.verdict.accepted, { done: words.title })
-                                    : `${TEXTS.verdict.refused}: ${words.title}`;
+                                    : `${refusalWord(it.answer)}: ${words.title}`;
       return [clock.shown(it.at), whatOf(it), [answer, words?.kind ?? "asked"]];
     });
     this.list.replaceChildren(

@@ -2,7 +2,7 @@
 // of each machine. Of many slots there is a tile for each machine, and a touch shows its slots.
 import { isLoad } from "./answers.js";
 import * as clock from "./clock.js";
-import { button, el, put, table } from "./dom.js";
+import { button, el, put, table, withoutScrollbars } from "./dom.js";
 import { dayAnd, productText, sheetText } from "./known.js";
 import { lifeText, piecesText } from "./life.js";
 import { isFresh } from "./machines.js";
@@ -25,6 +25,7 @@ const SORTS = {
   pieces: (a, b) => (a.boards ?? Infinity) - (b.boards ?? Infinity),
   life: (a, b) => (a.life ?? -1) - (b.life ?? -1),
 };
+const isNarrow = (place) => place.scrollWidth <= place.clientWidth;
 const rank = (row) => URGENT.findIndex((it) => row.states.includes(it));
 
 /**
@@ -361,24 +362,33 @@ export class LineScreen {
       this.urgent.childElementCount,
       this.first.childElementCount,
     ].join();
-    const set = (size) => machines.style.setProperty("--letters", `${size / 16}rem`);
-    const isNarrow = () => main.scrollWidth <= main.clientWidth;
-    const fits = (size) => {
-      set(size);
-      return main.scrollHeight <= main.clientHeight + 1 && isNarrow();
-    };
-    const isHigh = main.scrollHeight > main.clientHeight + 1;
+    const isHigh = main.scrollHeight > main.clientHeight;
     if (!machines.hasChildNodes() || (!isResized && fitted === this.fitted && !isHigh)) {
       return;
     }
     this.fitted = fitted;
-    set(SIZES[0]);
-    machines.classList.add("measured");
-    const width =
-      Math.max(...[...machines.querySelectorAll("table")].map((it) => it.offsetWidth)) /
-      parseFloat(getComputedStyle(machines).fontSize);
-    machines.classList.remove("measured");
-    machines.style.setProperty("--width", `${width}em`);
+    const { scrollTop } = main;
+    const areAllThere = withoutScrollbars(main, () => this.fitAll(main));
+    if (!areAllThere) {
+      SIZES.filter((it) => it <= SCROLLED).find((it) => this.set(it) ?? isNarrow(main));
+    }
+    main.scrollTop = scrollTop; // smaller letters were tried
+  }
+
+  set(size) {
+    this.machines.style.setProperty("--letters", `${size / 16}rem`);
+  }
+
+  /**
+   * Sets the largest letters in which all slots are on the screen; where even the smallest are too
+   * large, fewer of those that need a person stand above them. False where nothing helps.
+   */
+  fitAll(main) {
+    const fits = (size) => {
+      this.set(size);
+      return main.scrollHeight <= main.clientHeight && isNarrow(main);
+    };
+    this.measure();
     let least = 0;
     let most = SIZES.length - 1;
     while (least < most) { // to the first that fits
@@ -389,8 +399,18 @@ export class LineScreen {
     while (isWide && this.most > LEAST_TILES && !fits(SIZES[least])) {
       this.tiles(this.most - 1); // all slots are below them
     }
-    if (!fits(SIZES[least])) {
-      SIZES.filter((it) => it <= SCROLLED).find((it) => set(it) ?? isNarrow());
-    }
+    return fits(SIZES[least]);
+  }
+
+  /** Tells the style how wide a column of slots is, in its letters. */
+  measure() {
+    const { machines } = this;
+    this.set(SIZES[0]);
+    machines.classList.add("measured");
+    const width =
+      Math.max(...[...machines.querySelectorAll("table")].map((it) => it.offsetWidth)) /
+      parseFloat(getComputedStyle(machines).fontSize);
+    machines.classList.remove("measured");
+    machines.style.setProperty("--width", `${width}em`);
   }
 }

@@ -1,7 +1,7 @@
 // A line of text for each machine of the tablet, on all screens, in the largest letters that fit:
 // that it runs, why it is stopped, or since when nobody knows.
 import * as clock from "./clock.js";
-import { el, put } from "./dom.js";
+import { el, put, withoutScrollbars } from "./dom.js";
 import { dayAnd } from "./known.js";
 import { isFresh } from "./machines.js";
 import { said } from "./say.js";
@@ -112,6 +112,9 @@ export class MachineLines {
     }
     const isBest = (size) =>
       set(size) ?? (size >= largest * WORTH && isOneLine(size) && isInRoom());
-    sizes.find(isBest) ?? sizes.find((size) => set(size) ?? isInRoom());
+    withoutScrollbars(
+      place,
+      () => sizes.find(isBest) ?? sizes.find((size) => set(size) ?? isInRoom()),
+    );
   }
 }

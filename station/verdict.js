@@ -2,7 +2,7 @@
 // what it accepted is green.
 import { aboutOf, isLoad, refusalWord, whatOf, whereOf, wordsOf } from "./answers.js";
 import * as clock from "./clock.js";
-import { button, el } from "./dom.js";
+import { button, el, withoutScrollbars } from "./dom.js";
 import { explained } from "./explain.js";
 import { lifeText } from "./life.js";
 import { said } from "./say.js";
@@ -219,7 +219,7 @@ export class Verdict {
     const texts = TEXTS.verdict;
     const brief = this.current ? this.refused : this.refused.slice(1);
     const count = brief.slice(BRIEF_SHOWN).length;
-    const text = (it) => `\u2717 ${texts.refused}: ${whereOf(it)}: ${wordsOf(it).title}`;
+    const text = (it) => `\u2717 ${refusalWord(it.answer)}: ${whereOf(it)}: ${wordsOf(it).title}`;
     const of = (it) => el("p", { class: "brief", data: { scan: it.uid } }, text(it));
     return [
       ...brief.slice(0, BRIEF_SHOWN).map(of),
@@ -262,12 +262,14 @@ export class Verdict {
   /** Makes all letters smaller until all of it is on the screen. */
   fit() {
     const { place } = this;
-    for (let size = 100; size >= LEAST_SIZE; size -= 5) {
-      place.style.setProperty("--size", size / 100);
-      if (place.scrollHeight <= place.clientHeight + 1) {
-        break;
+    withoutScrollbars(place, () => {
+      for (let size = 100; size >= LEAST_SIZE; size -= 5) {
+        place.style.setProperty("--size", size / 100);
+        if (place.scrollHeight <= place.clientHeight) {
+          break;
+        }
       }
-    }
+    });
   }
 
   one(scan) {

@@ -1,4 +1,5 @@
 // Screens with little on them use the whole room: what they show is as large as it fits.
+import { withoutScrollbars } from "./dom.js";
 
 const ZOOMS = [1.6, 1.5, 1.4, 1.3, 1.2, 1.1, 1];
 const LEAST_WIDTH = 1200; // pixels: a smaller screen is read from near
@@ -15,7 +16,8 @@ export function keepLarge(main) {
   const fit = () => {
     const isLarge = innerWidth > LEAST_WIDTH && innerHeight > LEAST_HEIGHT;
     const isOwn = OF_ITS_OWN.includes(main.className);
-    set(isLarge && !isOwn ? ZOOMS.find(fits) ?? 1 : 1);
+    const find = () => ZOOMS.find(fits) ?? 1;
+    set(isLarge && !isOwn ? withoutScrollbars(main, find) : 1);
   };
   new MutationObserver(fit).observe(main, { childList: true, subtree: true });
   new ResizeObserver(fit).observe(main);

@@ -15,8 +15,8 @@ LOADS, TAKES = ("MaterialsLoaded", "MaterialsSpliced"), ("MaterialsScrapped", "C
 OUTAGES, AWAY = ("none", "losses", "desk", "proxy", "slow"), ("desk", "proxy", "slow")
 SLOTS = [(machine, slot) for machine in ("M1", "M2") for slot in ("1", "2", "10", "3")]
 # Does commands one behind the other, as a scanner in the scan field. Of each: what the strip said
-# before its last code, what is over the page behind it, and the messages that it made. A question
-# is answered as the command says.
+# before its last code, what is over the page behind it, which refusals came there with it, and the
+# messages that it made. A question is answered as the command says.
 DOES = """
 const [commands, done] = arguments, at = (id) => document.getElementById(id), field = at("scan"), pause = (time) => new Promise((go) => setTimeout(go, time));
 const opened = new Promise((go) => { const request = indexedDB.open("tracedesk-station"); request.onsuccess = () => go(request.result); });
@@ -30,18 +30,23 @@ const scan = async (code) => {
 };
 const kept = async () => { const all = (await opened).transaction("scans").objectStore("scans").getAll(); return new Promise((go) => { all.onsuccess = () => go(all.result.filter((it) => it.state !== "notSent")); }); };
 const seen = () => ({ turn: Number(at("verdict").dataset.turn ?? 0), kind: at("verdict").hidden ? "" : at("verdict").className, text: at("verdict").innerText });
+const reds = () => (at("verdict").hidden ? [] : [...at("verdict").querySelectorAll("[data-scan]:is(.refused, .brief)")].map((it) => [it.dataset.scan, it.innerText]));
 (async () => {
   const told = [];
   for (const { codes, yes } of commands) {
     const before = new Set((await kept()).map((it) => it.uid));
     if (codes[0] === scanned.code && codes[0].startsWith("A/")) { await scan("A/CANCEL"); } // an action twice counts once
     for (const code of codes.slice(0, -1)) { await scan(code); }
-    const held = at("held").innerText, turn = seen().turn;
+    const held = at("held").innerText, turn = seen().turn, red = new Set(reds().map(([uid]) => uid));
     await scan(codes.at(-1));
-    let shown = seen();
+    const shown = seen(), fresh = () => reds().filter(([uid]) => !red.has(uid)).map(([, text]) => text);
     const asked = shown.kind === "ask" && shown.turn > turn;
-    if (asked) { await scan(yes ? "A/ENTER" : "A/CANCEL"); }
-    told.push({ held, asked, shown, turn, made: (await kept()).filter((it) => !before.has(it.uid)).map(({ uid, word, body }) => ({ uid, word, body })) });
+    let refused = fresh();
+    if (asked) {
+      await scan(yes ? "A/ENTER" : "A/CANCEL");
+      refused = fresh();
+    }
+    told.push({ held, asked, shown, refused, made: (await kept()).filter((it) => !before.has(it.uid)).map(({ uid, word, body }) => ({ uid, word, body })) });
   }
   (await opened).close();
   done(told);
@@ -90,6 +95,13 @@ class Command:
         }
         return messages[self.deed]
 
+    def where(self) -> str:
+        """As a verdict names its slot and its reel."""
+        place = f"{self.machine} slot {self.slot}"
+        if self.deed in ("UNLOAD", "SCRAP"):
+            return place
+        return f"{place} · {self.reel}" if self.deed == "LOAD" else self.reel
+
     def about(self) -> set[Any]:
         """The slot and the reel that it is about."""
         return {
@@ -129,6 +141,13 @@ class Page:
             return False
         return bool(last[2] == body and (last[1] == word or {last[1], word} == set(LOADS)))
 
+    @staticmethod
+    def is_told(command: Command, text: str) -> bool:
+        """Whether a refusal says that the command was not sent: in front, or below an answer that
+        came after it.
+        """
+        return text.startswith("✗ NOT SENT") and command.where() in text
+
     def judged(self, command: Command, told: Any, is_away: bool) -> Any:
         """Looks whether a command made its message, or its loss was shown; gives the message or
         None. Only `is_away`, with nobody to answer, is known which of the two it has to be.
@@ -144,7 +163,7 @@ class Page:
         is_lost = not made and (
             (told["asked"] and not command.yes)
             or (shown["kind"] == "fault" and "DROPPED" in shown["text"])
-            or (shown["turn"] > told["turn"] and shown["text"].startswith("✗ NOT SENT"))
+            or any(self.is_told(command, text) for text in told["refused"])
         )
         is_kept = len(made) == 1 and made[0]["word"] in words and made[0]["body"] == body
         if is_away and shown["kind"] == "accepted":

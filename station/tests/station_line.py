@@ -4,14 +4,11 @@ size of a plant's.
 import csv
 import datetime
 import io
-import time
-from typing import Any, Callable
+from typing import Any
 
-import station_site
 from station_operator import Operator
-from station_site import Site
+from station_site import Site, settles
 from tracedesk_dev import shift
-from tracedesk_dev.trial import Difference
 
 WORDS = {
     "EMPTY": "EMPTY",
@@ -171,15 +168,6 @@ def shown_tiles(operator: Operator) -> Any:
     )
 
 
-def agreed(what: str, differs: Callable[[], str | None], seconds: float = 25) -> None:
-    """Waits until nothing differs."""
-    end = time.monotonic() + seconds * station_site.slower
-    while (wrong := differs()) and time.monotonic() < end:
-        time.sleep(0.3)
-    if wrong:
-        raise Difference(f"{what} and report differ: {wrong}")
-
-
 def line_is_as_reported(
     site: Site,
     operator: Operator,
@@ -204,7 +192,7 @@ def line_is_as_reported(
             )
         )
 
-    agreed(f"Line of {machine}", differs)
+    settles(f"Line of {machine} and report differ", differs)
 
 
 def rank_of(found: Any) -> tuple[int, int]:
@@ -236,7 +224,7 @@ def tiles_are_as_reported(
             else f"wanted {wanted}, got {got} {more}"
         )
 
-    agreed("what needs a person", differs)
+    settles("what needs a person and report differ", differs)
     return len(tiles())
 
 

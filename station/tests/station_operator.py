@@ -5,7 +5,7 @@ import os
 import signal
 import subprocess
 import time
-from typing import Any, Sequence
+from typing import Any, Iterator, Sequence
 
 from station_site import BOUNCE, PATIENCE, Site, browser, wait_for
 from tracedesk_dev.trial import Difference
@@ -14,7 +14,7 @@ SCANS = """
 const done = arguments[arguments.length - 1], request = indexedDB.open("tracedesk-station");
 request.onsuccess = () => {
   const all = request.result.transaction("scans").objectStore("scans").getAll();
-  all.onsuccess = () => { request.result.close(); done(all.result.filter((it) => it.state !== "notSent")); };
+  all.onsuccess = () => { request.result.close(); done(all.result); };
 };
 """
 
@@ -134,6 +134,10 @@ class Operator:
     def text(self, name: str) -> Any:
         return self.script("return document.getElementById(arguments[0])?.innerText ?? ''", name)
 
+    def told(self, selector: str) -> Any:
+        """The text of the first such element, or nothing."""
+        return self.script("return document.querySelector(arguments[0])?.innerText ?? ''", selector)
+
     def turn(self) -> Any:
         """The number of what the page showed last over its screens."""
         return self.script("return Number(document.getElementById('verdict').dataset.turn ?? 0)")
@@ -204,6 +208,27 @@ class Operator:
             table,
         )
 
+    def kept(self) -> Any:
+        """What the browser keeps of its scans, and of those that were not sent."""
+        return self.page.execute_async_script(SCANS)
+
     def scans(self) -> Any:
         """What the browser keeps of its scans."""
-        return self.page.execute_async_script(SCANS)
+        return [scan for scan in self.kept() if scan["state"] != "notSent"]
+
+    def keeps_what_was_seen(self) -> None:
+        """Waits until the browser has kept that somebody has seen all that was refused."""
+        wait_for(
+            "that all was seen is kept",
+            lambda: not any(it["state"] == "notSent" or it.get("unseen") for it in self.kept()),
+        )
+
+    @contextlib.contextmanager
+    def without(self, *urls: str) -> Iterator[None]:
+        """Keeps these from the page."""
+        self.page.execute_cdp_cmd("Network.enable", {})
+        self.page.execute_cdp_cmd("Network.setBlockedURLs", {"urls": urls})
+        try:
+            yield
+        finally:
+            self.page.execute_cdp_cmd("Network.setBlockedURLs", {"urls": []})

@@ -31,6 +31,7 @@ LEVEL_SIX = 2880
 DAY_AND_AN_HOUR = 1500  # minutes: a reel of level 5a, which has 1,440, is expired then
 # of a long line; of the page's processor time, from a scan to its verdict and after it
 MACHINES, SLOTS, SECONDS = (12, 120, 0.3)
+GUARD = 1.3  # seconds: a red screen takes no touch before
 CLOCKS = """window.asleep = 0; window.later = 0;
 const steady = performance.now.bind(performance), wall = Date.now.bind(Date);
 performance.now = () => steady() - window.asleep; Date.now = () => wall() + window.later;"""

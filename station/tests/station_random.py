@@ -12,7 +12,7 @@ from typing import Any
 
 from station_operator import Operator, chain_of
 from station_plant import DISK, accepted, agrees, plant
-from station_site import Site, wait_for
+from station_site import Site, settles, wait_for
 from tracedesk_dev.ports import free_port
 from tracedesk_dev.trial import Difference, in_memory
 
@@ -268,10 +268,9 @@ def judged(log: Any, scans: Any, desk: Any) -> Any:
     ]
     refused = {uid for uid, scan in by_uid.items() if scan["answer"]["Answer"] != "Accepted"}
     shown = {uid for entry in log for uid in entry.get("red", [])}
-    if wrong or refused - shown and not any("more" in entry.get("red", []) for entry in log):
+    if wrong or unshown(log, scans):
         raise Difference(
-            f"green and not at the desk: {wrong}; refused and never shown:"
-            f" {[by_uid[uid] for uid in refused - shown]}"
+            f"green and not at the desk: {wrong}; refused and never shown: {unshown(log, scans)}"
         )
     hidden = {uid for uid in unseen & refused if uid not in red and "more" not in red}
     if hidden:
@@ -280,6 +279,19 @@ def judged(log: Any, scans: Any, desk: Any) -> Any:
             f" {deeds[-8:]}"
         )
     return len(greens), len(shown)
+
+
+def shown_by(it: Operator) -> list[Any]:
+    """What the page noted of its verdict and of the deeds, since the sequence began."""
+    log = it.script("return sessionStorage.getItem('log')")
+    return [json.loads(line) for line in log.split("\n") if line]
+
+
+def unshown(log: list[Any], scans: list[Any]) -> list[Any]:
+    """The refused scans that were never shown."""
+    shown = {uid for entry in log for uid in entry.get("red", [])}
+    refused = [it for it in scans if it["answer"]["Answer"] != "Accepted"]
+    return [] if "more" in shown else [it for it in refused if it["uid"] not in shown]
 
 
 def tried(site: Site, it: Operator, dice: random.Random) -> Any:
@@ -298,13 +310,9 @@ def tried(site: Site, it: Operator, dice: random.Random) -> Any:
         and all(scan["state"] == "answered" for scan in told)
         and [told],
     )[0]
-    time.sleep(0.3)  # the page shows the last answer
-    desk, log = accepted(site), [
-        json.loads(line)
-        for line in it.script("return sessionStorage.getItem('log')").split("\n")
-        if line
-    ]
     new = [scan for scan in scans if scan["uid"] not in before]
+    settles("refused and never shown", lambda: unshown(shown_by(it), new))
+    desk, log = accepted(site), shown_by(it)
     wrong = [scan for scan in new if desk[scan["uid"]] != (scan["answer"]["Answer"] == "Accepted")]
     if wrong or any(count > 1 for count in desk.values()):
         raise Difference(f"acted otherwise than answered: {wrong}")

@@ -68,6 +68,15 @@ def wait_for(what: str, holds: Callable[[], Any], seconds: float = PATIENCE) -> 
         pause = min(1.2 * pause, 0.25)
 
 
+def settles(what: str, differs: Callable[[], Any]) -> None:
+    """Waits until `differs` tells nothing."""
+    end = time.monotonic() + PATIENCE * slower
+    while (wrong := differs()) and time.monotonic() < end:
+        time.sleep(0.3)
+    if wrong:
+        raise Difference(f"{what}: {wrong}")
+
+
 def certificate(folder: pathlib.Path, name: str, subject: str, by: str | None = None) -> None:
     """A key and a certificate for localhost; one that signs itself, or by another's key."""
     words = (
@@ -104,6 +113,7 @@ class Site:
             lambda operator: None
         )  # what an operator looks at before the browser is closed
         self.agreed = 0
+        self.looks = 0  # at how many connections the desk has served
         self.drained = self.room / "drained"
         for it in (
             "etc/station",
@@ -285,8 +295,24 @@ class Site:
         self.desk.send_signal(signal.SIGCONT)
 
     def connections(self) -> int:
-        """How many connections the desk has served."""
-        return (self.room / "served.txt").read_bytes().count(b"\n")
+        """How many connections the desk has served until now, but those of these looks. A look has
+        two requests and the desk one connection at a time, so its line is known, behind all before.
+        """
+        heads: list[dict[str, str]] = [{}, {"Connection": "close"}]
+        link = http.client.HTTPConnection("127.0.0.1", self.desk_port, timeout=20)
+        with contextlib.closing(link):
+            for headers in heads:
+                link.request("GET", "/overdue", headers=headers)
+                link.getresponse().read()
+        self.looks += 1
+
+        def served() -> Any:
+            lines = (self.room / "served.txt").read_bytes().splitlines()
+            own = [at for at, line in enumerate(lines) if line.startswith(b"2 ")]
+            return own if len(own) == self.looks else None
+
+        own: list[int] = wait_for("the desk's line of this look", served)
+        return own[-1] - (self.looks - 1)
 
     def get(self, target: str) -> Any:
         """The body of a GET of the desk's own port."""

@@ -44,15 +44,13 @@ def test_a_changeover_counts_what_is_mounted(site: Site) -> None:
         it.go("line")
         wait_for(
             "it says where the product is from",
-            lambda: "selected at this station at"
-            in it.script("return document.querySelector('th.machine').textContent"),
+            lambda: "selected at this station at" in it.told("th.machine"),
         )
         it.load()
         it.ready()
         wait_for(
             "also after a reload",
-            lambda: "selected at this station at"
-            in it.script("return document.querySelector('th.machine').textContent"),
+            lambda: "selected at this station at" in it.told("th.machine"),
         )
         whole(site, it, 1)
     print(

@@ -7,6 +7,7 @@ import time
 from typing import Any
 
 import pytest
+import station_site
 from station_costs import KITS, PERIODS, days
 from station_line import shown_rows
 from station_operator import Operator
@@ -17,6 +18,15 @@ from tracedesk_dev.trial import Difference
 pytestmark = pytest.mark.browser
 
 
+NOW = "return import('/station/clock.js').then((it) => it.now())"
+
+
+def is_told(it: Operator, millions: int) -> None:
+    """Waits until the page knows that the server's clock is so many million seconds ahead."""
+    ahead = millions * 10**6
+    wait_for("the page knows it", lambda: abs(it.script(NOW) / 1000 - time.time() - ahead) < 3_600)
+
+
 def test_a_servers_clock_that_jumps(site: Site) -> None:
     """23 days ahead, then right again: each jump is asked about, a no sends nothing, and no later
     scan has the wrong time.
@@ -24,9 +34,10 @@ def test_a_servers_clock_that_jumps(site: Site) -> None:
     with Operator(site) as it:
         it.ready().does("A/OPEN", "K-1")
         site.shift_clock(2)
-        time.sleep(8)  # the page has looked meanwhile
+        is_told(it, 2)
+        after = it.turn()
         it.scan("A/OPEN", "K-2")
-        if "clock jumped" not in it.verdict(("ask", "accepted", "refused"))[1]:
+        if "clock jumped" not in it.verdict(("ask", "accepted", "refused"), after=after)[1]:
             raise Difference(f"a jump of 23 days: {it.text('verdict')}")
         it.scan("K-3")
         it.scan("A/CANCEL")
@@ -40,7 +51,7 @@ def test_a_servers_clock_that_jumps(site: Site) -> None:
         it.does("A/ENTER", kind="refused", holds=("more than 14 days",))
         it.seen()
         site.shift_clock(0)
-        time.sleep(8)
+        is_told(it, 0)
         it.scan("A/OPEN", "K-2")
         it.verdict(("ask",))
         it.does("A/ENTER", holds=("OPENED", "K-2"))
@@ -119,6 +130,11 @@ def test_a_disk_that_fails_once(site: Site) -> None:
         it.script("window.stores.forEach((it) => it.close())")
         it.does("A/OPEN", "K-4", holds=("OPENED", "K-4"))
         for is_kept in ("false", "true"):
+            wait_for(
+                "the browser has said whether it keeps them",
+                lambda: it.script("return import('/station/store.js').then((it) => it.isKept())")
+                is (is_kept == "true"),  # noqa: B023
+            )
             it.go("scan")
             if ("may throw kept scans away" in it.text("main")) != (is_kept == "false"):
                 raise Difference(f"a browser whose store is kept, {is_kept}: {it.text('main')}")
@@ -138,18 +154,17 @@ def test_a_sheet_is_asked_for_again(site: Site) -> None:
     """A sheet that isn't had at the first look is there at the next one, not five minutes later."""
     with Operator(site, begin=False) as it:
         it.open()
-        it.page.execute_cdp_cmd("Network.enable", {})
-        it.page.execute_cdp_cmd("Network.setBlockedURLs", {"urls": ["*/desk/kit*machine=M1*"]})
-        it.load()
-        it.ready()
-        if shown_rows(it, "M1"):
-            raise Difference(f"a sheet that was not had: {shown_rows(it, 'M1')}")
-        it.page.execute_cdp_cmd("Network.setBlockedURLs", {"urls": []})
-        wait_for("M1's sheet is had", lambda: shown_rows(it, "M1"), 40)
+        with it.without("*/desk/kit*machine=M1*"):
+            it.load()
+            it.ready()
+            if shown_rows(it, "M1"):
+                raise Difference(f"a sheet that was not had: {shown_rows(it, 'M1')}")
+        wait_for("M1's sheet is had", lambda: shown_rows(it, "M1"))
     print("M1's sheet not at the first look, and at one of the next")
 
 
 DAYS = 30  # that a million connections have to last
+SINCE = 20  # seconds that an answer may be old where a page is there that asks
 
 
 def test_a_scan_over_a_roll_over(site: Site) -> None:
@@ -198,7 +213,8 @@ def test_a_slow_desk_is_not_said_to_be_away(site: Site) -> None:
         site.pause_desk()
         asked: list[Any] = []
         said: set[str] = set()
-        end = time.monotonic() + 40
+        begun = time.monotonic()
+        end = begun + 40 * station_site.slower
         while time.monotonic() < end and not any(text.startswith("SLOW") for text in said):
             if len(asked) < 36:
                 asked += [
@@ -210,6 +226,7 @@ def test_a_slow_desk_is_not_said_to_be_away(site: Site) -> None:
             said.add(re.sub(r"\d+", "#", it.text("state")))
             time.sleep(0.3)
         site.resume_desk()
+        paused = time.monotonic() - begun
         wait_for(
             "it is fresh again",
             lambda: it.script("return document.getElementById('state').className") == "fresh",
@@ -222,7 +239,7 @@ def test_a_slow_desk_is_not_said_to_be_away(site: Site) -> None:
         if (
             {status for status, _ in ages} != {200}
             or "STALE" in {cached for _, cached in ages}
-            or max(ages.get((200, "UPDATING"), [99])) > 20
+            or max(ages[200, "UPDATING"]) > paused + SINCE
         ):
             raise Difference(f"beside one that asks: {ages}")
         if (

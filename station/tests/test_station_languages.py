@@ -55,6 +55,12 @@ def test_a_plant_changes_texts_and_set_up(site: Site) -> None:
     print(f"a translated verdict, codes of another form, {len(told)} faults of a set-up")
 
 
+def is_quiet(it: Operator, seconds: float) -> bool:
+    it.script("window.heard = []")
+    time.sleep(seconds)
+    return not it.script("return window.heard")
+
+
 def test_quiet_for_who_listens(site: Site) -> None:
     """What a screen reader is told in 30 idle seconds."""
     heard = """window.heard = []; new MutationObserver((changes) => changes.forEach(({ target }) => {
@@ -64,8 +70,8 @@ def test_quiet_for_who_listens(site: Site) -> None:
         it.ready().does("A/OPEN", "K-1")
         it.seen()
         it.go("line")
-        time.sleep(2)
         it.script(heard)
+        wait_for("all is said that there was to say", lambda: is_quiet(it, 3))
         time.sleep(30)
         if told := it.script("return window.heard"):
             raise Difference(f"{len(told)}: {told[:5]}")
@@ -73,7 +79,6 @@ def test_quiet_for_who_listens(site: Site) -> None:
         wait_for(
             "it is told once that the desk is away",
             lambda: any(text.startswith("news: ") for text in it.script("return window.heard")),
-            40,
         )
     print("nothing in 30 idle seconds, and a word when the desk went away")
 

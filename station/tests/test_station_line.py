@@ -20,7 +20,7 @@ from station_line import (
 from station_looks import SIZES
 from station_operator import Operator
 from station_plant import machines_say, MACHINES, SECONDS, SLOTS, all_states, long_line
-from station_site import SETUP, Site, wait_for
+from station_site import SETUP, Site, settles, wait_for
 from tracedesk_dev.trial import Difference
 
 pytestmark = pytest.mark.browser
@@ -67,13 +67,9 @@ def test_every_state_of_a_slot(site: Site) -> None:
             raise Difference(f"the reel behind: {shown_tiles(it)}")
         sorted_as_asked(site, it)
         overdue = len(report(site, "/overdue"))
-        if overdue != 1 or f"{overdue} OVERDUE" not in it.script(
-            "return document.querySelector('.alarms').textContent"
-        ):
-            raise Difference(
-                f"{overdue} are overdue:"
-                f" {it.script('return document.querySelector(String.raw`.alarms`).textContent')}"
-            )
+        if overdue != 1:
+            raise Difference(f"{overdue} are overdue")
+        wait_for("the mark of it", lambda: f"{overdue} OVERDUE" in it.told(".alarms"))
         site.set_up(
             {**SETUP, "machines": [{"machine": "M1"}, {"machine": "M2", "product": "NO-SUCH"}]}
         )
@@ -108,18 +104,23 @@ def sorted_as_asked(site: Site, it: Operator) -> None:
 
 
 def on_the_screen(it: Operator, what: str, size: tuple[int, int], least: Any = 0) -> Any:
-    """Looks whether all of these elements lie within the viewport, in letters of so many pixels at
+    """Waits until all of these elements lie within the viewport, in letters of so many pixels at
     least; gives their number.
     """
-    found = it.script(WHERE, what)
-    beyond = [
-        box
-        for box in found
-        if box[0] < 0 or box[1] > size[1] or box[2] < 0 or box[3] > size[0] or box[4] < least
-    ]
-    (bottom,) = it.script(WHERE, "#strip")
-    if beyond or not found or any(box[1] > bottom[0] + 1 for box in found if what != "#held b"):
-        raise Difference(f"{what} at {size}: {beyond or found}")
+    found: list[Any] = []
+
+    def wrong() -> Any:
+        (bottom,) = it.script(WHERE, "#strip")
+        last = size[1] if what == "#held b" else min(size[1], bottom[0] + 1)
+        found[:] = it.script(WHERE, what)
+        beyond = [
+            box
+            for box in found
+            if box[0] < 0 or box[1] > last or box[2] < 0 or box[3] > size[0] or box[4] < least
+        ]
+        return beyond or not found
+
+    settles(f"{what} at {size}", wrong)
     return len(found)
 
 
@@ -156,8 +157,10 @@ def test_a_real_line_is_on_one_screen(site: Site) -> None:
         machines_say(site, **said)
         wait_for("both machines", lambda: len(it.script(MACHINE_LINES)) == 2)
         wait_for("all slots above them", lambda: it.script(IS_WHOLE))
-        if min(it.script(MACHINE_LINES)) < TWO_METRES:
-            raise Difference(f"letters of the machines: {it.script(MACHINE_LINES)}")
+        settles(
+            "letters of the machines",
+            lambda: min(told := it.script(MACHINE_LINES)) < TWO_METRES and told,
+        )
         (site.room / "line/status/m1.json").unlink()
         it.load()
         it.ready()
@@ -169,9 +172,8 @@ def test_a_real_line_is_on_one_screen(site: Site) -> None:
         view(it, *TABLET)
         wait_for("all on a tablet", lambda: len(it.script(WHERE, ".urgent li > *")) == 3 * few)
         on_the_screen(it, ".urgent li > *", TABLET, 30)
-        is_seen = "return document.querySelector('#main td:nth-child(7)').checkVisibility()"
-        if not it.script(is_seen):
-            raise Difference("a tablet does not show what waits behind the front reel")
+        is_seen = "return document.querySelector('#main td:nth-child(7)')?.checkVisibility()"
+        wait_for("a tablet shows what waits behind the front reel", lambda: it.script(is_seen))
         for slot, _, _ in told.sheets["CTRL-A", second]:
             site.say("MaterialsUnloaded", {"Machine": second, "Slot": slot})
         view(it, *SCREEN)
@@ -185,6 +187,40 @@ def test_a_real_line_is_on_one_screen(site: Site) -> None:
         f"78 slots at 1920 by 1080 and none below the fold, {few} that need a person in letters of"
         f" {TWO_METRES} pixels; of {many} the first {large}, and all marked below"
     )
+
+
+# Of each size of the page: what the Line shows where it got that size, where it is begun anew and
+# where it is drawn again. Given are those of which that isn't the same.
+HISTORIES = """
+const [sizes, done] = arguments, pause = (time) => new Promise((go) => setTimeout(go, time)), frame = () => new Promise((go) => requestAnimationFrame(() => setTimeout(go)));
+const shown = () => [...document.querySelectorAll(".urgent:not(.first) li")].length + " tiles, letters of " + getComputedStyle(document.querySelector(".slots")).fontSize;
+(async () => {
+  const differ = [];
+  for (const [width, height] of sizes) {
+    Object.assign(document.body.style, { width: `${width}px`, height: `${height}px` });
+    await frame(); await frame();
+    const told = [shown()];
+    window.dispatchEvent(new HashChangeEvent("hashchange"));
+    told.push(shown());
+    await pause(250);
+    told.push(shown());
+    if (new Set(told).size > 1) { differ.push([width, height, ...told]); }
+  }
+  done(differ);
+})();
+"""
+
+
+def test_the_same_line_whatever_was_shown_before(site: Site) -> None:
+    """How many slots stand on top, and in which letters all are, is of the page's size alone."""
+    real_line(site)
+    sizes = [(width, height) for width in range(1300, 1921, 62) for height in range(760, 1081, 64)]
+    with Operator(site) as it:
+        view(it, *SCREEN)
+        it.ready().agrees = False
+        if differ := it.page.execute_async_script(HISTORIES, sizes):
+            raise Difference(f"{len(differ)} of {len(sizes)} sizes: {differ[:5]}")
+    print(f"{len(sizes)} sizes")
 
 
 def processor_seconds(it: Operator) -> Any:
@@ -231,8 +267,7 @@ def test_a_line_of_twelve_machines(site: Site) -> None:
             )  # noqa: B023
             if machine not in got or "LONG" not in got:
                 raise Difference(f"the tile of {machine}: {got}")
-        if it.script(SIZES)[1:] != [0, 0]:
-            raise Difference(f"the overview: beyond the screen by {it.script(SIZES)}")
+        settles("the overview is beyond the screen", lambda: any(it.script(SIZES)[1:]))
         it.page.execute_cdp_cmd("Performance.enable", {"timeDomain": "threadTicks"})
         took = []
         for turn in range(6):
@@ -348,7 +383,7 @@ def test_a_splice_is_called_for(site: Site) -> None:
                 if site.say(word, body)["Answer"] != "Accepted":
                     raise Difference(f"{word} of board {board} was refused")
         it.script("window.later = 130")  # the call then holds for four minutes
-        wait_for("the call", lambda: re.search(r"SPLICE M1 10 in \d min", it.text("ending")), 60)
+        wait_for("the call", lambda: re.search(r"SPLICE M1 10 in \d min", it.text("ending")))
         wait_for(
             "the tone",
             lambda: it.script("return window.tones.filter((it) => it === 660).length") == 3,

@@ -232,22 +232,28 @@ def test_certificates_read_or_send(site: Site) -> None:
     print(f"{len(wanted)} requests by each")
 
 
+KEPT = 2  # seconds for which the proxy keeps an answer of the desk, at least
+
+
 def test_ten_stations_ask_once(site: Site) -> None:
-    """Twenty looks at the same moment are one connection of the desk; an answer to a POST is never
-    kept.
+    """Of looks within two seconds one is a connection of the desk, as of twenty at the same moment;
+    an answer to a POST is never kept.
     """
-    time.sleep(2.2)
-    site.kill_desk()
-    site.start_desk()
-    time.sleep(0.5)
     before = site.connections()
     with concurrent.futures.ThreadPoolExecutor(20) as threads:
         path = "/station/desk/slots?machine=M1"
         asked = [threads.submit(site.asked, "GET", path, "op") for _ in range(20)]
         got = [one.result() for one in asked]
     used = site.connections() - before
-    if used != 1 or {it[0] for it in got} != {200} or len({it[2] for it in got}) != 1:
-        raise Difference(f"20 looks were {used} connections")
+    moments = sorted({float(headers["X-Desk-Answered"]) for _, headers, _ in got})
+    soon = [later - first for first, later in zip(moments, moments[1:]) if later - first < KEPT]
+    if (
+        used != len(moments)
+        or soon
+        or {it[0] for it in got} != {200}
+        or len({it[2] for it in got}) != 1
+    ):
+        raise Difference(f"20 looks were {used} connections, with answers of {moments}")
     part = json.dumps(
         {
             "MessageName": "TraceDesk.ReelOpened",
@@ -265,24 +271,23 @@ def test_ten_stations_ask_once(site: Site) -> None:
         or "X-Station-Cache" in twice[1][1]
     ):
         raise Difference("a POST came from the cache")
-    print("20 looks at once were 1 connection; 2 equal POSTs were 2")
+    print(f"20 looks at once were {used} connections; 2 equal POSTs were 2")
 
 
 def test_whether_it_may_send_is_asked_again(site: Site) -> None:
     """A look at may-send.json that fails makes no reader of a sender."""
     with Operator(site, begin=False) as it:
         it.open()
-        it.page.execute_cdp_cmd("Network.enable", {})
-        it.page.execute_cdp_cmd("Network.setBlockedURLs", {"urls": ["*/may-send.json"]})
-        it.load()
-        wait_for(
-            "it says what is not known", lambda: "whether this log-in may send" in it.text("state")
-        )
-        if "only read" in it.text("state"):
-            raise Difference(it.text("state"))
-        it.does("A/OPEN", "K-1", kind="refused", holds=("not known yet",))
-        it.page.execute_cdp_cmd("Network.setBlockedURLs", {"urls": []})
-        wait_for("it is known", lambda: "log-in" not in it.text("state"), 15)
+        with it.without("*/may-send.json"):
+            it.load()
+            wait_for(
+                "it says what is not known",
+                lambda: "whether this log-in may send" in it.text("state"),
+            )
+            if "only read" in it.text("state"):
+                raise Difference(it.text("state"))
+            it.does("A/OPEN", "K-1", kind="refused", holds=("not known yet",))
+        wait_for("it is known", lambda: "log-in" not in it.text("state"))
         it.does("A/OPEN", "K-1", holds=("OPENED",))
         whole(site, it, 1)
     print("not known, then known without a reload")

@@ -12,7 +12,7 @@ from station_line import view
 from station_looks import CONTRAST, SCREENS, set_up
 from station_operator import Operator
 from station_plant import SIZES, refused
-from station_site import SETUP, Site, wait_for
+from station_site import SETUP, Site, settles, wait_for
 from tracedesk_dev.trial import Difference
 
 pytestmark = pytest.mark.browser
@@ -20,6 +20,8 @@ SMALLEST = [(360, 640), (512, 300)]  # a telephone, and 1024 by 600 enlarged to 
 TOUCHED = 48  # pixels that a finger in a glove needs
 SMALL = """return [...document.querySelectorAll('button, a[href], input:not([type=radio]), label:has(input[type=radio]), .button')].filter((it) => it.checkVisibility())
     .map((it) => [it.textContent.trim().slice(0, 30) || it.id, ...['width', 'height'].map((side) => Math.round(it.getBoundingClientRect()[side] * 10) / 10)]).filter(([, width, height]) => width < arguments[0] || height < arguments[0])"""
+OUTSIDE = "return Math.max(0, document.documentElement.scrollWidth - innerWidth)"
+INSIDE = "const it = document.getElementById('main'); return it.scrollWidth - it.clientWidth"
 PLACES = """const told = (it) => { const box = it.getBoundingClientRect(); return [Math.round(box.top), Math.round(box.bottom), parseFloat(getComputedStyle(it).fontSize)]; };
 return Object.fromEntries(arguments[0].map((name) => [name, [...document.querySelectorAll(name)].filter((it) => it.checkVisibility()).map(told)]))"""
 LONG = {
@@ -116,7 +118,6 @@ def each_verdict_at(
     name = f"{size[0]}x{size[1]}-{'long' if len(machine) > 9 else 'short'}"
     refused(it, f"S/{machine}/{slot}", wrong)
     wait_for("what to bring", lambda: "wants" in it.text("verdict"))
-    time.sleep(0.3)
     pictured(it, f"{name}-refused")
     found = fits(it, "a refusal", size)
     todo, listed = found["#verdict .todo"][0], found["#verdict .more"][0]
@@ -136,7 +137,6 @@ def each_verdict_at(
     it.seen()
     it.does(f"S/{machine}/{slot}", good, holds=("LOADED",))
     wait_for("its part", lambda: "lot" in it.text("verdict"))
-    time.sleep(0.3)
     pictured(it, f"{name}-accepted")
     fits(it, "a green", size)
     it.seen()
@@ -150,11 +150,10 @@ def each_screen_at(it: Operator, size: tuple[int, int], touched: Any) -> Any:
     """
     for screen in ("line", "scan", "receive", "changeover", "trace"):
         it.go(screen)
-        time.sleep(0.2)
-        if small := it.script(SMALL, TOUCHED - 0.5):
-            raise Difference(f"{screen} at {size}: too small to touch {small}")
-        if it.script("return document.documentElement.scrollWidth - innerWidth") > 0:
-            raise Difference(f"{screen} at {size}: too wide")
+        settles(
+            f"{screen} at {size}: too small to touch, or beyond the sides",
+            lambda: it.script(SMALL, TOUCHED - 0.5) or it.script(OUTSIDE),
+        )
         touched += it.script("return document.querySelectorAll('button, a[href], input').length")
         pictured(it, f"{size[0]}x{size[1]}-{screen}")
     it.go("scan")
@@ -205,17 +204,14 @@ def test_each_size_of_a_screen(site: Site) -> None:
             view(it, *size)
             for screen in ("line", "scan", "receive", "changeover", "trace"):
                 it.go(screen)
-                time.sleep(0.2)
-                inside, outside, room = it.script(
-                    "const m = document.getElementById('main'); return [m.scrollWidth -"
-                    " m.clientWidth, document.documentElement.scrollWidth - innerWidth,"
-                    " m.clientHeight]"
+                settles(
+                    f"{screen} at {size}: beyond the sides",
+                    lambda: it.script(OUTSIDE) or it.script(INSIDE),
                 )
+                room = it.script("return document.getElementById('main').clientHeight")
                 pictured(it, f"{size[0]}x{size[1]}-{screen}")
-                if inside > 0 or outside > 0 or room < 200:
-                    raise Difference(
-                        f"{screen} at {size}: beyond by {inside}, {outside}; {room} pixels for it"
-                    )
+                if room < 200:
+                    raise Difference(f"{screen} at {size}: {room} pixels for it")
     print(
         f"{len(SIZES)} sizes, 20 verdicts and {touched} things to touch; {len(SMALLEST)} smaller"
         " ones"

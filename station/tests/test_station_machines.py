@@ -8,7 +8,7 @@ import pytest
 from station_line import view
 from station_operator import Operator
 from station_plant import machines_say
-from station_site import Site, wait_for
+from station_site import Site, settles, wait_for
 from tracedesk_dev.trial import Difference
 
 pytestmark = pytest.mark.browser
@@ -29,6 +29,13 @@ ODD = {
 }
 
 
+def small(room: tuple[float, bool, float], least: int) -> str:
+    """What is wrong with the machines' lines, if something is."""
+    beyond, is_seen, letters = room
+    is_right = beyond <= 0 and is_seen and letters >= least
+    return "" if is_right else f"{beyond} below, seen {is_seen}, letters of {letters}"
+
+
 def shows(it: Operator, *lines: str) -> None:
     wait_for(f"{lines}", lambda: it.script(SHOWN) == list(lines))
 
@@ -46,9 +53,7 @@ def test_each_machine_on_all_screens(site: Site) -> None:
             shows(it, stopped, "M2 runs SN-2041")
         for width, height, least in ((1920, 1080, 50), (1280, 800, 36), (360, 640, 18)):
             view(it, width, height)
-            beyond, is_seen, letters = wait_for("the size", lambda: it.script(ROOM))
-            if beyond > 0 or not is_seen or letters < least:
-                raise Difference(f"{width} by {height}: {beyond} below, letters of {letters}")
+            settles(f"{width} by {height}", lambda: small(it.script(ROOM), least))  # noqa: B023
         it.does("S/M1/1", "K-2", kind="refused")
         shows(it, stopped, "M2 runs SN-2041")
         it.seen()
@@ -90,6 +95,6 @@ def test_odd_status_files(site: Site, what: str) -> None:
         wait_for("the other machine", lambda: "M2 runs SN-2" in it.script(SHOWN))
         site.say("MaterialsLoaded", {"Machine": "M1", "Slot": "1", "Reel": "K-1"})
         wait_for("the page goes on", lambda: "K-1" in it.text("main"))
-        is_said = "zz.json" in it.script("return document.querySelector('.first').innerText")
+        is_said = "zz.json" in it.told(".first")
         if is_said != (what in ("not a number", "cut", "empty")):
             raise Difference(f"{what}: {it.text('main')[:200]}")

@@ -7,13 +7,22 @@ import hashlib
 import pytest
 from station_line import report
 from station_operator import Operator
-from station_plant import opened, records, refused, touch, whole
+from station_plant import GUARD, opened, records, refused, touch, whole
 from station_site import SETUP, Site, wait_for
 from tracedesk_dev.trial import Difference
 
 pytestmark = pytest.mark.browser
 GATES = """const fetched = window.fetch, pause = () => new Promise((done) => setTimeout(done, 20));
 window.fetch = async (...how) => { while (window.shut?.test(how[0])) { await pause(); } return fetched(...how); };"""
+# Touches all that is shown of a red screen, as soon as it is there.
+AT_ONCE = """window.touched = 0;
+const place = document.getElementById('verdict'), watch = new MutationObserver(() => {
+  if (place.className === 'refused') {
+    watch.disconnect();
+    for (const it of [place, place.querySelector('.close')]) { window.touched += 1; it.click(); }
+  }
+});
+watch.observe(place, { childList: true, attributes: true });"""
 REDS = (
     "return [...document.querySelectorAll('#verdict:not([hidden]) :is(.one.refused,"
     " .brief)')].map((it) => it.dataset.scan)"
@@ -95,14 +104,11 @@ def test_a_refusal_stays(site: Site) -> None:
             lambda: it.script("return document.getElementById('verdict').hidden")
             and "M1 slot 2" in it.text("held"),
         )
+        it.script(AT_ONCE)
         it.does("K-1", kind="refused")
-        it.script(
-            "document.getElementById('verdict').click(); const v = document.querySelector('#verdict"
-            " .close'); v.click()"
-        )
-        if it.script("return document.getElementById('verdict').className") != "refused":
-            raise Difference("a touch right after it was shown took it away")
-        time.sleep(0.8)
+        if it.script("return window.touched") < 2:
+            raise Difference("nothing was touched")
+        time.sleep(GUARD)
         touch(it, "#verdict .close")
         wait_for(
             "a touch takes it away",
@@ -120,6 +126,7 @@ def test_a_refusal_stays(site: Site) -> None:
         it.load()
         it.verdict(("refused",))
         it.seen()
+        it.keeps_what_was_seen()
         it.load()
         it.ready()
         if not it.script("return document.getElementById('verdict').hidden"):
@@ -251,6 +258,7 @@ def test_what_is_dropped_is_said(site: Site) -> None:
         site.set_up({**SETUP, "badgeWanted": True})
         it.load()
         it.ready().does("A/OPEN", "K-8", kind="refused", holds=("NOT SENT",))
+        wait_for("that is kept", lambda: it.kept()[-1]["state"] == "notSent")
         it.load()
         it.does(kind="refused", holds=("NOT SENT", "K-8"))
         it.seen()

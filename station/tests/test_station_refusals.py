@@ -65,6 +65,10 @@ def test_each_refusal_in_words(site: Site) -> None:
     )
 
 
+def is_old(it: Operator) -> bool:
+    return bool(it.script("return document.getElementById('state').className") == "old")
+
+
 def refused_by_a_screen(it: Operator, refused: Any) -> None:
     """By Receive and by Changeover."""
     for refusal, part in (("UnknownPart", "NOT-A-PART"), ("ReelExists", "CAP")):
@@ -94,10 +98,12 @@ def refused_by_a_screen(it: Operator, refused: Any) -> None:
 
 def refused_by_a_race(site: Site, it: Operator, refused: Any) -> None:
     """Where the slot is another than the station knew."""
-    it.scan("S/M2/3")
-    wait_for("the slot is held", lambda: "is empty" in it.text("held"))
-    site.say("MaterialsLoaded", {"Machine": "M2", "Slot": "3", "Reel": "K-3"})
-    refused("SlotTaken", "K-1")
+    with it.without("*/desk/slots*"):
+        wait_for("the page knows no more", lambda: is_old(it))
+        it.scan("S/M2/3")
+        wait_for("the slot is held", lambda: "is empty" in it.text("held"))
+        site.say("MaterialsLoaded", {"Machine": "M2", "Slot": "3", "Reel": "K-3"})
+        refused("SlotTaken", "K-1")
     site.say("ReelOpened", {"Reel": "K-8"}, minutes_ago=0)
     it.go("changeover")
     for slot, reel in (("1", "K-1"), ("2", "K-2"), ("10", "K-8")):
@@ -220,11 +226,10 @@ def test_each_refused_load_says_what_to_bring(site: Site) -> None:
         if "names CAP for this slot" not in text:
             raise Difference(f"the sheet's part beside the reel's own: {text}")
         refused("is on a slot", "S/M1/3", "K-4")
-        site.say("MaterialsLoaded", {"Machine": "M1", "Slot": "3", "Reel": "K-1"})
-        site.pause_desk()
-        it.scan("S/M1/3", "K-7")  # a load, as far as the page knows
-        site.resume_desk()
-        it.verdict(("refused",))
+        with it.without("*/desk/slots*"):
+            wait_for("the page knows no more", lambda: is_old(it))
+            site.say("MaterialsLoaded", {"Machine": "M1", "Slot": "3", "Reel": "K-1"})
+            it.does("S/M1/3", "K-7", kind="refused")  # a load, as far as the page knows
         wait_for(
             "what to bring to a slot that is taken",
             lambda: "wants CAP" in it.text("verdict")

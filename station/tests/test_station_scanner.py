@@ -7,7 +7,7 @@ import pytest
 from station_line import report
 from station_looks import SCREENS
 from station_operator import Operator, chain_of
-from station_plant import count_is, refused, touch, type_label, whole
+from station_plant import GUARD, count_is, refused, touch, type_label, whole
 from station_site import SETUP, Site, wait_for
 from tracedesk_dev.trial import Difference
 
@@ -81,7 +81,7 @@ def test_typing_with_pauses_and_touches(site: Site) -> None:
         it.scan("K-1", "A/COUNT")
         wait_for("a number is asked for", lambda: "how many" in it.text("held"))
         it.keys("9")
-        time.sleep(0.7)
+        time.sleep(GUARD)
         it.script("document.activeElement.blur()")
         touch(it, "#verdict .close")
         it.keys("1")
@@ -275,7 +275,6 @@ def test_a_scan_whatever_has_the_focus(site: Site) -> None:
                 wait_for(
                     f"a slot is held on {screen}, with the focus on {name}",
                     lambda: "M1 slot 2" in it.text("held"),
-                    10,
                 )
                 value, after, sent = it.script(AFTER, number)
                 if (
@@ -292,7 +291,6 @@ def test_a_scan_whatever_has_the_focus(site: Site) -> None:
                 wait_for(
                     f"nothing is held on {screen}, after {name}",
                     lambda: "a reel or an action" in it.text("held"),
-                    10,
                 )
                 it.script(FOCUS, number)
                 if not is_field:
@@ -300,7 +298,6 @@ def test_a_scan_whatever_has_the_focus(site: Site) -> None:
                     wait_for(
                         f"a reel is held on {screen}, with the focus on {name}",
                         lambda: "Reel K-2" in it.text("held"),
-                        10,
                     )
                     it.keys("\ue00c")
                 tried += 1
@@ -368,7 +365,6 @@ def test_receive_keeps_what_it_has(site: Site) -> None:
             wait_for(
                 f"{label!r} is read",
                 lambda: it.script(FIELDS) == ["R-1", "LED", "LOT-77", "3000"],
-                10,
             )
             forms += 1
         it.script("document.getElementById('reel').focus()")

@@ -114,7 +114,7 @@ def test_a_desk_that_is_stopped_for_a_copy(site: Site) -> None:
         line_is_as_reported(site, it)
         site.drained.touch()
         site.kill_desk()
-        wait_for("the page says that it is old", lambda: "OLD" in it.text("state"), 40)
+        wait_for("the page says that it is old", lambda: "OLD" in it.text("state"))
         rows, (status, headers, _) = it.rows(), wait_for(
             "an old answer",
             lambda: (got := site.asked("GET", "/station/desk/slots?machine=M1", "office"))[1].get(

@@ -5,7 +5,7 @@ import time
 
 import pytest
 from station_operator import Operator
-from station_plant import CLOCKS, opened, records
+from station_plant import CLOCKS, GUARD, opened, records
 from station_site import Site, wait_for
 from tracedesk_dev.trial import Difference
 from tracedesk_ops import story
@@ -13,13 +13,17 @@ from tracedesk_ops import story
 pytestmark = pytest.mark.browser
 PRESS = "document.querySelectorAll('#verdict .off button')[arguments[0]]?.click()"
 OFF = "return document.querySelector('#verdict .off')?.innerText ?? ''"
+# Presses all that is there in the first second of a red screen, whatever is drawn in it.
 AT_ONCE = """window.pressed = 0;
+let since = null;
 new MutationObserver(() => {
-  for (const it of document.querySelectorAll('#verdict.refused button')) { window.pressed += 1; it.click(); }
+  for (const it of document.querySelectorAll('#verdict.refused button')) {
+    since ??= performance.now();
+    if (performance.now() - since < 900) { window.pressed += 1; it.click(); }
+  }
 }).observe(document.getElementById('verdict'), { childList: true, subtree: true, attributes: true });"""
 GAP = """const [off, seen] = ['.off button', '.close'].map((it) => document.querySelector(`#verdict ${it}`).getBoundingClientRect());
 return Math.max(seen.top - off.bottom, off.top - seen.bottom)"""
-GUARD = 1.3  # seconds: a red screen takes no touch before
 
 
 def decided(site: Site) -> int:
