@@ -133,8 +133,8 @@ def run(program: str, step: Step, bytes_of: BytesOf, work: pathlib.Path) -> None
 
 
 def tool(program: str, step: Step, bytes_of: BytesOf, work: pathlib.Path) -> None:
-    """One run of a tool of this repository. It finds the program in PROGRAM, and in PORT a port for a
-    service. What it started ends with it.
+    """One run of a tool of this repository. It finds the program in PROGRAM, and a port for a
+    service in PORT. What it started ends with it.
     """
     with ports.lent() as port, tempfile.TemporaryFile() as out, tempfile.TemporaryFile() as errors:
         process = subprocess.Popen(

@@ -147,8 +147,8 @@ def has_lists() -> bool:
 
 
 def installed() -> str | None:
-    """Installs what is missing for the gate: packages, and the lists in which a test looks names up.
-    Why something is missing then; none if nothing is.
+    """Installs what is missing for the gate: packages, and the lists in which a test looks names
+    up. Why something is missing then; none if nothing is.
     """
     why = None
     for pause in PAUSES if missing() or not has_lists() else ():

@@ -1,8 +1,8 @@
 """Ports for the services of tests.
 
-A port is its process's own until that ends, so no other test gets it while a service is stopped and
-started again. It is none of those that the system gives to connections, which would have it taken by
-chance.
+A port is its process's own until that ends, so no other test gets it while a service is stopped
+and started again. It is none of those that the system gives to connections, which would have it
+taken by chance.
 """
 import contextlib
 import os

@@ -24,8 +24,8 @@ class Fault(Exception):
 
 
 def found(name: str) -> str | None:
-    """A command of PostgreSQL, or none: of Debian's, for which dev/packages.txt has an extension, and
-    else of another one that is here.
+    """A command of PostgreSQL, or none: of Debian's, for which dev/packages.txt has an extension,
+    and else of another one that is here.
     """
     its = sorted(PLACE.glob(f"*/bin/{name}"), key=lambda it: (it.parts[4] == VERSION, it))
     return str(its[-1]) if its else shutil.which(name)

@@ -1,5 +1,5 @@
-"""What tests and measurements share: tools as modules, subcommands, a run of `serve`, and the rows of
-a file.
+"""What tests and measurements share: tools as modules, subcommands, a run of `serve`, and the rows
+of a file.
 """
 import argparse
 import contextlib
@@ -90,7 +90,9 @@ def subcommand(about: str | None, names: Sequence[str]) -> int:
 
 
 def in_memory() -> str | None:
-    """A folder in memory, where it has a GiB of room: a disk would keep each of a million writes."""
+    """A folder in memory, where it has a GiB of room: a disk would keep each of a million
+    writes.
+    """
     has_room = os.access(MEMORY, os.W_OK) and shutil.disk_usage(MEMORY).free > 2**30
     return MEMORY if has_room else None
 

@@ -88,8 +88,11 @@ def test_disk_that_gets_full(
 # --- Signals
 
 
-def test_sigterm_puts_all_back(half: Line, shifted: Shifted) -> None:
-    tool = started(half.rollover_words())
+def test_sigterm_puts_all_back(half: Line, shifted: Shifted, folder: pathlib.Path) -> None:
+    """It comes while the new desk is made, which has no end here."""
+    program = wrapped(folder, half.program, "feed", "while true; do sleep 0.1; done")
+    chain = {"CHAIN": str(program.with_name("tracedesk-chain"))}
+    tool = started(half.rollover_words(program=program), env=chain)
     messages = half.folder / ".desk.work/messages"
     wait_for("the new desk is begun", lambda: messages.exists() or tool.poll() is not None)
     tool.terminate()

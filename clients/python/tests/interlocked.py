@@ -79,8 +79,9 @@ class Plant:
         )
 
     def kill(self) -> None:
-        """Kills the sender, and waits for a call of its command that goes on: it is a session of its
-        own."""
+        """Kills the sender, and waits for a call of its command that goes on: it is a session of
+        its own.
+        """
         self.sender.kill()
         self.sender.wait()
         end = time.monotonic() + PATIENCE
