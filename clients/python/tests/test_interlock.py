@@ -11,7 +11,7 @@ from unittest import mock
 import pytest
 from desk_model import Model, Server
 
-from tracedesk import answers, asking, command, desk, disk, interlock, scans, spool
+from tracedesk import answers, asking, command, desk, disk, interlock, scans, sender, spool, witness
 
 
 class Line:
@@ -399,6 +399,43 @@ def test_what_was_asked_before_a_suspend_permits_nothing(line: Line) -> None:
     assert (line.state(), caller.state().word) == ("stop", "stop")
     line.list.look()
     assert line.state() == "go"
+
+
+def installed(line: Line, reels: Any, *names: str) -> str:
+    """The machine reports pieces and the reels that it took, to a sender that can ask the desk
+    nothing more; the state after it.
+    """
+    told = line.message("MaterialsInstalled", Board="B1", Designators=list(names))
+    told["MessageBody"]["MachineReels"] = reels
+    answer = answers.read(line.model.say(json.dumps(told).encode())[1])
+    assert isinstance(answer, answers.Accepted)
+    line.names += 1
+    its = sender.Sender(line.spool, line.desk, interlock=line.states)
+    with mock.patch.object(line.desk, "hasty", side_effect=OSError):
+        found = its.compare(told, answer)
+        line.states.judged(disk.spelled(line.names), told, answer)
+        for shown in found:
+            line.states.differ("M1", witness.looked_up(line.desk, shown))
+        return line.states.state("M1").word
+
+
+def test_a_difference_is_of_its_slot_also_where_nobody_could_say_it(line: Line) -> None:
+    line.start()
+    assert installed(line, [None, "1-K9", "2-K1"], "1a", "1b", "2a") == "stop"
+    assert (line.slot(), line.cause(), line.slot()) == (None, "differs", "1")
+    assert line.say("MaterialsSpliced", Slot="2", Reel="2-K2") == "stop"
+    assert line.say("MaterialsSpliced", Slot="1", Reel="1-K2") == "go"
+
+
+@pytest.mark.parametrize("reels", (["1-K1"], ["1-K1"] * 3, ["1-K1", 5], "1-K1", {}, 0))
+def test_reels_that_cannot_be_compared_stop_until_the_next_start(line: Line, reels: Any) -> None:
+    line.start()
+    assert installed(line, reels, "1a", "1b") == "stop"
+    assert (line.cause(), line.states.of("M1").differs) == ("fault", [])
+    line.begin()
+    line.say("WorkCompleted", Board="B1")
+    assert "MachineReels" in line.reason()
+    line.start("B2")
 
 
 def test_a_desk_that_answers_oddly_stops(line: Line) -> None:

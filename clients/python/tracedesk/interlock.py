@@ -280,6 +280,27 @@ class Interlock:
         self.keep()
         self.news()
 
+    def unplaced(self, machine: str) -> List[Dict[str, Any]]:
+        """The pieces of the open fault whose slot nobody could say yet."""
+        with self.lock:
+            it = self.of(machine)
+            if getattr(it.slots.get(no_slot()), "cause", "") != "differs":
+                return []
+            newest = it.differs[0]["Board"], it.differs[0]["At"]
+            of_it = [one for one in it.differs if (one["Board"], one["At"]) == newest]
+            return [one for one in of_it if one["Slot"] is None]
+
+    def unread(self, machine: str, told: Dict[str, Any], why: str) -> None:
+        """The machine names reels that can't be compared: it stands until its next start, as after
+        a report that was refused.
+        """
+        fault = Fault("fault", why)
+        with self.lock:
+            self.mark(fault, minute_of(told))
+            self.of(machine).work[f" {told.get('UniqueID')}"] = fault
+        self.keep()
+        self.news()
+
     def off_sheet(self, machine: str, slot: str) -> None:
         """The desk says that a slot isn't on the sheet, so no load of it can be accepted: its fault
         waits for the next scan of who caused it.
