@@ -8,7 +8,7 @@ import json
 import secrets
 from typing import Any, Dict, List, Optional
 
-from . import answers, words
+from . import answers, witness, words
 from .desk import Desk, NotThere
 from .interlock import Interlock, clock
 from .machine import Fault
@@ -114,6 +114,7 @@ class Asker:
         is_known = board is None or is_in_work(desk, machine, board)
         rows = mounted(desk, machine)
         self.seen(machine, rows)
+        self.look_up(desk, machine)
         for slot in [it for it in self.states.of(machine).slots if not it.startswith(" ")]:
             if slot_says(desk, machine, slot) == "SlotNotOnSheet":
                 self.states.off_sheet(machine, slot)
@@ -122,6 +123,15 @@ class Asker:
         if not is_known:
             return Fault("not-in-work", f"the desk says that board {board} isn't in work")
         return self.empty_slot(desk, machine, rows) or self.old_reel(desk, machine, rows)
+
+    def look_up(self, desk: Desk, machine: str) -> None:
+        """Looks up the slot of a piece that differs, where the desk didn't say it at first: else
+        the next load of any slot would mend it.
+        """
+        for shown in self.states.unplaced(machine):
+            told = witness.looked_up(desk, shown)
+            if told["Slot"]:
+                self.states.differ(machine, told)
 
     def empty_slot(self, desk: Desk, machine: str, rows: List[words.SlotRow]) -> Optional[Fault]:
         """A slot of the sheet without a reel, if there is one."""

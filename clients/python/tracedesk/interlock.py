@@ -28,6 +28,7 @@ MOST_KNOWN = 100_000  # UniqueIDs of scans that were seen
 HANDLING = ("MaterialsLoaded", "MaterialsSpliced", "MaterialsUnloaded")
 OF_A_MACHINE = {it.partition(words.PREFIX)[2] for it in words.RECORDED}
 OF_NOTHING = {it.WORD for it in words.MESSAGES} - OF_A_MACHINE
+UNREAD = no_slot("?")  # the place of the fault of a scan that nobody can read
 # refusals of a start that name a slot
 AT_A_SLOT = ("SlotEmpty", "WrongPart", "NotBaked", "Expired")
 
@@ -256,7 +257,7 @@ class Interlock:
             behind = max(fault.line, self.old_lines)
             if line is None or line > behind and self.batches > fault.batch:
                 fault.is_followed = fault.is_followed or fault.source == source
-                if name in (slot, no_slot(), no_slot(source)):
+                if name in (slot, no_slot(), UNREAD, no_slot(source)):
                     del it.slots[name]
 
     def differ(self, machine: str, told: Dict[str, Any]) -> None:
@@ -277,6 +278,27 @@ class Interlock:
                 reason += ", and doesn't know the other"
             it.slots[place] = Fault("differs", reason, told["Slot"], told["Machine"])
             self.mark(it.slots[place], told["At"][:16])
+        self.keep()
+        self.news()
+
+    def unplaced(self, machine: str) -> List[Dict[str, Any]]:
+        """The pieces of the open fault whose slot nobody could say yet."""
+        with self.lock:
+            it = self.of(machine)
+            if getattr(it.slots.get(no_slot()), "cause", "") != "differs":
+                return []
+            newest = it.differs[0]["Board"], it.differs[0]["At"]
+            of_it = [one for one in it.differs if (one["Board"], one["At"]) == newest]
+            return [one for one in of_it if one["Slot"] is None]
+
+    def unread(self, machine: str, told: Dict[str, Any], why: str) -> None:
+        """The machine names reels that can't be compared: it stands until its next start, as after
+        a report that was refused.
+        """
+        fault = Fault("fault", why)
+        with self.lock:
+            self.mark(fault, minute_of(told))
+            self.of(machine).work[f" {told.get('UniqueID')}"] = fault
         self.keep()
         self.news()
 
@@ -326,18 +348,14 @@ class Interlock:
                 first = self.first_seen.setdefault(uid, self.lines)
                 if told["IsOld"]:
                     self.old_lines = self.lines
-                name = body.get("Machine")
-                if told["IsOld"] or not isinstance(name, str):
-                    continue
-                it = self.machines.get(name)
-                if it is None or answers.word_of(message) not in HANDLING:
-                    continue
-                is_news = True
+                its = [] if told["IsOld"] else self.scanned_at(message)
+                is_news = is_news or bool(its)
                 if status == 200:
-                    self.mend(it, body.get("Slot"), str(message.get("Source")), first)
-                elif status in (400, 409, 422):
+                    for it in its:
+                        self.mend(it, body.get("Slot"), str(message.get("Source")), first)
+                elif status in (400, 409, 422, None):
                     del self.first_seen[uid]  # accepted later, it is new
-                    if not told["IsOwn"]:
+                    for it in its if not told["IsOwn"] else []:
                         self.refuse_scan(it, message)
             cut(self.first_seen)
             self.scan_place, self.scans_at = place, begun
@@ -348,15 +366,24 @@ class Interlock:
         if is_news:
             self.news()
 
+    def scanned_at(self, message: Dict[str, Any]) -> List[Machine]:
+        """The machines that a scan is about. One that nobody can read may be about any."""
+        name, word = answers.body_of(message).get("Machine"), answers.word_of(message)
+        if not word or (word in HANDLING and not isinstance(name, str)):
+            return [self.of(it) for it in self.listed]
+        return [self.machines[name]] if word in HANDLING and name in self.machines else []
+
     def refuse_scan(self, it: Machine, message: Dict[str, Any]) -> None:
         body = answers.body_of(message)
         word, slot, reel = answers.word_of(message), body.get("Slot"), body.get("Reel")
         reason = f"slot {slot}: {word} {reel or ''} of {message.get('Source')} was refused"
+        if not isinstance(body.get("Machine"), str):
+            reason, message = "a load, splice or unload was refused that nobody can read", {}
         known = slot if isinstance(slot, str) else None
         fault = Fault("slot", reason.replace("  ", " "), known, source=str(message.get("Source")))
         fault.reel = reel if isinstance(reel, str) else None
         fault.minute, fault.line = minute_of(message), self.lines
-        it.slots[known or no_slot(fault.source)] = fault
+        it.slots[known or (no_slot(fault.source) if message else UNREAD)] = fault
 
     def news(self) -> None:
         self.changed.set()

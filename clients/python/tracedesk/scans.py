@@ -14,7 +14,7 @@ import threading
 import time
 from typing import Any, Callable, Dict, List, Optional, Tuple
 
-from . import answers
+from . import answers, records
 from .console import NEWS_OF_A_FAULT
 from .desk import Desk
 from .interlock import Interlock, clock
@@ -147,11 +147,13 @@ class Scans:
         self.states.scanned(scans, list(max(self.at, self.old or self.at)), looked)
 
     def scan(self, line: bytes, at: Tuple[str, int]) -> List[Dict[str, Any]]:
-        """A line of the list: what was said, and the status of the answer."""
-        told = answers.read_object(line)
-        message = answers.read_object(str(told.get("Message")).encode(errors="replace"))
-        if not message:
+        """A line of the list: what was said, as far as it can be read, and the status of the
+        answer.
+        """
+        if not line:
             return []
+        told = records.as_read(line)
+        message = records.as_read(str(told.get("Message")).encode(errors="replace"))
         status, is_old = told.get("Status"), self.old is not None and at < self.old
         is_own = str(message.get("UniqueID")) in self.states.own
         with contextlib.suppress(TypeError, ValueError):

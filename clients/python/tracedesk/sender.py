@@ -124,8 +124,9 @@ class Sender:
         """Compares the machine's reels with the desk's. What differs stops the machine, and is on
         disk before the answer is.
         """
-        if fault := witness.fault_of(told):
+        if (fault := witness.fault_of(told)) and answers.is_taken(answer):
             self.tell(f"{machine_of(told)}: {fault}")
+            self.interlock.unread(machine_of(told), told, fault)
         found = []
         for id_, text, shown in witness.made(told, answer, f"tracedesk-send {self.spool.name}"):
             self.interlock.differ(machine_of(told), shown)

@@ -19,12 +19,12 @@ MEMBER = "MachineReels"
 def differences(told: Dict[str, Any], answer: answers.Answer) -> Dict[Tuple[str, str], List[str]]:
     """The designators whose reel is another by the machine than by the desk, by these two reels."""
     body = answers.body_of(told)
-    names, named = body.get("Designators"), body.get(MEMBER)
+    named = body.get(MEMBER)
     found: Dict[Tuple[str, str], List[str]] = {}
-    if isinstance(answer, answers.Accepted) and isinstance(names, list) and isinstance(named, list):
-        for name, desk, machine in zip(names, answer.reels, named):
+    if isinstance(answer, answers.Accepted) and named is not None and not fault_of(told):
+        for name, desk, machine in zip(body["Designators"], answer.reels, named):
             if machine is not None and machine != desk:
-                found.setdefault((desk, str(machine)), []).append(str(name))
+                found.setdefault((desk, machine), []).append(str(name))
     return found
 
 
