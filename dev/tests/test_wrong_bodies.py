@@ -1,5 +1,5 @@
 """dev/wrong-bodies finds the function that an edit names, and each public function has a wrong body
-of its own.
+of its own. Each edit of the repository can be applied, and names what is there.
 """
 import pathlib
 import subprocess
@@ -7,6 +7,7 @@ import sys
 
 import pytest
 from tracedesk_dev import ROOT, own_bodies
+from tracedesk_dev.edit_names import want_names
 from tracedesk_dev.edits import NotApplied, edits_in, find_functions, name_of_impl, texts_of
 
 SOURCE = """pub struct Pair;
@@ -53,6 +54,41 @@ def test_an_edit_changes_the_function_that_it_names(tmp_path: pathlib.Path) -> N
     crate(tmp_path, lines[0], "function: Pair::third", *lines[1:])
     with pytest.raises(NotApplied, match="0 functions Pair::third"):
         texts_of([edit], str(folder))
+
+
+@pytest.mark.parametrize(
+    "new, fault",
+    (
+        ("Side::Left", None),
+        ("crate::Side::Left", None),
+        ("other::Side::Left", None),
+        ('"Gone"', None),
+        ("Gone::Left", "it names Gone, which isn't there"),
+        ("Side::Gone", "it names Side::Gone, which isn't there"),
+        ("crate::Gone", "it names crate::Gone, which isn't there"),
+        ("pairs::Gone::Left", "it names pairs::Gone, which isn't there"),
+    ),
+)
+def test_an_edit_names_what_is_there(tmp_path: pathlib.Path, new: str, fault: str | None) -> None:
+    folder = crate(tmp_path, "file: src/lib.rt", "old: pub struct Pair;", f"new: {new}", "")
+    sources = folder / "src/lib.rt"
+    sources.write_text(f"{sources.read_text()}\npub enum Side {{\n    Left,\n}}\n")
+    (edit,) = edits_in("pairs", str(folder / "wrong-bodies"))
+    if fault is None:
+        want_names(edit, str(folder), str(folder.parent))
+    else:
+        with pytest.raises(NotApplied, match=fault):
+            want_names(edit, str(folder), str(folder.parent))
+
+
+def test_each_edit_of_the_repository_names_what_is_there() -> None:
+    done = tool("--apply")
+    assert done.returncode == 0, done.stdout
+
+
+def test_each_public_function_of_the_repository_has_a_wrong_body_or_a_reason() -> None:
+    done = tool("--table")
+    assert done.returncode == 0, done.stdout
 
 
 def test_a_function_has_a_wrong_body_or_a_reason(tmp_path: pathlib.Path) -> None:
