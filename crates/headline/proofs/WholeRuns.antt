@@ -2,11 +2,12 @@
 use Rattle.desk_types.proofs.Common.{[], ◌∷◌, ◌≡◌, ◌≢◌, ◌⊎◌, Appends, Err, false, History, IfSome, inl}
 use Rattle.desk_types.proofs.Common.{inner_of, inr, length, List, None, Ok, Option, refl, Some, sym, true, ℕ}
 use Rattle.desk_laws.proofs.Common.{Wire}
-use Rattle.desk_answers.specs.{Ledger.Ledger, Sent.SendsFront}
+use Rattle.desk_answers.specs.{Counts.none_served, Ledger.Ledger, Sent.SendsFront}
+use Rattle.desk_answers.specs.declared.serving.ServeFault.TheVariants.{Read}
 use Rattle.desk_commands.specs.{Clients.Ended, Clients.Serving, Closed.RunsTo, Closed.whole}
 use Rattle.desk_commands.specs.{OpenRuns.AnswersAll, OpenRuns.AnswersImport, OpenRuns.AnswersReport}
 use Rattle.desk_commands.specs.{OpenRuns.AnswersUpTo, OpenRuns.CutsImport, OpenRuns.StaysSame}
-use Rattle.desk_commands.specs.{Runs.ServesEach, Told.report_output}
+use Rattle.desk_commands.specs.{Runs.ServesEach, Told.fault_line, Told.report_output, Told.TellsLine}
 use Rattle.desk_program.proofs.WaysOfRuns.{one_of_five}
 use Rattle.desk_program.specs.{Program.Done, Program.Failed, Program.ImportUnread, Program.Refused}
 use Rattle.desk_program.specs.{Program.RunsAs, Program.RunsAsked, Program.RunsImport, Program.RunsReport}
@@ -25,15 +26,15 @@ use Rattle.sqlite_disk.specs.declared.Disk as disk
 use Rattle.sqlite_disk.specs.declared.start.Start as start
 
 module _ (ours : OursFirst) (same : Same) {T D R W E : Type 0} (first : start.Ghosts T) (g : disk.Ghosts D) (files : Files D) (holds : List ℕ → Option (List ℕ)) (may_fail : List ℕ → Type 0) (serves : ℕ → Serving → Type 0)
-    (reads : R → Option (List ℕ)) (writes : W → Option (List ℕ)) (tells : E → Option (List ℕ)) (words : List (List ℕ)) (input input' : Wire R) (output output' : Wire W) (errors errors' : Wire E) where
+    (reads : R → Option (List ℕ)) (writes : W → Option (List ℕ)) (tells : E → Option (List ℕ)) (words : List (List ℕ)) (input input' : Wire R) (output output' : Wire W) (errors errors' : Wire E) (exit : ℕ) where
   abbrev ways : Ways
   ways = ways_when_closed whole first g (Some files)
 
   abbrev Goes : Type 0
-  Goes = GoesOn holds serves reads writes words input output output' first g files
+  Goes = GoesOn holds may_fail serves reads writes tells words input input' output output' errors errors' exit first g files
 
   abbrev Makes : List Call → Type 0
-  Makes calls = MakesCalls holds serves reads writes words input output output' calls
+  Makes calls = MakesCalls holds may_fail serves reads writes tells words input input' output output' errors errors' exit calls
 
   after : (make : Option ℕ) (Fact : Ledger → History → Type 0) (calls : List Call) → Makes calls → ((G : Ledger) (H : History) → Fact G H → AnswersByTheList report_of G calls H) → RunsTo whole first g (Some files) make Fact → Goes
   after make Fact calls makes answers runs = inr (
@@ -63,11 +64,12 @@ module _ (ours : OursFirst) (same : Same) {T D R W E : Type 0} (first : start.Gh
   report Shown is (file, target, asks, answer, shown, runs) =
       after None (AnswersReport report_of target answer) (asked target answer ∷ []) (inr (inr (inr (inl (file, target, answer, asks, is answer shown, refl))))) (λ G H fact. (H, (fact.1, fact.0), refl)) runs
 
-  unread : ImportUnread ways words may_fail → Goes
-  unread (file, import, from, asks, may, stays) = after None StaysSame [] (inr (inr (inr (inr (file, inr (import, from, asks), refl))))) (λ G H fact. fact) stays
+  unread : exit ≡ 4 → (input' ≡ input) → (output' ≡ output) → TellsLine tells errors errors' (fault_line (Read none_served)) → ImportUnread ways words may_fail → Goes
+  unread is in_same out_same told (file, import, from, asks, may, stays) =
+      after None StaysSame [] (inr (inr (inr (inr (inr (file, import, from, asks, (may, is, in_same, out_same, told), refl)))))) (λ G H fact. fact) stays
 
   audited : (file : List ℕ) (count : ℕ) → AsksForAudit words file → ways.Audits count → Goes
-  audited file count asks audits = after None (λ G H. (H ≡ G.history) × (count ≡ length H)) [] (inr (inr (inr (inr (file, inl asks, refl))))) (λ G H fact. fact.0) audits
+  audited file count asks audits = after None (λ G H. (H ≡ G.history) × (count ≡ length H)) [] (inr (inr (inr (inr (inl (file, asks, refl)))))) (λ G H fact. fact.0) audits
 
   done : Done ways holds may_fail serves reads writes tells words input input' output output' errors errors' → Goes
   done (inl (all, none, answered)) = lines (AnswersAll reads writes input output output' all) (Ok all) (λ G H fact. fact) answered
@@ -84,28 +86,28 @@ module _ (ours : OursFirst) (same : Same) {T D R W E : Type 0} (first : start.Gh
   refused (inr (inr (inl serving))) = connections 1 serving
   refused (inr (inr (inr told))) = report _ (λ answer shown. inl shown.1) told
 
-  failed : Failed ways holds may_fail serves reads writes tells words input input' output output' errors errors' → Goes
-  failed (inl (fault, shown, told, inl (leaves, answered))) = lines (AnswersUpTo reads writes input output output' fault) (Err fault) (λ G H fact. fact) answered
-  failed (inl (fault, shown, told, inr (inl (file, asks, count, sent, audits)))) = audited file count asks audits
-  failed (inl (fault, shown, told, inr (inr (inl (file, asks, sent, migrates))))) = inl (inr (inr (file, asks)))
-  failed (inl (fault, shown, told, inr (inr (inr (inl import))))) = rows (λ import from. CutsImport writes output output' import (holds from)) (Err (record {})) (λ import from G H fact. fact) import
-  failed (inl (fault, shown, told, inr (inr (inr (inr (inl text)))))) = inl (inr (inl text.0))
-  failed (inl (fault, shown, told, inr (inr (inr (inr (inr report_told)))))) = report _ (λ answer shown. inr shown) report_told
-  failed (inr (inl (in_same, out_same, told, import))) = unread import
-  failed (inr (inr (in_same, told, serving))) = connections 4 serving
+  failed : exit ≡ 4 → Failed ways holds may_fail serves reads writes tells words input input' output output' errors errors' → Goes
+  failed is (inl (fault, shown, told, inl (leaves, answered))) = lines (AnswersUpTo reads writes input output output' fault) (Err fault) (λ G H fact. fact) answered
+  failed is (inl (fault, shown, told, inr (inl (file, asks, count, sent, audits)))) = audited file count asks audits
+  failed is (inl (fault, shown, told, inr (inr (inl (file, asks, sent, migrates))))) = inl (inr (inr (file, asks)))
+  failed is (inl (fault, shown, told, inr (inr (inr (inl import))))) = rows (λ import from. CutsImport writes output output' import (holds from)) (Err (record {})) (λ import from G H fact. fact) import
+  failed is (inl (fault, shown, told, inr (inr (inr (inr (inl text)))))) = inl (inr (inl text.0))
+  failed is (inl (fault, shown, told, inr (inr (inr (inr (inr report_told)))))) = report _ (λ answer shown. inr shown) report_told
+  failed is (inr (inl (in_same, out_same, told, import))) = unread is in_same out_same told import
+  failed is (inr (inr (in_same, told, serving))) = connections 4 serving
 
-  goes_on : {Refusal : Type 0} (exit : ℕ) → RunsAs ways holds may_fail serves reads writes tells words input input' output output' errors errors' Refusal exit → exit ≢ 3 → Goes
-  goes_on exit run closed = elim (one_of_five exit run.status) [
+  goes_on : {Refusal : Type 0} → RunsAs ways holds may_fail serves reads writes tells words input input' output output' errors errors' Refusal exit → exit ≢ 3 → Goes
+  goes_on run closed = elim (one_of_five exit run.status) [
     | inl is ↦ done (run.done is)
     | inr (inl is) ↦ refused (run.refused is)
     | inr (inr (inl is)) ↦ let none = (run.bad is).0 in absurd (cc)
     | inr (inr (inr (inl is))) ↦ absurd (closed is)
-    | inr (inr (inr (inr is))) ↦ failed (run.failed is)
+    | inr (inr (inr (inr is))) ↦ failed is (run.failed is)
   ]
 
 module _ (ours : OursFirst) (same : Same) {T D R W E : Type 0} (first : start.Ghosts T) (g : disk.Ghosts D) {holds : List ℕ → Option (List ℕ)} {may_fail : List ℕ → Type 0} {serves : ℕ → Serving → Type 0}
     {reads : R → Option (List ℕ)} {writes : W → Option (List ℕ)} {tells : E → Option (List ℕ)} {words : List (List ℕ)} {input input' : Wire R} {output output' : Wire W} {errors errors' : Wire E} where
   pub goes_on_closed : {Refusal : Type 0} (exit : ℕ) (files : Option (Files D))
-      → RunsAs (ways_when_closed whole first g files) holds may_fail serves reads writes tells words input input' output output' errors errors' Refusal exit → exit ≢ 3 → IfSome files (GoesOn holds serves reads writes words input output output' first g)
+      → RunsAs (ways_when_closed whole first g files) holds may_fail serves reads writes tells words input input' output output' errors errors' Refusal exit → exit ≢ 3 → IfSome files (GoesOn holds may_fail serves reads writes tells words input input' output output' errors errors' exit first g)
   goes_on_closed exit None run closed = tt
   goes_on_closed exit (Some files) run closed = goes_on ours same first g files holds may_fail serves reads writes tells words input input' output output' errors errors' exit run closed

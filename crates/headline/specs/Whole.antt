@@ -8,11 +8,13 @@ use Rattle.sqlite_wal.specs.Files.{image_at}
 use Rattle.sqlite_wal.specs.Recovery.{Image}
 use Rattle.desk_types.specs.declared.wire.Wire.{Wire}
 use Rattle.desk_types.specs.Wire.{inner_of}
+use Rattle.desk_answers.specs.Counts.{none_served}
 use Rattle.desk_answers.specs.Sent.{SendsFront}
+use Rattle.desk_answers.specs.declared.serving.ServeFault.TheVariants.{Read}
 use Rattle.imports.specs.declared.import.Import.{Import}
 use Rattle.desk_words.specs.CommandLine.{AsksForAudit, AsksForFeed, AsksForImport, AsksForMigration, AsksForReport, AsksForServing, AsksForText}
 use Rattle.desk_commands.specs.Clients.{Ended, Serving}
-use Rattle.desk_commands.specs.Told.{report_output}
+use Rattle.desk_commands.specs.Told.{TellsLine, fault_line, report_output}
 use Rattle.http_stream.specs.Answers.{Told}
 use Rattle.gateway_http.specs.Reports.{report_of}
 use Rattle.headline.specs.Calls.{Call, ImportEnded}
@@ -25,11 +27,19 @@ abbrev pub AsksForNoCalls : List (List ℕ) → Type 0
 AsksForNoCalls words = ((greatest : ℕ) × AsksForFeed words None greatest) ⊎ AsksForText words
     ⊎ ((file : List ℕ) × AsksForMigration words file)
 
-module _ {R W : Type 0} (holds : List ℕ → Option (List ℕ)) (serves : ℕ → Serving → Type 0)
-    (reads : R → Option (List ℕ)) (writes : W → Option (List ℕ)) (words : List (List ℕ))
-    (input : Wire R) (output output' : Wire W) where
+module _ {R W E : Type 0} (holds : List ℕ → Option (List ℕ)) (may_fail : List ℕ → Type 0)
+    (serves : ℕ → Serving → Type 0) (reads : R → Option (List ℕ)) (writes : W → Option (List ℕ))
+    (tells : E → Option (List ℕ)) (words : List (List ℕ)) (input input' : Wire R)
+    (output output' : Wire W) (errors errors' : Wire E) (exit : ℕ) where
+  -- The file of an import, which may fail to be read, was not read: the run told that, ended with status 4, and read
+  -- and sent nothing.
+  abbrev pub IsUnread : List ℕ → Type 0
+  IsUnread from =
+      may_fail from × (exit ≡ 4) × (input' ≡ input) × (output' ≡ output)
+      × TellsLine tells errors errors' (fault_line (Read none_served))
+
   -- The calls of a run, by its arguments and its wires: lines, an import, connections or a report. An audit makes no
-  -- call, nor does an import whose file could not be read.
+  -- call, and of imports only one whose file was not read.
   abbrev pub MakesCalls : List Call → Type 0
   MakesCalls calls =
       ((file : List ℕ) × (greatest : ℕ) × (ended : Ended) × AsksForFeed words (Some file) greatest
@@ -46,10 +56,9 @@ module _ {R W : Type 0} (holds : List ℕ → Option (List ℕ)) (serves : ℕ �
       × (Appends (writes (inner_of output)) (writes (inner_of output')) (report_output told)
       ⊎ SendsFront (writes (inner_of output)) (writes (inner_of output')) (report_output told))
       × (calls ≡ asked target told ∷ []))
-      ⊎ ((file : List ℕ)
-      × (AsksForAudit words file
-      ⊎ ((import : Import) × (from : List ℕ) × AsksForImport words file import from))
-      × (calls ≡ []))
+      ⊎ ((file : List ℕ) × AsksForAudit words file × (calls ≡ []))
+      ⊎ ((file : List ℕ) × (import : Import) × (from : List ℕ)
+      × AsksForImport words file import from × IsUnread from × (calls ≡ []))
 
   -- The files that this run closed are those after it and any number of earlier runs on them, as one run that made the
   -- calls of all: each was answered by the history before it, which is lawful and consistent, and the files hold the

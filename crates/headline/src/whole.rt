@@ -27,10 +27,10 @@ pub fn whole_run_goes_on<T: Start, F: Folder, C: Clients, R: Read, W: Write, E: 
     errors: &mut Wire<E>,
 ) -> (u8, Option<Files<FileFrom<T>>>)
     requires room { HaveRoom input.old output.old errors.old }
-    ensures { result.0 ≢ 3 → IfSome result.1 (GoesOn (F.holds folder.now)
-        (ServesAt C.Saw clients.old clients.new) R.remaining W.contents
-        (map string_bytes words.now) input.old output.old output.new
-        T.Start ⟦<FileFrom<T> as Disk>⟧) }
+    ensures { result.0 ≢ 3 → IfSome result.1 (GoesOn (F.holds folder.now) (F.may_fail folder.now)
+        (ServesAt C.Saw clients.old clients.new) R.remaining W.contents E.contents
+        (map string_bytes words.now) input.old input.new output.old output.new
+        errors.old errors.new result.0 T.Start ⟦<FileFrom<T> as Disk>⟧) }
 {
     next_run_goes_on();
     whole_run(rt, words, start, folder, clients, input, output, errors)
