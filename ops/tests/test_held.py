@@ -211,3 +211,46 @@ def test_a_marker_that_is_refused_gives_no_copy(served: Desk, folder: pathlib.Pa
         held.copy(served.file, served.port, refused, folder / "copy")
     assert json.loads(refused)["UniqueID"] == "p"
     assert served.say("PartDefined", PartNumber="AFTER")["Answer"] == "Accepted"
+
+
+@pytest.mark.gate
+def test_only_what_was_written_to_meanwhile_is_looked_at_while_the_desk_is_held(
+    served: Desk, folder: pathlib.Path, monkeypatch: pytest.MonkeyPatch
+) -> None:
+    """Nobody writes to the file, and the marker goes into the log."""
+    looked_at: list[pathlib.Path] = []
+    whole: Callable[[pathlib.Path, pathlib.Path, float], None] = held.copy_bytes
+
+    def counted(file: pathlib.Path, to: pathlib.Path, until: float) -> None:
+        looked_at.append(file)
+        whole(file, to, until)
+
+    monkeypatch.setattr(held, "copy_bytes", counted)
+    monkeypatch.setattr(held, "STILL", 0.0)
+    to, log = folder / "copy", held.beside(served.file)
+    copied = held.copy(served.file, served.port, marker(), to)
+    assert (looked_at, to.read_bytes()) == ([log], served.file.read_bytes())
+    assert commands(to)["copy-0"] == copied.number
+
+
+@pytest.mark.gate
+@pytest.mark.parametrize("still", [0.0, 1e9])
+def test_a_file_that_was_written_to_meanwhile_is_compared(
+    served: Desk, folder: pathlib.Path, monkeypatch: pytest.MonkeyPatch, still: float
+) -> None:
+    """By its times, which may not show that if it was written to just before too."""
+    whole: Callable[[pathlib.Path, pathlib.Path], str] = held.prepare_one
+
+    def disturbed(file: pathlib.Path, to: pathlib.Path) -> str:
+        stamp = whole(file, to)
+        to.write_bytes(b"older")
+        if not still:
+            os.utime(file)
+        return stamp
+
+    monkeypatch.setattr(held, "prepare_one", disturbed)
+    monkeypatch.setattr(held, "STILL", still)
+    to = folder / "copy"
+    held.copy(served.file, served.port, marker(), to)
+    assert to.read_bytes() == served.file.read_bytes()
+    assert commands(to)["copy-0"] == max(commands(to).values())

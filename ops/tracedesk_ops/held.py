@@ -9,10 +9,11 @@ fails is never kept.
     copied = held.lawful(desk, 8080, held.new_marker, folder / "desk", program.audit)
 
 The line waits while the connection is held, and for a disk that has much to write. So most is
-copied before, and goes to the disk bit by bit. While the connection is held each page of the copy
-is compared, and those that differ are written. A copy that takes too long, as on a slow disk, is
-given up. A watchdog, a process in a session of its own, ends the connection of a tool that hangs,
-or that somebody stopped, and kills the tool. A tool that is killed holds nothing either.
+copied before, and goes to the disk bit by bit. While the connection is held, a file that was
+written to since then is compared with its copy, and the pages that differ are written: the log, and
+seldom the file itself. A copy that takes too long, as on a slow disk, is given up. A watchdog, a
+process in a session of its own, ends the connection of a tool that hangs, or that somebody stopped,
+and kills the tool. A tool that is killed holds nothing either.
 """
 from __future__ import annotations
 
@@ -28,13 +29,15 @@ import sqlite3
 import subprocess
 import sys
 import time
-from collections.abc import Callable, Iterator
+from collections.abc import Callable, Iterator, Sequence
 
 from tracedesk_ops import catalogue, files, model, plant, stored
 
 LONGEST = 5.0  # seconds that the connection may be held by a tool that hangs
 SLOW = 2.5  # seconds after which a copy is given up
 TRIES = 3
+PASSES = 5  # of what is copied before the connection is held
+STILL = 0.1  # seconds: two writes that are closer may give a file the same times
 ANSWER = 30.0  # seconds for the desk to answer the marker: it may be at a long report
 HEAD = 32  # bytes at the beginning of a log: they change when it begins anew
 LOG = "-wal"
@@ -61,6 +64,9 @@ while ready := select.select([said, *awaited], [], [], limit)[0]:
 link.shutdown(socket.SHUT_RDWR)
 os.kill(int(sys.argv[1]), signal.SIGKILL)
 """
+
+
+Pairs = Sequence[tuple[pathlib.Path, pathlib.Path]]  # files, and where they are copied to
 
 
 class NoCopy(Exception):
@@ -131,12 +137,7 @@ def copy(desk: pathlib.Path, port: int, marker: bytes, to: pathlib.Path) -> Copi
     """
     log, log_to = beside(desk), beside(to)
     pairs = ((desk, to), (log, log_to))
-    try:
-        for _ in range(2):  # the second time it takes a moment, so that hardly a page differs then
-            for source, target in pairs:
-                prepare(source, target)
-    except OSError as fault:
-        raise NoCopy(f"{desk} could not be copied: {fault}") from fault
+    prepared = prepare(pairs)
     with watchdog() as said:
         link = http.client.HTTPConnection("127.0.0.1", port, timeout=ANSWER)
         try:
@@ -147,7 +148,8 @@ def copy(desk: pathlib.Path, port: int, marker: bytes, to: pathlib.Path) -> Copi
             began = time.monotonic()
             before = notes(desk, log)
             for source, target in pairs:
-                copy_bytes(source, target, began + SLOW)
+                if stamp_of(source) != prepared[source]:
+                    copy_bytes(source, target, began + SLOW)
             has_moved = notes(desk, log) != before
             held = time.monotonic() - began
         except (OSError, ValueError, http.client.HTTPException) as fault:
@@ -188,11 +190,40 @@ def end(link: http.client.HTTPConnection) -> None:
     link.close()
 
 
-def prepare(file: pathlib.Path, to: pathlib.Path) -> None:
-    """Copies a file as it is by now, while it may change; a log may not be there yet."""
+def prepare(pairs: Pairs) -> dict[pathlib.Path, str]:
+    """Copies files as they are by now, while they may change; the stamp of each. It is done again,
+    which then takes a moment, until nobody has written to the first one meanwhile.
+    """
+    desk = pairs[0][0]
+    try:
+        for _ in range(PASSES):
+            prepared = {file: prepare_one(file, to) for file, to in pairs}
+            if prepared[desk] == stamp_of(desk):
+                break
+        return prepared
+    except OSError as fault:
+        raise NoCopy(f"{desk} could not be copied: {fault}") from fault
+
+
+def prepare_one(file: pathlib.Path, to: pathlib.Path) -> str:
+    """Returns the file's stamp if each later write changes it; else nothing, as if there is no file
+    yet.
+    """
     with open(to, "ab"), open(to, "r+b", buffering=0) as target:
-        with contextlib.suppress(FileNotFoundError), open(file, "rb", buffering=0) as source:
-            files.copy_gently(source, target)
+        try:
+            with open(file, "rb", buffering=0) as source:
+                stamp = stamp_of(file)
+                is_still = time.time() - os.stat(file).st_ctime > STILL
+                files.copy_gently(source, target)
+                return stamp if is_still else ""
+        except FileNotFoundError:
+            return ""
+
+
+def stamp_of(file: pathlib.Path) -> str:
+    """What a write to a file changes, but one just after another."""
+    its = os.stat(file)
+    return repr((its.st_ino, its.st_size, its.st_mtime_ns, its.st_ctime_ns))
 
 
 def copy_bytes(file: pathlib.Path, to: pathlib.Path, until: float) -> None:
