@@ -308,7 +308,7 @@ class Site:
 
         def served() -> Any:
             lines = (self.room / "served.txt").read_bytes().splitlines()
-            own = [at for at, line in enumerate(lines) if line.startswith(b"2 ")]
+            own = [at for at, line in enumerate(lines) if line.split()[1:2] == [b"2"]]
             return own if len(own) == self.looks else None
 
         own: list[int] = wait_for("the desk's line of this look", served)
