@@ -150,9 +150,6 @@ class KilledLine(Line):
             return [*to, "--restore", its[0].name if its else "none"]
         return [*to, "--restore"] if tool == "restore" else to
 
-    def service(self, program: Optional[pathlib.Path] = None) -> list[Word]:
-        return [*super().service(program), "--drain-seconds", 20]
-
     def own_copies(self) -> list[pathlib.Path]:
         """Those of this line's desk; those of the base have the path of that one."""
         there = backups.Copies(self.copies)

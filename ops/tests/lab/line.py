@@ -8,6 +8,7 @@ from typing import Any, Callable, Iterable, Mapping, Optional
 from lab import messages
 from lab.desk import Desk, rows_of
 from lab.tools import KILL_AFTER, Ended, Word, run, run_tool, tool
+from lab.waits import PATIENCE
 from tracedesk_ops import around, backups, catalogue, store
 
 QUIET = "0.1"  # seconds without a connection, after which tools take senders for gone
@@ -41,7 +42,8 @@ class Line(Desk):
         return [
             *("--db", self.file, "--program", program or self.program),
             *("--stop", self.stop_command, "--start", self.start_script, "--port", self.port),
-            *("--drained", self.drained, "--drain-seconds", 5, "--proxy-port", self.proxy_port),
+            *("--drained", self.drained, "--drain-seconds", PATIENCE),
+            *("--proxy-port", self.proxy_port),
         ]
 
     def rollover_words(self, *more: Word, program: Optional[pathlib.Path] = None) -> list[Word]:
