@@ -9,11 +9,12 @@ fails is never kept.
     copied = held.lawful(desk, 8080, held.new_marker, folder / "desk", program.audit)
 
 The line waits while the connection is held, and for a disk that has much to write. So most is
-copied before, and goes to the disk bit by bit. While the connection is held, a file that was
-written to since then is compared with its copy, and the pages that differ are written: the log, and
-seldom the file itself. A copy that takes too long, as on a slow disk, is given up. A watchdog, a
-process in a session of its own, ends the connection of a tool that hangs, or that somebody stopped,
-and kills the tool. A tool that is killed holds nothing either.
+copied before, and goes to the disk bit by bit; and again, if the desk has written its log into the
+file meanwhile. While the connection is held, a file that was written to since then is compared with
+its copy, and the pages that differ are written: those of the log, and seldom those of the file. A
+copy that takes too long, as on a slow disk, is given up. A watchdog, a process in a session of its
+own, ends the connection of a tool that hangs, or that somebody stopped, and kills the tool. A tool
+that is killed holds nothing either.
 """
 from __future__ import annotations
 
@@ -36,7 +37,8 @@ from tracedesk_ops import catalogue, files, model, plant, stored
 LONGEST = 5.0  # seconds that the connection may be held by a tool that hangs
 SLOW = 2.5  # seconds after which a copy is given up
 TRIES = 3
-PASSES = 5  # of what is copied before the connection is held
+PASSES = 12  # before the connection is held; the first one takes long
+TURN = "/reel?reel=-"  # a report that takes no time
 STILL = 0.1  # seconds: two writes that are closer may give a file the same times
 ANSWER = 30.0  # seconds for the desk to answer the marker: it may be at a long report
 HEAD = 32  # bytes at the beginning of a log: they change when it begins anew
@@ -137,29 +139,32 @@ def copy(desk: pathlib.Path, port: int, marker: bytes, to: pathlib.Path) -> Copi
     """
     log, log_to = beside(desk), beside(to)
     pairs = ((desk, to), (log, log_to))
-    prepared = prepare(pairs)
     with watchdog() as said:
-        link = http.client.HTTPConnection("127.0.0.1", port, timeout=ANSWER)
-        try:
-            link.connect()
-            said("a", link.sock)
-            number = accepted(link, marker)
-            said("h")
-            began = time.monotonic()
-            before = notes(desk, log)
-            for source, target in pairs:
-                if stamp_of(source) != prepared[source]:
-                    copy_bytes(source, target, began + SLOW)
-            has_moved = notes(desk, log) != before
-            held = time.monotonic() - began
-        except (OSError, ValueError, http.client.HTTPException) as fault:
-            raise NoCopy(
-                f"the desk on port {port} could not be copied while it runs: {fault}"
-            ) from fault
-        finally:
-            end(link)
-            with contextlib.suppress(OSError):
-                said("f")
+        for left in reversed(range(PASSES)):
+            prepared = prepare(pairs)
+            link = http.client.HTTPConnection("127.0.0.1", port, timeout=ANSWER)
+            try:
+                wait_for_turn(link, said)
+                if left and stamp_of(desk) != prepared[desk]:
+                    continue  # the log was written into the file: so much is copied before
+                began = time.monotonic()
+                number = accepted(link, marker)
+                said("h")
+                before = notes(desk, log)
+                for source, target in pairs:
+                    if stamp_of(source) != prepared[source]:
+                        copy_bytes(source, target, began + SLOW)
+                has_moved = notes(desk, log) != before
+                held = time.monotonic() - began
+                break
+            except (OSError, ValueError, http.client.HTTPException) as fault:
+                raise NoCopy(
+                    f"the desk on port {port} could not be copied while it runs: {fault}"
+                ) from fault
+            finally:
+                end(link)
+                with contextlib.suppress(OSError):
+                    said("f")
     if has_moved:
         raise NoCopy(
             f"{desk} changed while its only connection was held: another program writes to it"
@@ -167,6 +172,16 @@ def copy(desk: pathlib.Path, port: int, marker: bytes, to: pathlib.Path) -> Copi
     for file in (to, log_to):
         files.keep(file)
     return Copied(number, held)
+
+
+def wait_for_turn(link: http.client.HTTPConnection, said: "Said") -> None:
+    """Connects, and waits until the desk answers nobody else."""
+    link.connect()
+    link.auto_open = 0  # a connection that the desk ends is not begun anew
+    said("a", link.sock)
+    link.request("GET", TURN)
+    link.getresponse().read()
+    said("h")
 
 
 def beside(file: pathlib.Path) -> pathlib.Path:
@@ -191,18 +206,11 @@ def end(link: http.client.HTTPConnection) -> None:
 
 
 def prepare(pairs: Pairs) -> dict[pathlib.Path, str]:
-    """Copies files as they are by now, while they may change; the stamp of each. It is done again,
-    which then takes a moment, until nobody has written to the first one meanwhile.
-    """
-    desk = pairs[0][0]
+    """Copies files as they are by now, while they may change; the stamp of each."""
     try:
-        for _ in range(PASSES):
-            prepared = {file: prepare_one(file, to) for file, to in pairs}
-            if prepared[desk] == stamp_of(desk):
-                break
-        return prepared
+        return {file: prepare_one(file, to) for file, to in pairs}
     except OSError as fault:
-        raise NoCopy(f"{desk} could not be copied: {fault}") from fault
+        raise NoCopy(f"{pairs[0][0]} could not be copied: {fault}") from fault
 
 
 def prepare_one(file: pathlib.Path, to: pathlib.Path) -> str:
