@@ -28,7 +28,11 @@ from typing import Any
 from tracedesk_dev import program
 from tracedesk_dev.trial import Difference as Found
 
-GATE = {"store_tests": "refused_memory", "desk_tests": "memory_was_refused"}
+GATE = {
+    "store_tests": "refused_memory",
+    "desk_tests": "memory_was_refused",
+    "stream_tests": "memory_was_refused",
+}
 SHOWN = {"refused_memory_is_made_good": "the desk was made again"}
 OUT_OF_MEMORY = re.compile(
     r"^error: (AllocError|AllocFailed|out of memory|(Kind|SqliteFailure)\(OutOfMemory\))", re.M

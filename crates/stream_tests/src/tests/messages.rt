@@ -53,14 +53,34 @@ pub const SPLICE: &[(&str, &str)] = &[
     ),
 ];
 
-/// The lines of these messages, with UniqueIDs from u1 on.
+/// Returns a message's text, under the UniqueID of this number.
+fn message_of(alloc: Global, number: usize, name: &str, body: &str) -> Result<String, Fail> {
+    Ok(format!(in alloc;
+        "{{\"MessageName\":\"TraceDesk.{name}\",\"UniqueID\":\"u{number}\",\"Source\":\"S\",\"TimeStamp\":\"1970-01-01T00:00:00Z\",\"MessageBody\":{body}}}"
+    )?)
+}
+
+/// Returns the lines of these messages.
 pub fn lines_of(alloc: Global, messages: &[(&str, &str)]) -> Result<Vec<u8>, Fail> {
     let mut text = Vec::new(alloc);
     for (n, (name, body)) in messages.iter().enumerate() {
-        let line = format!(in alloc;
-            "{{\"MessageName\":\"TraceDesk.{name}\",\"UniqueID\":\"u{n}\",\"Source\":\"S\",\"TimeStamp\":\"1970-01-01T00:00:00Z\",\"MessageBody\":{body}}}\n"
+        let message = message_of(alloc, n.saturating_add(1), name, body)?;
+        text.extend_from_slice(message.as_bytes())?;
+        text.push(b'\n')?;
+    }
+    Ok(text)
+}
+
+/// Returns the requests of a connection that posts these messages, each with a tab behind it.
+pub fn requests_of(alloc: Global, messages: &[(&str, &str)]) -> Result<Vec<u8>, Fail> {
+    let mut text = Vec::new(alloc);
+    for (n, (name, body)) in messages.iter().enumerate() {
+        let message = message_of(alloc, n.saturating_add(1), name, body)?;
+        let length = message.len().saturating_add(1);
+        let request = format!(in alloc;
+            "POST /messages HTTP/1.1\r\nContent-Length: {length}\r\n\r\n{message}\t"
         )?;
-        text.extend_from_slice(line.as_bytes())?;
+        text.extend_from_slice(request.as_bytes())?;
     }
     Ok(text)
 }

@@ -1,7 +1,8 @@
 //! The lengths of reads and writes. No clause fixes them: a reader may return one byte a call.
 
-use super::lines::{FIRST_RUN, lines_of};
-use super::run_feed;
+use super::messages::{FIRST_RUN, lines_of};
+use super::streams::{Form, run};
+use super::wires::{Sink, Source};
 use desk_answers::send;
 use desk_types::Wire;
 use std::io;
@@ -81,9 +82,10 @@ fn reads_take_blocks(rt: HostRuntime) -> Result<(), Fail> {
     for _ in 0..1_000 {
         text.extend_from_slice(five.as_slice())?;
     }
-    let run = run_feed(rt.alloc(), text.as_slice(), Counted { calls: 0, bytes: 0 });
-    let answered = run.ended.ok().ok_or("a fault")?.answered;
-    assert_eq!(rt; (answered, run.output.calls), (5_000, 5_000));
-    assert_eq!(rt; run.reads, (text.len() / 65_536) as u64 + 2);
+    let source = Source::new(text.as_slice(), usize::MAX, 0);
+    let ran = run(rt.alloc(), Form::Lines, source, Sink::new(rt.alloc()));
+    let answered = ran.ended.ok().ok_or("a fault")?.answered;
+    assert_eq!(rt; (answered, ran.output.calls), (5_000, 5_000));
+    assert_eq!(rt; ran.reads, (text.len() / 65_536) as u64 + 2);
     Ok(())
 }

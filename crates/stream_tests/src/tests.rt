@@ -1,7 +1,12 @@
-//! Connections to an owner without a store.
+//! Streams of lines and of requests, and an owner without a store.
 
-mod serving;
+mod failing;
+mod lengths;
+mod memory;
+mod messages;
 mod sockets;
+mod streams;
+mod wires;
 
 use desk_answers::{Answer, Owner};
 use desk_types::{Stamped, Text};
