@@ -37,7 +37,7 @@ from tracedesk_ops import catalogue, files, model, plant, stored
 LONGEST = 5.0  # seconds that the connection may be held by a tool that hangs
 SLOW = 2.5  # seconds after which a copy is given up
 TRIES = 3
-PASSES = 12  # before the connection is held; the first one takes long
+PASSES = 30  # before the connection is held; the first one takes long
 TURN = "/reel?reel=-"  # a report that takes no time
 STILL = 0.1  # seconds: two writes that are closer may give a file the same times
 ANSWER = 30.0  # seconds for the desk to answer the marker: it may be at a long report
