@@ -31,10 +31,12 @@ module _ (ours : OursFirst) (same : Same) {T D R W E : Type 0} (first : start.Gh
   ways = ways_when_closed whole first g (Some files)
 
   abbrev Goes : Type 0
-  Goes = GoesOn holds may_fail serves reads writes tells words input input' output output' errors errors' exit first g files
+  Goes =
+      GoesOn holds may_fail serves reads writes tells words input input' output output' errors errors' exit first g files
 
   abbrev Makes : List Call → Type 0
-  Makes calls = MakesCalls holds may_fail serves reads writes tells words input input' output output' errors errors' exit calls
+  Makes calls =
+      MakesCalls holds may_fail serves reads writes tells words input input' output output' errors errors' exit calls
 
   after : (make : Option ℕ) (Fact : Ledger → History → Type 0) (calls : List Call) → Makes calls → ((G : Ledger) (H : History) → Fact G H → AnswersByTheList report_of G calls H) → RunsTo whole first g (Some files) make Fact → Goes
   after make Fact calls makes answers runs = inr (
@@ -64,9 +66,12 @@ module _ (ours : OursFirst) (same : Same) {T D R W E : Type 0} (first : start.Gh
   report Shown is (file, target, asks, answer, shown, runs) =
       after None (AnswersReport report_of target answer) (asked target answer ∷ []) (inr (inr (inr (inl (file, target, answer, asks, is answer shown, refl))))) (λ G H fact. (H, (fact.1, fact.0), refl)) runs
 
-  unread : exit ≡ 4 → (input' ≡ input) → (output' ≡ output) → TellsLine tells errors errors' (fault_line (Read none_served)) → ImportUnread ways words may_fail → Goes
+  unread : exit ≡ 4 → (input' ≡ input) → (output' ≡ output)
+      → TellsLine tells errors errors' (fault_line (Read none_served)) → ImportUnread ways words may_fail → Goes
   unread is in_same out_same told (file, import, from, asks, may, stays) =
-      after None StaysSame [] (inr (inr (inr (inr (inr (file, import, from, asks, (may, is, in_same, out_same, told), refl)))))) (λ G H fact. fact) stays
+      after None StaysSame []
+      (inr (inr (inr (inr (inr (file, import, from, asks, (may, is, in_same, out_same, told), refl))))))
+      (λ G H fact. fact) stays
 
   audited : (file : List ℕ) (count : ℕ) → AsksForAudit words file → ways.Audits count → Goes
   audited file count asks audits = after None (λ G H. (H ≡ G.history) × (count ≡ length H)) [] (inr (inr (inr (inr (inl (file, asks, refl)))))) (λ G H fact. fact.0) audits
@@ -86,7 +91,8 @@ module _ (ours : OursFirst) (same : Same) {T D R W E : Type 0} (first : start.Gh
   refused (inr (inr (inl serving))) = connections 1 serving
   refused (inr (inr (inr told))) = report _ (λ answer shown. inl shown.1) told
 
-  failed : exit ≡ 4 → Failed ways holds may_fail serves reads writes tells words input input' output output' errors errors' → Goes
+  failed : exit ≡ 4
+      → Failed ways holds may_fail serves reads writes tells words input input' output output' errors errors' → Goes
   failed is (inl (fault, shown, told, inl (leaves, answered))) = lines (AnswersUpTo reads writes input output output' fault) (Err fault) (λ G H fact. fact) answered
   failed is (inl (fault, shown, told, inr (inl (file, asks, count, sent, audits)))) = audited file count asks audits
   failed is (inl (fault, shown, told, inr (inr (inl (file, asks, sent, migrates))))) = inl (inr (inr (file, asks)))
