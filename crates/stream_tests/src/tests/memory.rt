@@ -23,7 +23,7 @@ fn answered<'a>(alloc: Global, form: Form, text: &'a [u8]) -> Ran<'a> {
 }
 
 /// Answers a stream three times. Memory is refused in one of them at most, so two are alike and whole. The other one
-/// ends with a fault, or answers each message too.
+/// ends with a fault, or answers each message too. A connection may end with the answer that memory is refused.
 fn is_answered(rt: &impl Abort, alloc: Global, form: Form, text: &[u8]) {
     let one = answered(alloc, form, text);
     let two = answered(alloc, form, text);
@@ -32,9 +32,13 @@ fn is_answered(rt: &impl Abort, alloc: Global, form: Form, text: &[u8]) {
     let whole = if is_first { &one } else { &two };
     assert!(rt; is_first || two.output.taken == three.output.taken);
     assert!(rt; whole.ended.is_ok() && form.answers_in(whole.output.taken.as_slice()) == 2);
+    let least = match form {
+        Form::Lines => 2,
+        Form::Requests => 1,
+    };
     for ran in [&one, &two, &three] {
         let answers = form.answers_in(ran.output.taken.as_slice());
-        assert!(rt; ran.ended.is_err() || answers == 2);
+        assert!(rt; ran.ended.is_err() || answers >= least);
     }
 }
 
