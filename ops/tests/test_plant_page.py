@@ -117,7 +117,7 @@ def test_each_block_prints_what_the_page_says(plant: Plant) -> None:
     wrong = [
         f"{PAGE}:{its.block.line}: {failure}"
         for its in plant.printed
-        if (failure := pages.failure(its.block, (its.text, its.status)))
+        if (failure := pages.failure(its.block, its.text, its.status))
     ]
     assert not wrong, "\n".join(wrong)
 
