@@ -42,6 +42,7 @@ THERE = (
     "systemd,systemd-sysv,dbus,procps,iproute2,ca-certificates"
     ",nginx-light,openssl,curl,python3"  # docs/operations-install.md
     ",postgresql,postgresql-15-plproxy,python3-psycopg"  # docs/plant.md
+    ",python3-flask,python3-waitress,weasyprint,python3-xlsxwriter"  # docs/recall.md
     ",python3-pytest"
 )
 BOOT = r"""
@@ -282,9 +283,13 @@ def booted() -> Iterator[Machine]:
     if missing := sorted({its for command, its in HERE.items() if not shutil.which(command)}):
         run("apt-get", "update")
         run("apt-get", "install", "-y", "--no-install-recommends", *missing)
-    if not (FOLDER / "etc/debian_version").exists():
+    packages = FOLDER / "etc/tracedesk-test-packages"  # written once the folder is whole
+    if not FOLDER.exists() or not any(FOLDER.iterdir()):
         FOLDER.mkdir(parents=True, exist_ok=True)
         run("debootstrap", "--variant=minbase", f"--include={THERE}", "bookworm", FOLDER)
+        packages.write_text(THERE)
+    if not packages.exists() or packages.read_text() != THERE:
+        raise FileExistsError(f"{FOLDER} is not the machine that these tests want: remove it")
     with tempfile.TemporaryDirectory() as room:
         machine = Machine(FOLDER, pathlib.Path(room) / "memory")
         try:
