@@ -1,9 +1,11 @@
-//! Streams of lines and of requests, and an owner without a store.
+//! Streams of lines and of requests, whole runs, and an owner without a store.
 
+mod calls;
 mod failing;
 mod lengths;
 mod memory;
 mod messages;
+mod programs;
 mod sockets;
 mod streams;
 mod wires;

@@ -1,54 +1,23 @@
-//! Each call once, on an owner that represents no history.
+//! Each call of `headline` once, on an owner that represents no history.
 
-use desk_answers::{Answer, Owner};
+use super::Full;
+use super::messages::lines_of;
+use desk_answers::Answer;
 use desk_feed::counts_import;
-use desk_types::{Command, Id, Minute, Stamped, Text, Wire};
-use gateway_http::{Report, ReportedOwner, Unavailable};
+use desk_types::{Command, Id, Minute, Stamped, Wire};
+use gateway_http::Report;
 use headline::{ask, command, feed, headline, import, report, serve};
-use std::alloc::Global;
 use std::test::Fail;
-
-const PART: &str =
-    "{\"MessageName\":\"TraceDesk.PartDefined\",\"UniqueID\":\"u1\",\"Source\":\"S\",\"TimeStamp\":\"1970-01-01T00:00:00Z\",\"MessageBody\":{\"PartNumber\":\"P\"}}\n";
-
-/// Answers each command that the desk is full, and finds no report.
-#[derive(Drop)]
-struct Full;
-
-impl Owner for Full {
-    ghost use Rattle.std.specs.Prelude.{⊤};
-
-    ghost Stands = { λ _ _. ⊥ };
-
-    ghost Ready = { λ _. ⊤ };
-
-    ghost Trusts = { λ _. ⊤ };
-
-    fn command(&mut self, _stamped: &Stamped) -> Answer {
-        Answer::DeskFull
-    }
-
-    fn is_lawful(&self) {}
-}
-
-impl ReportedOwner for Full {
-    ghost use Rattle.std.specs.Prelude.{None};
-
-    ghost reports = { λ _ _. None };
-
-    fn report(&mut self, _alloc: Global, _asked: Report) -> Result<Option<Text>, Unavailable> {
-        Ok(None)
-    }
-}
 
 /// A feed of one message, and its command.
 #[test]
 fn commands(rt: HostRuntime) -> Result<(), Fail> {
     let mut owner = Full;
     let mut output = Wire::new(Vec::new(rt.alloc()));
+    let part = lines_of(rt.alloc(), &[("PartDefined", r#"{"PartNumber":"P"}"#)])?;
     let served = feed(
         rt.alloc(),
-        &mut Wire::new(PART.as_bytes()),
+        &mut Wire::new(part.as_slice()),
         &mut output,
         &mut owner,
     );
