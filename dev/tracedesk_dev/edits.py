@@ -16,13 +16,22 @@ Judged = TypeVar("Judged")
 @dataclasses.dataclass
 class Edit:
     """An edit's file and its name; a sum of the texts that it is tried on; the functions that it
-    changes, if nothing else; and whether others may call one whose contract it changes."""
+    changes, if nothing else, and the names of what they call; and whether others may call one whose
+    contract it changes."""
 
     path: str
     label: str
     sum: str = ""
     functions: set[str] = dataclasses.field(default_factory=set)
+    calls: set[str] = dataclasses.field(default_factory=set)
     is_apart: bool = False
+
+    def meets(self, other: "Edit") -> bool:
+        """Returns whether one check may not tell these two apart: they change one function, or the
+        functions of one call those of the other.
+        """
+        own, others = ({name.split("::")[-1] for name in it.functions} for it in (self, other))
+        return bool(self.functions & other.functions or self.calls & others or other.calls & own)
 
 
 class NotApplied(Exception):
@@ -79,7 +88,8 @@ def span_of(function: str, path: str, text: str) -> tuple[int, int]:
         raise NotApplied(f"{path} has {len(named)} functions {function}, and not one")
     indent = re.match(r"\s*", rows[named[0]])
     assert indent, "each line begins with no space or some"
-    end = next(at for at in range(named[0], len(rows)) if rows[at].rstrip() == f"{indent[0]}}}")
+    ends = (f"{indent[0]}}}", f"{indent[0]}{{}}")
+    end = next((at for at in range(named[0], len(rows)) if rows[at].rstrip() in ends), named[0])
     return len("\n".join(rows[: named[0]])), len("\n".join(rows[: end + 1]))
 
 
@@ -245,10 +255,11 @@ def is_named(function: str, folder: str) -> bool:
 
 
 def find_functions(edit: Edit, folder: str) -> None:
-    """Finds the functions that an edit changes, if nothing besides, and whether others may call one
-    whose contract it changes.
+    """Finds the functions that an edit changes, if nothing besides, what they call, and whether
+    others may call one whose contract it changes.
     """
     found: dict[str, bool] = {}
+    calls: set[str] = set()
     before, after = texts_of([edit], folder)
     for path, text in after.items():
         changes = difflib.SequenceMatcher(
@@ -264,6 +275,8 @@ def find_functions(edit: Edit, folder: str) -> None:
         if not names:
             return
         found.update({it: is_above or found.get(it, False) for it, is_above in names.items()})
-    edit.functions, edit.is_apart = {*found}, any(
-        is_above and is_named(it, folder) for it, is_above in found.items()
-    )
+        spans = [span_of(it, path, before[path]) for it in names]
+        bodies = [read(edit.path), *(before[path][first:last] for first, last in spans)]
+        calls.update(*(re.findall(r"\b(\w+)(?:::<[^()]*>)?\(", it) for it in bodies))
+    edit.functions, edit.calls = {*found}, calls
+    edit.is_apart = any(is_above and is_named(it, folder) for it, is_above in found.items())
