@@ -94,22 +94,12 @@ def test_each_public_function_of_the_repository_has_a_wrong_body_or_a_reason() -
 def test_a_function_has_a_wrong_body_or_a_reason(tmp_path: pathlib.Path) -> None:
     lines = "function: Pair::first", "old:         self.0", "new:         self.0 / 2", ""
     crate(tmp_path, "file: src/lib.rt", *lines)
-    rows, faults = own_bodies.table(str(tmp_path), ["pairs"], {}, set())
-    assert rows[1].split() == ["pairs", "2", "1", "1", "0"]
+    rows, faults = own_bodies.table(str(tmp_path), ["pairs"], {})
+    assert rows[1].split() == ["pairs", "2", "1", "0"]
     assert faults == ["pairs Pair::second has no wrong body"]
     excused = {"pairs Pair::second": "it is its field", "pairs Pair::first": "it is its field"}
-    _, faults = own_bodies.table(str(tmp_path), ["pairs"], excused, set())
+    _, faults = own_bodies.table(str(tmp_path), ["pairs"], excused)
     assert faults == ["pairs Pair::first has a wrong body, or isn't there"]
-
-
-def test_an_untried_wrong_body_does_not_count_as_refused(tmp_path: pathlib.Path) -> None:
-    lines = "function: Pair::first", "old:         self.0", "new:         self.0 / 2", ""
-    crate(tmp_path, "file: src/lib.rt", *lines)
-    (tmp_path / "untried.txt").write_text("# not tried\npairs/half\npairs/third\n")
-    untried = own_bodies.untried_in(str(tmp_path / "untried.txt"))
-    rows, faults = own_bodies.table(str(tmp_path), ["pairs"], {"pairs Pair::second": ""}, untried)
-    assert rows[1].split() == ["pairs", "2", "1", "0", "0"]
-    assert faults == ["there is no wrong body pairs/third, said to be untried"]
 
 
 def test_an_unknown_name_is_refused() -> None:

@@ -16,7 +16,7 @@ from tracedesk_dev.edits import (
 
 TRAIT = re.compile(r"^pub (?:unsafe )?trait (\w+)", re.M)
 BLOCK = re.compile(r"(?:pub(?:\([^)]*\))? )?(?:unsafe )?(?:impl|trait)\b")
-HEADS = f"{'crate':16} functions have one refused must-fail"
+HEADS = f"{'crate':16} functions have one must-fail"
 FUNCTION = re.compile(rf"\s*{HEAD}\w+")
 
 
@@ -85,42 +85,33 @@ def with_a_body(edits: Iterable[Edit], folder: str) -> set[str]:
     return found
 
 
-def table(
-    top: str, crates: Iterable[str], excused: dict[str, str], untried: set[str]
-) -> tuple[list[str], list[str]]:
+def table(top: str, crates: Iterable[str], excused: dict[str, str]) -> tuple[list[str], list[str]]:
     """Returns the table by crate, and what is wrong: a function with neither a wrong body nor an
-    excuse, an excuse of a function that has one or isn't there, and an untried wrong body that
-    isn't there."""
+    excuse, and an excuse of a function that has one or isn't there."""
     folders = {it: f"{top}/crates/{it}" for it in crates}
     folders = {it: folder for it, folder in folders.items() if not it.endswith("_tests")}
     traits = own_traits(folders.values())
-    rows, faults, sums = [], [], [0, 0, 0, 0]
+    rows, faults, sums = [], [], [0, 0, 0]
     seen: set[str] = set()
-    labels: set[str] = set()
     for crate, folder in folders.items():
         functions = {*functions_of(folder, traits)}
         gate = edits_in(crate, f"{folder}/must-fail")
         edits = gate + edits_in(crate, f"{folder}/wrong-bodies")
-        labels |= {it.label for it in edits}
         own = with_a_body(edits, folder)
-        tried = with_a_body([it for it in edits if it.label not in untried], folder)
         lacking = [f"{crate} {it}" for it in sorted(functions - own)]
         faults += [f"{it} has no wrong body" for it in lacking if it not in excused]
         seen |= {*lacking}
-        kinds = (functions, own, tried, with_a_body(gate, folder))
+        kinds = (functions, own, with_a_body(gate, folder))
         counts = [len(functions & it) for it in kinds]
         sums = [a + b for a, b in zip(sums, counts)]
         if functions:
             rows.append(line_of(crate, counts))
     faults += [f"{it} has a wrong body, or isn't there" for it in excused if it not in seen]
-    faults += [
-        f"there is no wrong body {it}, said to be untried" for it in sorted(untried - labels)
-    ]
     return [HEADS, *rows, line_of("all", sums)], faults
 
 
 def line_of(crate: str, counts: list[int]) -> str:
-    return f"{crate:16} {counts[0]:9} {counts[1]:8} {counts[2]:7} {counts[3]:9}"
+    return f"{crate:16} {counts[0]:9} {counts[1]:8} {counts[2]:9}"
 
 
 def excuses(path: str) -> dict[str, str]:
@@ -131,9 +122,3 @@ def excuses(path: str) -> dict[str, str]:
         return {}
     lines = [it for it in read(path).split("\n") if it and not it.startswith("#")]
     return {name: why for name, _, why in (it.partition(": ") for it in lines)}
-
-
-def untried_in(path: str) -> set[str]:
-    """Returns the wrong bodies that no run has tried yet, as `CRATE/NAME`."""
-    lines = read(path).split("\n") if os.path.exists(path) else []
-    return {it for it in lines if it and not it.startswith("#")}
