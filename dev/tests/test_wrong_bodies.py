@@ -8,7 +8,8 @@ import sys
 import pytest
 from tracedesk_dev import ROOT, own_bodies
 from tracedesk_dev.edit_names import want_names
-from tracedesk_dev.edits import NotApplied, edits_in, find_functions, name_of_impl, texts_of
+from tracedesk_dev.edits import Edit, NotApplied, edits_in, find_functions, name_of_impl, texts_of
+from tracedesk_dev.verdicts import short, told_of
 
 SOURCE = """pub struct Pair;
 
@@ -100,6 +101,21 @@ def test_a_function_has_a_wrong_body_or_a_reason(tmp_path: pathlib.Path) -> None
     excused = {"pairs Pair::second": "it is its field", "pairs Pair::first": "it is its field"}
     _, faults = own_bodies.table(str(tmp_path), ["pairs"], excused)
     assert faults == ["pairs Pair::first has a wrong body, or isn't there"]
+
+
+def test_a_check_tells_of_a_method_by_the_module_of_its_type() -> None:
+    said = "fn pairs::types::Pair::first: not proved: its goal\nfn pairs::asked::half: proved\n"
+    told = told_of(said, "pairs")
+    assert told[short("asked::Pair::first")] is False
+    assert told[short("asked::half")] is True
+
+
+def test_functions_that_call_one_another_are_tried_apart() -> None:
+    first = Edit("", "pairs/first", functions={"Pair::first"}, calls={"half"})
+    half = Edit("", "pairs/half", functions={"asked::half"})
+    second = Edit("", "pairs/second", functions={"Pair::second"}, calls={"third"})
+    assert first.meets(half) and half.meets(first) and first.meets(first)
+    assert not second.meets(first)
 
 
 def test_an_unknown_name_is_refused() -> None:

@@ -35,3 +35,27 @@ def judged(status: int | None, said: str, changed: Iterable[str]) -> tuple[bool,
     if status == 0:
         return False, "the crate is still proved"
     return False, f"the check ended with status {status} and no verdict: {first_error(said)}"
+
+
+def short(function: str) -> str:
+    """Returns a method's name without its module: an impl may be in another one than its type, and
+    a check tells of the type's.
+    """
+    owner, _, method = function.rpartition("::")
+    name = owner.split("::")[-1]
+    return f"{name}::{method}" if name[:1].isupper() else function
+
+
+def told_of(said: str, crate: str) -> dict[str, bool | None]:
+    """Returns of each function that a check tells of, by its short name, whether it is proved, or
+    None where it may only call one that is not.
+    """
+    told: dict[str, bool | None] = {}
+    for name, verdict, why in re.findall(
+        r"^fn (\S+): (proved|not proved|no proof)(.*)", said, re.M
+    ):
+        own = re.sub(r"it calls .*?, which (?:is|are) not (?:proved|stated)", "", why).strip(":; ")
+        told[short(name.removeprefix(f"{crate}::"))] = verdict == "proved" or (
+            None if why and not own else False
+        )
+    return told
