@@ -1,42 +1,32 @@
 """Names of types and variants in the new texts of edits, looked up in the sources."""
 import functools
 import os
+import pathlib
 import re
-from typing import Iterator
 
-from tracedesk_dev.edits import Edit, NotApplied, files_of, read, texts_of
+from tracedesk_dev import rattle
+from tracedesk_dev.edits import Edit, NotApplied, texts_of
 
 PRELUDE = {"Box", "Default", "Drop", "Err", "None", "Ok", "Option", "Result", "Self", "Some"}
 PRELUDE |= {"String", "Vec"}
 STRING = re.compile(r'b?"(?:[^"\\]|\\.)*"')
 NAME = re.compile(r"(?<![\w:.])((?:[a-z_]\w*::)*)([A-Z]\w*)(?:::([A-Z]\w*))?")
 BROUGHT_IN = re.compile(r"\.\{([^}]*)\}")
-ENUM = re.compile(r"^(?:pub )?enum (\w+)[^{;]*\{\n(.*?)^\}", re.M | re.S)
-
-
-def new_texts(edit: Edit) -> Iterator[tuple[str, str]]:
-    """Yields each new text of an edit without its strings, after the path of its file."""
-    path = ""
-    for line in read(edit.path).split("\n"):
-        word, _, rest = line.partition(":")
-        if word == "file":
-            path = rest.strip()
-        elif word == "new":
-            yield path, STRING.sub("", rest)
 
 
 @functools.cache
 def sources_of(folder: str) -> str:
-    return "\n".join(read(it) for it in files_of(folder, "src") if it.endswith(".rt"))
+    return "\n".join(it.text for it in rattle.sources(pathlib.Path(folder)))
 
 
 @functools.cache
 def variants(crates: str) -> dict[str, str]:
     """Returns the text of the enums of each name, in all crates of a folder."""
     found: dict[str, str] = {}
-    for crate in sorted(os.listdir(crates)):
-        for name, text in ENUM.findall(sources_of(f"{crates}/{crate}")):
-            found[name] = found.get(name, "") + text
+    for crate in sorted(pathlib.Path(crates).iterdir()):
+        for of in rattle.sources(crate):
+            for name, text in of.enums():
+                found[name] = found.get(name, "") + text
     return found
 
 
@@ -48,9 +38,10 @@ def want_names(edit: Edit, folder: str, crates: str) -> None:
     """Refuses an edit that can't be applied, or that names a type or a variant which isn't there:
     a name without a path has to be in the edited file. A check would take minutes to say so."""
     before, _ = texts_of([edit], folder)
-    brought = {it for _, text in new_texts(edit) for it in BROUGHT_IN.findall(text)}
+    texts = [(it.path, STRING.sub("", it.new)) for it in edit.changes]
+    brought = {it for _, text in texts for it in BROUGHT_IN.findall(text)}
     known = PRELUDE | {*re.findall(r"\w+", " ".join(brought))}
-    for path, text in new_texts(edit):
+    for path, text in texts:
         for module, name, variant in NAME.findall(text):
             first = module.partition("::")[0]
             place = folder if first == "crate" else f"{crates}/{first}"

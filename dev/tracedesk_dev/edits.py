@@ -1,26 +1,57 @@
-"""Edits of sources: their texts, and the functions that they change."""
+"""Edits of sources, as wrong bodies and wrong programs: how they are written, the texts that they
+make, and the functions that they change.
+
+A file of edits has those of one source: wrong-bodies/src/reel.edits changes src/reel.rt. Each edit
+is its name in brackets and pairs of texts:
+
+    [seal_forgets_what_was_counted]
+    # why, where the name doesn't say it
+    @ reel::Reel::seal
+    -        self.row = self.row.sealed(at);
+    +        self.row = ReelRow { used: 0, ..self.row.sealed(at) };
+
+A text of lines with `-` occurs once in its source, and those with `+` take its place. A line with
+`@` names the function that has the text, another source, or both.
+"""
 import dataclasses
 import difflib
+import itertools
 import os
 import re
-from typing import Callable, TypeVar
+from typing import Callable, Iterator, NamedTuple, Sequence, TypeVar
 
-# The body of a function with a contract, as `rt fmt` writes it: a caller does not see it.
-HEAD = r"(?:pub(?:\([^)]*\))? )?(?:const )?fn "
-BODY = re.compile(r"^( *)\{\n(?:(?! *(?:pub )?fn ).*\n)*?\1\}$", re.M)
+from tracedesk_dev import rattle
+
+CALLED = re.compile(r"\b(\w+)(?:::<[^()]*>)?\(")
+NAMED = re.compile(r"\[[\w.-]+\]")
+KINDS = {"src": ".rt", "specs": ".antt", "proofs": ".antt"}
 
 
 Judged = TypeVar("Judged")
 
 
-@dataclasses.dataclass
-class Edit:
-    """An edit's file and its name; a sum of the texts that it is tried on; the functions that it
-    changes, if nothing else, and the names of what they call; and whether others may call one whose
-    contract it changes."""
+class NotApplied(Exception):
+    """Why an edit cannot be read or applied."""
+
+
+class Change(NamedTuple):
+    """A text of a source, or of a function of it, and what takes its place."""
 
     path: str
+    function: str
+    old: str
+    new: str
+
+
+@dataclasses.dataclass
+class Edit:
+    """An edit's name and its changes, in order, and why it is there; a sum of the texts that it is
+    tried on; the functions that it changes, if nothing else, and the names of what they call; and
+    whether others may call one whose contract it changes."""
+
     label: str
+    changes: list[Change] = dataclasses.field(default_factory=list)
+    notes: list[str] = dataclasses.field(default_factory=list)
     sum: str = ""
     functions: set[str] = dataclasses.field(default_factory=set)
     calls: set[str] = dataclasses.field(default_factory=set)
@@ -32,10 +63,6 @@ class Edit:
         """
         own, others = ({name.split("::")[-1] for name in it.functions} for it in (self, other))
         return bool(self.functions & other.functions or self.calls & others or other.calls & own)
-
-
-class NotApplied(Exception):
-    """Why an edit cannot be applied."""
 
 
 def read(path: str) -> str:
@@ -50,25 +77,125 @@ def write(path: str, text: str) -> None:
 
 def files_of(folder: str, *parts: str) -> list[str]:
     return sorted(
-        f"{at}/{it}"
-        for part in parts
-        for at, _, found in os.walk(f"{folder}/{part}")
+        os.path.join(at, it)
+        for part in parts or ("",)
+        for at, _, found in os.walk(os.path.join(folder, part))
         for it in found
     )
 
 
-def edits_in(owner: str, *folders: str) -> list[Edit]:
-    """Returns the edits in a crate's folders, or in that of the wrong programs: what lies there and
-    is no page.
-    """
-    paths = [
-        f"{folder}/{it}"
-        for folder in folders
-        if os.path.isdir(folder)
-        for it in sorted(os.listdir(folder))
-    ]
-    labels = {path: os.path.basename(path).removesuffix(".edit") for path in paths}
-    return [Edit(path, f"{owner}/{labels[path]}") for path in paths if not path.endswith(".md")]
+# --- How edits are written
+
+
+def source_of(file: str) -> str:
+    """Returns the source whose edits a file has, as they are named from one folder."""
+    stem = os.path.splitext(file)[0]
+    return stem + KINDS.get(stem.partition("/")[0], "")
+
+
+def sign_of(line: str) -> str:
+    """Returns what kind of line this is: its first letter, or `?` where it is none."""
+    if NAMED.fullmatch(line):
+        return "["
+    return line[:1] if line[:1] in ("", "-", "+", "@", "#") else "?"
+
+
+def edits_in_file(owner: str, path: str, source: str) -> list[Edit]:
+    """Returns the edits of a file, each named after its owner."""
+    found: list[Edit] = []
+    at, above, number = (source, ""), "", 1
+    for sign, group in itertools.groupby(read(path).split("\n"), sign_of):
+        lines = [line[1:] for line in group]
+        changes = found[-1].changes if found else []
+        if sign == "[":
+            found += [Edit(f"{owner}/{it[:-1]}") for it in lines]
+            at = (source, "")
+        elif sign == "+" and above == "-":
+            changes[-1] = changes[-1]._replace(new="\n".join(lines))
+        elif sign == "-" and found:
+            changes.append(Change(*at, "\n".join(lines), ""))
+        elif sign == "@" and found:
+            words = lines[-1].split()
+            at = (*(it for it in words if "." in it), at[0])[0], " ".join(
+                it for it in words if "." not in it
+            )
+        elif sign == "#" and found:
+            found[-1].notes += [it.strip() for it in lines]
+        elif sign:
+            raise NotApplied(f"{path}:{number}: no [NAME], and no line of an edit")
+        above, number = sign, number + len(lines)
+    return found
+
+
+def edit_of_kit(owner: str, path: str) -> Edit:
+    """Returns the edit of a file as Rattle's kit reads it in must-fail, with lines `function:`."""
+    name = os.path.basename(path)
+    edit, at, function, old = Edit(f"{owner}/{name.removesuffix('.edit')}"), "", "", ""
+    if not name.endswith(".edit"):
+        raise NotApplied(f"{path}: its name does not end in .edit")
+    for line in read(path).split("\n"):
+        word, _, rest = line.partition(":")
+        rest = rest.removeprefix(" ")
+        if word == "file":
+            at, function = rest.strip(), ""
+        elif word == "function":
+            function = rest.strip()
+        elif word == "old":
+            old = rest
+        elif word == "new":
+            if not at or not old:
+                raise NotApplied(f"{path}: a 'new:' line has no 'file:' or 'old:' line before it")
+            edit.changes.append(Change(at, function, old, rest))
+            old = ""
+        elif line:
+            edit.notes.append(line)
+    return edit
+
+
+def edits_below(owner: str, folder: str) -> list[Edit]:
+    """Returns the edits of all files in a folder: of a crate's wrong bodies, or wrong programs."""
+    found: list[Edit] = []
+    for path in files_of(folder):
+        if not path.endswith(".edits"):
+            raise NotApplied(f"{path} is no file of edits: `dev/wrong-bodies --take` takes it in")
+        found += edits_in_file(owner, path, source_of(os.path.relpath(path, folder)))
+    return found
+
+
+def edits_of_gate(crate: str, folder: str) -> list[Edit]:
+    """Returns the edits that the gate tries: what lies in must-fail and is no page."""
+    at = f"{folder}/must-fail"
+    names = sorted(os.listdir(at)) if os.path.isdir(at) else []
+    return [edit_of_kit(crate, f"{at}/{it}") for it in names if not it.endswith(".md")]
+
+
+def edits_of(crate: str, folder: str) -> list[Edit]:
+    """Returns all edits of a crate: those that the gate tries, and its wrong bodies."""
+    return edits_of_gate(crate, folder) + edits_below(crate, f"{folder}/wrong-bodies")
+
+
+def lines_of(edit: Edit, source: str) -> Iterator[str]:
+    """Yields the lines of an edit in the file of that source."""
+    at = (source, "")
+    yield f"[{edit.label.rpartition('/')[2]}]"
+    yield from (f"# {it}" for it in edit.notes)
+    for it in edit.changes:
+        if (it.path, it.function) != at:
+            yield " ".join(
+                ("@", *[it.path] * (it.path != at[0]), *[it.function][: len(it.function)])
+            )
+            at = (it.path, it.function)
+        yield from (f"-{line}" for line in it.old.split("\n"))
+        yield from (f"+{line}" for line in it.new.split("\n") if it.new)
+    yield ""
+
+
+def write_edits(path: str, source: str, edits: Sequence[Edit]) -> None:
+    os.makedirs(os.path.dirname(path), exist_ok=True)
+    write(path, "\n".join(line for it in edits for line in lines_of(it, source)))
+
+
+# --- What they make of a source
 
 
 def span_of(function: str, path: str, text: str) -> tuple[int, int]:
@@ -77,61 +204,36 @@ def span_of(function: str, path: str, text: str) -> tuple[int, int]:
     """
     if not function:
         return 0, len(text)
-    rows = text.split("\n")
-    named = [
-        at
-        for at, row in enumerate(rows)
-        if re.match(rf"\s*{HEAD}{function.split('::')[-1]}\b", row)
-        and function in functions_at(path, text, [at])
-    ]
+    named = rattle.source(path, text).named(function)
     if len(named) != 1:
         raise NotApplied(f"{path} has {len(named)} functions {function}, and not one")
-    indent = re.match(r"\s*", rows[named[0]])
-    assert indent, "each line begins with no space or some"
-    ends = (f"{indent[0]}}}", f"{indent[0]}{{}}")
-    end = next((at for at in range(named[0], len(rows)) if rows[at].rstrip() in ends), named[0])
-    return len("\n".join(rows[: named[0]])), len("\n".join(rows[: end + 1]))
+    return named[0].begin, named[0].end
+
+
+def place_of(it: Change, text: str) -> int:
+    """Returns where the old text of a change stands in its source."""
+    first, last = span_of(it.function, it.path, text)
+    if (count := text[first:last].count(it.old)) != 1:
+        where = f"{it.function} of {it.path}" if it.function else it.path
+        raise NotApplied(f"an old text is in {where} {count} times, and not once")
+    return text.index(it.old, first)
 
 
 def texts_of(edits: list[Edit], folder: str) -> tuple[dict[str, str], dict[str, str]]:
     """Returns the texts of the files that edits change, before and after, by their paths in the
     folder.
     """
-    path, function, old = "", "", ""
     before: dict[str, str] = {}
     after: dict[str, str] = {}
-    if not all(it.path.endswith(".edit") for it in edits):
-        raise NotApplied("its name does not end in .edit")
-    for line in [line for it in edits for line in read(it.path).split("\n")]:
-        word, _, rest = line.partition(":")
-        rest = rest[1:] if rest.startswith(" ") else rest
-        if word == "file":
-            path = rest.strip()
-            if (
-                path != os.path.normpath(path)
-                or path.startswith(("/", ".."))
-                or not os.path.isfile(f"{folder}/{path}")
-            ):
-                raise NotApplied(f"there is no file {path}")
-            before.setdefault(path, read(f"{folder}/{path}"))
-            after.setdefault(path, before[path])
-            function = ""
-        elif word == "function":
-            function = rest.strip()
-        elif word == "old":
-            old = rest
-        elif word == "new":
-            if not path or not old:
-                raise NotApplied("a 'new:' line has no 'file:' or 'old:' line before it")
-            first, last = span_of(function, path, after[path])
-            place = after[path][first:last]
-            if place.count(old) != 1:
-                where = f"{function} of {path}" if function else path
-                raise NotApplied(
-                    f"an 'old:' text is in {where} {place.count(old)} times, and not once"
-                )
-            after[path] = after[path][:first] + place.replace(old, rest) + after[path][last:]
-            old = ""
+    for it in (change for edit in edits for change in edit.changes):
+        if it.path != os.path.normpath(it.path) or it.path.startswith(("/", "..")):
+            raise NotApplied(f"{it.path} is no path in the folder")
+        if not os.path.isfile(f"{folder}/{it.path}"):
+            raise NotApplied(f"there is no file {it.path}")
+        before.setdefault(it.path, read(f"{folder}/{it.path}"))
+        text = after.setdefault(it.path, before[it.path])
+        at = place_of(it, text)
+        after[it.path] = text[:at] + it.new + text[at + len(it.old) :]
     if before == after:
         raise NotApplied("it changes nothing")
     return before, after
@@ -149,100 +251,42 @@ def with_edits(edits: list[Edit], folder: str, judge: Callable[[dict[str, str]],
             write(f"{folder}/{path}", text)
 
 
-def owner_name(text: str) -> str:
-    """Returns the name of an impl's type: of a tuple its length, then the parts that are no type
-    parameters, and `Ref` before a type that is borrowed.
-    """
-    text = re.sub(r"^&'\w+\s", "&", text.strip())
-    if text.startswith("&"):
-        return "Ref" + owner_name(text[1:])
-    if not text.startswith("("):
-        name = re.sub(r"<.*", "", text).split("::")[-1]
-        return name[:1].upper() + name[1:]
-    depth, parts = 0, [""]
-    for c in text[1:-1]:
-        depth += (c in "(<") - (c in ")>")
-        if c == "," and depth == 0:
-            parts.append("")
-        else:
-            parts[-1] += c
-    names = [owner_name(it) for it in parts if it.strip()]
-    return f"Tuple{len(names)}" + "".join(it for it in names if len(it) > 1)
+def take_in(path: str) -> str:
+    """Moves the edit of a file of the kit's form, right in a crate's wrong-bodies or must-fail or
+    in wrong-programs, into the file of its source, in the order of the source's text. It replaces
+    one of its name. Returns that file."""
+    folder = os.path.dirname(os.path.abspath(path))
+    base = os.path.dirname(folder)
+    edit = edit_of_kit(os.path.basename(base), path)
+    texts_of([edit], base)
+    is_program = os.path.basename(folder) == "wrong-programs"
+    place = folder if is_program else f"{base}/wrong-bodies"
+    stem = "programs" if is_program else os.path.splitext(edit.changes[0].path)[0]
+    target = f"{place}/{stem}.edits"
+    for file in {target, *(it for it in files_of(place) if it.endswith(".edits"))}:
+        source = source_of(os.path.relpath(file, place))
+        old = edits_in_file("", file, source) if os.path.exists(file) else []
+        new = [it for it in old if it.label.strip("/") != edit.label.split("/")[1]]
+        if file == target:
+            new = sorted([*new, edit], key=lambda it: order_in(base, it))
+        if new and new != old:
+            write_edits(file, source, new)
+        elif not new:
+            os.unlink(file)
+    os.unlink(path)
+    return target
 
 
-def name_of_impl(head: str) -> str:
-    """Returns the name by which a check tells of an impl's functions: its type, then its trait with
-    its arguments.
-    """
-    depth, plain = 0, ""
-    for at, c in enumerate(head):
-        depth += c == "<"
-        if depth == 0:
-            plain += c
-        elif c.isalnum() or c in "_,<":
-            plain += c if depth else ""
-        depth -= c == ">" and head[at - 1] != "-"
-    trait, _, owner = plain.removeprefix("impl").partition(" for ")
-    if not owner:
-        trait, owner = "", trait
-    if trait.startswith("<"):
-        trait = re.sub(r"^<\S*", "", trait)
-
-    def word(text: str) -> str:
-        return re.sub(r"<.*", "", text.strip().lstrip("&")).split("::")[-1]
-
-    owner = owner_name(re.sub(r"^<\S*\s", "", owner.split(" where ")[0].rstrip(" {")))
-    args = re.search(r"<(.*)", trait)
-    words = re.findall(r"\w+", args[1]) if args else []
-    return owner + word(trait) + "".join(it[0].upper() + it[1:] for it in words)
+def order_in(folder: str, edit: Edit) -> tuple[str, int]:
+    """By what the edits of a file stand in order: the place of their first text."""
+    it = edit.changes[0]
+    try:
+        return it.path, place_of(it, read(f"{folder}/{it.path}"))
+    except (NotApplied, OSError):
+        return it.path, -1
 
 
-def functions_at(path: str, text: str, lines: list[int]) -> dict[str, bool]:
-    """Returns the functions that hold these lines, each with whether one is above its body, or
-    nothing where a line is in none.
-    """
-    rows = text.split("\n")
-    found: dict[str, bool] = {}
-    module = [
-        it
-        for it in path.removeprefix("src/").removesuffix(".rt").split("/")
-        if it not in ("lib", "main")
-    ]
-    for line in lines:
-        for at in range(line, -1, -1):
-            head = re.match(rf"(\s*){HEAD}(\w+)", rows[at])
-            ends = (f"{head[1]}}}", f"{head[1]}{{}}") if head else ()
-            end = (
-                next((it for it in range(at, len(rows)) if rows[it].rstrip() in ends), at)
-                if head
-                else -1
-            )
-            if end >= line:
-                break
-        else:
-            return {}
-        owner = []
-        assert head, "the loop has ended at a function"
-        if head[1]:
-            above = next(
-                (
-                    it
-                    for it in range(at, -1, -1)
-                    if re.match(r"(?:pub )?(?:impl|trait)\b", rows[it])
-                ),
-                None,
-            )
-            if above is None:
-                return {}
-            block = " ".join(it.strip() for it in rows[above:at])
-            trait = re.match(r"(?:pub )?trait (\w+)", block)
-            owner = [trait[1] if trait else name_of_impl(block.split("{")[0])]
-        name = "::".join([*module, *owner, head[2]])
-        begins = next(
-            (it for it in range(at, end) if re.match(rf"{head[1]}(?! ).*\{{$", rows[it])), end
-        )
-        found[name] = found.get(name, False) or line <= begins
-    return found
+# --- The functions that they change
 
 
 def is_named(function: str, folder: str) -> bool:
@@ -262,21 +306,16 @@ def find_functions(edit: Edit, folder: str) -> None:
     calls: set[str] = set()
     before, after = texts_of([edit], folder)
     for path, text in after.items():
-        changes = difflib.SequenceMatcher(
-            None, before[path].split("\n"), text.split("\n"), False
-        ).get_opcodes()
-        lines = [
-            it
-            for word, first, last, *_ in changes
-            if word != "equal"
-            for it in range(first, max(last, first + 1))
-        ]
-        names = functions_at(path, before[path], lines) if path.startswith("src/") else {}
-        if not names:
-            return
-        found.update({it: is_above or found.get(it, False) for it, is_above in names.items()})
-        spans = [span_of(it, path, before[path]) for it in names]
-        bodies = [read(edit.path), *(before[path][first:last] for first, last in spans)]
-        calls.update(*(re.findall(r"\b(\w+)(?:::<[^()]*>)?\(", it) for it in bodies))
-    edit.functions, edit.calls = {*found}, calls
+        of = rattle.source(path, before[path])
+        matched = difflib.SequenceMatcher(None, of.text.split("\n"), text.split("\n"), False)
+        for word, first, last, *_ in matched.get_opcodes():
+            for line in range(first + 1, max(last, first + 1) + 1) if word != "equal" else ():
+                function = of.at_line(line)
+                if function is None:
+                    return
+                name = function.full_name
+                found[name] = found.get(name, False) or line <= of.body_line(function)
+                calls.update(CALLED.findall(of.text[function.begin : function.end]))
+    edit.functions = {*found}
+    edit.calls = calls.union(*(CALLED.findall(it.new) for it in edit.changes))
     edit.is_apart = any(is_above and is_named(it, folder) for it, is_above in found.items())

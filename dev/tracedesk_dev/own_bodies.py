@@ -1,74 +1,37 @@
 """Which public functions have a wrong body: an edit that changes their own code."""
 import os
-import re
-from typing import Iterable, Iterator
+import pathlib
+from typing import Iterable
 
-from tracedesk_dev.edits import (
-    HEAD,
-    Edit,
-    NotApplied,
-    edits_in,
-    files_of,
-    find_functions,
-    functions_at,
-    read,
-)
+from tracedesk_dev import rattle
+from tracedesk_dev.edits import Edit, NotApplied, edits_below, edits_of_gate, find_functions, read
 
-TRAIT = re.compile(r"^pub (?:unsafe )?trait (\w+)", re.M)
-BLOCK = re.compile(r"(?:pub(?:\([^)]*\))? )?(?:unsafe )?(?:impl|trait)\b")
 HEADS = f"{'crate':16} functions have one must-fail"
-FUNCTION = re.compile(rf"\s*{HEAD}\w+")
 
 
-def sources(folder: str) -> list[str]:
-    """Returns the sources of a crate that are no tests."""
-    return [
-        it for it in files_of(folder, "src") if not re.search(r"/tests?[/.]", it[len(folder) :])
-    ]
+def code_of(folder: str) -> list[rattle.Source]:
+    """The sources of a crate that are no tests."""
+    return [it for it in rattle.sources(pathlib.Path(folder)) if not rattle.is_test(it.path)]
 
 
 def own_traits(folders: Iterable[str]) -> set[str]:
-    return {
-        name for folder in folders for it in sources(folder) for name in TRAIT.findall(read(it))
-    }
+    blocks = (block for folder in folders for it in code_of(folder) for block in it.blocks)
+    return {it.trait for it in blocks if it.is_trait and it.is_public}
 
 
-def is_of_own_trait(head: str, traits: set[str]) -> bool:
-    trait = re.match(r"(?:unsafe )?impl(?:<.*?>)? (?:\w+::)*(\w+)\b.* for ", head)
-    return bool(trait) and trait[1] in traits if trait else False
-
-
-def lines_with_code(rows: list[str], traits: set[str]) -> Iterator[int]:
-    """Yields the lines at which public functions begin, and methods of our own traits, but for laws
-    without code.
-    """
-    head = ""
-    for at, row in enumerate(rows):
-        if BLOCK.match(row):
-            head = row
-        elif row.startswith("}"):
-            head = ""
-        if not FUNCTION.match(row) or "trait" in head.split("{")[0].split():
-            continue
-        indent = re.match(r"\s*", row)
-        assert indent, "each line begins with no space or some"
-        ends = (f"{indent[0]}}}", f"{indent[0]}{{}}")
-        end = "{}" if row.endswith("{}") else next(it for it in rows[at:] if it.rstrip() in ends)
-        is_public = row.strip().startswith("pub ") and " for " not in head
-        if end.strip() == "}" and (is_public or is_of_own_trait(head, traits)):
-            yield at
+def has_code(it: rattle.Function, traits: set[str]) -> bool:
+    """Whether a function has code, and is public or a method of one of our traits: no law, and no
+    head in a trait."""
+    if it.is_empty or it.block and it.block.is_trait:
+        return False
+    trait = it.block.trait if it.block else ""
+    return trait in traits if trait else it.is_public
 
 
 def functions_of(folder: str, traits: set[str]) -> list[str]:
-    """Returns the public functions of a crate that have code, as a check names them, in the order
-    of its files.
-    """
-    found: list[str] = []
-    for path in sources(folder):
-        text = read(path)
-        for at in lines_with_code(text.split("\n"), traits):
-            found += functions_at(path[len(folder) + 1 :], text, [at])
-    return found
+    """The public functions of a crate that have code, as a check names them."""
+    functions = (function for it in code_of(folder) for function in it.functions)
+    return [it.full_name for it in functions if has_code(it, traits)]
 
 
 def with_a_body(edits: Iterable[Edit], folder: str) -> set[str]:
@@ -95,8 +58,8 @@ def table(top: str, crates: Iterable[str], excused: dict[str, str]) -> tuple[lis
     seen: set[str] = set()
     for crate, folder in folders.items():
         functions = {*functions_of(folder, traits)}
-        gate = edits_in(crate, f"{folder}/must-fail")
-        edits = gate + edits_in(crate, f"{folder}/wrong-bodies")
+        gate = edits_of_gate(crate, folder)
+        edits = gate + edits_below(crate, f"{folder}/wrong-bodies")
         own = with_a_body(edits, folder)
         lacking = [f"{crate} {it}" for it in sorted(functions - own)]
         faults += [f"{it} has no wrong body" for it in lacking if it not in excused]

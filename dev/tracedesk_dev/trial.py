@@ -12,10 +12,9 @@ import socket
 import sqlite3
 import subprocess
 import sys
-import tempfile
 import time
 import types
-from typing import Any, Callable, Iterator, Sequence
+from typing import Any, Iterator, Sequence
 
 from tracedesk_dev.ports import lent
 
@@ -27,32 +26,12 @@ class Difference(Exception):
     """What is not as it has to be."""
 
 
-FAULTS = (Difference, OSError, sqlite3.Error, subprocess.SubprocessError)  # what fails a try
-
-
 def wanting(wanted: dict[str, str]) -> list[str]:
     """The packages of Debian that are not here, of those that bring these commands."""
     path = os.environ["PATH"] + ":/usr/sbin"
     return [
         package for command, package in wanted.items() if shutil.which(command, path=path) is None
     ]
-
-
-def tried(calls: Sequence[Callable[..., object]], *given: object, folder: str | None = None) -> int:
-    """Calls each with what is given and a fresh folder: a line with what it returns, or why it
-    failed; the status of all.
-    """
-    failed = 0
-    for call in calls:
-        name = call.__name__.replace("_", " ")
-        with tempfile.TemporaryDirectory(dir=folder) as room:
-            try:
-                print(f"ok      {name}: {call(*given, pathlib.Path(room))}", flush=True)
-            except FAULTS as fault:
-                failed += 1
-                print(f"FAILED  {name}: {fault}", flush=True)
-    print(f"{len(calls) - failed} passed, {failed} failed")
-    return 1 if failed else 0
 
 
 def loaded(path: str) -> types.ModuleType:
@@ -151,7 +130,3 @@ def memory_of(process: subprocess.Popen[bytes], name: str) -> int:
     return 1_024 * next(
         int(line.split()[1]) for line in status.splitlines() if line.startswith(f"{name}:")
     )
-
-
-def has_serve(program: str) -> bool:
-    return b"serve" in subprocess.run([program, "--help"], capture_output=True).stdout
