@@ -1,0 +1,10 @@
+pub mod Book
+pub mod Causes
+pub mod Doubt
+pub mod Go
+pub mod Guard
+pub mod Holds
+pub mod Restored
+pub mod Rows
+pub mod Setup
+pub mod Undecided
