@@ -21,11 +21,12 @@ mod version;
 mod writing;
 
 pub use edit::Accepted;
-pub use making::make;
+pub use making::{make, make_all};
 pub use migrating::migrate_tables;
 pub use naming::{has_accepted, has_our_name, has_state, has_version};
 pub use reading::{MOST_COUNTED, count, count_of, find, is_repeat, least_number, least_of, row_at};
 pub use rowids::are_apart;
 pub use shown::placements_between;
+pub use statement::run;
 pub use version::{Version, find_version};
-pub use writing::append;
+pub use writing::{append, put_all};

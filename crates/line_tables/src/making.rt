@@ -72,7 +72,8 @@ pub fn make<S: Alter>(conn: &mut Connection<S>, greatest: u32) -> Result<(), Err
     tx.commit()
 }
 
-fn make_all<S: Alter>(tx: &mut Transaction<'_, S>, greatest: u32) -> Result<(), Error>
+/// Creates the tables of an empty history within the transaction of the caller, who commits it or not.
+pub fn make_all<S: Alter>(tx: &mut Transaction<'_, S>, greatest: u32) -> Result<(), Error>
     ensures made { HasCleanDisk (state S.Store tx.new.conn.now)
         → OnOk result (Makes greatest (state S.Store tx.old.conn.now)
         (state S.Store tx.new.conn.now)) }

@@ -55,7 +55,9 @@ pub fn append<S: Alter>(
     tx.commit()
 }
 
-fn put_all<S: Alter>(
+/// Writes the row of an accepted command and the edits of the state tables, in their order, within the transaction of
+/// the caller, who commits it or not. An error leaves it open, with a part of them.
+pub fn put_all<S: Alter>(
     alloc: Global,
     tx: &mut Transaction<'_, S>,
     row: &Accepted,

@@ -1,0 +1,10 @@
+pub mod Both
+pub mod CheckedRows
+pub mod Columns
+pub mod Counts
+pub mod Found
+pub mod Openings
+pub mod PutEntries
+pub mod ReadEntries
+pub mod Stays
+pub mod Texts
