@@ -1,0 +1,5 @@
+pub mod Columns
+pub mod Refusal
+pub mod Rows
+pub mod Told
+pub mod Unread
