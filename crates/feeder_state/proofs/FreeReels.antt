@@ -1,21 +1,25 @@
 -- Free reels in their order, whichever is looked at first.
-use Rattle.desk_types.proofs.Common.{[], ◌&&◌, ◌++◌, ◌||◌, ◌∙◌, ◌∷◌, ◌≡◌, ap, Bool, by_name, by_turn}
-use Rattle.desk_types.proofs.Common.{CmpEqualImpliesEq, cond, cons_option, Equal, exact_bytes, false, filter}
-use Rattle.desk_types.proofs.Common.{Greater, History, in_order, insert_key, is_allowed, is_at, is_at-by_name}
-use Rattle.desk_types.proofs.Common.{is_expired, is_free, is_mounted, is_some, is_unbaked, IsJudged}
-use Rattle.desk_types.proofs.Common.{IsTotalOrder, left_of, Less, life_left, List, list_any-append}
-use Rattle.desk_types.proofs.Common.{list_any-same, map, Name, nat_cmp, nat_cmp_total, nat_list_cmp_total}
-use Rattle.desk_types.proofs.Common.{nat_lt, None, not, now_of, on_total, option_map, option_map_or}
-use Rattle.desk_types.proofs.Common.{option_or, Ordering, ordering_then, part_of, receipt_by, receipt_of}
-use Rattle.desk_types.proofs.Common.{received_by, reels_received, refl, same, same-sym, Some, subst, sym}
-use Rattle.desk_types.proofs.Common.{then_total, true, ℕ}
+use Rattle.desk_types.proofs.Common.{[], ap, Bool, BTreeMap, by_name, by_turn, CmpEqualImpliesEq}
+use Rattle.desk_types.proofs.Common.{cond, cons_option, Equal, exact_bytes, false, filter, flat_map}
+use Rattle.desk_types.proofs.Common.{Greater, History, in_order, insert_key, is_allowed}
+use Rattle.desk_types.proofs.Common.{is_alternate, is_at, is_at-by_name, is_expired, is_free}
+use Rattle.desk_types.proofs.Common.{is_mounted, is_some, is_unbaked, IsJudged, IsTotalOrder}
+use Rattle.desk_types.proofs.Common.{left_of, Less, life_left, List, list_any, list_any-append}
+use Rattle.desk_types.proofs.Common.{list_any-same, map, Name, nat_cmp, nat_cmp_total}
+use Rattle.desk_types.proofs.Common.{nat_list_cmp_total, nat_lt, None, not, now_of, on_total}
+use Rattle.desk_types.proofs.Common.{Option, option_map, option_map_or, option_or, or_left}
+use Rattle.desk_types.proofs.Common.{or_right, Ordering, ordering_then, part_of, receipt_by}
+use Rattle.desk_types.proofs.Common.{receipt_of, received_by, reels_received, refl, same, same-sym}
+use Rattle.desk_types.proofs.Common.{same-true, Some, subst, sym, then_total, true, ℕ, ◌&&◌, ◌++◌}
+use Rattle.desk_types.proofs.Common.{◌||◌, ◌∙◌, ◌∷◌, ◌≡◌}
 use Rattle.desk_laws.proofs.Common.{Command, Left, Minutes, Receipt, ReelReceived, Two, Unbaked, Unlimited}
 use Rattle.desk_laws.proofs.Mounts.{has, has-filter}
 use Rattle.desk_types.specs.Free.{by_left}
 use Rattle.feeder_state.{proofs.AtRest.rests-received, proofs.NamesInOrder.in_order-same}
-use Rattle.feeder_state.{specs.Resting.is_resting, specs.Resting.rests}
+use Rattle.feeder_state.{specs.Sets.is_name_at, specs.Sets.names_at, specs.Resting.rests}
 use Rattle.judging.{proofs.FreeReels.turn-put, specs.Turns.by_life, specs.Turns.if_free, specs.Turns.turn_of}
-use Rattle.std.{specs.BTreeSet.BTreeSet, specs.Ordering.on, specs.Ordering.then_cmp}
+use Rattle.std.specs.BTreeMap as tree
+use Rattle.std.{specs.BTreeSet.BTreeSet, specs.BTreeSet.contains, specs.Ordering.on, specs.Ordering.then_cmp}
 
 -- ---- the order
 
@@ -107,11 +111,46 @@ free-rests H part reel =
     by true false some c d is = cc
     by false off some c d is = cc
 
--- The free reels among those that may be at rest are those of the history.
-pub free-resting : (H : History) (part : Name) (resting : BTreeSet Name) → IsJudged Two H → ((r : Name) → rests H r ≡ true → is_resting resting r ≡ true)
-    → free_in H part resting.keys ≡ free_in H part (reels_received H)
-free-resting H part resting judged all =
-    free-same H part resting.keys (reels_received H) (λ r free.
+free-allowed : (H : History) (part reel : Name) → is_free H part reel ≡ true → is_allowed H part (part_of H reel) ≡ true
+free-allowed H part reel =
+    by (is_allowed H part (part_of H reel)) (not (is_mounted H reel)) (nat_lt 0 (left_of H reel)) (not (is_unbaked H reel)) (not (is_expired H reel (now_of H)))
+  where
+    by : (a b c d e : Bool) → (a && b && c && d && e) ≡ true → a ≡ true
+    by true b c d e is = refl
+    by false b c d e is = is
+
+pub in-part : (resting : BTreeMap Name (BTreeSet Name)) (part r : Name) → is_name_at resting part r ≡ has (names_at resting part) r
+in-part resting part r = by (tree.get by_name resting part)
+  where
+    by : (found : Option (BTreeSet Name)) → option_map_or (λ (reels : BTreeSet Name). contains by_name reels r) found false
+        ≡ has (option_map_or (λ (reels : BTreeSet Name). reels.keys) found []) r
+    by None = refl
+    by (Some reels) = list_any-same (is_at (by_name r)) (same r) (is_at-by_name r) reels.keys
+
+in-others : (resting : BTreeMap Name (BTreeSet Name)) (others : List Name) (q r : Name) → has others q ≡ true → has (names_at resting q) r ≡ true
+    → has (flat_map (names_at resting) others) r ≡ true
+in-others resting [] q r there rest = cc
+in-others resting (x ∷ xs) q r there rest = list_any-append (same r) (names_at resting x) (flat_map (names_at resting) xs) ∙ by (same q x) refl there (λ later. in-others resting xs q r later rest)
+  where
+    by : (b : Bool) → same q x ≡ b → (b || has xs q) ≡ true → (has xs q ≡ true → has (flat_map (names_at resting) xs) r ≡ true) → (has (names_at resting x) r || has (flat_map (names_at resting) xs) r) ≡ true
+    by true one there others = or_left _ _ (ap (λ n. has (names_at resting n) r) (sym (same-true q x one)) ∙ rest)
+    by false away there others = or_right _ _ (others there)
+
+-- The free reels among those of the part and its alternates that may be at rest are those of the history.
+pub free-resting : (H : History) (part : Name) (others : List Name) (resting : BTreeMap Name (BTreeSet Name)) → IsJudged Two H
+    → ((r : Name) → rests H r ≡ true → is_name_at resting (part_of H r) r ≡ true) → ((q : Name) → list_any (same q) others ≡ is_alternate H part q)
+    → free_in H part (names_at resting part ++ flat_map (names_at resting) others) ≡ free_in H part (reels_received H)
+free-resting H part others resting judged all named =
+    free-same H part (names_at resting part ++ flat_map (names_at resting) others) (reels_received H) (λ r free.
     let rest = free-rests H part r free in
-    sym (list_any-same (is_at (by_name r)) (same r) (is_at-by_name r) resting.keys) ∙ all r rest
+    there r (free-allowed H part r free) (sym (in-part resting (part_of H r) r) ∙ all r rest)
     ∙ sym (sym (received-has H r) ∙ rests-received H r judged rest))
+  where
+    there : (r : Name) → is_allowed H part (part_of H r) ≡ true → has (names_at resting (part_of H r)) r ≡ true
+        → has (names_at resting part ++ flat_map (names_at resting) others) r ≡ true
+    there r may rest = list_any-append (same r) (names_at resting part) (flat_map (names_at resting) others) ∙ by (same (part_of H r) part) refl may
+      where
+        by : (b : Bool) → same (part_of H r) part ≡ b → (b || is_alternate H part (part_of H r)) ≡ true
+            → (has (names_at resting part) r || has (flat_map (names_at resting) others) r) ≡ true
+        by true one may = or_left _ _ (ap (λ n. has (names_at resting n) r) (sym (same-true (part_of H r) part one)) ∙ rest)
+        by false away may = or_right _ _ (in-others resting others (part_of H r) r (named (part_of H r) ∙ may) rest)

@@ -4,6 +4,7 @@ pub mod Noted
 pub mod Resting
 pub mod Restored
 pub mod Rows
+pub mod Sets
 pub mod Setup
 pub mod Spending
 pub mod State

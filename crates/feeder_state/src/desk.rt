@@ -353,6 +353,7 @@ impl Desk for StateDesk {
             self.alloc,
             &self.rows,
             &self.floor,
+            &self.setup,
             self.minute,
             self.rows.alternate_set(),
             part,

@@ -19,12 +19,12 @@ use state_rows::RowSet;
 use std::alloc::{AllocError, Global};
 use std::collections::{BTreeMap, BTreeSet};
 
-/// The shop floor, in addition to the rows: the live reels of each slot in their order, and a superset of the reels at
-/// rest, which have pieces left and are on no slot.
+/// The shop floor, in addition to the rows: the live reels of each slot in their order, and the reels of each part that
+/// may be at rest, with pieces left and on no slot.
 #[derive(Drop)]
 pub struct Floor {
     pub tapes: BTreeMap<(Id, Id), Tape>,
-    pub resting: BTreeSet<Id>,
+    pub resting: BTreeMap<Id, BTreeSet<Id>>,
 }
 
 impl Floor {
@@ -34,7 +34,7 @@ impl Floor {
     {
         Floor {
             tapes: BTreeMap::new(alloc),
-            resting: BTreeSet::new(alloc),
+            resting: BTreeMap::new(alloc),
         }
     }
 
@@ -62,7 +62,7 @@ impl Floor {
             self.note_takes(rows, command, takes, spends);
             return Ok(());
         }
-        note_resting(&mut self.resting, &self.tapes, command)?;
+        note_resting(alloc, rows, &mut self.resting, &self.tapes, command)?;
         note_tape(alloc, &mut self.tapes, command)?;
         Ok(())
     }

@@ -1,7 +1,7 @@
 //! The reels that could be loaded for a part.
 
-ghost use Rattle.std.specs.Prelude.{◌≡◌, Some, map, IfOk};
-ghost use Rattle.std.specs.List.{filter, filter_map};
+ghost use Rattle.std.specs.Prelude.{◌≡◌, ◌++◌, List, Some, map, IfOk, OnOk};
+ghost use Rattle.std.specs.List.{filter, filter_map, flat_map};
 ghost use Rattle.std.specs.Option.{option_map};
 ghost use Rattle.desk_types.specs.Id.{Name};
 ghost use Rattle.desk_types.specs.History.{History, now_of};
@@ -13,9 +13,12 @@ ghost use Rattle.setup_sheets.specs.Alternates.{AreAlternates};
 ghost use Rattle.judging.specs.Turns.{turn_of, if_free};
 ghost use Rattle.feeder_state.specs.Rows.{AreRowsAt};
 ghost use Rattle.feeder_state.specs.Floor.{IsFloor};
+ghost use Rattle.feeder_state.specs.Sets.{names_at};
+ghost use Rattle.feeder_state.specs.Setup.{IsSetup};
 
 use crate::floor::Floor;
 use crate::resting::is_at_rest;
+use crate::setup::Setup;
 use crate::views::reel_view_at;
 use desk_types::{Id, Left, Listing, Minute, ReelRow, ReelView, ReelViews};
 use judging::lives::{is_usable, life_left};
@@ -70,26 +73,121 @@ fn turn_at(
     turn_of(row, rows.is_mounted(name), minute, alternates, part, name)
 }
 
-/// The turns of the free reels, which are among those that may be at rest. The set orders them,
-/// whichever reel is looked at first.
-fn turns(
-    alloc: Global,
+/// Adds the turns of the free reels among these. The set orders them, whichever reel is looked at first.
+fn put_turns(
+    turns: &mut BTreeSet<(Left, Id)>,
+    rows: &RowSet,
+    minute: Minute,
+    alternates: &Alternates,
+    part: &Id,
+    reels: &BTreeSet<Id>,
+) -> Result<(), AllocError>
+    ensures { (H : History) (names : List Name) → AreRowsAt H (Some minute) rows.now
+        → AreAlternates H alternates.now
+        → turns.old.keys ≡ map (turn_of H)
+        (in_order (by_turn H) (filter (is_free H part.now) names))
+        → OnOk result (turns.new.keys ≡ map (turn_of H)
+        (in_order (by_turn H) (filter (is_free H part.now) (names ++ reels.now.keys)))) }
+{
+    for name in reels {
+        insert_if(turns, turn_at(rows, minute, alternates, part, name))?;
+    }
+    Ok(())
+}
+
+/// Adds the turns of the free reels among those of one part that may be at rest.
+fn put_part(
+    turns: &mut BTreeSet<(Left, Id)>,
     rows: &RowSet,
     floor: &Floor,
     minute: Minute,
     alternates: &Alternates,
     part: &Id,
+    used: &Id,
+) -> Result<(), AllocError>
+    ensures { (H : History) (names : List Name) → AreRowsAt H (Some minute) rows.now
+        → AreAlternates H alternates.now
+        → turns.old.keys ≡ map (turn_of H)
+        (in_order (by_turn H) (filter (is_free H part.now) names))
+        → OnOk result (turns.new.keys ≡ map (turn_of H)
+        (in_order (by_turn H)
+        (filter (is_free H part.now) (names ++ names_at floor.now.resting used.now)))) }
+{
+    if let Some(reels) = floor.resting.get(used) {
+        put_turns(turns, rows, minute, alternates, part, reels)?;
+    }
+    Ok(())
+}
+
+/// Adds the turns of the free reels among those of these parts that may be at rest.
+fn put_others(
+    turns: &mut BTreeSet<(Left, Id)>,
+    rows: &RowSet,
+    floor: &Floor,
+    minute: Minute,
+    alternates: &Alternates,
+    part: &Id,
+    others: &BTreeSet<Id>,
+) -> Result<(), AllocError>
+    ensures { (H : History) (names : List Name) → AreRowsAt H (Some minute) rows.now
+        → AreAlternates H alternates.now
+        → turns.old.keys ≡ map (turn_of H)
+        (in_order (by_turn H) (filter (is_free H part.now) names))
+        → OnOk result (turns.new.keys ≡ map (turn_of H)
+        (in_order (by_turn H) (filter (is_free H part.now)
+        (names ++ flat_map (names_at floor.now.resting) others.now.keys)))) }
+{
+    for other in others {
+        put_part(turns, rows, floor, minute, alternates, part, other)?;
+    }
+    Ok(())
+}
+
+/// Adds the turns of the free reels among those of the part's alternates that may be at rest.
+fn put_alternates(
+    turns: &mut BTreeSet<(Left, Id)>,
+    rows: &RowSet,
+    floor: &Floor,
+    setup: &Setup,
+    minute: Minute,
+    alternates: &Alternates,
+    part: &Id,
+) -> Result<(), AllocError>
+    ensures { (H : History) (names : List Name) → AreRowsAt H (Some minute) rows.now
+        → AreAlternates H alternates.now
+        → turns.old.keys ≡ map (turn_of H)
+        (in_order (by_turn H) (filter (is_free H part.now) names))
+        → OnOk result (turns.new.keys ≡ map (turn_of H)
+        (in_order (by_turn H) (filter (is_free H part.now)
+        (names ++ flat_map (names_at floor.now.resting)
+        (names_at setup.now.alternates part.now))))) }
+{
+    if let Some(others) = setup.alternates.get(part) {
+        put_others(turns, rows, floor, minute, alternates, part, others)?;
+    }
+    Ok(())
+}
+
+/// The turns of the free reels, which are among those of the part and of its alternates that may be
+/// at rest.
+fn turns(
+    alloc: Global,
+    rows: &RowSet,
+    floor: &Floor,
+    setup: &Setup,
+    minute: Minute,
+    alternates: &Alternates,
+    part: &Id,
 ) -> Result<BTreeSet<(Left, Id)>, AllocError>
     ensures { (H : History) → AreRowsAt H (Some minute) rows.now → IsFloor H floor.now
-        → AreAlternates H alternates.now
+        → IsSetup H setup.now → AreAlternates H alternates.now
         → IfOk result
         (λ turns. turns.keys ≡ map (turn_of H)
         (in_order (by_turn H) (filter (is_free H part.now) (reels_received H)))) }
 {
     let mut turns = BTreeSet::new(alloc);
-    for name in &floor.resting {
-        insert_if(&mut turns, turn_at(rows, minute, alternates, part, name))?;
-    }
+    put_part(&mut turns, rows, floor, minute, alternates, part, part)?;
+    put_alternates(&mut turns, rows, floor, setup, minute, alternates, part)?;
     Ok(turns)
 }
 
@@ -115,18 +213,19 @@ pub fn free_reels(
     alloc: Global,
     rows: &RowSet,
     floor: &Floor,
+    setup: &Setup,
     minute: Option<Minute>,
     alternates: &Alternates,
     part: &Id,
 ) -> Result<ReelViews, AllocError>
     ensures { (H : History) → AreRowsAt H minute rows.now → IsFloor H floor.now
-        → AreAlternates H alternates.now
+        → IsSetup H setup.now → AreAlternates H alternates.now
         → IfOk result (λ reels. reels ≡ free_reels H part.now) }
 {
     let Some(minute) = minute else {
         return Ok(Listing::new(Vec::new(alloc)));
     };
-    let turns = turns(alloc, rows, floor, minute, alternates, part)?;
+    let turns = turns(alloc, rows, floor, setup, minute, alternates, part)?;
     let views = views_of(alloc, rows, minute, &turns)?;
     Ok(Listing::new(views))
 }

@@ -9,6 +9,7 @@ mod groups;
 mod placed;
 mod resting;
 mod same_state;
+mod sets;
 mod setup;
 mod tape;
 mod tapes;

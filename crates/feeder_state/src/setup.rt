@@ -1,4 +1,4 @@
-//! The setup: the sheets with their look-ups.
+//! The setup: the sheets with their look-ups, and the alternates of each part.
 
 mod rows;
 
@@ -7,21 +7,25 @@ ghost use Rattle.std.specs.Option.{option_copied, option_or};
 ghost use Rattle.desk_types.specs.declared.command.Entry.{Entry as Accepted};
 ghost use Rattle.desk_types.specs.Id.{Name, same};
 ghost use Rattle.desk_types.specs.History.{History};
-ghost use Rattle.desk_types.specs.Setup.{sheet_by, sheet_of};
+ghost use Rattle.desk_types.specs.Setup.{allows, sheet_by, sheet_of};
 ghost use Rattle.desk_types.specs.View.{defines_on, has_sheet};
 ghost use Rattle.feeder_state.specs.Setup.{IsSetup, sheet_at, is_sheeted};
+ghost use Rattle.feeder_state.specs.Sets.{is_name_at};
 
 pub use self::rows::setup_of;
+use crate::sets::put_name;
 use desk_types::{Command, Id, SheetRows};
 use setup_sheets::Sheet;
 use std::alloc::{AllocError, Global};
 use std::collections::{BTreeMap, BTreeSet};
 
-/// The sheets by product and machine with their look-ups, and the machines that some sheet names.
+/// The sheets by product and machine with their look-ups, the machines that some sheet names, and the alternates of each
+/// part.
 #[derive(Drop)]
 pub struct Setup {
     sheets: BTreeMap<(Id, Id), Sheet>,
     sheeted: BTreeSet<Id>,
+    pub alternates: BTreeMap<Id, BTreeSet<Id>>,
 }
 
 impl Setup {
@@ -32,6 +36,7 @@ impl Setup {
         Setup {
             sheets: BTreeMap::new(alloc),
             sheeted: BTreeSet::new(alloc),
+            alternates: BTreeMap::new(alloc),
         }
     }
 
@@ -41,6 +46,7 @@ impl Setup {
             → OnOk result (IsSetup (e ∷ H) self.new) }
     {
         note_machine(&mut self.sheeted, &command)?;
+        note_alternate(alloc, &mut self.alternates, &command)?;
         note_sheet(alloc, &mut self.sheets, command)?;
         Ok(())
     }
@@ -77,6 +83,21 @@ fn note_machine(sheeted: &mut BTreeSet<Id>, command: &Command) -> Result<(), All
 {
     if let Command::SheetDefined { machine, .. } = command {
         sheeted.insert(*machine)?;
+    }
+    Ok(())
+}
+
+fn note_alternate(
+    alloc: Global,
+    alternates: &mut BTreeMap<Id, BTreeSet<Id>>,
+    command: &Command,
+) -> Result<(), AllocError>
+    ensures { (p q : Name)
+        → OnOk result (is_name_at alternates.new p q
+        ≡ (allows p q command.now || is_name_at alternates.old p q)) }
+{
+    if let Command::AlternateAllowed { part, alternate } = command {
+        put_name(alloc, alternates, part, *alternate)?;
     }
     Ok(())
 }

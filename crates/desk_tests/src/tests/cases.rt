@@ -16,19 +16,6 @@ pub const CASES: &str = "PR
 0\tMaterialsInstalled\tM\tB1\t5\tR1\tR2\tR3\tR4\tR5
 
 PR
-0\t1\t10\t12\t2\tB1\tK1\tL1\tM\tP\tQ\tR1\tR2
-0\tPartDefined\tP
-0\tPartDefined\tQ
-0\tAlternateAllowed\tP\tQ
-0\tSheetDefined\tPR\tM\t1\t1\tP\t2\tR1\tR2
-0\tProductSelected\tM\tPR
-0\tReelReceived\tK1\tQ\tL1\t1\t10\t0
-0\tCountsTaken\t1\tK1\t12
-0\tMaterialsLoaded\tM\t1\tK1
-0\tWorkStarted\tM\tB1
-0\tMaterialsInstalled\tM\tB1\t2\tR1\tR2
-
-PR
 0\t1\t10\t2\tB1\tK1\tL1\tM\tP\tR1\tR2
 0\tPartDefined\tP
 0\tSheetDefined\tPR\tM\t1\t1\tP\t2\tR1\tR2
@@ -876,6 +863,19 @@ PR\tPS
 0\tWorkStarted\tM\tB2
 0\tMaterialsInstalled\tM\tB2\t3\tM1\tM2\tM3
 0\tWorkCompleted\tM\tB2
+
+PR
+0\t1\t10\t12\t2\tB1\tK1\tL1\tM\tP\tQ\tR1\tR2
+0\tPartDefined\tP
+0\tPartDefined\tQ
+0\tAlternateAllowed\tP\tQ
+0\tSheetDefined\tPR\tM\t1\t1\tP\t2\tR1\tR2
+0\tProductSelected\tM\tPR
+0\tReelReceived\tK1\tQ\tL1\t1\t10\t0
+0\tCountsTaken\t1\tK1\t12
+0\tMaterialsLoaded\tM\t1\tK1
+0\tWorkStarted\tM\tB1
+0\tMaterialsInstalled\tM\tB1\t2\tR1\tR2
 
 PR
 0\t1\t2\t47\t5\t50\tB1\tK1\tK2\tL1\tM\tP\tQ\tR1\tR2\tR3\tR4\tR5

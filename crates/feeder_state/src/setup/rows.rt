@@ -4,12 +4,14 @@ ghost use Rattle.std.specs.Prelude.{◌≡◌, ◌==◌, ◌&&◌, if◌then◌e
 ghost use Rattle.std.specs.Option.{option_or};
 ghost use Rattle.desk_types.specs.Id.{Name, same};
 ghost use Rattle.desk_types.specs.History.{History};
-ghost use Rattle.desk_types.specs.Setup.{sheet_of};
+ghost use Rattle.desk_types.specs.Setup.{sheet_of, is_alternate};
 ghost use Rattle.desk_types.specs.View.{has_sheet};
 ghost use Rattle.feeder_state.specs.Setup.{IsSetup, sheet_at, is_sheeted};
+ghost use Rattle.feeder_state.specs.Sets.{is_name_at};
 ghost use Rattle.feeder_state.specs.Restored.{AreRowsOf};
 
 use super::{Setup, put_sheet};
+use crate::sets::put_name;
 use desk_types::{Bounded, Id, LONGEST_LIST, SheetRows};
 use setup_sheets::Sheet;
 use state_rows::RowSet;
@@ -83,11 +85,28 @@ pub fn sheeted_of(alloc: Global, rows: &RowSet) -> Result<BTreeSet<Id>, AllocErr
     Ok(sheeted)
 }
 
+/// The alternates of each part, from the rows.
+fn alternates_of(alloc: Global, rows: &RowSet) -> Result<BTreeMap<Id, BTreeSet<Id>>, AllocError>
+    ensures { (H : History) → AreRowsOf H rows.now → (p q : Name)
+        → IfOk result (λ alternates. is_name_at alternates p q ≡ is_alternate H p q) }
+{
+    let mut alternates = BTreeMap::new(alloc);
+    for pair in rows.alternate_set().iter() {
+        put_name(alloc, &mut alternates, &pair.0, pair.1)?;
+    }
+    Ok(alternates)
+}
+
 /// The setup of the rows.
 pub fn setup_of(alloc: Global, rows: &RowSet) -> Result<Setup, AllocError>
     ensures { (H : History) → AreRowsOf H rows.now → IfOk result (IsSetup H) }
 {
     let sheets = sheets_of(alloc, rows)?;
     let sheeted = sheeted_of(alloc, rows)?;
-    Ok(Setup { sheets, sheeted })
+    let alternates = alternates_of(alloc, rows)?;
+    Ok(Setup {
+        sheets,
+        sheeted,
+        alternates,
+    })
 }

@@ -1,32 +1,12 @@
-use Rattle.desk_types.proofs.Common.{[], ◌++◌, ◌∙◌, ◌∷◌, ap, append-nil, append_assoc, by_name, insert_key}
-use Rattle.desk_types.proofs.Common.{map, option_map_or, Ordering, ordering_then, rules, sym}
-use Rattle.desk_laws.proofs.Common.{Left}
-use Rattle.desk_types.proofs.Lives.{left-order}
-use Rattle.feeder_state.proofs.FreeReels.{free-resting, free_in, turn-next}
-use Rattle.judging.specs.Turns.{by_life, turn_of}
+use Rattle.desk_types.proofs.Common.{[], ◌∙◌, ap, map, sym}
+use Rattle.feeder_state.{proofs.FreeReels.free-resting, proofs.FreeReels.in-part, specs.Sets.names_at}
+use Rattle.judging.specs.Turns.{turn_of}
 use Rattle.feeder_state.proofs.free.turns.Goals as goal
 
-pub loop-name-init : goal.loop-name-init
-loop-name-init c = ([], search rules, λ H told floor are. search rules)
-
-pub loop-name-preserved : goal.loop-name-preserved
-loop-name-preserved c =
-    let names = c.loop-name.invariant.0 in
-    let name = c.in-Some.name.now in
-    let keys = c.loop-name.turns.keys in (
-      names ++ name ∷ [],
-      append_assoc names (name ∷ []) c.next.new.self ∙ ap (λ rest. names ++ rest) (sym c.in-Some.ensures.steps) ∙ c.loop-name.invariant.1,
-      λ H told floor are.
-          c.in_ok-insert_if.ensures
-          ∙ ap (λ (by_left : Left → Left → Ordering). option_map_or (insert_key (λ a b. ordering_then (by_left a.0 b.0) (by_name a.1 b.1)) keys) c.turn_at.result keys) left-order
-          ∙ ap (λ turn. option_map_or (insert_key by_life keys) turn keys) (c.turn_at.ensures H told are)
-          ∙ turn-next H c.args.part.now names name keys (c.loop-name.invariant.2 H told floor are),
-    )
-
 pub returns : goal.returns
-returns c = λ H told floor are.
-    let names = c.loop-name.invariant.0 in
+returns c = λ H told floor setup are.
+    let resting = c.args.floor.now.resting in
+    let named = c.args.setup.now.alternates in
     let part = c.args.part.now in
-    c.loop-name.invariant.2 H told floor are
-    ∙ ap (λ all. map (turn_of H) (free_in H part all)) (sym (append-nil names) ∙ ap (λ rest. names ++ rest) (sym c.in-None.ensures.steps.0) ∙ c.loop-name.invariant.1)
-    ∙ ap (map (turn_of H)) (free-resting H part c.args.floor.now.resting told.are.judged floor.resting)
+    c.in_ok-put_alternates.ensures H (names_at resting part) told are (c.in_ok-put_part.ensures H [] told are c.new-turns.ensures.empty)
+    ∙ ap (map (turn_of H)) (free-resting H part (names_at named part) resting told.are.judged floor.resting (λ q. sym (in-part named part q) ∙ setup.alternates part q))

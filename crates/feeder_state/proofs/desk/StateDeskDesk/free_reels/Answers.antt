@@ -7,4 +7,4 @@ returns c = λ B stands.
     let desk = c.args.self.now in
     let H = B.history in
     let state = stands.state in
-    c.free_reels.ensures H (state-told H desk state) state.floor (λ p q. c.alternate_set.ensures p q ∙ state-alternate H desk p q state)
+    c.free_reels.ensures H (state-told H desk state) state.floor state.setup (λ p q. c.alternate_set.ensures p q ∙ state-alternate H desk p q state)
