@@ -30,7 +30,7 @@ import subprocess
 import tempfile
 from typing import Iterator
 
-from tracedesk_dev import call_graph, program
+from tracedesk_dev import call_graph, program, rattle
 
 # Of two modules that rt try compiles, the one to be checked at run time is the program.
 CLANG = """#!/bin/sh
@@ -166,7 +166,7 @@ def words(reader: argparse.ArgumentParser) -> None:
 
 def main(asked: argparse.Namespace, _reader: argparse.ArgumentParser) -> None:
     program.want("valgrind", "valgrind")
-    crates = program.proved_in_turn()
+    crates = [*rattle.below(program.CRATE), program.CRATE]
     with tempfile.TemporaryDirectory() as room:
         folder = pathlib.Path(room)
         plain = (asked.plain or folder / "plain").absolute()

@@ -1,8 +1,5 @@
-"""dev/pages finds faults that somebody planted in a small repository; and pages name no option that
-a tool doesn't have.
-"""
+"""Pages name no option that a tool doesn't have."""
 import functools
-import pathlib
 import re
 import subprocess
 import sys
@@ -22,12 +19,6 @@ CALL = re.compile(r"\b(tracedesk-[a-z-]+)\b([^|;&>]*)")
 OPTION = re.compile(r"(?<![\w-])--[a-z][a-z-]*")
 
 
-def faults(root: pathlib.Path) -> list[str]:
-    """What dev/pages prints of a repository on standard error."""
-    words = (str(ROOT / "dev/pages"), "--root", str(root))
-    return subprocess.run(words, capture_output=True, text=True, check=False).stderr.splitlines()
-
-
 @functools.cache
 def options(tool: str) -> set[str]:
     words = (sys.executable, str(TOOLS[tool]), "--help")
@@ -41,21 +32,6 @@ def calls(text: str) -> list[tuple[str, str]]:
     lines = [line for part in code for line in part.replace("\\\n", " ").splitlines()]
     found = [call for line in lines for call in CALL.findall(QUOTED.sub("", line))]
     return [(tool, it) for tool, rest in found if tool in TOOLS for it in OPTION.findall(rest)]
-
-
-def test_a_page_that_no_other_document_links_is_found(tmp_path: pathlib.Path) -> None:
-    (tmp_path / "crates.txt").write_text("")
-    (tmp_path / "docs").mkdir()
-    (tmp_path / "README.md").write_text("Read [the scales](docs/scales.md#zero) first.\n")
-    (tmp_path / "docs/scales.md").write_text("# Scales\n\n## Zero\n")
-    (tmp_path / "docs/gauges.md").write_text("# Gauges\n\n[Itself](gauges.md).\n")
-    lost = [fault for fault in faults(tmp_path) if "no other document links" in fault]
-    assert [fault.partition(":")[0] for fault in lost] == ["docs/gauges.md"]
-
-
-def test_the_options_of_a_call_are_those_outside_quotes() -> None:
-    text = "`tracedesk-backup --check` and `tracedesk-recall 'a --b' --show x | sort --c`\n"
-    assert calls(text) == [("tracedesk-backup", "--check"), ("tracedesk-recall", "--show")]
 
 
 def test_a_page_names_no_option_that_the_tool_does_not_have() -> None:

@@ -2,6 +2,7 @@
 docs/api/messages.json.
 """
 import json
+import operator
 import re
 import subprocess
 from typing import Iterable, Iterator
@@ -17,18 +18,23 @@ def snake(name: str) -> str:
 
 
 def python_type(member: Member) -> str:
+    if "for_each" in member:
+        return "Optional[Sequence[Optional[str]]] = None"
     if "row" in member:
         return f"Sequence[{member['row']}]"
     kind = "int" if member["value"] in ("quantity", "counted", "label") else "str"
     if "most" in member:
         return f"Sequence[{kind}]"
-    return f"Optional[{kind}] = None" if "where" in member else kind
+    is_optional = "where" in member or member["value"] == "attribute"
+    return f"Optional[{kind}] = None" if is_optional else kind
 
 
 def python_form(member: Member) -> str:
     if "row" in member:
         return f"forms.Rows({member['row']}, {member['most']})"
     form: str = member["value"].upper()
+    if "for_each" in member:
+        return f"forms.ForEach({snake(member['for_each'])!r}, {form})"
     if "most" in member:
         return f"forms.ListOf({form}, {member['most']})"
     if "where" in member:
@@ -49,32 +55,40 @@ def wrapped(text: str, indent: str, first: str = "") -> str:
 
 
 def python_class(
-    name: str, base: str, doc: str, members: list[Member], word: str | None = None
+    name: str,
+    base: str,
+    doc: str,
+    members: list[Member],
+    word: str | None = None,
+    beside: Iterable[Member] = (),
 ) -> list[str]:
     lines = ["", "", "@dataclasses.dataclass(frozen=True)", f"class {name}({base}):"]
     lines += [wrapped(doc + '"""', "    ", '"""')]
-    lines += [f"    {snake(it['name'])}: {python_type(it)}" for it in members]
+    lines += [f"    {snake(it['name'])}: {python_type(it)}" for it in [*members, *beside]]
     if word:
         lines.append(f"    WORD: ClassVar[str] = {word!r}")
+    lines.append(f"    MEMBERS: ClassVar[forms.Members] = {python_members(members)}")
+    if beside:
+        lines.append(f"    BESIDE: ClassVar[forms.Members] = {python_members(beside)}")
+    return lines
+
+
+def python_members(members: Iterable[Member]) -> str:
     pairs = [f"({it['name']!r}, {snake(it['name'])!r}, {python_form(it)})" for it in members]
-    end = "," if len(pairs) == 1 else ""
-    return [*lines, f"    MEMBERS: ClassVar[forms.Members] = ({', '.join(pairs)}{end})"]
+    return f"({', '.join(pairs)}{',' if len(pairs) == 1 else ''})"
 
 
 def python_forms(table: Table) -> Iterator[str]:
     for name, value in table["values"].items():
-        schema, told = value["schema"], plain(value.get("form", "")).partition(". Names")[0].rstrip(
-            "."
-        )
+        schema = value["schema"]
+        told = plain(value.get("form", "")).partition(". Names")[0].rstrip(".")
         if "enum" in schema:
             yield f"{name.upper()} = forms.OneOf({tuple(schema['enum'])!r})"
         elif schema["type"] == "integer":
             yield f"{name.upper()} = forms.Whole({schema['minimum']}, {schema['maximum']})"
         elif name != "time":
-            yield (
-                f"{name.upper()} = forms.Text({schema['maxLength']}, r{schema['pattern']!r},"
-                f" {told!r})"
-            )
+            form = f"{schema['maxLength']}, {schema['pattern']!r}, {told!r}"
+            yield f"{name.upper()} = forms.Text({form})"
 
 
 def python_document(message: Member) -> str:
@@ -90,11 +104,8 @@ def reports_of_work(table: Table) -> list[str]:
 
 
 def recorded(table: Table) -> list[str]:
-    return [
-        table["prefix"] + it["word"]
-        for it in table["messages"]
-        if it["report"] or it.get("recorded")
-    ]
+    its = (it for it in table["messages"] if it["report"] or it.get("recorded"))
+    return [table["prefix"] + it["word"] for it in its]
 
 
 def station_kinds(table: Table) -> str:
@@ -105,6 +116,7 @@ def station_kinds(table: Table) -> str:
     )
 
 
+FAULT = operator.itemgetter("fault")
 COLUMN_TYPES = {"text": "str", "number": "int", "minutes": "Minutes", "yes or no": "bool"}
 
 
@@ -137,17 +149,12 @@ def words(table: Table) -> str:
     for message in table["messages"]:
         for it in message["members"]:
             if "row" in it:
-                lines += python_class(
-                    it["row"], "forms.Part", f"A row of {message['word']}.", it["members"]
-                )
+                told = f"A row of {message['word']}."
+                lines += python_class(it["row"], "forms.Part", told, it["members"])
     for message in table["messages"]:
-        lines += python_class(
-            message["word"],
-            "forms.Command",
-            python_document(message),
-            message["members"],
-            message["word"],
-        )
+        word, told = message["word"], python_document(message)
+        beside = message.get("beside", ())
+        lines += python_class(word, "forms.Command", told, message["members"], word, beside)
     lines += [
         "",
         "",
@@ -169,31 +176,18 @@ def words(table: Table) -> str:
     lines += python_table(
         "FAULTS", "Dict[str, str]", [(it["fault"], plain(it["do"])) for it in table["faults"]]
     )
-    lines += [
-        "",
-        (
-            "# What a status says to a sender: an answer of this kind, once more, or stop and tell"
-            " a person why."
-        ),
-    ]
+    told = "an answer of this kind, once more, or stop and tell a person why."
+    lines += ["", f"# What a status says to a sender: {told}"]
     for name, means, of in (("ANSWERS", "answer", "answer"), ("STOPS", "stop", "why")):
-        lines += python_table(
-            name,
-            "Dict[int, str]",
-            [(it["status"], it[of]) for it in table["statuses"] if it["means"] == means],
-        )
+        its = [(it["status"], it[of]) for it in table["statuses"] if it["means"] == means]
+        lines += python_table(name, "Dict[int, str]", its)
     again = tuple(it["status"] for it in table["statuses"] if it["means"] == "again")
+    told = "none at level 1, where there is no limit; or unbaked, or short in a kit."
     lines += [
         f"AGAIN: Tuple[int, ...] = {again!r}",
-        (
-            "FAULTS_OF_A_REQUEST: Tuple[str, ...] ="
-            f" {tuple(it['fault'] for it in table['request_faults'])!r}"
-        ),
+        f"FAULTS_OF_A_REQUEST: Tuple[str, ...] = {tuple(map(FAULT, table['request_faults']))!r}",
         "",
-        (
-            "# Minutes of floor life left: a number; none at level 1, where there is no limit; or"
-            " unbaked, or short in a kit."
-        ),
+        f"# Minutes of floor life left: a number; {told}",
         "Minutes = Union[int, str, None]",
     ]
     for it in table["reports"]:

@@ -5,8 +5,8 @@ import json
 import re
 from typing import Any, Iterable, Iterator, TypeVar
 
-from tracedesk_dev import ROOT, api_schemas, schemas
-from tracedesk_dev.api_schemas import Member, Schema, Table, Wrong
+from tracedesk_dev import ROOT
+from tracedesk_dev.api_schemas import Member, Table, Wrong
 
 PAGE, HTTP = ROOT / "docs/messages.md", ROOT / "docs/http.md"
 Cell = TypeVar("Cell")
@@ -23,6 +23,21 @@ def member_cell(members: list[Member]) -> str:
             cell += f": 1 to {it['most']:,} {it['value']}s"
         told.append(("and at level 6 " if "where" in it else "") + cell)
     return ", ".join(told) or "none"
+
+
+def body_cell(message: Member) -> str:
+    """The members of a message, and those beside them."""
+    beside = [
+        f"`{it['name']}`"
+        + (
+            f": a {it['value']} or `null` for each of `{it['for_each']}`"
+            if "for_each" in it
+            else ""
+        )
+        for it in message.get("beside", ())
+    ]
+    more = f"; if known {', '.join(beside)}" if beside else ""
+    return member_cell(message["members"]) + more
 
 
 def grouped(rows: Iterable[tuple[str, Cell]]) -> list[tuple[str, Cell]]:
@@ -59,7 +74,7 @@ def tables(table: Table) -> Iterator[tuple[list[str], list[Any]]]:
         (it["says"], it["form"]) for it in table["values"].values() if "says" in it
     ]
     yield ["Message kind", "Members of the body"], grouped(
-        (it["word"], member_cell(it["members"])) for it in table["messages"]
+        (it["word"], body_cell(it)) for it in table["messages"]
     )
     yield ["Message kind", "Is a", "Because"], grouped_by_reason(table)
     yield ["Answer", "Other members", "Meaning", "The sender"], [
@@ -173,29 +188,3 @@ def differences_in_http(table: Table, text: str) -> Iterator[str]:
             str(it["status"]) in row[1] and it["fault"] in row[2] for row in rows
         ):
             yield f"docs/http.md has no row of {it['fault']} with status {it['status']}"
-
-
-def differences_in_examples(
-    table: Table, examples: dict[str, list[Any]], schema: Schema
-) -> Iterator[str]:
-    for word, it in examples.items():
-        if told := schemas.Schema(schema).fault(it):
-            yield f"the schema refuses the example of {word}{told}"
-    definitions = api_schemas.answer_definitions(table, "#/$defs/")
-    for name, shapes in (
-        (name, made.get("anyOf", [made]))
-        for name, made in definitions.items()
-        if name not in ("name", "answer")
-    ):
-        looks = [schemas.Schema(it, {"$defs": definitions}) for it in shapes]
-        taken = [
-            [look.fault(it) is None for look in looks]
-            for it in table["answer_examples"].get(name, [])
-        ]
-        if not all(map(any, taken)) or not all(
-            any(it[number] for it in taken) for number in range(len(looks))
-        ):
-            yield (
-                f"answer_examples of {name} has one that the schema refuses, or none of a shape"
-                " that it may have"
-            )

@@ -21,15 +21,11 @@ def spelled(value: Any, depth: int = 0) -> str:
         return line
     pad, end = " " * (depth + 2), "\n" + " " * depth
     if isinstance(value, dict):
-        return (
-            "{\n"
-            + ",\n".join(
-                f"{pad}{json.dumps(name)}: {spelled(it, depth + 2)}" for name, it in value.items()
-            )
-            + end
-            + "}"
-        )
-    return "[\n" + ",\n".join(pad + spelled(it, depth + 2) for it in value) + end + "]"
+        its = [f"{json.dumps(name)}: {spelled(it, depth + 2)}" for name, it in value.items()]
+    else:
+        its = [spelled(it, depth + 2) for it in value]
+    inner = ",\n".join(pad + it for it in its)
+    return f"{{\n{inner}{end}}}" if isinstance(value, dict) else f"[\n{inner}{end}]"
 
 
 def plain(text: str) -> str:
@@ -51,32 +47,23 @@ def ref(at: str, name: str) -> Schema:
 
 
 def member_schema(member: Member, at: str) -> Schema:
-    if "row" in member:
-        return {
-            "type": "array",
-            "minItems": 1,
-            "maxItems": member["most"],
-            "items": ref(at, member["row"]),
-        }
-    if "most" in member:
-        return {
-            "type": "array",
-            "minItems": 1,
-            "maxItems": member["most"],
-            "items": ref(at, member["value"]),
-        }
-    return ref(at, member["value"])
+    of = ref(at, member["row"] if "row" in member else member["value"])
+    if "for_each" in member:
+        of = {"anyOf": [of, {"type": "null"}]}
+    if "most" not in member:
+        return of
+    return {"type": "array", "minItems": 1, "maxItems": member["most"], "items": of}
 
 
-def object_schema(members: list[Member], at: str) -> Schema:
-    """An object with these members; others are skipped, and one that is read in a case alone is
-    wanted in it alone.
+def object_schema(members: list[Member], at: str, beside: Iterable[Member] = ()) -> Schema:
+    """An object with these members, and with those beside them where they are known; others are
+    skipped, and one that is read in a case alone is wanted in it alone.
     """
     always = [it for it in members if "where" not in it]
     made = {
         "type": "object",
         "required": [it["name"] for it in always],
-        "properties": {it["name"]: member_schema(it, at) for it in always},
+        "properties": {it["name"]: member_schema(it, at) for it in [*always, *beside]},
     }
     for it in members:
         if "where" in it:
@@ -92,10 +79,8 @@ def object_schema(members: list[Member], at: str) -> Schema:
 def message_definitions(table: Table, at: str, examples: dict[str, list[Any]]) -> Schema:
     made: Schema = {}
     for name, value in table["values"].items():
-        made[name] = {
-            **({"description": sentence(value["form"])} if "form" in value else {}),
-            **value["schema"],
-        }
+        made[name] = {"description": sentence(value["form"])} if "form" in value else {}
+        made[name] |= value["schema"]
     for message in table["messages"]:
         for it in message["members"]:
             if "row" in it:
@@ -103,12 +88,10 @@ def message_definitions(table: Table, at: str, examples: dict[str, list[Any]]) -
     for message in table["messages"]:
         word, envelope = message["word"], {}
         for it in table["envelope"]:
-            envelope[it["name"]] = {
-                "description": sentence(it["says"]),
-                **(ref(at, it["value"]) if "value" in it else {}),
-            }
+            of = ref(at, it["value"]) if "value" in it else {}
+            envelope[it["name"]] = {"description": sentence(it["says"]), **of}
         envelope["MessageName"] = {"const": table["prefix"] + word}
-        envelope["MessageBody"] = object_schema(message["members"], at)
+        envelope["MessageBody"] = object_schema(message["members"], at, message.get("beside", ()))
         made[word] = {
             "title": word,
             "description": f"{word} {plain(message['means'])}",
@@ -129,11 +112,8 @@ def said(table: Table, at: str, answer: str, **members: Any) -> Schema:
     inner = {"Answer": {"const": answer}}
     for name, it in members.items():
         it = table["answer_values"][name] if it is None else it
-        it = (
-            dict(it, items=ref(at, it["items"]))
-            if isinstance(it, dict) and isinstance(it.get("items"), str)
-            else it
-        )
+        if isinstance(it, dict) and isinstance(it.get("items"), str):
+            it = dict(it, items=ref(at, it["items"]))
         inner[name] = ref(at, it) if isinstance(it, str) else it
     inner = dict(sorted(inner.items()))
     return {
@@ -179,9 +159,8 @@ def faulty_forms(table: Table, at: str) -> Iterator[tuple[str, str, Schema]]:
     parameters = once(name for route in table["routes"] for name in route["parameters"])
     for kind in ("file", "request"):
         for it in table[f"{kind}_faults"]:
-            yield kind, it["fault"], {
-                name: {"enum": parameters} if name == "Member" else None for name in it["members"]
-            }
+            members = {"Member": {"enum": parameters}} if "Member" in it["members"] else {}
+            yield kind, it["fault"], dict.fromkeys(it["members"]) | members
 
 
 def answer_definitions(table: Table, at: str) -> Schema:
@@ -196,15 +175,8 @@ def answer_definitions(table: Table, at: str) -> Schema:
         refused.setdefault(tuple(it.get("members", ["At"])), []).append(it["refusal"])
     made["Refused"] = {
         "anyOf": [
-            said(
-                table,
-                at,
-                "Refused",
-                Refusal={"enum": names},
-                UniqueID=None,
-                **dict.fromkeys(members),
-            )
-            for members, names in refused.items()
+            said(table, at, "Refused", Refusal={"enum": names}, **dict.fromkeys(["UniqueID", *its]))
+            for its, names in refused.items()
         ]
     }
     made["Ignored"] = said(table, at, "Ignored", MessageName=None)
@@ -235,12 +207,8 @@ def answer_definitions(table: Table, at: str) -> Schema:
 
 
 def schema_file(title: str, definitions: Schema, root: str) -> str:
-    return (
-        spelled(
-            {"$schema": DIALECT, "title": title, "$ref": f"#/$defs/{root}", "$defs": definitions}
-        )
-        + "\n"
-    )
+    head = {"$schema": DIALECT, "title": title, "$ref": f"#/$defs/{root}"}
+    return spelled({**head, "$defs": definitions}) + "\n"
 
 
 # --- OpenAPI
@@ -272,11 +240,7 @@ def responses_of(table: Table, route: Member, at: str) -> Schema:
     else:
         add(404, "NotFound")
     for it in table["request_faults"]:
-        if (
-            it["fault"] not in ("BadQuery", "BadMethod")
-            or it["fault"] == "BadQuery"
-            and route["parameters"]
-        ):
+        if it["fault"] != "BadMethod" and (it["fault"] != "BadQuery" or route["parameters"]):
             add(it["status"], "Faulty_request")
     add(503, "Unavailable")
     made = {}

@@ -11,34 +11,20 @@ import socket
 import subprocess
 import threading
 import time
-from typing import Any, Sequence
+from typing import Any, Iterator, Sequence
 
 from tracedesk_dev.case_files import CASES, BytesOf, Step, bytes_of_text, object_line
-from tracedesk_dev.case_steps import (
-    SECONDS_FOR_A_RUN,
-    SECONDS_FOR_AN_ANSWER,
-    compare,
-    compare_end,
-    limited,
-    next_line,
-    words_of,
-)
+from tracedesk_dev.case_steps import SECONDS_FOR_A_RUN, SECONDS_FOR_AN_ANSWER
+from tracedesk_dev.case_steps import compare, compare_end, limited, next_line, words_of
 from tracedesk_dev.ports import lent
 from tracedesk_dev.trial import Difference
 
 Connection = tuple[Sequence[bytes], Sequence[bytes], bool]  # pieces, answers, and whether by turns
 
-PHRASES = {
-    200: "OK",
-    202: "Accepted",
-    400: "Bad Request",
-    404: "Not Found",
-    405: "Method Not Allowed",
-    409: "Conflict",
-    411: "Length Required",
-    413: "Payload Too Large",
-    422: "Unprocessable Entity",
-    431: "Request Header Fields Too Large",
+PHRASES = {  # as RFC 9110 and 6585 have them
+    **{200: "OK", 202: "Accepted", 400: "Bad Request", 404: "Not Found", 405: "Method Not Allowed"},
+    **{409: "Conflict", 411: "Length Required", 413: "Payload Too Large"},
+    **{422: "Unprocessable Entity", 431: "Request Header Fields Too Large"},
     503: "Service Unavailable",
 }
 REFUSED_REPORTS: dict[str, dict[str, Any]] = {
@@ -60,10 +46,8 @@ def spelled_request(request: Any, bytes_of: BytesOf) -> bytes:
         return bytes_of_text(f"GET {request['GET']} HTTP/1.1\r\n\r\n")
     text = request["body"]
     body = bytes_of_text(text if isinstance(text, str) else json.dumps(text, separators=(",", ":")))
-    return (
-        bytes_of_text(f"POST {request['POST']} HTTP/1.1\r\nContent-Length: {len(body)}\r\n\r\n")
-        + body
-    )
+    head = f"POST {request['POST']} HTTP/1.1\r\nContent-Length: {len(body)}\r\n\r\n"
+    return bytes_of_text(head) + body
 
 
 def spelled_answer(answer: Any) -> bytes:
@@ -74,16 +58,12 @@ def spelled_answer(answer: Any) -> bytes:
         return bytes_of_text(answer)
     status, kind = answer.get("status", 200), "text/csv" if "csv" in answer else "application/json"
     body = bytes_of_text(answer["csv"]) if "csv" in answer else object_line(answer["json"])[:-1]
-    lines = [
-        f"HTTP/1.1 {status} {PHRASES[status]}",
-        f"Content-Type: {kind}",
-        f"Content-Length: {len(body)}",
-    ]
+    lines = [f"HTTP/1.1 {status} {PHRASES[status]}", f"Content-Type: {kind}"]
+    lines += [f"Content-Length: {len(body)}"]
     lines += [f"Allow: {answer['allow']}"] if "allow" in answer else []
     lines += ["Connection: close"] if answer.get("close") else []
-    return "".join(line + "\r\n" for line in [*lines, ""]).encode() + (
-        b"" if answer.get("no_body") else body
-    )
+    head = "".join(line + "\r\n" for line in [*lines, ""]).encode()
+    return head if answer.get("no_body") else head + body
 
 
 def connected(port: int, process: subprocess.Popen[bytes]) -> socket.socket | None:
@@ -138,6 +118,28 @@ def exchanged(
     return bytes(got)
 
 
+@contextlib.contextmanager
+def serving(
+    program: str, words: list[str], connections: int, work: pathlib.Path, step: Step
+) -> Iterator[tuple[subprocess.Popen[bytes], int]]:
+    """A run of `serve` for so many connections, and its port."""
+    with lent() as port:
+        ends = ["--port", str(port), "--connections", str(connections)]
+        process = subprocess.Popen(
+            words_of(program, [*words, *ends]),
+            cwd=work,
+            stdin=subprocess.DEVNULL,
+            stdout=subprocess.PIPE,
+            stderr=subprocess.PIPE,
+            preexec_fn=limited(step),
+        )
+        try:
+            yield process, port
+        finally:
+            process.kill()
+            process.wait()
+
+
 def compare_line(process: subprocess.Popen[bytes], number: int, answered: int) -> None:
     """The line of a connection that has ended: it is told before the next one is made."""
     assert process.stdout
@@ -160,17 +162,7 @@ def take_connections(
     """One run with these connections, one after the other: of each the pieces, the answers, and how
     the pieces are sent.
     """
-    with lent() as port:
-        all_words = words_of(
-            program, [*words, "--port", str(port), "--connections", str(len(connections))]
-        )
-        process = subprocess.Popen(
-            all_words,
-            cwd=work,
-            stdin=subprocess.DEVNULL,
-            stdout=subprocess.PIPE,
-            stderr=subprocess.PIPE,
-        )
+    with serving(program, words, len(connections), work, step) as (process, port):
         try:
             for number, (pieces, answers, by_turns) in enumerate(connections, 1):
                 link = connected(port, process)
@@ -185,9 +177,6 @@ def take_connections(
             rest, errors = process.communicate(timeout=SECONDS_FOR_A_RUN)
         except subprocess.TimeoutExpired:
             raise Difference("the program did not end with its connections")
-        finally:
-            process.kill()
-            process.wait()
     compare("standard output behind the connections' lines", b"", rest)
     compare_end(step, errors, process.returncode)
     if link is None:
@@ -200,16 +189,7 @@ def clients(program: str, step: Step, bytes_of: BytesOf, work: pathlib.Path) -> 
     """
     for name in step.get("files", []):
         (work / name).write_bytes(bytes_of(name))
-    with lent() as port:
-        count = str(len(step["answered"]))
-        process = subprocess.Popen(
-            words_of(program, [*step["clients"], "--port", str(port), "--connections", count]),
-            cwd=work,
-            stdin=subprocess.DEVNULL,
-            stdout=subprocess.PIPE,
-            stderr=subprocess.PIPE,
-            preexec_fn=limited(step),
-        )
+    with serving(program, step["clients"], len(step["answered"]), work, step) as (process, port):
         try:
             asked = subprocess.run(
                 [*step["by"], str(port)],
@@ -225,14 +205,8 @@ def clients(program: str, step: Step, bytes_of: BytesOf, work: pathlib.Path) -> 
         except subprocess.TimeoutExpired as late:
             said = (late.output or b"")[-1000:].decode(errors="replace")
             raise Difference(f"the client or the program did not end; the last it said: {said!r}")
-        finally:
-            process.kill()
-            process.wait()
-    compare(
-        "standard output",
-        "".join(f"{number} {told}\n" for number, told in enumerate(step["answered"], 1)).encode(),
-        out,
-    )
+    told = "".join(f"{number} {told}\n" for number, told in enumerate(step["answered"], 1))
+    compare("standard output", told.encode(), out)
     compare_end(step, errors, process.returncode)
 
 
@@ -268,26 +242,17 @@ def serve(program: str, step: Step, bytes_of: BytesOf, work: pathlib.Path) -> No
             if (work / file).exists():
                 shutil.copyfile(work / file, work / "cut")
             try:
-                take_connections(
-                    program,
-                    step,
-                    ["cut" if it == file else it for it in words],
-                    [(cut, answers, False) for cut in run],
-                    work,
-                )
+                its = [(cut, answers, False) for cut in run]
+                of_copy = ["cut" if it == file else it for it in words]
+                take_connections(program, step, of_copy, its, work)
             except Difference as difference:
                 raise Difference(f"in {len(run)} ways to cut it: {difference}")
     by_turns = step.get("by_turns", False)
-    take_connections(
-        program,
-        step,
-        words,
-        [
-            (pieces if by_turns else [b"".join(pieces)], answers, by_turns)
-            for pieces, answers in connections
-        ],
-        work,
-    )
+    whole = [
+        (pieces if by_turns else [b"".join(pieces)], answers, by_turns)
+        for pieces, answers in connections
+    ]
+    take_connections(program, step, words, whole, work)
 
 
 def reports(program: str, step: Step, bytes_of: BytesOf, work: pathlib.Path) -> None:
@@ -306,20 +271,10 @@ def reports(program: str, step: Step, bytes_of: BytesOf, work: pathlib.Path) -> 
         is_csv = isinstance(told, str)
         compare(f"report {target}", told.encode() if is_csv else object_line(told), done.stdout)
         compare_end({"status": 0 if is_csv else 1}, done.stderr, done.returncode)
-        answers.append(
-            {"csv": told}
-            if is_csv
-            else {"json": told} | REFUSED_REPORTS[told.get("Fault", told["Answer"])]
-        )
+        refused = {} if is_csv else REFUSED_REPORTS[told.get("Fault", told["Answer"])]
+        answers.append({"csv": told} if is_csv else {"json": told} | refused)
     connection = [[{"GET": target} for target, _ in step["cases"]], answers]
     status = 0 if all("csv" in it for it in answers) else 1
-    serve(
-        program,
-        {
-            "serve": ["serve", "--db", step["reports"]],
-            "connections": [connection],
-            "status": status,
-        },
-        bytes_of,
-        work,
-    )
+    words = ["serve", "--db", step["reports"]]
+    served = {"serve": words, "connections": [connection], "status": status}
+    serve(program, served, bytes_of, work)

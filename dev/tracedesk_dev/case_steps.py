@@ -26,17 +26,7 @@ from tracedesk_dev.trial import Difference
 SECONDS_FOR_A_RUN = 600
 SECONDS_FOR_A_TOOL = 900  # it runs the program many times
 SECONDS_FOR_AN_ANSWER = 300
-STATE_TABLES = (
-    "part",
-    "alternate",
-    "sheet_row",
-    "selected",
-    "reel",
-    "mount",
-    "board",
-    "placement",
-    "found",
-)
+STATE_TABLES = "part alternate sheet_row selected reel mount board placement found".split()
 
 
 def shown(line: bytes | None, place: int) -> str:
@@ -107,12 +97,8 @@ def run(program: str, step: Step, bytes_of: BytesOf, work: pathlib.Path) -> None
         if "write_to" in step:
             taken = files.enter_context(opened(work / step["write_to"], os.O_WRONLY))
         if "held" in step:
-            fcntl.lockf(
-                files.enter_context(opened(work / step["held"], os.O_RDWR)),
-                fcntl.LOCK_EX,
-                512,
-                1 << 30,
-            )
+            held = files.enter_context(opened(work / step["held"], os.O_RDWR))
+            fcntl.lockf(held, fcntl.LOCK_EX, 512, 1 << 30)
         try:
             done = subprocess.run(
                 words_of(program, step["run"]),
@@ -137,15 +123,11 @@ def tool(program: str, step: Step, bytes_of: BytesOf, work: pathlib.Path) -> Non
     service in PORT. What it started ends with it.
     """
     with ports.lent() as port, tempfile.TemporaryFile() as out, tempfile.TemporaryFile() as errors:
+        own = {"PROGRAM": program, "PORT": str(port), "PYTHONPATH": str(ROOT / "dev")}
         process = subprocess.Popen(
             [str(ROOT / "ops" / step["tool"][0]), *step["tool"][1:]],
             cwd=work,
-            env={
-                **os.environ,
-                "PROGRAM": program,
-                "PORT": str(port),
-                "PYTHONPATH": str(ROOT / "dev"),
-            },
+            env={**os.environ, **own},
             stdin=subprocess.DEVNULL,
             stdout=out,
             stderr=errors,
@@ -244,21 +226,14 @@ def tables_in(file: pathlib.Path) -> dict[str, list[Any]]:
         copy = pathlib.Path(room, "copy")
         copy.write_bytes(file.read_bytes())
         with contextlib.closing(sqlite3.connect(copy)) as database:
-            for query, wanted in (
-                ("PRAGMA integrity_check", [("ok",)]),
-                ("PRAGMA foreign_key_check", []),
-            ):
-                got = database.execute(query).fetchall()
-                if got != wanted:
+            sound = {"PRAGMA integrity_check": [("ok",)], "PRAGMA foreign_key_check": []}
+            for query, wanted in sound.items():
+                if (got := database.execute(query).fetchall()) != wanted:
                     raise Difference(f"{query}: got {got}")
-            names = [
-                name
-                for (name,) in database.execute(
-                    "SELECT name FROM sqlite_schema WHERE type = 'table'"
-                )
-            ]
+            names = database.execute("SELECT name FROM sqlite_schema WHERE type = 'table'")
             return {
-                name: sorted(map(list, database.execute(f"SELECT * FROM {name}"))) for name in names
+                name: sorted(map(list, database.execute(f"SELECT * FROM {name}")))
+                for (name,) in names.fetchall()
             }
 
 
@@ -286,11 +261,8 @@ def take_one(
     except subprocess.TimeoutExpired:
         raise Difference(f"{name}: the program had not ended after {SECONDS_FOR_A_RUN} seconds")
     compare(name, answer, done.stdout)
-    compare_end(
-        {"status": 0 if json.loads(answer)["Answer"] == "Accepted" else 1},
-        done.stderr,
-        done.returncode,
-    )
+    status = 0 if json.loads(answer)["Answer"] == "Accepted" else 1
+    compare_end({"status": status}, done.stderr, done.returncode)
 
 
 def each(program: str, step: Step, bytes_of: BytesOf, work: pathlib.Path) -> None:
@@ -308,10 +280,8 @@ def each(program: str, step: Step, bytes_of: BytesOf, work: pathlib.Path) -> Non
     for number, (line, answer, change) in enumerate(zip(lines, wanted, changes), 1):
         take_one(program, step["each"], line, answer, f"answer {number}", work)
         for name, rows in json.loads(change).items():
-            held[name] = sorted(
-                [row for row in held.get(name, []) if row not in rows.get("out", [])]
-                + rows.get("in", [])
-            )
+            stay = [row for row in held.get(name, []) if row not in rows.get("out", [])]
+            held[name] = sorted(stay + rows.get("in", []))
         compare_tables(held, tables_in(work / step["file"]), f" after line {number}")
 
 
@@ -359,11 +329,9 @@ def look(program: str, step: Step, bytes_of: BytesOf, work: pathlib.Path) -> Non
     with tempfile.TemporaryDirectory() as room:
         copy = pathlib.Path(room, "copy")
         copy.write_bytes((work / step["look"]).read_bytes())
+        wanted_of_each = {"PRAGMA integrity_check": [["ok"]], step["sql"]: step["rows"]}
         with contextlib.closing(sqlite3.connect(copy)) as database:
-            for query, wanted in (
-                ("PRAGMA integrity_check", [["ok"]]),
-                (step["sql"], step["rows"]),
-            ):
+            for query, wanted in wanted_of_each.items():
                 got = [list(row) for row in database.execute(query)]
                 if got != wanted:
                     raise Difference(f"{query}: wanted {wanted}, got {got}")

@@ -3,6 +3,8 @@ import pathlib
 import re
 from typing import Any, Iterator
 
+from tracedesk_dev import rattle
+
 CODE = re.compile(r"`([^`]+)`")
 NAMED = re.compile(
     r"\[`([^`.\n]+)`\]\(([^)#\s]+\.(?:antt|rt))\)"
@@ -12,69 +14,6 @@ NAMED_FILE = re.compile(
 )
 
 
-def braced(names: str) -> list[str]:
-    """The names of the last part of a `use`: those between braces, or the one behind the last
-    `::`.
-    """
-    inner = re.search(r"\{(.*)\}", names, re.S)
-    return (
-        [it.strip() for it in inner[1].split(",") if it.strip()]
-        if inner
-        else [names.rsplit("::", 1)[-1].strip()]
-    )
-
-
-class Module:
-    """What a source file has: its functions, types, methods and modules, with whether each is
-    `pub`.
-    """
-
-    def __init__(self, path: pathlib.Path) -> None:
-        text = re.sub(r"^\s*//.*$", "", path.read_text(encoding="utf-8"), flags=re.M)
-        text = re.sub(r"#\[cfg\(test\)\]\s*mod \w+;", "", text)
-        self.path, self.methods = (
-            path,
-            [],
-        )  # of each method its type, its name, and whether it has to have a row
-        self.functions = re.findall(r"^pub (?:const )?fn (\w+)", text, re.M)
-        self.types = re.findall(r"^(?:pub )?(?:struct|enum|trait|type|const) (\w+)", text, re.M)
-        self.public_types = re.findall(r"^pub (?:struct|enum|trait|type|const) (\w+)", text, re.M)
-        self.modules = [
-            (name, bool(public)) for public, name in re.findall(r"^(pub )?mod (\w+);", text, re.M)
-        ]
-        self.uses = [
-            (head.split("::"), braced(names))
-            for head, names in re.findall(
-                r"^pub use (?:self::)?((?:\w+::)*\w+)::(\{[^}]*\}|\w+);", text, re.M
-            )
-        ]
-        for head, block in re.findall(r"^(impl\b[^{]*)\{(.*?)^\}", text, re.M | re.S):
-            owner = re.sub(
-                r"<.*",
-                "",
-                re.split(r"\bfor\b", re.sub(r"^impl(<[^>]*>)?", "", head))[-1].strip(),
-                flags=re.S,
-            )
-            of_trait = " for " in head
-            for public, name in re.findall(r"^    (pub )?(?:const )?fn (\w+)", block, re.M):
-                if public or of_trait:
-                    self.methods.append((owner, name, bool(public)))
-        for trait, block in re.findall(r"^pub trait (\w+)[^{]*\{(.*?)^\}", text, re.M | re.S):
-            self.methods += [
-                (trait, name, True) for name in re.findall(r"^    fn (\w+)", block, re.M)
-            ]
-
-    def child(self, name: str) -> pathlib.Path | None:
-        stem = (
-            self.path.with_suffix("")
-            if self.path.name not in ("lib.rt", "main.rt")
-            else self.path.parent
-        )
-        return next(
-            (it for it in (stem / f"{name}.rt", stem / name / "mod.rt") if it.exists()), None
-        )
-
-
 class Crate:
     """The public names of a crate, and all names in it."""
 
@@ -82,48 +21,56 @@ class Crate:
         self.folder = folder
         self.functions: set[str] = set()
         self.types: set[str] = set()
-        sources = [
-            it
-            for it in (folder / "src").rglob("*.rt")
-            if "tests" not in it.relative_to(folder).parts and it.name != "tests.rt"
-        ]
-        modules = [Module(it) for it in sources]
-        self.read = {it.path: it for it in modules}
-        for root in (it for it in modules if it.path.name in ("lib.rt", "main.rt")):
-            self.publish(root, None, "", root.path.name == "main.rt")
+        self.read = {it.path: it for it in rattle.sources(folder) if not rattle.is_test(it.path)}
+        for root in (it for it in ("src/lib.rt", "src/main.rt") if it in self.read):
+            self.publish(self.read[root], None, "", root == "src/main.rt")
         methods = [
-            (owner, name, public)
-            for it in modules
-            for owner, name, public in it.methods
-            if owner in self.types
+            (f"{owner}::{it.name}", it.is_public or it.block.is_trait)
+            for of in self.read.values()
+            for it in of.functions
+            if it.block and (owner := it.block.type or it.block.trait) in self.types
+            if it.is_public or it.block.trait
         ]
-        self.functions |= {f"{owner}::{name}" for owner, name, public in methods if public}
-        self.known = (
-            self.functions | self.types | {f"{owner}::{name}" for owner, name, _ in methods}
-        )
+        self.functions |= {name for name, is_public in methods if is_public}
+        self.known = self.functions | self.types | {name for name, _ in methods}
+
+    def child(self, of: rattle.Source, name: str) -> rattle.Source | None:
+        """The source of a module that another declares."""
+        stem = of.path.removesuffix(".rt")
+        stem = "src" if stem in ("src/lib", "src/main") else stem
+        return self.read.get(f"{stem}/{name}.rt") or self.read.get(f"{stem}/{name}/mod.rt")
 
     def publish(
-        self, module: Module, names: set[str] | None, before: str, all_of_it: bool = False
+        self, of: rattle.Source, names: set[str] | None, before: str, all_of_it: bool = False
     ) -> None:
         """Adds what a module shows: the names that a `use` asks for, or all that is `pub` where
         none are asked for. Of a program, which nobody calls, that is what each of its modules shows
         to `main`."""
-        self.functions |= {
-            f"{before}{it}" for it in module.functions if names is None or it in names
-        }
-        self.types |= {it for it in module.public_types if names is None or it in names}
-        for path, asked in module.uses:
-            asked = [it for it in asked if names is None or it in names]
-            inner: Module | None = module
-            for name in path:
-                inside = inner.child(name) if inner else None
-                inner = self.read.get(inside) if inside else None
+        shown = [it.name for it in of.functions if it.is_public and not it.block]
+        self.functions |= {f"{before}{it}" for it in shown if names is None or it in names}
+        public = {name for kind, name, is_public in of.items if is_public and kind != "mod"}
+        self.types |= public if names is None else public & names
+        for use in (it for it in of.uses if it.is_public):
+            asked = {it for it in use.names.values() if names is None or it in names}
+            inner: rattle.Source | None = of
+            for name in use.path[use.path[0] == "self" :]:
+                inner = self.child(inner, name) if inner else None
             if inner and asked:
-                self.publish(inner, set(asked), before)
-        for name, public in module.modules if names is None else []:
-            file = module.child(name)
-            if (public or all_of_it) and file and file in self.read:
-                self.publish(self.read[file], None, before if all_of_it else f"{before}{name}::")
+                self.publish(inner, asked, before)
+        for kind, name, is_public in of.items if names is None else []:
+            inner = self.child(of, name)
+            if kind == "mod" and (is_public or all_of_it) and inner:
+                self.publish(inner, None, before if all_of_it else f"{before}{name}::")
+
+
+def clauses_of(root: pathlib.Path) -> dict[str, set[str]]:
+    """The names of the clauses of each function, by its name."""
+    found: dict[str, set[str]] = {}
+    for crate in rattle.crates(root):
+        for of in rattle.sources(root / "crates" / crate):
+            for it in of.functions:
+                found.setdefault(it.name, set()).update(it.clauses)
+    return found
 
 
 def rows_of(text: str) -> list[list[str]]:

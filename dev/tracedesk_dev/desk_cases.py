@@ -25,23 +25,12 @@ def fields_of(value: Any, name: str) -> list[str]:
     """Returns the fields that a member has in a stored text: a list's length, and then those of its
     elements. A value that no desk takes is a ValueError."""
     if name in (*LISTS, "Designators") and isinstance(value, list) and 0 < len(value) <= 5_000:
-        elements = (
-            (
-                [(key, it["Quantity" if key == "Counted" else key]) for key in LISTS[name]]
-                if name in LISTS
-                else [("Designator", it)]
-            )
+        pairs = [
+            (key, it if key == "Designator" else it["Quantity" if key == "Counted" else key])
             for it in value
-        )
-        return [
-            str(len(value)),
-            *(
-                field
-                for element in elements
-                for key, part in element
-                for field in fields_of(part, key)
-            ),
+            for key in LISTS.get(name, ("Designator",))
         ]
+        return [str(len(value)), *(field for key, it in pairs for field in fields_of(it, key))]
     if name in (*LISTS, "Designators"):
         is_right = False
     elif name in NUMBERS:
@@ -63,19 +52,11 @@ def line_of(message: str, kinds: dict[str, list[dict[str, Any]]]) -> str | None:
         envelope = json.loads(message)
         word, body = envelope["MessageName"].removeprefix("TraceDesk."), envelope["MessageBody"]
         minute = int(datetime.datetime.fromisoformat(envelope["TimeStamp"]).timestamp() // 60)
-        fields = [
-            word,
-            *(
-                field
-                for it in kinds[word]
-                if it["name"] != "LabelMinutes"
-                for field in fields_of(body[it["name"]], it["name"])
-            ),
-        ]
+        names = [it["name"] for it in kinds[word] if it["name"] != "LabelMinutes"]
+        fields = [word, *(field for name in names for field in fields_of(body[name], name))]
         if word == "ReelReceived":
-            fields += (
-                fields_of(body["LabelMinutes"], "LabelMinutes") if body["Level"] == "6" else ["0"]
-            )
+            is_told = body["Level"] == "6"
+            fields += fields_of(body["LabelMinutes"], "LabelMinutes") if is_told else ["0"]
     except (ValueError, KeyError, TypeError, AttributeError):
         return None
     line = "\t".join([str(minute), *fields])
@@ -99,16 +80,10 @@ def text() -> str:
     texts = []
     for messages in cases:
         fields = [line.split("\t")[1:] for line in messages.split("\n")]
-        products = sorted(
-            {
-                it[{"SheetDefined": 1, "ProductSelected": 2}[it[0]]]
-                for it in fields
-                if it[0] in ("SheetDefined", "ProductSelected")
-            }
-        )
-        names = sorted(
-            {part for it in fields for part in it[1:] if len(part) <= 64} - set(products)
-        )
+        places = {"SheetDefined": 1, "ProductSelected": 2}
+        products = sorted({it[places[it[0]]] for it in fields if it[0] in places})
+        parts = {part for it in fields for part in it[1:] if len(part) <= 64}
+        names = sorted(parts - set(products))
         texts.append("\n".join(["\t".join(products or ["X"]), "\t".join(names or ["X"]), messages]))
     return HEAD + "\n\n".join(texts).replace("\t", "\\t") + '";\n'
 

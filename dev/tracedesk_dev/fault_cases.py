@@ -25,13 +25,8 @@ def lines_of(asked: argparse.Namespace, case: str, name: str) -> list[bytes]:
 def fed(asked: argparse.Namespace, case: str) -> Story:
     """`feed` of a case's messages into a file."""
     said = [line + b"\n" for line in lines_of(asked, case, "messages.jsonl")]
-    return Story(
-        asked,
-        f"feed {case}",
-        ["feed", "--db", "desk"],
-        said,
-        wanted=lines_of(asked, case, "answers.jsonl"),
-    )
+    wanted = lines_of(asked, case, "answers.jsonl")
+    return Story(asked, f"feed {case}", ["feed", "--db", "desk"], said, wanted=wanted)
 
 
 def in_memory(asked: argparse.Namespace, case: str) -> Story:
@@ -55,25 +50,14 @@ def imported(asked: argparse.Namespace, case: str) -> Story:
             text = {step["write"]: step["text"].encode()}
         if step.get("answer", {}).get("Answer") == "Accepted":
             wanted = json.dumps(step["answer"], separators=(",", ":")).encode() + b"\n"
-            return Command(
-                asked,
-                f"{step['run'][0]} {case}",
-                step["run"],
-                [b""],
-                fed_files(asked, case),
-                text,
-                [wanted],
-            )
+            name, files = f"{step['run'][0]} {case}", fed_files(asked, case)
+            return Command(asked, name, step["run"], [b""], files, text, [wanted])
     raise ValueError(f"the case {case} has no import that is accepted")
 
 
 def spelled(status: bytes, kind: bytes, body: bytes) -> bytes:
-    return b"HTTP/1.1 %s\r\nContent-Type: %s\r\nContent-Length: %d\r\n\r\n%s" % (
-        status,
-        kind,
-        len(body),
-        body,
-    )
+    form = b"HTTP/1.1 %s\r\nContent-Type: %s\r\nContent-Length: %d\r\n\r\n%s"
+    return form % (status, kind, len(body), body)
 
 
 def report_of(story: Story, count: int, target: str) -> bytes:
@@ -132,39 +116,22 @@ REPORTS = {
 
 
 def migrating(asked: argparse.Namespace, case: str) -> Story:
-    return Command(
-        asked,
-        f"migrate {case}",
-        ["migrate", "--db", "desk"],
-        [b""],
-        of_version_1(asked, case),
-        wanted=[b"version 2\n"],
-    )
+    words, files = ["migrate", "--db", "desk"], of_version_1(asked, case)
+    return Command(asked, f"migrate {case}", words, [b""], files, wanted=[b"version 2\n"])
 
 
 def auditing(asked: argparse.Namespace, case: str) -> Story:
-    count = sum(
-        line.startswith(b'{"Answer":"Accepted"') for line in lines_of(asked, case, "answers.jsonl")
-    )
-    return Command(
-        asked,
-        f"audit {case}",
-        ["audit", "--db", "desk"],
-        [b""],
-        fed_files(asked, case),
-        wanted=[b"lawful %d\n" % count],
-    )
+    answers = lines_of(asked, case, "answers.jsonl")
+    told = b"lawful %d\n" % sum(it.startswith(b'{"Answer":"Accepted"') for it in answers)
+    words, files = ["audit", "--db", "desk"], fed_files(asked, case)
+    return Command(asked, f"audit {case}", words, [b""], files, wanted=[told])
 
 
 def reporting(name: str) -> Callable[[argparse.Namespace, str], Story]:
     target, text = REPORTS[name]
+    words, title = ["report", "--db", "desk", "--get", target], f"report {name}"
     return lambda asked, case: Command(
-        asked,
-        f"report {name} {case}",
-        ["report", "--db", "desk", "--get", target],
-        [b""],
-        fed_files(asked, case),
-        wanted=[text],
+        asked, f"{title} {case}", words, [b""], fed_files(asked, case), wanted=[text]
     )
 
 
@@ -173,6 +140,10 @@ def serving(*targets: str) -> Callable[[argparse.Namespace, str], Story]:
 
 
 MOVED = "a_reel_moved_to_another_slot"
+TARGETS = (
+    *("/slots?machine=M", "/reel?reel=K2", "/kit?product=PR&machine=M&boards=1"),
+    *("/trace/lot?lot=L1&detail=4", "/reel?reel=K1"),
+)
 STORIES = (
     ("feed", "first_run", fed),
     ("feed", "a_splice_in_mid_board", fed),
@@ -185,27 +156,15 @@ STORIES = (
     ("report slots", MOVED, reporting("slots")),
     ("report trace", MOVED, reporting("trace")),
     ("serve", "first_run", serving("/slots?machine=M")),
-    (
-        "serve",
-        MOVED,
-        serving(
-            "/slots?machine=M",
-            "/reel?reel=K2",
-            "/kit?product=PR&machine=M&boards=1",
-            "/trace/lot?lot=L1&detail=4",
-            "/reel?reel=K1",
-        ),
-    ),
+    ("serve", MOVED, serving(*TARGETS)),
 )
 
 
 def stories(asked: argparse.Namespace) -> Iterator[Any]:
     """What is run."""
     for name, case, make in STORIES:
-        if (
-            re.sub("[^a-z-].*", "", name) in asked.commands
-            and (asked.only or "") in f"{name} {case}"
-        ):
+        is_command = re.sub("[^a-z-].*", "", name) in asked.commands
+        if is_command and (asked.only or "") in f"{name} {case}":
             it = make(asked, case)
             it.name = f"{name} {case}"
             yield it

@@ -36,17 +36,10 @@ def judge(story: Story, got: Got, files: Files, seen: Seen, may_be_done: bool = 
 def at_hand(story: Story, got: Got) -> list[int]:
     """The parts of which one may be done without an answer that says so: the one behind the last
     answer, and those that were answered Unavailable since the last that was Accepted."""
-    last = max(
-        (part for part, answer in enumerate(got.answers) if b'"Answer":"Accepted"' in answer),
-        default=-1,
-    )
-    return [
-        part
-        for part in story.all[last + 1 :]
-        if part == len(got.answers)
-        or part < len(got.answers)
-        and story.is_unavailable(got.answers[part])
-    ]
+    accepted = (at for at, it in enumerate(got.answers) if b'"Answer":"Accepted"' in it)
+    parts = story.all[max(accepted, default=-1) + 1 : len(got.answers) + 1]
+    answers = dict(enumerate(got.answers))
+    return [it for it in parts if it not in answers or story.is_unavailable(answers[it])]
 
 
 def judge_files(story: Story, files: Files, may: Any, seen: Seen) -> None:
@@ -55,24 +48,14 @@ def judge_files(story: Story, files: Files, may: Any, seen: Seen) -> None:
         order, files = (), {}
         seen["files: no desk was made yet"] += 1
     else:
-        orders = [
-            order
-            for order in may
-            if story.known(order).audit == audit
-            and story.known(order).tables == tables(after["desk"])
-        ]
+        orders = [it for it in may if story.known(it).audit == audit]
+        orders = [it for it in orders if story.known(it).tables == tables(after["desk"])]
         if not orders:
             raise Found(
                 f"audit says {audit!r}, and the rows are not those of any of the parts {may}"
             )
-        order = orders[0]
-        seen[
-            (
-                "files: no more was done than was answered"
-                if order == may[0]
-                else "files: the part at hand was done"
-            )
-        ] += 1
+        order, as_answered = orders[0], "no more was done than was answered"
+        seen[f"files: {as_answered if order == may[0] else 'the part at hand was done'}"] += 1
     wanted = story.known(order + story.all)
     answers, _status, after = story.plainly(story.all, files)
     if answers != wanted.answers[len(order) :]:

@@ -7,19 +7,8 @@ import random
 from typing import Any, Iterable, Iterator, Sequence
 from tracedesk_dev.trial import Difference as Found
 from tracedesk_dev.fault_judging import judge, killed, stopped, unchanged
-from tracedesk_dev.fault_stories import (
-    EINTR,
-    EIO,
-    ENOSPC,
-    EPIPE,
-    EVER,
-    Change,
-    Command,
-    Files,
-    Got,
-    Seen,
-    Story,
-)
+from tracedesk_dev.fault_stories import EINTR, EIO, ENOSPC, EPIPE, EVER
+from tracedesk_dev.fault_stories import Change, Command, Files, Got, Seen, Story
 
 SECTOR = 512
 
@@ -100,27 +89,19 @@ class Disk:
 
     def pieces(self, name: str, size: int) -> Any:
         """Where the pieces of this size begin that an unsure write touches."""
-        writes = [
-            change
-            for change, is_sure, _dropped in self.open[name]
-            if not is_sure and change.what == "write"
-        ]
-        return sorted(
-            {
-                at
-                for it in writes
-                for at in range(it.number // size * size, it.number + len(it.text), size)
-            }
+        its = (it for it, is_sure, _dropped in self.open[name] if not is_sure)
+        places = (
+            range(it.number // size * size, it.number + len(it.text), size)
+            for it in its
+            if it.what == "write"
         )
+        return sorted(set().union(*places))
 
     def mixed(self, size: int, chance: random.Random) -> Files:
         """The files where each piece of this size is old or new by chance, and past the sure end of
         a file its length is anywhere, and any byte may be anything where pieces are of a byte."""
-        old, new, share = (
-            self.with_these(()),
-            self.with_these(self.unsure()),
-            chance.choice((0.03, 0.5, 0.97)),
-        )
+        old, new = self.with_these(()), self.with_these(self.unsure())
+        share = chance.choice((0.03, 0.5, 0.97))
         files = {}
         for name, text in new.items():
             before, both = old[name], bytearray(text)
@@ -138,20 +119,14 @@ class Disk:
     def outcomes(self, chance: random.Random) -> Iterator[Any]:
         """Files that a power cut may leave now."""
         unsure = self.unsure()
-        few = (
-            [
-                {at for bit, at in enumerate(unsure) if number >> bit & 1}
-                for number in range(2 ** len(unsure))
-            ]
-            if len(unsure) <= 3
-            else [
-                set(),
-                set(unsure),
-                *(set(unsure) - {it} for it in chance.sample(unsure, 4)),
-                *({it} for it in chance.sample(unsure, 4)),
-                *({it for it in unsure if chance.random() < 0.5} for _ in range(4)),
-            ]
-        )
+        if len(unsure) <= 3:
+            numbers = range(2 ** len(unsure))
+            few = [{at for bit, at in enumerate(unsure) if it >> bit & 1} for it in numbers]
+        else:
+            few = [set(), set(unsure)]
+            few += [set(unsure) - {it} for it in chance.sample(unsure, 4)]
+            few += [{it} for it in chance.sample(unsure, 4)]
+            few += [{it for it in unsure if chance.random() < 0.5} for _ in range(4)]
         yield from map(self.with_these, few)
         if unsure:
             for size in (SECTOR, SECTOR, 1, 1):
@@ -161,9 +136,8 @@ class Disk:
             del files[name]
             yield files
         if self.names:
-            yield {
-                name: text for name, text in self.with_these(()).items() if name not in self.names
-            }
+            files = self.with_these(())
+            yield {name: text for name, text in files.items() if name not in self.names}
 
 
 def replayed(story: Story, record: bytes, files: Files) -> Iterator[Any]:
@@ -208,11 +182,11 @@ def chosen(asked: argparse.Namespace, count: int) -> Sequence[int]:
     """The numbers from 1 on, or a seeded choice where they are too many; the first and the last are
     in it.
     """
+    numbers = range(1, count + 1)
     if count <= asked.most:
-        return range(1, count + 1)
-    return sorted(
-        {1, count, *random.Random(f"{asked.seed} {count}").sample(range(1, count + 1), asked.most)}
-    )
+        return numbers
+    chance = random.Random(f"{asked.seed} {count}")
+    return sorted({1, count, *chance.sample(numbers, asked.most)})
 
 
 def wire(story: Story, counts: dict[str, int]) -> Iterator[Any]:
@@ -278,22 +252,14 @@ def power(story: Story, counts: dict[str, int], always: Any = "", one_in: Any = 
         got, failed = recorded(story, fail), not number
         for at, (change, out, disk) in enumerate(replayed(story, got.record, story.start)):
             failed = failed or change.what == "unsynced"
-            if (
-                not failed
-                or number
-                and chance.random() > 0.1
-                or one_in > 1
-                and chance.randrange(one_in)
-            ):
+            if not failed or number and chance.random() > 0.1:
+                continue
+            if one_in > 1 and chance.randrange(one_in):
                 continue
             answers, rest = story.split(out)
+            cut_off = got._replace(answers=answers, rest=rest, status=-9, told=b"")
+            told = f"{fail or 'nothing failed'}, and the power at change {at + 1}"
             outcomes = list(disk.outcomes(chance))
-            for files in outcomes if not number else chance.sample(outcomes, min(4, len(outcomes))):
-                again = (
-                    random.Random(f"{story.asked.seed} {number} {at}")
-                    if chance.random() < 0.1
-                    else None
-                )
-                yield cut, got._replace(
-                    answers=answers, rest=rest, status=-9, told=b""
-                ), files, again, f"{fail or 'nothing failed'}, and the power at change {at + 1}"
+            for files in chance.sample(outcomes, min(4, len(outcomes))) if number else outcomes:
+                again = f"{story.asked.seed} {number} {at}" if chance.random() < 0.1 else None
+                yield cut, cut_off, files, again and random.Random(again), told

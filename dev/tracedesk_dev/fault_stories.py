@@ -65,12 +65,8 @@ class Rooms:
     """A folder for each thread, emptied for each run."""
 
     def __init__(self, folder: str) -> None:
-        self.folder, self.own, self.lock, self.count = (
-            pathlib.Path(folder),
-            threading.local(),
-            threading.Lock(),
-            0,
-        )
+        self.folder, self.count = pathlib.Path(folder), 0
+        self.own, self.lock = threading.local(), threading.Lock()
 
     def room(self, files: Files) -> pathlib.Path:
         if not hasattr(self.own, "room"):
@@ -83,6 +79,11 @@ class Rooms:
         for name, text in files.items():
             (self.own.room / name).write_bytes(text)
         return pathlib.Path(self.own.room)
+
+
+def bytes_of(file: pathlib.Path) -> bytes:
+    """What a file has; nothing where there is none."""
+    return file.read_bytes() if file.exists() else b""
 
 
 def files_in(room: pathlib.Path) -> Files:
@@ -142,10 +143,9 @@ class Story:
     def process(
         self, room: pathlib.Path, words: list[str], env: Env = None, **how: Any
     ) -> subprocess.Popen[bytes]:
-        words = [
-            str(room / word) if word == "desk" or word in self.beside else word for word in words
-        ]
-        return subprocess.Popen([self.asked.program, *words], cwd=room, env=env, **how)
+        at = {word: str(room / word) for word in ("desk", *self.beside)}
+        words = [self.asked.program, *(at.get(word, word) for word in words)]
+        return subprocess.Popen(words, cwd=room, env=env, **how)
 
     def ran(
         self,
@@ -157,17 +157,9 @@ class Story:
     ) -> tuple[bytes, bytes, int]:
         """One run: what it put out, and told, and how it ended. All of it goes through files."""
         (room / "given").write_bytes(given)
-        with open(room / "given") as source, open(room / "out", "w") as out, open(
-            room / "told", "w"
-        ) as told:
-            process = self.process(
-                room,
-                words,
-                env,
-                stdin=source if self.reads else subprocess.DEVNULL,
-                stdout=out,
-                stderr=told,
-            )
+        source = room / "given" if self.reads else pathlib.Path(os.devnull)
+        with open(source) as it, open(room / "out", "w") as out, open(room / "told", "w") as told:
+            process = self.process(room, words, env, stdin=it, stdout=out, stderr=told)
             ended(process, patience or self.asked.patience)
         return (room / "out").read_bytes(), (room / "told").read_bytes(), process.returncode
 
@@ -175,9 +167,8 @@ class Story:
         """One run on these parts: the whole answers, what is behind them, what was told, and the
         status.
         """
-        return self.taken(
-            *self.ran(room, self.words, b"".join(self.parts[part] for part in order), env)
-        )
+        given = b"".join(self.parts[part] for part in order)
+        return self.taken(*self.ran(room, self.words, given, env))
 
     def taken(self, out: bytes, told: bytes, status: int, _answered: bytes = b"") -> Taken:
         return *self.split(out), told, status
@@ -193,21 +184,14 @@ class Story:
         """How a run ends that gave these answers, and in which nothing failed but what was answered
         Unavailable.
         """
-        return (
-            (0,)
-            if all(re.match(rb'{"Answer":"(Accepted|Ignored)"', answer) for answer in answers)
-            else (1,)
-        )
+        return (int(any(not re.match(rb'{"Answer":"(Accepted|Ignored)"', it) for it in answers)),)
 
     def faults(self, kind: str) -> list[Any]:
         """What is told, and how a run ends, where calls of this kind failed and no answer could say
         so.
         """
-        return [
-            {"input": ("tracedesk: Read\n", 4), "output": ("tracedesk: Write\n", 4)}.get(
-                kind, ("tracedesk: Unavailable\n", 3)
-            )
-        ]
+        of_wire = {"input": ("tracedesk: Read\n", 4), "output": ("tracedesk: Write\n", 4)}
+        return [of_wire.get(kind, ("tracedesk: Unavailable\n", 3))]
 
     def is_whole(self, got: Got) -> bool:
         """Whether a run that told nothing has answered all that it had to."""
@@ -233,15 +217,8 @@ class Story:
             env["FAIL_RECORD"] = str(room / "record")
         answers, rest, told, status = self.once(room, self.all, env)
         counts = dict(zip(KINDS, struct.unpack(f"{len(KINDS)}q", (room / "counts").read_bytes())))
-        return Got(
-            answers,
-            rest,
-            told,
-            status,
-            files_in(room),
-            counts,
-            (room / "record").read_bytes() if record else b"",
-        )
+        recorded = (room / "record").read_bytes() if record else b""
+        return Got(answers, rest, told, status, files_in(room), counts, recorded)
 
     def branched(self, base: str, points: Points) -> Any:
         """One run in which the calls of `base` fail, and at each point a copy of it, in which the
@@ -252,12 +229,9 @@ class Story:
         copies = room.with_name(room.name + ".copies")
         shutil.rmtree(copies, ignore_errors=True)
         copies.mkdir()
-        order = sorted(
-            (fail.split()[0], int(fail.split()[1]), name, fail) for name, fail in enumerate(points)
-        )
-        (room / "points").write_text(
-            "".join(f"{kind} {number} {name} {fail}\n" for kind, number, name, fail in order)
-        )
+        words = ((*fail.split()[:2], name, fail) for name, fail in enumerate(points))
+        order = sorted((kind, int(number), *rest) for kind, number, *rest in words)
+        (room / "points").write_text("".join("{} {} {} {}\n".format(*it) for it in order))
         env = {
             **self.failing(room, base),
             "FAIL_POINTS": str(room / "points"),
@@ -265,25 +239,14 @@ class Story:
             "FAIL_GIVEN": str(room / "given"),
             "FAIL_SECONDS": f"{self.asked.patience:.0f}",
         }
-        _out, _told, status = self.ran(
-            room,
-            [*self.words, *self.port(20_000)],
-            b"".join(self.parts),
-            env,
-            self.asked.patience * (1 + len(points)),
-        )
-        own = self.got(room, status)
-        if not base and (own.answers, own.rest, own.told, own.status) != (
-            self.known(self.all).answers,
-            b"",
-            b"",
-            self.known(self.all).status,
-        ):
+        patience, given = self.asked.patience * (1 + len(points)), b"".join(self.parts)
+        all_words = [*self.words, *self.port(20_000)]
+        own = self.got(room, self.ran(room, all_words, given, env, patience)[2])
+        known = self.known(self.all)
+        if not base and own[:4] != (known.answers, b"", b"", known.status):
             raise Found(f"a run with copies: status {own.status}, {own.told!r}, {own.answers!r}")
-        statuses = {
-            int(name): os.waitstatus_to_exitcode(int(it))
-            for name, it in map(str.split, (copies / "ended").read_text().splitlines())
-        }
+        ended_so = map(str.split, (copies / "ended").read_text().splitlines())
+        statuses = {int(name): os.waitstatus_to_exitcode(int(it)) for name, it in ended_so}
         gots = [
             self.got(copies / str(name), statuses[name]) if name in statuses else own
             for name in range(len(points))
@@ -293,21 +256,10 @@ class Story:
 
     def got(self, room: pathlib.Path, status: int) -> Got:
         """What a run gave that put its answers into files."""
-        if status == -14:
-            return Got(
-                [],
-                b"",
-                f"had not ended after {self.asked.patience:.0f} seconds".encode(),
-                status,
-                {},
-                {},
-                b"",
-            )
-        out, told, answered = (
-            (room / name).read_bytes() if (room / name).exists() else b""
-            for name in ("out", "told", "answered")
-        )
         try:
+            if status == -14:
+                raise Found(f"had not ended after {self.asked.patience:.0f} seconds")
+            out, told, answered = (bytes_of(room / it) for it in ("out", "told", "answered"))
             return Got(*self.taken(out, told, status, answered), files_in(room), {}, b"")
         except Found as it:
             return Got([], b"", str(it).encode(), status, {}, {}, b"")
@@ -373,9 +325,8 @@ class Command(Story):
     def taken(self, out: bytes, told: bytes, status: int, _answered: bytes = b"") -> Taken:
         if status == 3 and not out:
             return [UNAVAILABLE if told == b"tracedesk: Unavailable\n" else told], b"", b"", status
-        return (
-            ([out], b"", told, status) if status in (0, 1, 3) else (*self.split(out), told, status)
-        )
+        its = ([out], b"") if status in (0, 1, 3) else self.split(out)
+        return *its, told, status
 
     def split(self, out: bytes) -> tuple[list[bytes], bytes]:
         lines = self.wanted[0].count(b"\n") if self.wanted else 1
@@ -397,25 +348,16 @@ class Served(Story):
 
     def __init__(self, *its: Any, **more: Any) -> None:
         super().__init__(*its, **more)
-        head = (
-            "HTTP/1.1 503 Service Unavailable\r\nContent-Type: application/json\r\nContent-Length:"
-            " 24\r\n"
-        )
-        self.refusals = tuple(
-            (head + end + "\r\n").encode() + UNAVAILABLE for end in ("", "Connection: close\r\n")
-        )
+        head = b"HTTP/1.1 503 Service Unavailable\r\nContent-Type: application/json\r\n"
+        head += b"Content-Length: 24\r\n"
+        ends = (b"", b"Connection: close\r\n")
+        self.refusals = tuple(head + end + b"\r\n" + UNAVAILABLE for end in ends)
 
     def once(self, room: pathlib.Path, order: Sequence[int], env: Env = None) -> Taken:
         given = b"".join(self.parts[part] for part in order)
-        told = self.ran(
-            room,
-            [*self.words, *self.port(20_000)],
-            given,
-            {**(env or self.failing(room, "")), "FAIL_GIVEN": str(room / "given")},
-        )
-        return self.taken(
-            *told, (room / "answered").read_bytes() if (room / "answered").exists() else b""
-        )
+        env = {**(env or self.failing(room, "")), "FAIL_GIVEN": str(room / "given")}
+        told = self.ran(room, [*self.words, *self.port(20_000)], given, env)
+        return self.taken(*told, bytes_of(room / "answered"))
 
     reads = False
 

@@ -2,20 +2,18 @@
 reasons.
 """
 import os
-import pathlib
 import re
 import resource
 import subprocess
 import sys
 import time
-import xml.etree.ElementTree
 from typing import NamedTuple
 
 from tracedesk_dev import ROOT, packages
 
 CORES = str(os.cpu_count() or 1)
-ENDED = re.compile(r"(\d+) passed, (\d+) failed(?:, (\d+) skipped)?")
-SKIPPED = re.compile(r"skipped:? +(.*)")
+ENDED = re.compile(r"(\d+) (passed|failed|errors?|skipped)\b")
+SKIPPED = re.compile(r"(?i:skipped):? +(.*)")  # of a tool, or of pytest by -rs
 MISSING = re.compile(r"apt-get install ([a-z0-9.+ -]+)")
 NO_SKIP = "TRACEDESK_NO_SKIP"
 PROOFS = "rt ci"
@@ -37,6 +35,10 @@ class Count(NamedTuple):
     failed: int
     skipped: int = 0
 
+    def __str__(self) -> str:
+        skipped = f", {self.skipped} skipped" if self.skipped else ""
+        return f"{self.passed} passed, {self.failed} failed{skipped}"
+
 
 def python_with(module: str) -> str | None:
     """A Python that has the module: the one that runs, or Debian's."""
@@ -46,63 +48,56 @@ def python_with(module: str) -> str | None:
     return None
 
 
+def counted(last: str, status: int) -> Count | None:
+    """The numbers of a last line; none where it has none, or where the status says otherwise."""
+    its = {kind.rstrip("s"): int(number) for number, kind in ENDED.findall(last)}
+    count = Count(its.get("passed", 0), its.get("failed", 0) + its.get("error", 0))
+    is_one = bool(its) and status in (0, 1) and bool(status) == bool(count.failed)
+    return count._replace(skipped=its.get("skipped", 0)) if is_one else None
+
+
 class Gate:
     """Runs the steps, and keeps what each came to, what it cost, and what was skipped."""
 
-    def __init__(self, room: pathlib.Path) -> None:
-        self.room = room
+    def __init__(self) -> None:
         self.counts: list[Count] = []
         self.costs: list[tuple[str, float, float]] = []
         self.skips: list[str] = []
 
-    def skip(self, name: str, why: str) -> Count:
-        print(f"skipped: {name}: {why}", flush=True)
-        self.skips.append(f"{name}: {why}")
-        return Count(0, 0, 1)
-
     def run(self, step: Step) -> None:
         began, cost = time.monotonic(), processor_seconds()
         print(f"--- {step.name}", flush=True)
-        self.counts.append(self.tested(step) if step.words[0] == "pytest" else self.called(step))
+        words = self.tests(step) if step.words[0] == "pytest" else list(step.words)
+        if not words:
+            why = f"{step.name}: {packages.lacking('python:pytest')}"
+            print(f"skipped: {why}", flush=True)
+            self.skips.append(why)
+        self.counts.append(self.called(step, words) if words else Count(0, 0, 1))
         self.costs.append((step.name, time.monotonic() - began, processor_seconds() - cost))
 
-    def called(self, step: Step) -> Count:
+    def tests(self, step: Step) -> list[str]:
+        """The words that run pytest over folders; none where there is no pytest."""
+        if not (python := python_with("pytest")):
+            return []
+        spread = ["-n", CORES, "--dist=loadgroup"] if python_with("xdist") == python else []
+        return [python, "-m", "pytest", "-q", "-rfEs", "-m", "gate", *spread, *step.words[1:]]
+
+    def called(self, step: Step, words: list[str]) -> Count:
         """Runs a command, passes its lines on, and takes its numbers from its last line."""
-        words = (str(ROOT / step.words[0]) if "/" in step.words[0] else "rt", *step.words[1:])
+        words[0] = str(ROOT / words[0]) if words[0].startswith("dev/") else words[0]
         last = ""
         with subprocess.Popen(
             words, cwd=ROOT, stdin=subprocess.DEVNULL, stdout=subprocess.PIPE, text=True
         ) as process:
             for line in process.stdout or ():
                 last = line.rstrip("\n")
-                print(f"{step.name}: {last}" if ENDED.fullmatch(last) else last, flush=True)
+                print(last, flush=True)
                 if skipped := SKIPPED.match(last):
                     self.skips.append(f"{step.name}: {skipped[1]}")
-        if not step.counts:
-            return Count(int(not process.returncode), int(bool(process.returncode)))
-        ended = ENDED.fullmatch(last)
-        if ended and bool(process.returncode) == bool(int(ended[2])):
-            return Count(int(ended[1]), int(ended[2]), int(ended[3] or 0))
-        print(f"{step.name}: ended with status {process.returncode}", flush=True)
-        return Count(0, 1)
-
-    def tested(self, step: Step) -> Count:
-        """Runs pytest over folders, and takes its numbers from its report."""
-        python = python_with("pytest")
-        if python is None:
-            return self.skip(step.name, str(packages.lacking("python:pytest")))
-        report = self.room / "report.xml"
-        report.unlink(missing_ok=True)
-        words = [python, "-m", "pytest", "-q", "-m", "gate", f"--junitxml={report}"]
-        words += ["-n", CORES, "--dist=loadgroup"] if python_with("xdist") == python else []
-        done = subprocess.run([*words, *step.words[1:]], cwd=ROOT, stdin=subprocess.DEVNULL)
-        if not report.exists() or done.returncode not in (0, 1):
-            print(f"{step.name}: pytest ended with status {done.returncode}", flush=True)
-            return Count(0, 1)
-        count, skips = reported(report)
-        self.skips += [f"{step.name}: {skip}" for skip in skips]
-        print(f"{step.name}: {shown(count)}", flush=True)
-        return count
+        status = process.returncode
+        count = counted(last, status) if step.counts else Count(int(not status), int(bool(status)))
+        print(f"{step.name}: {count or f'ended with status {status}'}", flush=True)
+        return count or Count(0, 1)
 
     def total(self) -> Count:
         passed, failed, skipped = (sum(numbers) for numbers in zip(*self.counts))
@@ -115,39 +110,13 @@ def processor_seconds() -> float:
     return used.ru_utime + used.ru_stime
 
 
-def reported(file: pathlib.Path) -> tuple[Count, list[str]]:
-    """The numbers of a report of pytest, and the reasons of its skips."""
-    suite = xml.etree.ElementTree.parse(file).getroot().find("testsuite")
-    assert suite is not None, "a report of pytest has a suite"
-    tests, failures, errors, skipped = (
-        int(suite.attrib[name]) for name in ("tests", "failures", "errors", "skipped")
-    )
-    skips = [
-        f"{case.attrib['name']}: {skip.attrib['message']}"
-        for case in suite.iter("testcase")
-        for skip in case.iter("skipped")
-    ]
-    failed = failures + errors
-    return Count(max(0, tests - failed - skipped), failed, skipped), skips
-
-
-def shown(count: Count) -> str:
-    skipped = f", {count.skipped} skipped" if count.skipped else ""
-    return f"{count.passed} passed, {count.failed} failed{skipped}"
-
-
-def table(costs: list[tuple[str, float, float]]) -> None:
-    """Prints what each step cost; the proofs apart from the rest."""
-    rest = [cost for cost in costs if cost[0] != PROOFS]
-    costs = [*costs, ("all but the proofs", sum(c[1] for c in rest), sum(c[2] for c in rest))]
-    print(f"{'step':30} {'seconds':>8} {'of processors':>14}")
-    for name, seconds, processors in costs:
-        print(f"{name:30} {seconds:8.0f} {processors:14.0f}")
-
-
 def ended(gate: Gate) -> int:
-    """Prints the table, the skips and the last line, and returns the status."""
-    table(gate.costs)
+    """Prints what each step cost, the proofs apart, the skips and the last line; the status."""
+    rest = [cost for cost in gate.costs if cost[0] != PROOFS]
+    together = ("all but the proofs", sum(c[1] for c in rest), sum(c[2] for c in rest))
+    print(f"{'step':30} {'seconds':>8} {'of processors':>14}")
+    for name, seconds, processors in [*gate.costs, together]:
+        print(f"{name:30} {seconds:8.0f} {processors:14.0f}")
     for skip in gate.skips:
         print(f"skipped: {skip}")
     missing = {name for skip in gate.skips for it in MISSING.findall(skip) for name in it.split()}
@@ -157,5 +126,5 @@ def ended(gate: Gate) -> int:
     if total.skipped and os.environ.get(NO_SKIP):
         print(f"{NO_SKIP} is set: what was skipped has failed")
         total = Count(total.passed, total.failed + total.skipped)
-    print(shown(total))
+    print(total)
     return 1 if total.failed else 0

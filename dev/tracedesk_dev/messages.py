@@ -35,10 +35,8 @@ class Messages:
     def at(self, clock: str) -> None:
         """Goes on to a time of this day, where it is not past."""
         hours, minutes, *seconds = map(int, clock.split(":"))
-        self.now = max(
-            self.now,
-            self.day + datetime.timedelta(hours=hours, minutes=minutes, seconds=sum(seconds)),
-        )
+        since = datetime.timedelta(hours=hours, minutes=minutes, seconds=sum(seconds))
+        self.now = max(self.now, self.day + since)
 
     def later(self, seconds: float) -> None:
         self.now += datetime.timedelta(seconds=seconds)
@@ -57,13 +55,9 @@ class Messages:
         """
         unique = str(uuid.UUID(int=self.random.getrandbits(128), version=4))
         when = (when or self.now).replace(microsecond=0)
-        message = {
-            "MessageName": "TraceDesk." + word,
-            "UniqueID": unique,
-            "Source": source,
-            "TimeStamp": when.isoformat() + "Z",
-            "MessageBody": body,
-        }
+        message: dict[str, object] = {"MessageName": "TraceDesk." + word, "UniqueID": unique}
+        stamp = when.isoformat() + "Z"
+        message |= {"Source": source, "TimeStamp": stamp, "MessageBody": body}
         self.add(json.dumps(message, separators=(",", ":")).encode(), unique, when, refusal, more)
         return len(self.lines) - 1
 
@@ -94,20 +88,13 @@ class Messages:
             "TimeStamp": self.now.replace(microsecond=0).isoformat() + "Z",
             "MessageBody": body,
         }
-        self.lines.append(
-            Said(
-                json.dumps(text, separators=(",", ":")).encode(),
-                "Ignored",
-                compact({"Answer": "Ignored", "MessageName": word}),
-            )
-        )
+        answer = compact({"Answer": "Ignored", "MessageName": word})
+        self.lines.append(Said(json.dumps(text, separators=(",", ":")).encode(), "Ignored", answer))
 
     def effective(self, when: datetime.datetime | None = None) -> int:
         """The minute at which an accepted command takes effect."""
-        return max(
-            self.minute,
-            int((when or self.now).replace(tzinfo=datetime.timezone.utc).timestamp()) // 60,
-        )
+        at = (when or self.now).replace(tzinfo=datetime.timezone.utc)
+        return max(self.minute, int(at.timestamp()) // 60)
 
     def repeat(self, number: int) -> None:
         """Says an accepted line again, byte for byte."""
@@ -115,11 +102,7 @@ class Messages:
 
     def say_again(self, number: int) -> None:
         """Says a refused line again, byte for byte, which is accepted now."""
-        message: dict[str, Any] = json.loads(self.lines[number].text)
-        self.add(
-            self.lines[number].text,
-            message["UniqueID"],
-            datetime.datetime.fromisoformat(message["TimeStamp"][:-1]),
-            None,
-            {},
-        )
+        text = self.lines[number].text
+        message: dict[str, Any] = json.loads(text)
+        at = datetime.datetime.fromisoformat(message["TimeStamp"][:-1])
+        self.add(text, message["UniqueID"], at, None, {})

@@ -44,15 +44,10 @@ class Server:
         folder.chmod(0o755)
         if self.user:
             shutil.chown(folder, "postgres")
-        self.options = {
-            "listen_addresses": "''",
-            "unix_socket_directories": f"'{folder}'",
-            "fsync": "off",
-            **options,
-        }
-        os.environ.update(
-            PGHOST=str(folder), PGDATABASE="postgres", PGUSER="plant", PGCLIENTENCODING="UTF8"
-        )
+        self.options = {"listen_addresses": "''", "unix_socket_directories": f"'{folder}'"}
+        self.options |= {"fsync": "off", **options}
+        names = {"PGHOST": str(folder), "PGDATABASE": "postgres", "PGUSER": "plant"}
+        os.environ.update(names, PGCLIENTENCODING="UTF8")
 
     def run(self, name: str, *words: str) -> None:
         command = found(name)
@@ -66,19 +61,8 @@ class Server:
 
     def start(self) -> None:
         options = " ".join(f"-c {name}={value}" for name, value in self.options.items())
-        self.run(
-            "pg_ctl",
-            "-D",
-            str(self.data),
-            "-l",
-            str(self.folder / "log"),
-            "-w",
-            "-t",
-            PATIENCE,
-            "-o",
-            options,
-            "start",
-        )
+        where = ("-D", str(self.data), "-l", str(self.folder / "log"))
+        self.run("pg_ctl", *where, "-w", "-t", PATIENCE, "-o", options, "start")
 
     def stop(self) -> None:
         self.run("pg_ctl", "-D", str(self.data), "-m", "fast", "-w", "-t", PATIENCE, "stop")
@@ -88,18 +72,8 @@ class Server:
         subprocess.run(["rm", "-rf", self.folder / to], check=True)
         subprocess.run(["cp", "-a", self.folder / name, self.folder / to], check=True)
 
-    def processor_seconds(self) -> float:
-        """What all sessions that ended have taken of the processor, since the start of the
-        server.
-        """
-        number = (self.data / "postmaster.pid").read_text().split()[0]
-        fields = pathlib.Path(f"/proc/{number}/stat").read_text().rpartition(")")[2].split()
-        return (int(fields[13]) + int(fields[14])) / os.sysconf("SC_CLK_TCK")
-
     def __enter__(self) -> "Server":
-        self.run(
-            "initdb", "-D", str(self.data), "-U", "plant", "-A", "trust", "-E", "UTF8", "--locale=C"
-        )
+        self.run("initdb", "-D", str(self.data), *"-U plant -A trust -E UTF8 --locale=C".split())
         self.start()
         return self
 
@@ -111,13 +85,8 @@ def asked(*words: object, status: int = 0) -> Any:
     """What psql prints, on standard output and on standard error; it has to end with this
     status.
     """
-    done = subprocess.run(
-        ["psql", "-X", "-q", "-v", "ON_ERROR_STOP=1", *map(str, words)],
-        capture_output=True,
-        text=True,
-    )
+    called = ["psql", "-X", "-q", "-v", "ON_ERROR_STOP=1", *map(str, words)]
+    done = subprocess.run(called, capture_output=True, text=True)
     if done.returncode != status:
-        raise Fault(
-            f"psql {' '.join(map(str, words))} ended with status {done.returncode}: {done.stderr}"
-        )
+        raise Fault(f"{' '.join(called)} ended with status {done.returncode}: {done.stderr}")
     return done.stdout if status == 0 else (done.stdout, done.stderr)

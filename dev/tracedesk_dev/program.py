@@ -5,14 +5,16 @@ newer. Tools ask `to_use`, which proves nothing: dev/build does.
 import argparse
 import os
 import pathlib
-import re
 import shutil
 import subprocess
 import sys
 import time
 from typing import Iterator, NoReturn
 
-ROOT = pathlib.Path(__file__).resolve().parents[2]
+from tracedesk_dev import ROOT as ROOT  # the tools ask for it here
+from tracedesk_dev import building, rattle
+from tracedesk_dev.building import tell
+
 CRATES = ROOT / "crates"
 CRATE = "tracedesk"
 BUILT = CRATES / CRATE / "out" / CRATE
@@ -28,10 +30,6 @@ NO_KIT = (
     "there is no rt, the command of Rattle's kit, which proves and builds. All but make build, test"
     " and wrong-bodies work without it on a program that is built: make day PROGRAM=FILE"
 )
-# How long a line of code takes to be proved, on four cores: until this build has shown its own
-# pace.
-SECONDS_A_LINE = 0.09
-LINES_THAT_SHOW = 1000
 
 
 def stop(why: str) -> NoReturn:
@@ -82,32 +80,13 @@ def built(crate: str) -> pathlib.Path:
     return CRATES / crate / "out" / crate
 
 
-def proved_in_turn(crate: str = CRATE) -> list[str]:
-    """The crates at and below the program, in the order in which rt proves them."""
-    rows = [
-        line.partition("#")[0].partition(":")
-        for line in CRATES.with_suffix(".txt").read_text(encoding="utf-8").splitlines()
-    ]
-    named = {name.split()[0]: deps.split() for name, _, deps in rows if name.strip()}
-    found = []
-
-    def add(name: str) -> None:
-        for dep in named.get(name, ()):
-            add(dep)
-        if name in named and name not in found:
-            found.append(name)
-
-    add(crate)
-    return found
-
-
 def sources(program: str = CRATE) -> Iterator[pathlib.Path]:
     """The files that the program is built of, and their folders, whose times tell of files that are
     gone.
     """
     yield CRATES.with_suffix(".txt")
     yield ROOT / "HANDLES"
-    for crate in proved_in_turn(program):
+    for crate in [*rattle.below(program), program]:
         for part in ("src", "specs", "proofs"):
             yield from (
                 it
@@ -136,77 +115,20 @@ def can_run(file: str | pathlib.Path) -> bool:
 # --- The build
 
 
-def lines_of(crate: str) -> int:
-    """How many lines of code a crate has without its tests, which stand for the work of its
-    proof.
-    """
-    files = [
-        it
-        for it in (CRATES / crate / "src").rglob("*.rt")
-        if it.name != "tests.rt" and "tests" not in it.parts
-    ]
-    return sum(it.read_bytes().count(b"\n") for it in files)
-
-
-class Progress:
-    """What is told on standard error of the lines that rt prints."""
-
-    def __init__(self, crate: str) -> None:
-        self.crates = proved_in_turn(crate)
-        self.lines = {it: lines_of(it) for it in self.crates}
-        self.began, self.done, self.crate = time.monotonic(), 0, ""
-
-    def minutes_left(self, at: int) -> int:
-        left = sum(self.lines[it] for it in self.crates[at:])
-        pace = SECONDS_A_LINE
-        if self.done >= LINES_THAT_SHOW:
-            pace = (time.monotonic() - self.began) / self.done
-        return max(1, round(left * pace / 60))
-
-    def hear(self, line: str) -> None:
-        chosen = re.match(r"rt: chose --jobs \d+ for (\w+)$", line)
-        if chosen and chosen[1] in self.lines and chosen[1] != self.crate:
-            self.done += self.lines.get(self.crate, 0)
-            self.crate = chosen[1]
-            at = self.crates.index(self.crate)
-            tell(
-                f"proving {self.crate} ({at + 1} of {len(self.crates)}), about"
-                f" {self.minutes_left(at)} min to go"
-            )
-        elif line.startswith("so far:"):
-            tell(f"  {line.strip()}")
-
-
-def tell(text: str) -> None:
-    print(text, file=sys.stderr, flush=True)
-
-
 def build(crate: str) -> None:
     """Proves and builds the program; where that fails, all that rt said is told, and the tool ends
     with its status.
     """
     tell(
-        f"{NAME}: proving and building the program, some 40 minutes on four cores; `make demo`"
+        f"{NAME}: proving and building the program, up to 35 minutes on four cores; `make demo`"
         " shows it at work before that"
     )
-    progress, said, began = Progress(crate), [], time.time_ns()
-    # rt runs what it built: once, for its help
-    words = ["rt", "run", "--", "--help"]
-    with subprocess.Popen(
-        words,
-        cwd=CRATES / crate,
-        stdin=subprocess.DEVNULL,
-        stdout=subprocess.DEVNULL,
-        stderr=subprocess.PIPE,
-        errors="replace",
-    ) as building:
-        for line in building.stderr or ():
-            said.append(line)
-            progress.hear(line)
-    if building.returncode:
-        sys.stderr.writelines(said)
-        tell(f"{NAME}: the program was not built: rt ended with status {building.returncode}")
-        sys.exit(building.returncode if building.returncode == 1 else 2)
+    began = time.time_ns()
+    try:
+        building.build(crate)
+    except building.NotProved as why:
+        tell(f"{why.said}{NAME}: the program was not built: {why}")
+        sys.exit(why.status if why.status == 1 else 2)
     # rt goes by what the files say: a source written anew with the same text leaves the program as
     # old as it was
     if built(crate).stat().st_mtime_ns < newest(crate).stat().st_mtime_ns < began:

@@ -106,20 +106,11 @@ class Exchange(NamedTuple):
 
     def line(self) -> bytes:
         """It as a line of the file that docs/api.md describes."""
-        told = {
-            "Cases": list(self.cases),
-            "Shows": self.shows,
-            "Form": self.form,
-            "Greatest": self.greatest,
-            "Status": self.status,
-        }
-        told.update([spelled("Request", self.request), spelled("Answer", self.answer)])
-        return (
-            json.dumps(
-                {name: it for name, it in told.items() if it is not None}, separators=(",", ":")
-            ).encode()
-            + b"\n"
-        )
+        told: dict[str, Any] = {"Cases": list(self.cases), "Shows": self.shows, "Form": self.form}
+        told |= {"Greatest": self.greatest, "Status": self.status}
+        told |= dict([spelled("Request", self.request), spelled("Answer", self.answer)])
+        told = {name: it for name, it in told.items() if it is not None}
+        return json.dumps(told, separators=(",", ":")).encode() + b"\n"
 
     @classmethod
     def read(cls, line: bytes) -> "Exchange":
@@ -128,15 +119,8 @@ class Exchange(NamedTuple):
             base64.b64decode(told[f"{it}Base64"]) if f"{it}Base64" in told else told[it].encode()
             for it in ("Request", "Answer")
         )
-        return cls(
-            tuple(told["Cases"]),
-            told["Shows"],
-            told["Form"],
-            told.get("Greatest"),
-            told.get("Status"),
-            request,
-            answer,
-        )
+        numbers = told.get("Greatest"), told.get("Status")
+        return cls(tuple(told["Cases"]), told["Shows"], told["Form"], *numbers, request, answer)
 
 
 def spelled(name: str, data: bytes) -> tuple[str, str]:
@@ -152,23 +136,19 @@ def asked_of(words: list[str]) -> tuple[str, str | None, int | None] | None:
     others.
     """
     options = dict(zip(words[1::2], words[2::2]))
-    if (
-        words[:1] not in (["feed"], ["serve"])
-        or len(words) % 2 == 0
-        or not set(options) <= {"--db", "--greatest"}
-        or not options.get("--greatest", "1").isdecimal()
-    ):
+    greatest = options.get("--greatest")
+    is_known = words[:1] in (["feed"], ["serve"]) and set(options) <= {"--db", "--greatest"}
+    if not is_known or len(words) % 2 == 0 or not (greatest or "1").isdecimal():
         return None
-    return (
-        words[0],
-        options.get("--db"),
-        int(options["--greatest"]) if "--greatest" in options else None,
-    )
+    return words[0], options.get("--db"), int(greatest) if greatest else None
 
 
 def names_no_file(step: Step) -> bool:
     asked = asked_of(step.get("run") or step.get("talk") or [])
     return asked is not None and asked[1] is None
+
+
+OTHERWISE = set("read_from write_to memory held errors files answer killed".split())
 
 
 def of_fresh_desk(step: Step, is_fresh: bool, bytes_of: BytesOf) -> Iterator[tuple[Any, ...]]:
@@ -177,28 +157,17 @@ def of_fresh_desk(step: Step, is_fresh: bool, bytes_of: BytesOf) -> Iterator[tup
     """
     kind = next((it for it in ("run", "talk", "serve") if it in step), None)
     asked = asked_of(step[kind]) if kind else None
-    if asked is None or {
-        "read_from",
-        "write_to",
-        "memory",
-        "held",
-        "errors",
-        "files",
-        "answer",
-        "killed",
-    } & set(step):
+    if asked is None or OTHERWISE & set(step):
         return
     command, file, greatest = asked
     if command == "feed" and (is_fresh or file is None):
-        yield "", "lines", greatest, step.get("status", 0), bytes_of(step.get("input")), bytes_of(
-            step.get("output")
-        )
+        given, told = bytes_of(step.get("input")), bytes_of(step.get("output"))
+        yield "", "lines", greatest, step.get("status", 0), given, told
     for number, (sent, told) in enumerate(step.get("connections", ()), 1):
         answer = b"".join(map(case_connections.spelled_answer, told))
         if is_fresh:
-            yield f"/{number}", "http", greatest, None, b"".join(
-                case_connections.spelled_request(it, bytes_of) for it in sent
-            ), answer
+            requests = (case_connections.spelled_request(it, bytes_of) for it in sent)
+            yield f"/{number}", "http", greatest, None, b"".join(requests), answer
         is_fresh = is_fresh and b'"Answer":"Accepted"' not in answer
 
 
