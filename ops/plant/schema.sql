@@ -201,7 +201,7 @@ CREATE OR REPLACE FUNCTION faults(kind text, wanted text) RETURNS SETOF text LAN
         FROM untraced WHERE became = ''
     UNION ALL SELECT format('doubtful piece of %s: %s of board %s, %s, may not be of %s of lot %s%s: %s', line, designator, board, spelled(minute), reel, lot,
         CASE other_reels WHEN '{}' THEN '' ELSE format(', but of %s of lot %s', array_to_string(other_reels, ' or '), array_to_string(other_lots, ' or ')) END, why)
-        FROM doubt WHERE CASE kind WHEN 'board' THEN board = wanted ELSE wanted = ANY (CASE kind WHEN 'lot' THEN lot || other_lots ELSE reel || other_reels END) OR part = ANY (parts)
+        FROM doubt WHERE CASE kind WHEN 'board' THEN board IN (wanted, '') ELSE reel = '' OR wanted = ANY (CASE kind WHEN 'lot' THEN lot || other_lots ELSE reel || other_reels END) OR part = ANY (parts)
             OR kind = 'lot' AND '' = ANY (other_lots) AND why LIKE 'the machine names another reel%'
             OR parts = '{}' AND EXISTS (SELECT FROM refused WHERE refused.line = doubt.line AND refused.machine = doubt.machine AND (kind = 'lot' OR refused.reel = wanted)) END
 $$;

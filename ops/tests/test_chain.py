@@ -7,7 +7,7 @@ import dataclasses
 import hashlib
 import pathlib
 import random
-from collections.abc import Sequence
+from collections.abc import Iterator, Sequence
 
 from tracedesk_ops import chain, model
 from tracedesk_ops.chain import Chain, Order
@@ -20,9 +20,8 @@ class Memory:
     def __init__(self) -> None:
         self.lists: dict[pathlib.Path, tuple[Said, ...]] = {}
 
-    def command(self, file: File, number: int) -> Said | None:
-        said = self.lists[file.path]
-        return said[number - 1] if 0 < number <= len(said) else None
+    def commands(self, file: File, first: int, last: int) -> Iterator[Said]:
+        return iter(self.lists[file.path][first - 1 : last])
 
     def taken(self, file: File) -> frozenset[Said]:
         return frozenset(it for it in self.lists[file.path][file.begun :] if it.is_senders())
@@ -134,6 +133,43 @@ def test_what_a_restored_line_lacks_is_none_once_it_was_sent_again() -> None:
     assert [it.lacking for it in chain.off_chain(restored, [aside], memory)] == [2]
     again = Chain((memory.file("again", [*work("a"), head("epoch-1"), *work("c", "b")]),))
     assert [it.lacking for it in chain.off_chain(again, [aside], memory)] == [0]
+
+
+def test_what_stands_where_a_lost_command_stood_is_not_that_command() -> None:
+    """One command isn't sent again, and the restore's own epoch stands at its number: from there on
+    both lists have the same commands at the same numbers.
+    """
+    memory = Memory()
+    aside = memory.file("aside", work("a", "lost", "c"))
+    desk = memory.file("desk", [*work("a"), head("epoch-1"), *work("c", "d")])
+    assert not chain.is_beginning(aside, desk, memory)
+    assert not chain.holds(Chain((desk,)), aside, memory)
+    assert [it.lacking for it in chain.off_chain(Chain((desk,)), [aside], memory)] == [1]
+    assert chain.left_by_a_roll_over(Chain((desk,)), [aside], memory) == []
+
+
+def test_nothing_is_lacking_but_by_all_of_both_lists() -> None:
+    """What a file has and the chain lacks is named, wherever in the lists it is; and a file is a
+    beginning only if each of its commands is there at its number.
+    """
+    chance = random.Random(11)
+    for _ in range(500):
+        memory, names = Memory(), [f"u{number}" for number in range(6)]
+        said = work(*names)
+        other = [it for it in said if chance.random() < 0.8]
+        for it in (head("epoch-1"), head("copy-1"), head("copy-2")):
+            if chance.random() < 0.5:
+                other.insert(chance.randrange(len(other) + 1), it)
+        if chance.random() < 0.2:
+            chance.shuffle(other)
+        old, new = memory.file("old", said), memory.file("new", other)
+        its = Chain((new,))
+        lost = {it.uid for it in said if it not in other}
+        assert {it.uid for it in chain.lacking(its, [old], memory)} == lost
+        assert chain.is_beginning(old, new, memory) == (other[: len(said)] == said)
+        copy = copy_of("1", old)
+        assert chain.not_held(its, [copy], memory) == ([copy] if lost else [])
+        assert chain.superfluous(its, [copy], [], memory) == ([] if lost else [copy])
 
 
 def test_a_uid_with_other_words_is_another_command() -> None:

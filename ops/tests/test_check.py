@@ -1,14 +1,10 @@
-"""tracedesk-check of files that are sound, are no desk, can't be read or can't be judged, and how
-it ends."""
-import argparse
-import contextlib
+"""tracedesk-check of files that are lawful, damaged or no desk, and how it ends."""
 import errno
 import os
 import pathlib
 import random
 import shutil
 import signal
-import sqlite3
 import subprocess
 import sys
 from typing import Callable
@@ -16,33 +12,20 @@ from unittest import mock
 
 import pytest
 
-from lab.checked import LET_BE, MESSAGES, Checked
+from lab.checked import MESSAGES, Checked
 from lab.desk import Desk
 from lab.tools import Word, run, started, tool
 from lab.waits import PATIENCE, wait_for
-from tracedesk_ops import copies, declared
-from tracedesk_ops.checks import findings
-from tracedesk_ops.cmd import check
+from tracedesk_ops import copies, outside
 
-OTHER_LAYOUT = """DROP INDEX IF EXISTS placement_reel; DROP INDEX IF EXISTS placement_overdue;
-    PRAGMA journal_mode = DELETE; PRAGMA page_size = 1024; VACUUM;"""
+RESTORE = "restore the newest sealed file"
 
 
-# --- Sound files
-
-
-def test_declarations_are_those_of_the_program(checked: Checked) -> None:
-    with contextlib.closing(sqlite3.connect(checked.file)) as database:
-        assert declared.tables_in(database) == declared.expected()
-
-
-@pytest.mark.parametrize("sql", ["", OTHER_LAYOUT, LET_BE])
-def test_sound_file(checked: Checked, sql: str) -> None:
-    checked.do(sql)
-    checked.expect(0, "audit says of a copy: lawful 10\n", "/desk: sound\n")
+# --- Lawful and damaged files
 
 
 def test_desk_whose_commands_are_in_its_log(checked: Checked) -> None:
+    checked.expect(0, "/desk: lawful 10\n")
     checked.file.unlink()
     words = [str(checked.program), "feed", "--db", str(checked.file)]
     with subprocess.Popen(words, stdin=subprocess.PIPE, stdout=subprocess.PIPE) as feed:
@@ -56,107 +39,55 @@ def test_desk_whose_commands_are_in_its_log(checked: Checked) -> None:
     checked.expect(0, "lawful 10\n")
 
 
-NOT_SAID = "what is proved of tables is not said of this file: "
-MADE_FOUND = declared.TABLES[declared.TABLES.index("CREATE TABLE found") :]
-
-
 @pytest.mark.parametrize(
-    "sql, why",
+    "sql, audit",
     [
-        ("", ""),
-        (OTHER_LAYOUT, ""),
-        (
-            (
-                "CREATE TABLE note (words TEXT); CREATE INDEX by_source ON accepted (source); "
-                "CREATE VIEW boards AS SELECT board FROM board"
-            ),
-            "",
-        ),
-        (
-            (
-                "CREATE TABLE note (words TEXT PRIMARY KEY); "
-                "CREATE TABLE more (words TEXT REFERENCES note); VACUUM"
-            ),
-            "",
-        ),
-        (
-            "CREATE TABLE note (reel TEXT REFERENCES Reel (reel))",
-            "the table note of others refers to Reel",
-        ),
-        (
-            "ALTER TABLE board ADD COLUMN more TEXT",
-            "the table board is declared otherwise than the program declares it",
-        ),
-        (
-            (
-                "CREATE TABLE note (n INTEGER); CREATE TABLE kept AS SELECT * FROM found; DROP"
-                f" TABLE found; {MADE_FOUND} INSERT INTO found SELECT * FROM kept; DROP TABLE kept"
-            ),
-            (
-                "the desk's tables and indexes don't come first in it, in the order in which the "
-                "program makes them"
-            ),
-        ),
+        ("DELETE FROM accepted WHERE number = 5", "NotLawful 5"),
+        ("UPDATE reel SET scrapped = 1, remaining = 9", "TableDiffers reel"),
+        ("DROP TABLE found", "NotADesk"),
+        ("PRAGMA ignore_check_constraints = ON; UPDATE found SET pieces = 0", "Unavailable"),
     ],
 )
-def test_whether_what_is_proved_is_said_of_a_file(checked: Checked, sql: str, why: str) -> None:
+def test_a_file_that_the_audit_refuses_is_to_be_restored(
+    checked: Checked, sql: str, audit: str
+) -> None:
     checked.do(sql)
-    said = f"\n{NOT_SAID}{why}\n" if why else "\nwhat is proved of tables is said of this file\n"
-    checked.expect(0, "lawful 10\n", said)
+    checked.expect(1, "not lawful: the audit of a copy of ", f"tracedesk: {audit};", RESTORE)
 
 
-# --- Files that are no desk, or not all of one
+@pytest.mark.parametrize("number", range(8))
+def test_damaged_bytes_never_end_otherwise_than_by_a_verdict(checked: Checked, number: int) -> None:
+    chance, content = random.Random(number), bytearray(checked.whole)
+    place = chance.randrange(len(content))
+    content[place : place + 4096] = bytes(4096)
+    checked.new(bytes(content[: len(checked.whole) - number % 2]))
+    checked.expect(1, RESTORE)
 
 
-def test_text(checked: Checked) -> None:
+# --- Files that are no desk
+
+
+def test_what_is_no_database(checked: Checked) -> None:
     checked.new(b"This is no database.\n")
     checked.expect(1, "not a database: ", "it begins with 'This is no data'")
+    checked.new(checked.whole[:100])
+    checked.expect(1, "not a database: it has 100 bytes")
+    checked.file.unlink()
+    os.mkfifo(checked.file)
+    checked.expect(1, "it is no file, but a folder, a pipe, a socket or a device")
+    checked.file.unlink()
+    checked.file.mkdir()
+    checked.expect(1, "it is no file, but a folder")
 
 
-def test_file_without_bytes(checked: Checked) -> None:
+def test_no_file_and_one_without_bytes(checked: Checked) -> None:
     checked.new(b"")
     checked.expect(1, "no file: it has no bytes")
     checked.log.write_bytes(bytes(5000))
-    checked.expect(1, "cut short: it has no bytes, and desk-wal has 5,000")
-
-
-def test_no_file(checked: Checked) -> None:
+    checked.expect(1, "not a database: it has no bytes, and desk-wal has 5,000")
+    checked.new()
     checked.file.unlink()
     checked.expect(1, "no file: there is no ")
-
-
-def test_pipe(checked: Checked) -> None:
-    checked.file.unlink()
-    os.mkfifo(checked.file)
-    checked.expect(1, "it is no file, but a pipe, a socket or a device")
-
-
-def test_folder(checked: Checked) -> None:
-    checked.file.unlink()
-    checked.file.mkdir()
-    checked.expect(1, "a folder: it is a folder")
-
-
-def test_another_database(checked: Checked) -> None:
-    drops = " ".join(f"DROP TABLE {name};" for name in reversed(list(declared.expected())))
-    checked.do(f"CREATE TABLE x (y); {drops}")
-    checked.expect(1, "NotADesk\n", "not a desk: the table version is missing")
-
-
-@pytest.mark.parametrize("place", ["head", "sector", "first page", "half", "last page", "end"])
-def test_file_that_is_cut(checked: Checked, place: str) -> None:
-    whole = checked.whole
-    page = int.from_bytes(whole[16:18], "big")
-    sizes = {
-        "head": 100,
-        "sector": 512,
-        "first page": page,
-        "half": len(whole) // 2,
-        "last page": len(whole) - page,
-        "end": len(whole) - 1,
-    }
-    checked.new(whole[: sizes[place]])
-    checked.expect(1, "cut short: ", f" {sizes[place]:,} bytes")
 
 
 # --- Names
@@ -164,38 +95,21 @@ def test_file_that_is_cut(checked: Checked, place: str) -> None:
 
 def test_file_of_two_names(checked: Checked) -> None:
     os.link(checked.file, checked.file.parent / "second")
-    checked.expect(1, "copy: lawful", "another name: ", "has 2 names (hard links)")
-
-
-CUT_OFF = """
-import os, sqlite3, sys
-database = sqlite3.connect(sys.argv[1], isolation_level=None)
-many = "WITH RECURSIVE n(y) AS (SELECT 1 UNION ALL SELECT y + 1 FROM n LIMIT 9999) SELECT y FROM n"
-for sql in (
-    "PRAGMA journal_mode = DELETE", "PRAGMA cache_size = 1", "BEGIN",
-    "DELETE FROM placement", "UPDATE reel SET lot = 'X'", f"CREATE TABLE x AS {many}",
-):
-    database.execute(sql)
-os._exit(9)
-"""
+    checked.expect(1, "another name: ", "has 2 names (hard links)")
 
 
 def test_journal_of_another_program(checked: Checked) -> None:
-    """In the copy it is taken back, and nothing else is wrong."""
-    run([sys.executable, "-c", CUT_OFF, checked.file]).expect(9)
+    checked.file.with_name("desk-journal").write_bytes(bytes(512))
     journal = "desk-journal holds what another program, as sqlite3, was about to change"
-    done = checked.expect(1, "copy: Unavailable\n", "half written: ", journal)
-    assert done.said.count("\nwhat to do (") == 1
+    checked.expect(1, "half written: ", journal, "delete neither of both")
 
 
-def test_log_that_is_a_link(checked: Checked, folder: pathlib.Path) -> None:
+def test_log_that_is_a_link_or_a_folder(checked: Checked, folder: pathlib.Path) -> None:
     checked.log.symlink_to(folder / "whole-wal")
     checked.expect(1, "another name: ", "desk-wal is a link or no file")
-
-
-def test_log_that_is_a_folder(checked: Checked) -> None:
+    checked.log.unlink()
     checked.log.mkdir()
-    checked.expect(1, "another name: ", "not looked at: its tables")
+    checked.expect(1, "another name: ", "desk-wal is a link or no file")
 
 
 # --- Files in use
@@ -244,7 +158,7 @@ def users(checked: Checked, folder: pathlib.Path) -> Checked:
 @pytest.mark.gate
 def test_rights_of_the_services_user(users: Checked) -> None:
     file, folder = users.file, users.file.parent
-    users.expect(1, "no permission: nobody may not read ", "lawful 10")
+    users.expect(1, "no permission: nobody may not read ")
     shutil.chown(file, "nobody")
     folder.chmod(0o555)
     users.expect(1, "no permission: nobody may not make the log in ")
@@ -266,65 +180,37 @@ WITH_DISK = 'mount -t tmpfs -o size={}k disk "$0"; cp "$1" "$0/desk"; {}; shift;
 @pytest.mark.root
 @pytest.mark.gate
 @pytest.mark.parametrize(
-    "done, status, text",
-    [
-        (FILL, 1, "no room: the disk of "),
-        (READ_ONLY, 1, "is mounted read only"),
-        ("true", 3, "3 copies of "),  # they have no room, where temporary files lie there too
-    ],
+    "done, text", [(FILL, "no room: the disk of "), (READ_ONLY, "is mounted read only")]
 )
-def test_disk_of_a_file(checked: Checked, done: str, status: int, text: str) -> None:
-    size = len(checked.whole) * 5 // 2 + findings.ROOM_OF_AN_OPENING
+def test_disk_of_a_file(checked: Checked, done: str, text: str) -> None:
+    size = len(checked.whole) * 3 // 2 + outside.ROOM_OF_AN_OPENING
     at, whole = checked.file.parent, checked.folder / "whole"
     words: list[Word] = ["unshare", "--mount", "sh", "-ec", WITH_DISK.format(size // 1024, done)]
     words += [at, whole, tool("check"), at / "desk", "--program", checked.program]
-    run(words, env={"TMPDIR": str(at)} if status == 3 else {}).expect(status, text)
+    run(words).expect(1, text)
     assert whole.read_bytes() == checked.whole
 
 
+def test_no_room_for_the_copy(checked: Checked, monkeypatch: pytest.MonkeyPatch) -> None:
+    usage = shutil.disk_usage(checked.folder)
+    monkeypatch.setattr(shutil, "disk_usage", lambda _: usage._replace(free=10))
+    checked.expect(3, "10 bytes are free", "are wanted for a copy of ")
+
+
 def test_disk_that_fails(checked: Checked) -> None:
-    asked = argparse.Namespace(file=checked.file, user=None, program=checked.program, most=3)
     fault = OSError(errno.EIO, "Input/output error")
     with mock.patch.object(copies, "copy", side_effect=fault):
-        said, found, _ = check.checked(asked)
-    assert said is None and [it.cause for it in found] == [findings.PAGE, findings.UNREAD]
-
-
-@pytest.mark.parametrize(
-    "limit, sql, text",
-    [
-        (
-            "audit ] || ulimit -v 6000",
-            "",
-            (
-                "no cause found: the program's audit says 'Unavailable', "
-                "and stock SQLite finds nothing wrong: memory may"
-            ),
-        ),
-        ("feed ] || ulimit -f 20", "DELETE FROM found", "not compared: a new desk in "),
-        ("feed ] || ulimit -v 6000", "DELETE FROM found", "not compared: a new desk in "),
-    ],
-)
-def test_program_without_memory_or_room(checked: Checked, limit: str, sql: str, text: str) -> None:
-    small = checked.folder / "small"
-    small.write_text(f'#!/bin/sh\n[ "$1" != {limit}\nexec {checked.program} "$@"\n')
-    small.chmod(0o755)
-    checked.do(sql)
-    checked.check_apart(program=small).expect(1, text)
+        checked.expect(3, "can't be judged: ", "Input/output error")
 
 
 # --- How it ends
 
 
-DIFFERS = "UPDATE reel SET scrapped = 1, remaining = 9"
-
-
-@pytest.mark.parametrize("number", range(10))
+@pytest.mark.parametrize("number", range(6))
 def test_check_that_is_killed_or_stopped(
     checked: Checked, folder: pathlib.Path, number: int
 ) -> None:
     """At any moment it leaves the file as it is; one that is stopped leaves nothing else behind."""
-    checked.do(DIFFERS)
     was, room = checked.held(), folder / "temporary"
     room.mkdir()
     how = signal.SIGKILL if number % 2 else signal.SIGTERM
@@ -343,12 +229,10 @@ MOMENTS: list[Callable[[pathlib.Path], bool]] = [
     lambda room: True,
     lambda room: any(room.iterdir()),
     lambda room: any(room.rglob("*-wal")),
-    lambda room: len(list(room.iterdir())) > 1,
 ]
 
 
 def test_output_that_cannot_be_written(checked: Checked) -> None:
-    checked.do(DIFFERS)
     was = checked.held()
     with open("/dev/full", "w") as full:
         done = run([tool("check"), checked.file, *checked.rest()], out=full)
@@ -357,15 +241,8 @@ def test_output_that_cannot_be_written(checked: Checked) -> None:
 
 
 @pytest.mark.parametrize(
-    "words, status",
-    [(["--help"], 0), (["--nothing"], 2), (["--most", "0"], 2), (["--program", "/none"], 2)],
+    "words, status", [(["--help"], 0), (["--nothing"], 2), (["--program", "/none"], 2)]
 )
 def test_words(checked: Checked, words: list[str], status: int) -> None:
     done = checked.check_apart(*words)
     assert done.status == status and not (status and done.out)
-
-
-def test_most_rows_of_a_table(checked: Checked) -> None:
-    """Of two parts one is named and the other counted."""
-    checked.do("UPDATE reel SET used = 1, level = '2'; INSERT INTO part VALUES ('X1'), ('X2')")
-    assert checked.check("--most", 1).out.count("\ntable differs: part") == 2

@@ -39,7 +39,7 @@ def build(plant: Plant, *reels: "str | None", board: str = "B1") -> None:
     plant.send("--follow", "-", *plant.handed_on, given=given).expect(0)
 
 
-def test_both_lots_name_the_board_until_somebody_decides(plant: Plant) -> None:
+def test_both_lots_name_the_board_unless_it_is_scrapped(plant: Plant) -> None:
     build(plant, "R-2")
     for lot in ("L-R-1", "L-R-2"):
         (row,) = table(plant.recall(lot, 5, "doubtful"))
@@ -52,14 +52,17 @@ def test_both_lots_name_the_board_until_somebody_decides(plant: Plant) -> None:
     assert [(it["Board"], it["Refusal"], it["Place"]) for it in told] == [("B1", "Differs", "R-2")]
     assert [(it["DeskReel"], it["Designators"]) for it in told] == [("R-1", ["C1"])]
     (record,) = untraced.undecided(untraced.read(plant.line.archive).records)
-    plant.decide(record.id[:12], "the machine was wrong: its feeder table was old")
+    for became in ("the machine was wrong: its feeder table was old", "used as it is"):
+        plant.decide(record.id[:12], became)
+        assert untraced.undecided(untraced.read(plant.line.archive).records) == []
+        for lot in ("L-R-1", "L-R-2"):
+            (row,) = table(plant.recall(lot, 5, "doubtful"))
+            assert row["board"] == "B1"
+        (row,) = table(plant.recall("L-R-2", 5))
+        assert (row["board"], row["became"]) == ("B1", became)
+    plant.decide(record.id[:12], "scrapped")
     for lot in ("L-R-1", "L-R-2"):
         assert table(plant.recall(lot, 0, "doubtful")) == []
-    (row,) = table(plant.recall("L-R-2", 0))
-    assert (row["board"], row["became"]) == (
-        "B1",
-        "the machine was wrong: its feeder table was old",
-    )
 
 
 def test_a_reel_that_the_desk_does_not_know_is_said_so(plant: Plant) -> None:

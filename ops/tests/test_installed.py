@@ -2,7 +2,6 @@
 import pathlib
 import re
 import shutil
-import tarfile
 
 import pytest
 from lab import ROOT
@@ -21,28 +20,6 @@ BROUGHT = (
     " /etc/nginx/sites-*/tracedesk /usr/share/doc/tracedesk*"
     " /usr/lib/python3/dist-packages/tracedesk /usr/share/man/man1/tracedesk*"
 )
-PLACES = "find /usr/local /etc/nginx /etc/systemd /usr/lib/tracedesk -printf '%p %C@\\n'"
-TARBALL = """rm -rf /tmp/package; mkdir /tmp/package
-tar -xzf /root/tracedesk-*-x86_64.tar.gz --strip-components=1 -C /tmp/package
-chmod -R a+rX /tmp/package; cp /tmp/package/install /tmp/alone"""
-BEFORE_0_3 = """
-install -D -m 644 /dev/null /usr/local/lib/tracedesk/catalogue.py
-cp /lib/systemd/system/tracedesk* /etc/systemd/system; systemctl daemon-reload
-apt-get purge --yes 'tracedesk*'; systemctl daemon-reload
-systemctl enable tracedesk tracedesk-backup.timer
-cp /tmp/package/etc/nginx/sites-available/tracedesk /etc/nginx/conf.d/tracedesk.conf
-sed -i 's/05:00/04:00/' /etc/systemd/system/tracedesk-backup.timer; systemctl daemon-reload
-/tmp/package/install; systemctl restart tracedesk nginx; echo
-systemctl show -P FragmentPath tracedesk tracedesk-backup.timer | grep .
-systemctl is-enabled tracedesk tracedesk-backup.timer
-cd /etc; ls nginx/conf.d nginx/sites-enabled systemd/system/tracedesk*
-/tmp/package/install --remove; ls /usr/local/bin /usr/local/lib /usr/local/share
-rm systemd/system/tracedesk*.old
-apt-get install --yes --option Dpkg::Options::=--force-confold $(ls /root/new/*.deb)
-systemctl enable --now tracedesk
-ln -s ../sites-available/tracedesk nginx/sites-enabled/tracedesk; systemctl restart nginx
-"""
-LOCAL = "/usr/local/lib/systemd/system"
 CHECKED = """
 tracedesk-check || echo "status $?"
 systemctl stop tracedesk
@@ -57,11 +34,7 @@ cd $(ls -d /var/backups/tracedesk/2* | tail -n 1)
 tracedesk-check desk
 sha256sum --check --quiet SHA256SUMS; ls
 """
-LAWFUL = (
-    r"the program's audit says of a copy: lawful \d+\n"
-    r"what is proved of tables is said of this file\n"
-)
-SOUND = LAWFUL + r"{}: sound\n"
+SOUND = r"{}: lawful \d+\n"
 DESK = "/var/lib/tracedesk/desk"
 
 
@@ -73,63 +46,24 @@ def test_the_page_prints_what_it_says(installed: Installed, place: str) -> None:
 def test_both_programs_run_with_the_c_library_alone(
     installed: Installed, folder: pathlib.Path
 ) -> None:
-    with tarfile.open(installed.packages.tarball) as packed:
-        packed.extractall(folder)
-    (its,) = folder.glob("tracedesk-*")
-    run("env", "-C", its, "sha256sum", "--check", "--quiet", "SHA256SUMS")
-    needs = set(re.findall(r"^  (\S+\.so\S*)$", (its / "NEEDS").read_text(), re.MULTILINE))
-    assert needs <= C_LIBRARY
+    for deb in installed.packages.debs:
+        run("dpkg-deb", "--extract", deb, folder / "its")
+    its = [folder / "its/usr/bin" / name for name in ("tracedesk", "tracedesk-chain")]
+    needs = set(re.findall(r"\(NEEDED\).*\[(.*)\]", run("readelf", "--dynamic", *its)))
+    assert needs and needs <= C_LIBRARY
     root = folder / "root"
     for name in {"ld-linux-x86-64.so.2", *needs}:
         file = next((FOLDER / "usr").glob(f"lib*/**/{name}"))
         at = root / ("lib64" if name.startswith("ld-") else "lib/x86_64-linux-gnu")
         at.mkdir(parents=True, exist_ok=True)
         shutil.copy(file, at / name)
-    for name in ("tracedesk", "tracedesk-chain"):
-        shutil.copy(its / "usr/local/bin" / name, root)
+    for it in its:
+        shutil.copy(it, root)
     inside = ("chroot", root, "/tracedesk")
     run("sh", "-c", f'"$@" < {ROOT}/examples/first-line.jsonl', "sh", *inside, "feed", "--db", "/d")
     assert run(*inside, "audit", "--db", "/d") == "lawful 5\n"
     shutil.copy(root / "d", root / "same")
     assert run("chroot", root, "/tracedesk-chain", "alike", "/d", "/same") == "alike 1 1\n"
-
-
-# --- The tarball's script
-
-
-@pytest.mark.parametrize(
-    ("words", "status", "said"),
-    [
-        ("/tmp/package/install --prefix /opt", 2, "no words but --remove and --help"),
-        ("runuser -u nobody -- /tmp/package/install", 2, "wants root"),
-        ("/tmp/alone", 2, "unpack the package"),
-        ("/tmp/package/install --help", 0, "Exit status: 0 done"),
-    ],
-)
-def test_install_changes_nothing_if_it_is_called_wrongly(
-    machine: Machine, words: str, status: int, said: str
-) -> None:
-    machine.shell(TARBALL)
-    before = machine.shell(PLACES)
-    got = machine.shell(f"{words} 2>&1 && echo status 0 || echo status $?")
-    assert said in got and got.endswith(f"status {status}\n")
-    assert machine.shell(PLACES) == before
-
-
-def test_an_older_tarball_gives_way(machine: Machine) -> None:
-    """Units and the site are moved, a changed timer is kept aside, and --remove leaves nothing."""
-    machine.shell(TARBALL)
-    said = machine.restart(BEFORE_0_3)
-    machine.set_up()
-    for wanted in (
-        "tracedesk-backup.timer is kept as /etc/systemd/system/tracedesk-backup.timer.old",
-        f"\n{LOCAL}/tracedesk.service\n{LOCAL}/tracedesk-backup.timer\nenabled\nenabled\n",
-        "nginx/conf.d:\n\nnginx/sites-enabled:\ntracedesk\n",
-        "\nremoved; the desk",
-    ):
-        assert wanted in said
-    left = said.partition("/usr/local/bin:")[2].partition("Reading package")[0]
-    assert not re.findall(r"^tracedesk.*$", left, re.MULTILINE)
 
 
 # --- The service
@@ -209,11 +143,11 @@ def test_faults_of_the_desks_file_are_named(machine: Machine) -> None:
     wanted = (
         rf"tracedesk-check: {DESK} can't be judged: another process has it open:"
         r" process \d+ \(tracedesk\)\. .*\n"
-        rf"status 3\n{LAWFUL}"
+        r"status 3\n"
         rf"no permission: tracedesk may not read {DESK},"
-        r" which belongs to user root and has mode 600\n"
+        r" which belongs to user root and has mode 600: .*\n"
         r"no permission: tracedesk may not write .*\n"
-        rf"what to do \(no permission\): .*\n{DESK}: faults were found\nstatus 1\n"
+        r"status 1\n"
         rf"{SOUND.format(DESK)}{SOUND.format(DESK)}{SOUND.format('desk')}"
         r"SHA256SUMS\narchive\nbackup.json\ndesk\n"
     )
@@ -239,7 +173,7 @@ def test_a_purge_keeps_what_was_sent_and_the_next_installation_goes_on(
 ) -> None:
     audit = f"runuser -u tracedesk -- tracedesk audit --db {DESK}"
     first = machine.post("before-the-purge", body=True)
-    machine.shell("systemctl stop tracedesk tracedesk-watch.timer tracedesk-send@m1")
+    machine.shell("systemctl stop 'tracedesk*'")  # the status of untraced work has its time in it
     lawful, before = machine.shell(audit), machine.shell(SUMS)
     machine.shell("apt-get purge --yes 'tracedesk*'")
     left = "systemctl list-units --state=active --no-legend 'tracedesk*'; nginx -t 2> /dev/null"

@@ -81,6 +81,7 @@ def test_timers_copy_and_roll_over_once_it_is_due(machine: Machine) -> None:
         "[Service]",
         "ExecStart=",
         f"ExecStart={call}",
+        "RestartSec=60",  # until which a busy machine has to be asked
         "Environment=TRACEDESK_KILL_AFTER=placed",
     )
     assert machine.post("T1") == "200"

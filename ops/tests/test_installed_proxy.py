@@ -59,12 +59,13 @@ for _ in range(64):  # each has begun a request, and doesn't end it
     link.sendall(f"POST /messages HTTP/1.1\r\n{head}Content-Length: 9000\r\n\r\n".encode())
     held.append(link)
     [it.sendall(b" ") for it in held]  # so that none of them times out on a busy machine
-time.sleep(4)
-ask([new()], 1)
+while 429 not in told:  # once nginx has read them all
+    [it.sendall(b" ") for it in held]
+    ask([new()], 1)
 [it.close() for it in held]
-time.sleep(1)
-ask([new()], 1)
-print(told)
+while told[-1] == 429:  # until it has seen that they are closed
+    ask([new()], 1)
+print(told[-1])
 """
 ACCEPTED = re.compile(r'\{"Answer":"Accepted","Number":\d+,"UniqueID":"t-C\d+"\} 200')
 LOOK = """
@@ -119,7 +120,7 @@ def test_what_is_no_request_is_answered_in_json(machine: Machine, words: str) ->
 def test_inner_ports_are_out_of_reach(machine: Machine, port: int) -> None:
     """That of the desk, and that of nginx between the station's cache and the desk."""
     for address in ("10.77.0.1", "127.0.0.1"):
-        ask = f"curl -sS --max-time 5 http://{address}:{port}/overdue; echo $?"
+        ask = f"curl -sS http://{address}:{port}/overdue; echo $?"
         assert machine.by_client(f"set +e; {ask} 2>&1").endswith("7\n")
     listening = machine.shell(f"ss -Htln 'sport = :{port}'")
     assert listening.split()[3] == f"127.0.0.1:{port}"
@@ -131,7 +132,7 @@ def test_inner_ports_are_out_of_reach(machine: Machine, port: int) -> None:
 def test_a_65th_connection_of_an_address_is_refused(machine: Machine) -> None:
     """And 200 requests in a row are not."""
     machine.write(MANY_CLIENTS, "/tmp/many.py")
-    assert machine.by_client("python3 /tmp/many.py").split("\n")[:2] == ["{200}", "[429, 200]"]
+    assert machine.by_client("python3 /tmp/many.py").split() == ["{200}", "200"]
 
 
 def slow_client(byte_pause: float) -> str:
@@ -196,7 +197,7 @@ def test_the_service_starts_again(machine: Machine) -> None:
         " systemctl daemon-reload; systemctl restart tracedesk"
     )
     post = (
-        f"curl -sS -f {JSON} --cacert /etc/tracedesk/server.crt {M1} --retry 60 --retry-delay 1"
+        f"curl -sS -f {JSON} --cacert /etc/tracedesk/server.crt {M1} --retry 600 --retry-delay 1"
         f" --retry-all-errors --data-binary '{{}}' {SEND} 2> /dev/null"
     )
     first = [machine.by_client(post.format(part(f"A{number}"))) for number in range(10)]

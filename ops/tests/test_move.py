@@ -25,7 +25,8 @@ from lab.here import call_here
 from lab.line import table
 from lab.messages import Message
 from lab.tools import Word, run, run_tool, strings, tool
-from tracedesk_ops import copies
+from tracedesk_ops import copies, plant, sealing
+from tracedesk_ops.line import LineFolder
 
 REELS = 12  # of a seed
 MET = {  # what comes of the reels of the seeds in the gate, among others
@@ -401,3 +402,22 @@ def test_desk_that_a_run_has_open(two: Two) -> None:
         feed.stdout.readline()
         assert refused(two.old.file, two.new.file) == "InUse"
         feed.stdin.close()
+
+
+def test_of_a_folder_the_newest_sealed_file_is_read(
+    program: pathlib.Path, folder: pathlib.Path
+) -> None:
+    floor, desks = Floor(1), [Desk(program, folder / name / "desk") for name in ("L1", "L2")]
+    for desk in desks:
+        accept(desk, list(floor.set_up()))
+    reel = "K-moved"
+    body = {"Reel": reel, "PartNumber": PARTS[0], "Lot": "L", "Level": "1", "Quantity": 7}
+    accept(desks[0], [floor.envelope("ReelReceived", "o", body)])
+    lines = [LineFolder(desk.file.parent) for desk in desks]
+    words: list[Word] = [reel, "--from", lines[0].path, "--to", lines[1].path]
+    assert move(*words)[0] == "Unreadable"
+    for line in lines:
+        sealing.seal(line, 0, plant.Program(str(program), line.desk).audit)
+    said, _ = move(*words)
+    assert said == move(reel, "--from", desks[0].file, "--to", desks[1].file)[0]
+    accept(desks[1], list(said))  # type: ignore[arg-type]  # messages, as they were printed

@@ -1,9 +1,5 @@
-"""A chain of files that is read in parts says what it says if it is read at once; a nightly check
-reads a file once.
-"""
-import json
+"""A chain of files that is read in parts says what it says if it is read at once."""
 import pathlib
-import subprocess
 from typing import Any, Iterator
 
 import pytest
@@ -11,7 +7,7 @@ import pytest
 from lab import ROOT, messages
 from lab.desk import log_into_file
 from lab.tools import Word, run
-from tracedesk_ops import chains, judged, model, parts, plant, store
+from tracedesk_ops import chains, model, parts, plant, store
 
 FILES = 9  # of the chain
 LOT = ["lot", "L1", "--pieces"]
@@ -106,81 +102,3 @@ def test_parts_that_differ_about_a_file_are_a_fault(
     spans = [(0, FILES - 1), (FILES - 1, 2 * FILES - 2)]
     with pytest.raises(plant.Fault, match="differ about the file that they share"):
         chains.joined(spans, [answer, answer])
-
-
-class Counting:
-    """tracedesk-chain, as a script that notes which files it is asked about."""
-
-    def __init__(self, chain: pathlib.Path, room: pathlib.Path) -> None:
-        self.file, self.log = room / "chain", room / "asked"
-        self.write(f'for word; do case "$word" in /*) echo "$word" >> {self.log};; esac; done')
-        self.chain = chain
-
-    def write(self, line: str) -> None:
-        self.file.write_text(f'#!/bin/sh\n{line}\nexec "$CHAIN" "$@"\n')
-        self.file.chmod(0o755)
-
-    def check(self, files: list[pathlib.Path], record: pathlib.Path) -> list[str]:
-        """The names of the files that a check reads."""
-        self.log.write_text("")
-        judged.check(str(self.file), files, record)
-        return [pathlib.Path(line).name for line in self.log.read_text().splitlines()]
-
-
-@pytest.fixture
-def counting(
-    chain: pathlib.Path, tmp_path: pathlib.Path, monkeypatch: pytest.MonkeyPatch
-) -> Counting:
-    monkeypatch.setenv("CHAIN", str(chain))
-    monkeypatch.setattr(parts, "jobs", lambda _: 1)
-    return Counting(chain, tmp_path)
-
-
-def names(files: list[pathlib.Path]) -> list[str]:
-    return [file.name for file in files]
-
-
-def test_a_check_reads_what_it_has_not_judged(
-    counting: Counting, files: list[pathlib.Path], tmp_path: pathlib.Path
-) -> None:
-    record = tmp_path / "judged.json"
-    assert counting.check(files[:4], record) == names(files[:4])
-    assert counting.check(files[:4], record) == []
-    assert counting.check(files[:6], record) == names(files[3:6])
-
-
-@pytest.mark.parametrize("damage", ["", "{", "[]", '{"Program": "x", "Links": {}}', None])
-def test_a_damaged_or_missing_record_means_that_all_is_read(
-    counting: Counting, files: list[pathlib.Path], tmp_path: pathlib.Path, damage: "str | None"
-) -> None:
-    record = tmp_path / "judged.json"
-    counting.check(files, record)
-    record.unlink()
-    if damage is not None:
-        record.write_text(damage)
-    assert counting.check(files, record) == names(files)
-
-
-def test_another_program_judges_all_again(
-    counting: Counting, files: list[pathlib.Path], tmp_path: pathlib.Path
-) -> None:
-    record = tmp_path / "judged.json"
-    counting.check(files, record)
-    counting.file.write_text(counting.file.read_text() + "# another one\n")
-    assert counting.check(files, record) == names(files)
-
-
-def test_what_is_no_chain_is_never_recorded(
-    counting: Counting, files: list[pathlib.Path], tmp_path: pathlib.Path
-) -> None:
-    record = tmp_path / "judged.json"
-    counting.check(files[:3], record)
-    for _ in range(2):
-        with pytest.raises(chains.NoAnswer):
-            counting.check([*files[:2], files[3]], record)
-    assert len(json.loads(record.read_text())["Links"]) == 3
-    other = tmp_path / "file-1"
-    other.write_bytes(files[1].read_bytes())
-    subprocess.run(["truncate", "-s", "+1024", other], check=True)
-    with pytest.raises((chains.NoAnswer, plant.Fault)):
-        counting.check([files[0], other, files[2]], record)

@@ -49,6 +49,19 @@ def test_what_is_not_named_lies_next_to_the_desk(set_up: SetUp) -> None:
     assert its.url == "http://127.0.0.1:8090"
 
 
+def test_a_line_that_is_a_folder_has_its_places_there(
+    set_up: SetUp, tmp_path: pathlib.Path, monkeypatch: pytest.MonkeyPatch
+) -> None:
+    monkeypatch.setattr(places, "HOME", tmp_path / "home")
+    for name, port in (("L1", 8081), ("L2", 8082)):
+        (tmp_path / "home" / name / "sealed").mkdir(parents=True)
+        set_up(name, line=name, port=port)
+    for its in places.lines():
+        folder = tmp_path / "home" / its.line
+        assert (its.db, its.archive) == (folder / "desk", folder / "sealed")
+        assert (its.inbox, its.status) == (folder / "untraced", folder / "status")
+
+
 def test_an_archive_elsewhere_moves_no_inbox(set_up: SetUp, tmp_path: pathlib.Path) -> None:
     """Nor does a link to it: the inbox is the one that the line's set-up file names."""
     (tmp_path / "other").mkdir()
@@ -84,6 +97,14 @@ def test_two_lines_have_two_desks(set_up: SetUp) -> None:
     set_up("L1", line="L1")
     set_up("L2", line="L2")
     with pytest.raises(places.NotSetUp, match="have db = /var/lib/tracedesk/desk"):
+        places.lines()
+
+
+def test_two_lines_have_two_ports(set_up: SetUp) -> None:
+    """Else what is told one of them would be told the other."""
+    set_up("L1", line="L1")
+    set_up("L2", line="L2", db="/srv/desk")
+    with pytest.raises(places.NotSetUp, match="have port = 8080"):
         places.lines()
 
 

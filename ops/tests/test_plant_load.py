@@ -221,8 +221,8 @@ def test_what_is_expected_of_lines(
 def test_a_line_of_the_set_up_without_a_copy_is_missing(
     line: WorkedLine, database: Database, folder: pathlib.Path
 ) -> None:
-    for name, copies in (("L1", line.copies), ("L8", folder)):
-        text = f"line = {name}\ndb = {folder}/{name}\ncopies = {copies}\n"
+    for name, copies, port in (("L1", line.copies, 8081), ("L8", folder, 8082)):
+        text = f"line = {name}\ndb = {folder}/{name}\ncopies = {copies}\nport = {port}\n"
         (folder / f"{name}.conf").write_text(text)
     database.load(status=1, TRACEDESK_SET_UP=str(folder))
     assert ("L8",) in database.rows("SELECT line FROM missing")
@@ -245,6 +245,7 @@ def test_each_line_has_the_copies_of_its_own_in_a_folder_of_several(
         made.copies = folder / "copies"
         made.backup("--line", made.name).expect()
         text = f"line = {made.name}\ndb = {made.file}\ncopies = {made.copies}\n"
+        text += f"port = {made.port}\n"
         (folder / f"{made.name}.conf").write_text(text)
     for _ in range(2):
         database.load(TRACEDESK_SET_UP=str(folder))

@@ -13,9 +13,12 @@ import pytest
 from lab import small
 from lab.line import Line, NewLine, table
 from lab.tools import Ended, Word, run_tool, tool
+from tracedesk_ops.plant import tell
 from tracedesk_ops.recallpage import view
 from tracedesk_ops.recallpage.jobs import Asked, Queue
 from tracedesk_ops.recallpage.worker import Worker
+from tracedesk_ops.recalls import hosts
+from tracedesk_ops.recalls.evidence import sums_of
 
 pytestmark = pytest.mark.xdist_group("recall_hosts")
 
@@ -148,12 +151,16 @@ def test_the_evidence_has_that_of_each_computer(plant: Plant) -> None:
     assert [row["board"] for row in table((its / "boards.csv").read_text())] == ["SN-L2"]
 
 
+OTHER = 'set -- "$1" "$2" "$(echo "$3" | sed "{}")"'  # another command at the other computer
 CUT_OFF = [
     ("cut in the middle", {"after": "| head -c 9000"}, "is no evidence of a recall"),
     ("a byte is another", {"after": "| sed s/SN-L2/SN-X2/"}, "was changed"),
     ("another status", {"after": "; exit 5"}, "ended with status 5, which its evidence has not"),
-    ("no tool there", {"change": "PATH=/usr/bin:/bin"}, "ended with status 127"),
+    ("no tool there", {"change": "PATH=/nowhere"}, "ended with status 127"),
     ("a banner", {"change": "echo Welcome"}, "is no evidence of a recall"),
+    ("another lot's", {"change": OTHER.format("s/L-3/L-4/")}, "it answered another question"),
+    ("another kind's", {"change": OTHER.format("s/lot/reel/")}, "it answered another question"),
+    ("an older one", {"change": OTHER.format("s/token=.*--ev/token=0 --ev/")}, "at another time"),
 ]
 
 
@@ -162,6 +169,96 @@ def test_an_answer_that_is_not_whole_is_none(plant: Plant, how: dict[str, str], 
     plant.ssh(**how)
     done = plant.recall("lot", "L-3").expect(3, "NOT ASKED: L2: ", why)
     assert boards(done) == ["SN-L1"]
+
+
+def tar_of(**files: bytes) -> bytes:
+    """A tar of these files, with the right checksums."""
+    files["SHA256SUMS"] = files.get("SHA256SUMS", sums_of(files))
+    stream = io.BytesIO()
+    with tarfile.open(fileobj=stream, mode="w") as tar:
+        for name, text in files.items():
+            about = tarfile.TarInfo(name)
+            about.size = len(text)
+            tar.addfile(about, io.BytesIO(text))
+    return stream.getvalue()
+
+
+def sparse() -> bytes:
+    about = tarfile.TarInfo("pieces.csv")
+    about.type = tarfile.GNUTYPE_SPARSE
+    return about.tobuf(tarfile.GNU_FORMAT) + bytes(10_240)
+
+
+def link() -> bytes:
+    about = tarfile.TarInfo("pieces.csv")
+    about.type, about.linkname = tarfile.SYMTYPE, "/etc/passwd"
+    return about.tobuf() + bytes(1_024)
+
+
+def certified(told: object) -> bytes:
+    text = told if isinstance(told, bytes) else json.dumps(told).encode()
+    tables = {f"{name}.csv": b"line\n" for name in ("pieces", "boards", "asked", "untraced")}
+    return tar_of(**{"certificate.json": text, **tables})
+
+
+ANSWER = {"status": 0, "is_complete": True, "pieces": 0, "boards": 0, "asked": 0, "untraced": 0}
+ODD = {
+    "an empty tar": bytes(10_240),
+    "a sparse file": sparse(),
+    "a link": link(),
+    "endless checksums": tar_of(SHA256SUMS=(b"0" * 64 + b"  ") * 200_000),
+    "a deep certificate": certified(b'{"a":' * 100_000),
+    "a list": certified([]),
+    "members that are missing": certified({"certificate": "recall 1"}),
+    "another token": certified({"certificate": "recall 1", "answer": ANSWER, "lines": []}),
+    "odd members": certified({"certificate": "recall 1", "answer": ANSWER, "lines": 7, "notes": 7}),
+    "a control": b"\x1b[2J\x1b]0;x\x07",
+    "too much": b"x" * 100_000,
+    "a zip": b"PK\x03\x04" * 5_000,
+    "no columns": tar_of(**{"certificate.json": b"{}", "pieces.csv": b'"' * 9_999}),
+}
+
+
+@pytest.fixture
+def answers(folder: pathlib.Path, monkeypatch: pytest.MonkeyPatch) -> pathlib.Path:
+    """A file that stands for what another computer prints."""
+    ssh, said = folder / "ssh", r"printf '\033[2Jno route\n' >&2"
+    ssh.write_text(f"#!/bin/sh\ncat {folder}/printed\n{said}\n. {folder}/more\n")
+    ssh.chmod(0o755)
+    (folder / "more").write_text("")
+    monkeypatch.setenv("PATH", f"{folder}:{os.environ['PATH']}")
+    monkeypatch.setattr(hosts, "MOST_BYTES", 50_000_000)
+    return folder / "printed"
+
+
+@pytest.mark.parametrize("name", ODD)
+def test_whatever_a_computer_prints_it_ends_no_recall(answers: pathlib.Path, name: str) -> None:
+    answers.write_bytes(ODD[name])
+    with pytest.raises(hosts.NoAnswer):
+        hosts.ask("two", ["lot", "--", "L-3"])
+
+
+@pytest.mark.parametrize(("more", "why"), [("yes", "no evidence"), ("sleep 9999", "no answer in")])
+def test_an_answer_without_end_is_none(
+    answers: pathlib.Path, monkeypatch: pytest.MonkeyPatch, more: str, why: str
+) -> None:
+    answers.write_bytes(b"")
+    (answers.parent / "more").write_text(f"exec {more}\n")
+    monkeypatch.setattr(hosts, "MOST_BYTES", 1 << 20)
+    monkeypatch.setattr(hosts, "MOST_SECONDS", 1 if more != "yes" else 600)
+    with pytest.raises(hosts.NoAnswer, match=why):
+        hosts.ask("two", ["lot", "--", "L-3"])
+
+
+def test_what_a_computer_says_is_shown_in_letters(
+    answers: pathlib.Path, capsys: pytest.CaptureFixture[str]
+) -> None:
+    answers.write_bytes(b"")
+    with pytest.raises(hosts.NoAnswer) as fault:
+        hosts.ask("two", ["lot", "--", "L-3"])
+    tell(str(fault.value))
+    said = capsys.readouterr().err
+    assert "\\x1b[2Jno route" in said and "\x1b" not in said
 
 
 def test_a_computer_that_is_away(plant: Plant) -> None:

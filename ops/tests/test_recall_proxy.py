@@ -127,7 +127,8 @@ def test_the_proxy_names_the_reader(site: RecallSite) -> None:
     name = urllib.parse.urlsplit(headers["Location"]).path.split("/")[-2]
     job = site.queue.job(name)
     assert job and job.asked.reader == RECALLER
-    job.end(status=1)
+    with job.opened() as place:
+        place.end(status=1)
 
 
 def test_each_answer_may_load_nothing_from_elsewhere(site: RecallSite) -> None:

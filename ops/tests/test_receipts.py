@@ -62,6 +62,9 @@ NOTHING = {
     "no text": line(message(DateCode=2614)),
     "too long": line(message(DateCode="x" * 201)),
     "a control": line(message(DateCode="26\x0714")),
+    "deep": line("[" * 2_000 + "TraceDesk.ReelReceived"),
+    "a deep member": line(message(DateCode="2614").replace('"2614"', "[" * 3_000 + "]" * 3_000)),
+    "deep itself": b"[" * 5_000 + b"\n",
     "damaged": b'{"At":\n',
 }
 
@@ -123,39 +126,22 @@ def want_one(site: Site, reel: Reel) -> None:
     assert known(site.room / "line/archive") == [reel]
 
 
-TABLE = {
-    "Name": "/kind",
-    "Messages": {
-        "delivered": [
-            {
-                "Word": "ReelReceived",
-                "UniqueID": "{/id}",
-                "Source": "erp",
-                "TimeStamp": "{/at}",
-                "Members": {
-                    "Reel": "{/reel}",
-                    "PartNumber": "{/part}",
-                    "Lot": "{/lot}",
-                    "Level": "1",
-                    "Quantity": {"Number": "/pieces"},
-                },
-                "Attributes": {"DateCode": "{/code}", "Supplier": "{/by}", "Order": "{/order|}"},
-            }
-        ]
-    },
-}
+TABLE = """{MessageName: "TraceDesk.ReelReceived", UniqueID: .id, Source: "erp", TimeStamp: .at,
+MessageBody: ({Reel: .reel, PartNumber: .part, Lot: .lot, Level: "1", Quantity: .pieces,
+  DateCode: "\\(.code)", Supplier: .by} + if .order then {Order: .order} else {} end)}
+"""
 
 
-@pytest.mark.needs("nginx", "openssl")
+@pytest.mark.needs("nginx", "openssl", "jq")
 def test_receipts_of_the_bridge_give_attributes(site: Site, folder: pathlib.Path) -> None:
-    """By a table, and by a sender through the proxy. An empty one is none."""
+    """By a filter, and by a sender through the proxy. One that is not there is none."""
     for text in small.set_up():
         site.asked("POST", "/messages", "op", text)
     told: dict[str, Any] = {"kind": "delivered", "id": "d-1", "at": messages.MORNING}
     told |= {"reel": "K-8", "part": "CAP", "lot": "L-8", "pieces": 5, "code": 2614}
     told |= {"by": "<b>Maker & Co</b>", "order": None}
-    for name, value in (("table", TABLE), ("said", told)):
-        (folder / name).write_text(f"{json.dumps(value)}\n")
+    for name, value in (("table", TABLE), ("said", json.dumps(told))):
+        (folder / name).write_text(f"{value}\n")
     spool: list[Word] = ["--spool", folder / "spool"]
     bridge: list[Word] = [BRIDGE, "--table", folder / "table", *spool, folder / "said"]
     run(bridge).expect()

@@ -29,6 +29,22 @@ def test_lost_catalogue_and_an_older_copy(line: Line) -> None:
     line.recall_archives().expect(3, "1 of its commands are nowhere else")
 
 
+def test_what_lies_aside_is_named_by_each_copy_until_it_was_sent_again(line: Line) -> None:
+    """Also if all but one command was: then what is in its place makes the numbers equal again."""
+    line.backup().expect()
+    for name in "ABC":
+        line.more(name)
+    line.backup("--restore").expect(0, "3 commands lie aside that the copy lacks")
+    line.backup().expect(4, "a restore put it aside, and 3 of its commands are in no copy")
+    for name in "BC":
+        line.more(name)
+    line.recall().expect(3, "1 of its commands are nowhere else")
+    line.backup().expect(4, "1 of its commands are in no copy")
+    line.more("A")
+    line.recall().expect()
+    line.backup().expect()
+
+
 def restore_words(line: Line) -> list[Any]:
     return [*line.service(), "--to", line.copies, "--restore"]
 

@@ -10,7 +10,7 @@ import time
 import pytest
 
 from lab import files
-from tracedesk_ops import model, store
+from tracedesk_ops import copies, model, store
 
 
 def test_a_file_is_read_from_its_ends(tmp_path: pathlib.Path) -> None:
@@ -50,7 +50,7 @@ def test_a_name_is_believed_at_a_start_and_not_in_a_recall(tmp_path: pathlib.Pat
 
 
 def test_what_cannot_be_read_is_a_fault(tmp_path: pathlib.Path) -> None:
-    (tmp_path / "desk").write_bytes(store.MAGIC + b"and nothing else")
+    (tmp_path / "desk").write_bytes(copies.MAGIC + b"and nothing else")
     with pytest.raises(store.Unreadable, match="it can't be read"):
         store.Reader().desk(tmp_path / "desk")
 

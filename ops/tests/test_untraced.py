@@ -1,6 +1,10 @@
 """The line's file of untraced work, and the pieces that a refused load or splice makes doubtful."""
 import contextlib
+import hashlib
+import json
+import os
 import pathlib
+import random
 import sqlite3
 from typing import Any, Callable
 
@@ -8,7 +12,7 @@ import pytest
 from lab import messages
 from lab.killed import killed_at
 from lab.records import a_record, boards, make_inbox, refused
-from tracedesk_ops import catalogue, plant, story, untraced
+from tracedesk_ops import catalogue, handling, plant, story, untraced
 from tracedesk_ops.backups import untraced_work
 
 ALL = ["B0", "B1", "B2"]
@@ -75,6 +79,113 @@ def test_a_copy_has_all_records_and_a_restore_brings_back_what_is_lacking(
     for its in (make_inbox(folder / "new", 0), archive):
         untraced_work.take_back(its, untraced_work.records_of(folder / "copy"))
         assert boards(its) == [*ALL, "B9"]
+
+
+# --- Texts that nobody meant to send, and that come all the same
+
+ODD = [
+    *map(chr, range(33)),
+    *'",;=\\\x7f\x85\xa0\u2028\u00e9\ud83d\udc00\ufeff',
+    "SN-1\r",
+    "\r\n",
+    "a" * 9,
+]
+PLACES = {  # in a record: with this text in place of the word ODD
+    "a message": '{"Answer":{"Refusal":ODD,"At":ODD},"At":ODD,"By":ODD,"Kind":"refused","Message":'
+    '{"MessageBody":{"Board":ODD,"Designators":[ODD],"Machine":ODD},"MessageName":ODD,"Source":ODD}}',
+    "a slot": '{"Answer":{},"At":ODD,"Kind":"refused","Message":{"MessageBody":{"Reel":ODD,"Slot":ODD}'
+    ',"MessageName":"TraceDesk.MaterialsLoaded"}}',
+    "a machine's reel": '{"At":ODD,"Board":ODD,"By":ODD,"DeskReel":ODD,"Designators":[ODD],"Kind":'
+    '"differs","Machine":ODD,"MachineReel":ODD}',
+}
+ANY = (
+    '{"Answer":{"Refusal":ODD},"At":"2026","Kind":"refused","Message":{"MessageBody":{"Board":ODD,'
+    '"Designators":ODD,"Slot":ODD}}}'
+)
+KEPT = {
+    "deep": "[" * 985 + "]" * 985,
+    "deeper": '{"a":' * 50_000 + "1" + "}" * 50_000,
+    "a long column": f"[{','.join(['1e15'] * 200_000)}]",
+    "a long number": "7" * 5_000,
+    "no number": "[NaN,-Infinity,1e999]",
+}
+NO_JSON = {
+    "deep, and never ended": "[" * 1_000,
+    "a string that never ends": '"' + "\\\\\\" + '"' * 99_999,
+}
+
+
+def put(archive: pathlib.Path, text: str) -> str:
+    """Puts a record of this text into the line's inbox; its id."""
+    its = text.encode() + b"\n"
+    name = hashlib.sha256(its).hexdigest()[:32]
+    (untraced.inbox_of(archive) / f"m1~{name}.json").write_bytes(its)
+    return name
+
+
+def expect_kept(archive: pathlib.Path, texts: dict[str, str]) -> None:
+    """These records have rows that have each byte of them, and what comes later has one too."""
+    number = 10 + len(untraced.read(archive).records)
+    name, later = a_record(number)
+    (untraced.inbox_of(archive) / f"{name}.json").write_bytes(later)
+    assert untraced.collect(archive)[2] == []
+    book = untraced.read(archive)
+    assert book.faults == [] and list(untraced.inbox_of(archive).glob("*.json")) == [
+        untraced.inbox_of(archive) / untraced.COLLECTED
+    ]
+    kept = {it.id: it.text for it in book.records}
+    assert texts.items() <= kept.items() and name in kept
+    for record in book.records:
+        said = untraced.said(record)
+        assert all(it.isprintable() and len(it) < 2 * untraced.MOST_SAID for it in said)
+        assert record in untraced.undecided(book.records) or not untraced.is_work(record)
+    untraced.write_status(archive, book.records)
+    table = [[*untraced.said(it), it.text] for it in book.records]
+    assert [*catalogue.csv_rows(catalogue.csv_text(table))] == table
+
+
+@pytest.mark.parametrize("place", PLACES)
+def test_any_text_of_a_record_is_kept_as_it_came(archive: pathlib.Path, place: str) -> None:
+    chance, texts = random.Random(3), {}
+    for number in range(200):
+        odd = ODD[number] if number < len(ODD) else "".join(chance.choices(ODD, k=5))
+        text = PLACES[place].replace("ODD", json.dumps(odd))
+        texts[put(archive, text)] = text
+    expect_kept(archive, texts)
+
+
+@pytest.mark.parametrize("name", KEPT)
+def test_what_is_no_text_is_kept_too(archive: pathlib.Path, name: str) -> None:
+    text = ANY.replace("ODD", KEPT[name])
+    expect_kept(archive, {put(archive, text): text})
+
+
+@pytest.mark.parametrize("name", NO_JSON)
+def test_what_is_no_json_is_named_and_ends_nothing(archive: pathlib.Path, name: str) -> None:
+    file = untraced.inbox_of(archive) / f"m1~{put(archive, ANY.replace('ODD', NO_JSON[name]))}.json"
+    (fault,) = untraced.collect(archive)[2]
+    assert f"{file}: " in fault and "move it away" in fault
+    file.unlink()
+    expect_kept(archive, {})
+
+
+def test_a_table_is_read_as_it_was_written() -> None:
+    chance = random.Random(5)
+    table = [
+        ["".join(chance.choices(ODD, k=chance.randrange(4))) for _ in range(3)] for _ in range(2000)
+    ]
+    text = catalogue.csv_text([["a", "b", "c"], *table])
+    assert [*catalogue.csv_rows(text)][1:] == table
+    assert [list(row.values()) for row in catalogue.csv_table(text)] == table
+
+
+def test_a_link_or_a_pipe_in_the_inbox_is_no_record(archive: pathlib.Path) -> None:
+    name, text = a_record(9)
+    inbox = untraced.inbox_of(archive)
+    (archive / "elsewhere").write_bytes(text)
+    (inbox / f"{name}.json").symlink_to(archive / "elsewhere")
+    os.mkfifo(inbox / f"{'0' * 32}.json")
+    assert len(untraced.collect(archive)[2]) == 2 and len(untraced.rows_of(archive)[0]) == len(ALL)
 
 
 # --- Refused loads and splices
@@ -185,6 +296,28 @@ def test_whom_a_reel_concerns_that_the_desk_does_not_know(
     assert story.concerns(story.pieces()[0], kind, name) == concerns
 
 
+def test_a_board_that_is_kept_may_have_each_reel_of_its_machine() -> None:
+    """Those that the desk had there, and one that it refused on the same tape; of a report that
+    nobody can read, any.
+    """
+    at = catalogue.spelled(7)
+    told = story_of("MaterialsSpliced", "WrongPart", [spliced(6, "R3"), loaded(9, "R9")])
+    works = {"M": ["R1", "R2", "R3"], "N": [""]}
+    for machine, reels in works.items():
+        said = messages.message("MaterialsInstalled", "w", at, Machine=machine, Board="B\r")
+        rows = [*told.kept(untraced.record_of(refused(said, "NotInWork", at)[1]))]
+        assert sorted(row.reel for row in rows) == reels
+        assert {(row.board, row.machine) for row in rows} == {("B\\r", machine)}
+        for kind, name in (("reel", "R2"), ("lot", "L-R1"), ("board", "B\\r")):
+            assert any(told.concerns(row, kind, name) for row in rows)
+    text = '{"Answer":{"Answer":"Faulty"},"At":"x","Kind":"refused","Message":{}}\n'
+    (row,) = told.kept(untraced.record_of(text.encode()))
+    assert all(told.concerns(row, *its) for its in (("lot", "L"), ("reel", "R"), ("board", "B")))
+    for word in story.NO_PIECES:
+        said = messages.message(word, "w", at, Machine="M", Board="B", Slot="1", Quantity=1)
+        assert not [*told.kept(untraced.record_of(refused(said, "NotInWork", at)[1]))]
+
+
 @pytest.mark.parametrize("text", ["0001-01-01T00:00:00+14:00", "9999-12-31T23:59:59-14:00"])
 def test_a_time_that_utc_does_not_have_has_no_minute(text: str) -> None:
-    assert story.minute_of(text) is None
+    assert handling.minute_of(text) is None

@@ -1,4 +1,5 @@
 """From a refused report to the recall that names its board, with a desk and a sender."""
+import base64
 import json
 import pathlib
 import shutil
@@ -9,6 +10,7 @@ from lab import messages
 from lab.line import Line, table
 from lab.tools import SENDER, Ended, Word, run, run_tool
 from tracedesk_ops import untraced
+from tracedesk_ops.recalls import verifying
 
 FIRST, LATER = "2026-03-02T06:00:00Z", "2026-03-03T12:00:00Z"
 SHEET = [{"Slot": "1", "PartNumber": "P", "Designators": ["C1"]}]
@@ -100,6 +102,39 @@ def collect(plant: Plant) -> None:
     plant.untraced("collect", "--status", plant.status).expect()
 
 
+ODD = {  # what a scanner or a program may put into a report that no desk takes
+    "a scanner's carriage return": "SN-1\r",
+    "line ends": "SN\r\n1\n",
+    "quotes and commas": '",\'";SN-1,"',
+    "half a letter": "SN-\ud83d",
+    "deep": ["SN-1", [[[["x"]]]]],
+    "long": ["1e15"] * 50_000,
+}
+
+
+@pytest.mark.parametrize("name", ODD)
+def test_a_report_with_any_text_is_kept_recalled_and_verified(plant: Plant, name: str) -> None:
+    plant.make_ready(("K-1", "P", "1", 100))
+    plant.on_slot(FIRST, "MaterialsLoaded", Reel="K-1")
+    where = {"Machine": "M1", "Board": ODD[name]}
+    said = [plant.message(LATER, "MaterialsInstalled", **where, Designators=[ODD[name]])]
+    if name == "deep":
+        deep = b"[" * 985 + b"]" * 985
+        said.append(said[0].replace(b'[[[["x"]]]]', deep).replace(b'"u', b'"v'))
+    plant.send_refused(*said)
+    collect(plant)
+    book = untraced.read(plant.line.archive)
+    assert not book.faults and len(book.records) == len(said)
+    assert {base64.b64decode(record.told["Raw"]) for record in book.records} == set(said)
+    evidence = plant.line.folder / "evidence"
+    words: list[Word] = [*plant.line.recall_words(), "--evidence", evidence, "--unsigned"]
+    run_tool("recall", "lot", "L-K-1", *words).expect(3, "nobody decided about it")
+    verifying.told_in(verifying.contents_of(evidence))
+    for record in book.records:
+        plant.decide(record.id, "scrapped")
+    plant.recall("L-K-1", 0)
+
+
 @pytest.mark.parametrize("is_collected", [False, True], ids=["waiting", "collected"])
 @pytest.mark.parametrize("lot", ["L-OLD", "L-NEW"])
 def test_a_recall_names_boards_that_were_worked_untraced(
@@ -120,9 +155,62 @@ def test_the_station_shows_what_is_undecided(expired: Plant) -> None:
     assert got == [("M1", board, word) for board in ("B1", "B2") for word in words]
 
 
-def test_a_recall_is_whole_once_all_is_decided(expired: Plant) -> None:
+def test_a_recall_is_whole_once_all_is_scrapped(expired: Plant) -> None:
     expired.decide_all()
     assert expired.recall("L-OLD", 0).count("A. Person") == 4
+
+
+@pytest.mark.parametrize(
+    "became", ["used as it is", "reworked", "sent again", "taken off", "not scrapped", "Scrapped?"]
+)
+def test_no_other_decision_takes_a_board_out_of_a_recall(expired: Plant, became: str) -> None:
+    """Those of all reels that were on the machine, until the boards are scrapped; of no others."""
+    expired.accept(
+        LATER, "ReelReceived", Reel="Q1", PartNumber="Q", Lot="L-Q1", Level="1", Quantity=9
+    )
+    collect(expired)
+    records = untraced.undecided(untraced.read(expired.line.archive).records)
+    for record in records:
+        expired.decide(record.id, became)
+    named = {"B1", "B2"}
+    for lot in ("L-OLD", "L-NEW"):
+        assert {row["board"] for row in table(expired.recall(lot, 5, "doubtful"))} == named
+    reels = [*expired.line.recall_words(), "--show", "doubtful"]
+    for words in (["reel", "OLD"], ["lot", "L-OLD", "L-Q1"], ["board", "B1"]):
+        told = table(run_tool("recall", *words, *reels).expect(5).out)
+        assert {row["board"] for row in told} == ({"B1"} if words[0] == "board" else named)
+        assert all("and not scrapped (" in row["why"] for row in told)
+    assert table(expired.recall("L-Q1", 0, "doubtful")) == []
+    for record in records:
+        expired.decide(record.id, "scrapped")
+    for lot in ("L-OLD", "L-NEW"):
+        assert table(expired.recall(lot, 0, "doubtful")) == []
+
+
+def test_a_board_without_a_known_reel_is_in_each_recall(plant: Plant) -> None:
+    """Nothing was on the machine, and a report that nobody can read names none."""
+    plant.make_ready(("K-1", "P", "1", 100))
+    said = plant.message(LATER, "MaterialsInstalled", Machine="M1", Board="B1", Designators=["C1"])
+    plant.send_refused(said, said[:-2])
+    collect(plant)
+    for record in untraced.undecided(untraced.read(plant.line.archive).records):
+        plant.decide(record.id, "used as it is")
+    boards = [row["board"] for row in table(plant.recall("L-K-1", 5, "doubtful"))]
+    assert sorted(boards) == ["", "B1"]
+
+
+def test_a_reel_that_was_refused_before_the_board_may_be_on_it(plant: Plant) -> None:
+    plant.make_ready(("K-1", "P", "1", 100), ("WRONG", "Q", "1", 100))
+    plant.on_slot(FIRST, "MaterialsLoaded", Reel="K-1")
+    plant.send_refused(
+        plant.message(LATER, "MaterialsSpliced", Machine="M1", Slot="1", Reel="WRONG"),
+        plant.message(LATER, "MaterialsInstalled", Machine="M1", Board="B1", Designators=["C1"]),
+    )
+    collect(plant)
+    (record,) = untraced.undecided(untraced.read(plant.line.archive).records)
+    plant.decide(record.id, "used as it is")
+    for lot in ("L-K-1", "L-WRONG"):
+        assert "B1" in plant.recall(lot, 5, "doubtful")
 
 
 def test_a_recall_misses_the_file_that_is_gone(expired: Plant) -> None:

@@ -191,8 +191,19 @@ def test_senders_and_untraced_work_are_told(its: Watched, status: pathlib.Path) 
     }
 
 
-def test_a_status_that_is_spoilt_hides_no_other(its: Watched, status: pathlib.Path) -> None:
-    (status / "m1.json").write_text('{"Sender":"m1"}')
+SPOILT = {
+    "members that are missing": '{"Sender":"m1"}',
+    "too large": '{"Sender":"m1","Waiting":1e999}',
+    "a list": '{"Sender":"m1","Waiting":0,"Aside":0,"OldestWaiting":null,"Machines":[7]}',
+    "deep": '{"Sender":"m1","Waiting":' + "[" * 5_000,
+}
+
+
+@pytest.mark.parametrize("name", SPOILT)
+def test_a_status_that_is_spoilt_hides_no_other(
+    its: Watched, status: pathlib.Path, name: str
+) -> None:
+    (status / "m1.json").write_text(SPOILT[name])
     found, told = its.look()
     expect(found, watch_source_up__status=0, untraced_undecided=2, sender_waiting__m2=0)
     assert "m1.json" in told

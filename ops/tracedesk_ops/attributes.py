@@ -14,14 +14,13 @@ import argparse
 import contextlib
 import csv
 import hashlib
-import io
 import json
 import os
 import pathlib
 from collections.abc import Callable, Iterable, Sequence
 from typing import BinaryIO, NamedTuple
 
-from tracedesk_ops import carry, files, heads, places, plant
+from tracedesk_ops import carry, catalogue, files, heads, places, plant
 
 FILE_NAME, NOTE = "reels.csv", "reels.json"
 ASKED = ("reel", "part", "lot", "date_code", "supplier", "maker_part", "order")
@@ -65,14 +64,8 @@ def fault_of(its: Reel) -> str:
     return ""
 
 
-def csv_line(values: Iterable[str]) -> str:
-    text = io.StringIO()
-    csv.writer(text, lineterminator="\n").writerow(values)
-    return text.getvalue()
-
-
 def chained(before: str, its: Reel, at: str, by: str) -> str:
-    return hashlib.sha256(f"{before}\n{csv_line([*its, at, by])}".encode()).hexdigest()
+    return hashlib.sha256(f"{before}\n{catalogue.csv_text([[*its, at, by]])}".encode()).hexdigest()
 
 
 def note_of(archive: pathlib.Path) -> pathlib.Path:
@@ -118,7 +111,7 @@ def parsed(path: pathlib.Path, text: str) -> list[Row]:
     """The rows of a book's whole lines; a last line without its end was cut off, and is none
     yet.
     """
-    rows = csv.reader(io.StringIO(text[: text.rfind("\n") + 1], newline=""), strict=True)
+    rows = catalogue.csv_rows(text[: text.rfind("\n") + 1])
     found: list[Row] = []
     before = BEGIN
     for number, row in enumerate(rows, 1):
@@ -195,10 +188,10 @@ def extend(
 ) -> None:
     """Appends reels to a book that has these rows, each with who gave its attributes."""
     before = rows[-1].chain if rows else BEGIN
-    text = "" if rows else csv_line(HEADER)
+    text = "" if rows else catalogue.csv_text([HEADER])
     for its, by in new:
         before = chained(before, its, at, by)
-        text += csv_line([*its, at, by, before])
+        text += catalogue.csv_text([[*its, at, by, before]])
     if len(rows) + len(new) != said_by(note_of(archive))[0]:  # a killed call noted nothing
         if not rows:
             note(archive, 0, BEGIN)

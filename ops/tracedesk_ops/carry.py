@@ -11,10 +11,8 @@ from __future__ import annotations
 import argparse
 import contextlib
 import copy
-import csv
 import datetime
 import functools
-import io
 import pathlib
 import re
 import sqlite3
@@ -433,12 +431,9 @@ def begun(
 
 def setup(uid: str, source: str, stamp: str, body: dict[str, Any]) -> Setup:
     """A sheet as a setup file."""
-    text = io.StringIO()
     rows = [[row["Slot"], row["PartNumber"], " ".join(row["Designators"])] for row in body["Rows"]]
-    csv.writer(text, lineterminator="\n").writerows([["slot", "part", "designators"], *rows])
-    return Setup(
-        uid, source, stamp, body["Product"], body["Machine"], text.getvalue().removesuffix("\n")
-    )
+    text = catalogue.csv_text([["slot", "part", "designators"], *rows])
+    return Setup(uid, source, stamp, body["Product"], body["Machine"], text.removesuffix("\n"))
 
 
 def spelled(minute: int) -> str:

@@ -23,6 +23,7 @@ FILE_NAME = "catalogue.csv"
 RUNNING = "running desk"  # in the place of an archive's name
 EPOCH = datetime.datetime(1970, 1, 1)
 LOGS = copies.LOGS
+csv.field_size_limit((1 << 31) - 1)  # a cell is as long as what somebody sent
 
 
 class CatalogueError(Exception):
@@ -99,7 +100,41 @@ def unchanged(
         raise CatalogueError(f"{file}: it was changed while it was asked: ask again")
 
 
+def printable(text: str) -> str:
+    """A text in one line, in which what can't be printed is spelled: as \\r, or half a letter."""
+    if text.isprintable():
+        return text
+    spelt = (it if it.isprintable() else it.encode("unicode_escape").decode() for it in text)
+    return "".join(spelt)
+
+
+# --- Tables as CSV: all that the tools write and read again goes through these
+
+
+class Lines(list[str]):
+    """The rows of a table as a csv.writer gives them. It quotes the letters of its line ends alone,
+    so these are both; a line of the table has a line feed.
+    """
+
+    def write(self, row: str, /) -> None:
+        self.append(f"{row[:-2]}\n")
+
+
 def csv_text(table: Iterable[Iterable[Any]]) -> str:
-    text = io.StringIO()
-    csv.writer(text, lineterminator="\n").writerows(table)
-    return text.getvalue()
+    """A table as CSV, of which `csv_rows` makes the same table, whatever is in its texts."""
+    lines = Lines()
+    csv.writer(lines, lineterminator="\r\n").writerows(table)
+    return "".join(lines)
+
+
+def csv_rows(text: str) -> Any:
+    """A csv.reader of a table; a csv.Error if it is none."""
+    return csv.reader(io.StringIO(text, newline=""), strict=True)
+
+
+def csv_table(text: str) -> list[dict[str, str]]:
+    """The rows of a table with a header; a ValueError if it is none."""
+    try:
+        return list(csv.DictReader(io.StringIO(text, newline=""), strict=True))
+    except csv.Error as fault:
+        raise ValueError(f"it is no table: {fault}") from fault

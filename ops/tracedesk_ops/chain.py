@@ -10,7 +10,8 @@ from __future__ import annotations
 
 import dataclasses
 import enum
-from collections.abc import Iterable, Sequence
+import operator
+from collections.abc import Iterable, Iterator, Sequence
 from typing import Protocol
 
 from tracedesk_ops.model import Copy, File, Said
@@ -19,8 +20,8 @@ from tracedesk_ops.model import Copy, File, Said
 class Contents(Protocol):
     """What the files contain."""
 
-    def command(self, file: File, number: int) -> Said | None:
-        """The command of this number, or none."""
+    def commands(self, file: File, first: int, last: int) -> Iterator[Said]:
+        """The commands from this number to that one, as far as they are there."""
 
     def taken(self, file: File) -> frozenset[Said]:
         """What the file has taken from senders since it was begun."""
@@ -69,16 +70,12 @@ def behind(desk: File, files: Iterable[File]) -> Chain:
 
 
 def is_beginning(older: File, newer: File, contents: Contents) -> bool:
-    """Whether a file's whole list is a beginning of another's. The list of an empty desk is one of
-    each list.
+    """Whether a file's whole list is a beginning of another's: command by command, since two lists
+    may have the same first and last ones. The list of an empty desk is one of each list.
     """
-    if older.last is None:
-        return True
-    return (
-        older.commands <= newer.commands
-        and older.has_same_beginning(newer)
-        and contents.command(newer, older.commands) == older.last
-    )
+    count = older.commands
+    lists = (contents.commands(file, 1, count) for file in (older, newer))
+    return count <= newer.commands and all(map(operator.eq, *lists))
 
 
 def holds(chain: Chain, file: File, contents: Contents) -> bool:
@@ -101,10 +98,12 @@ def compare(one: Chain, other: Chain, contents: Contents) -> Order:
 
 
 def lacking(chain: Chain, files: Iterable[File], contents: Contents) -> frozenset[Said]:
-    """What these files took from senders and no file of the chain has."""
+    """What these files took from senders and no file of the chain has. Of a file that a mark of the
+    chain names, by its checksum, nothing is lacking; of each other one the whole lists say it.
+    """
     wanted: set[Said] = set()
     for file in files:
-        if not holds(chain, file, contents):
+        if not any(member.is_named_by(file.digits) for member in chain.files):
             wanted |= contents.taken(file)
     for member in chain.files if wanted else ():
         wanted -= contents.taken(member)
@@ -145,7 +144,6 @@ def left_by_a_roll_over(
         and file.commands > file.begun
         and file.mark == chain.desk.mark
         and is_beginning(file, chain.desk, contents)
-        and contents.taken(file) <= contents.taken(chain.desk)  # it is about to be deleted
     ]
 
 

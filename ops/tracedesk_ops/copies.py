@@ -22,12 +22,21 @@ from typing import Any, BinaryIO
 
 from tracedesk_ops.files import Room
 
+MAGIC = b"SQLite format 3\0"
 # beside a desk's file, and part of it; the second only if its making was cut off
 LOGS = ("-wal", "-journal")
 LOCKED_FROM, LOCKED = 1 << 30, 512  # the bytes of a file that SQLite locks
 LONGEST_EMPTY_LOG = 56  # bytes: the head of a log and that of a page, without the page
 TRIES = 5  # of a copy of a running desk
 FLOCK = "hhqqi0q"  # Linux' struct flock of 64 bits: type, whence, start, length, process
+
+
+def is_database(path: pathlib.Path) -> bool:
+    with contextlib.suppress(FileNotFoundError):
+        if path.is_file():
+            with open(path, "rb") as file:
+                return file.read(len(MAGIC)) == MAGIC
+    return False
 
 
 def log_of(path: pathlib.Path) -> pathlib.Path | None:

@@ -15,6 +15,9 @@ can make that the wrong reel:
   reel, and the first ones of a reel that is spliced to it, as many as those were on the machine
   until then, may be of another one.
 
+A board in work that the desk refused, or of which a machine names another reel, stays in doubt
+whatever somebody decides about it, unless it was scrapped.
+
 All files of a line are read as one story, in the order of their chain. What a desk was begun with
 is no story of its own.
 """
@@ -29,9 +32,10 @@ import sqlite3
 from collections.abc import Callable, Iterator, Sequence
 from typing import NamedTuple, Optional
 
+from tracedesk import records
 from tracedesk_ops import catalogue, copies, files, model, places, plant, store, untraced
-from tracedesk_ops.handling import Piece
-from tracedesk_ops.story import TAKEN_OFF, Story, minute_of, work_of
+from tracedesk_ops.handling import Piece, minute_of, work_of
+from tracedesk_ops.story import TAKEN_OFF, Story
 
 Opener = Callable[[], contextlib.AbstractContextManager[sqlite3.Connection]]
 Has = Callable[[str], Optional[bool]]  # whether a running desk has a UniqueID; None: no answer
@@ -117,7 +121,10 @@ def look(
                     story.place(place, database)
         pieces = story.pieces()
         for record in differing:
-            pieces += story.contradicted(record) if record.id not in decided else ()
+            is_out = record.id in decided and not untraced.is_shipped(decided[record.id])
+            pieces += () if is_out else story.contradicted(record)
+        for record in works:
+            pieces += story.kept(record) if untraced.is_shipped(decided.get(record.id)) else ()
     except (catalogue.CatalogueError, OSError, sqlite3.Error) as fault:
         faults.append(f"{path}: whether pieces may be of other reels isn't known: {fault}")
     faults += untraced.missing(path.parent, recorded)
@@ -212,8 +219,8 @@ def why_not(
 def waiting(folder: pathlib.Path) -> Iterator[str]:
     """Senders that hold messages for more than a minute, by what they say of themselves."""
     for file in sorted(folder.glob("*.json")) if folder.is_dir() else ():
-        with contextlib.suppress(OSError, ValueError, TypeError, AttributeError):
-            told = json.loads(file.read_bytes())
+        with contextlib.suppress(OSError, ValueError, TypeError, AttributeError, LookupError):
+            told = json.loads(records.shallow(files.read_plain(file, untraced.LONGEST)))
             if not told.get("OldestWaiting"):
                 continue
             since, now = minute_of(told["OldestWaiting"]), minute_of(told["At"])

@@ -5,6 +5,7 @@
 from __future__ import annotations
 
 import contextlib
+import errno
 import fcntl
 import glob
 import hashlib
@@ -13,6 +14,7 @@ import os
 import pathlib
 import secrets
 import signal
+import stat
 import tempfile
 import threading
 import time
@@ -86,6 +88,17 @@ def put(path: pathlib.Path, text: str, mode: int | None = None) -> None:
             unfinished.unlink()
         raise
     keep(path.parent)
+
+
+def read_plain(path: str | pathlib.Path, most: int, folder: int | None = None) -> bytes:
+    """The first bytes of a file, so many at most, by its path or its name in an open folder. What
+    others put there may be a link, or a pipe that never ends: then this is an OSError.
+    """
+    how = os.O_RDONLY | os.O_NOFOLLOW | os.O_NONBLOCK | os.O_CLOEXEC
+    with open(os.open(path, how, dir_fd=folder), "rb") as file:
+        if not stat.S_ISREG(os.fstat(file.fileno()).st_mode):
+            raise OSError(errno.EINVAL, "it is no file", str(path))
+        return file.read(most)
 
 
 def keep(path: pathlib.Path) -> None:

@@ -3,6 +3,7 @@ the pieces and the work that may be of another reel.
 """
 from __future__ import annotations
 
+import datetime
 from collections.abc import Iterable
 from typing import NamedTuple
 
@@ -129,3 +130,27 @@ def is_overtaken(refusal: Refusal, spliced: Iterable[Handling]) -> bool:
         and (accepted is None or it.turn < accepted)
         for it in spliced
     )
+
+
+def minute_of(text: str) -> int | None:
+    """The minute of a time as a message has it, none where that can't be read."""
+    try:
+        then = datetime.datetime.fromisoformat(text)
+        utc = then.astimezone(datetime.timezone.utc).replace(tzinfo=None) if then.tzinfo else then
+    except (ValueError, OverflowError):  # the second of a year that UTC doesn't have
+        return None
+    return (utc - catalogue.EPOCH) // datetime.timedelta(minutes=1)
+
+
+def work_of(record: untraced.Record) -> Work:
+    message, body = record.told["Message"], untraced.body_of(record)
+    designators, quantity = body.get("Designators"), body.get("Quantity")
+    count = quantity if isinstance(quantity, int) and not isinstance(quantity, bool) else 0
+    if isinstance(designators, list):
+        count = len(designators)
+    minutes = sorted(
+        it
+        for it in map(minute_of, (str(message.get("TimeStamp")), record.told["At"]))
+        if it is not None
+    ) or [0, 1 << 40]
+    return Work(str(body.get("Machine")), str(body.get("Slot", "")), count, minutes[0], minutes[-1])

@@ -23,6 +23,7 @@ MARK = re.compile(r"begin-([0-9a-f]{24})-1")
 # a desk that was begun from an archive has it, so that a running one can be asked
 BEGUN = "desk-begun"
 ASIDE = "aside"  # a folder of an archive
+SEALED = "sealed"  # the archive of a line that is a folder: line.py
 BOOKS = ("untraced", "reels")
 KINDS = ("desk", "line", "epoch", *BOOKS, "copy")  # the first word of a head's UniqueID
 LONGEST_LINE = 59  # letters of a line's name: `line-NAME` is a UniqueID of at most 64
@@ -129,10 +130,6 @@ class File:
         """Whether a desk with this mark was begun from this file."""
         return bool(mark) and self.digits == mark
 
-    def has_same_beginning(self, other: File) -> bool:
-        """Whether both have one first command, so that one may be a beginning of the other."""
-        return self.first == other.first
-
 
 @dataclasses.dataclass(frozen=True)
 class Copy:
@@ -159,9 +156,11 @@ class Line:
 
     @property
     def aside(self) -> pathlib.Path:
-        """Where a restore puts the desk that gives way, in a folder of its own: with the archives,
-        so that whoever reads these finds it.
+        """Where a restore puts the desk that gives way: lost/ of a line that is a folder, else a
+        folder of the archive, so that whoever reads these finds it.
         """
+        if self.archive.name == SEALED:
+            return self.archive.with_name("lost")
         return self.archive / ASIDE
 
     @property

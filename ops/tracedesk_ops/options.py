@@ -99,14 +99,20 @@ def offer(reader: argparse.ArgumentParser) -> None:
         help="the archived desks with their catalogue (archive, beside the file)",
     )
     offer_program(reader)
+    offer_service(reader)
+    reader.add_argument(
+        "--port", type=int, default=PORT, metavar="N", help=f"where the desk answers ({PORT})"
+    )
+    set_up(reader, copies="to")
+
+
+def offer_service(reader: argparse.ArgumentParser) -> None:
+    """Adds the words by which a tool stops and starts the desk's service."""
     reader.add_argument(
         "--stop", default=STOP, metavar="COMMAND", help=f"stops the service ({STOP})"
     )
     reader.add_argument(
         "--start", default=START, metavar="COMMAND", help=f"starts the service ({START})"
-    )
-    reader.add_argument(
-        "--port", type=int, default=PORT, metavar="N", help=f"where the desk answers ({PORT})"
     )
     reader.add_argument(
         "--drained",
@@ -129,7 +135,12 @@ def offer(reader: argparse.ArgumentParser) -> None:
         metavar="N",
         help=f"where the proxy counts its requests for this machine ({PROXY_PORT})",
     )
-    set_up(reader, copies="to")
+
+
+def want_no_folder(reader: argparse.ArgumentParser, asked: argparse.Namespace) -> None:
+    """Ends a tool that would put files of an older kind into a line's folder."""
+    if asked.archive.name == model.SEALED:
+        reader.error(f"{asked.db.parent} is a line's folder, which tracedesk-ops keeps")
 
 
 def line_name(text: str) -> str:
@@ -141,7 +152,7 @@ def line_name(text: str) -> str:
 def understood(reader: argparse.ArgumentParser, wants_desk: bool = True) -> argparse.Namespace:
     """The words of the command line, with whole paths; it ends where they can't be followed."""
     asked = reader.parse_args()
-    asked.archive = (asked.archive or asked.db.absolute().parent / "archive").absolute()
+    asked.archive = (asked.archive or places.archive_of(asked.db.absolute())).absolute()
     asked.db = (
         asked.db.resolve() if asked.db.is_symlink() else asked.db.absolute()
     )  # a link to it stays one

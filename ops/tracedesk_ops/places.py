@@ -17,6 +17,8 @@ import os
 import pathlib
 from collections.abc import Iterable
 
+from tracedesk_ops import model
+
 Path = pathlib.Path
 
 FOLDER = Path(os.environ.get("TRACEDESK_SET_UP", "/etc/tracedesk"))
@@ -57,12 +59,12 @@ class Places:
 
 def of_words(words: dict[str, str]) -> Places:
     """The places that a set-up file of these words names."""
-    db = Path(words.get("db", DESK))
+    db = Path(words.get("db", desk_of(words.get("line", ""))))
     port = words.get("port", str(PORT))
     return Places(
         line=words.get("line", ""),
         db=db,
-        archive=Path(words.get("archive", db.with_name("archive"))),
+        archive=Path(words.get("archive", archive_of(db))),
         inbox=Path(words.get("inbox", db.with_name("untraced"))),
         status=Path(words.get("status", db.with_name("status"))),
         copies=Path(words.get("copies", COPIES)),
@@ -74,12 +76,24 @@ def of_words(words: dict[str, str]) -> Places:
     )
 
 
+def desk_of(line: str) -> Path:
+    """The desk of a line, if nobody says: in the line's folder, or the package's one."""
+    return HOME / line / DESK.name if line and (HOME / line).is_dir() else DESK
+
+
+def archive_of(db: Path) -> Path:
+    """Where the archived desks are, if nobody says: of a line that is a folder the sealed files."""
+    is_folder = db.with_name(model.SEALED).is_dir()
+    return db.with_name(model.SEALED if is_folder else "archive")
+
+
 def lines() -> list[Places]:
     """The lines that are set up on this machine; a NotSetUp if a file is wrong, or two name one
-    desk.
+    desk or one port.
     """
     found = [of_words(words) for words in files() if not is_elsewhere(words)]
     want_no_two("db", [str(its.db) for its in found])
+    want_no_two("port", [str(its.port) for its in found])
     return found
 
 

@@ -17,7 +17,7 @@ import time
 from collections.abc import Callable, Iterator
 from typing import Any
 
-from tracedesk_ops import catalogue, copies, files, heads, places, store
+from tracedesk_ops import catalogue, copies, files, heads, places, sealed, store
 
 NAME = pathlib.Path(sys.argv[0]).name
 SECONDS_A_MILLION = 19  # of a start, for a million placed pieces: docs/figures.md, "A file's start"
@@ -26,6 +26,7 @@ SECONDS_A_MILLION = 19  # of a start, for a million placed pieces: docs/figures.
 QUIET = float(os.environ.get("TRACEDESK_QUIET", 1))
 LONGEST_OTHER = 3600  # seconds that another roll-over or backup may take
 PATIENCE = 120  # seconds that a start may take beside what the pieces ask for
+NEXT = "\n"
 LIBC, PR_SET_PDEATHSIG = ctypes.CDLL(None), 1
 TEXT: dict[str, Any] = {
     "encoding": sys.getfilesystemencoding(),
@@ -44,6 +45,7 @@ FAULTS = (
     catalogue.CatalogueError,
     places.NotSetUp,
     store.LineFault,
+    sealed.FilesFault,
     copies.InUse,
     OSError,
     sqlite3.Error,
@@ -57,7 +59,8 @@ def tell(text: str) -> None:
     """
     try:
         if sys.stderr:
-            print(f"{NAME}: {text}", file=sys.stderr, flush=True)
+            lines = map(catalogue.printable, text.split("\n"))  # it may be of another computer
+            print(f"{NAME}: {NEXT.join(lines)}", file=sys.stderr, flush=True)
     except OSError:
         os.dup2(os.open(os.devnull, os.O_WRONLY), 2)
 
@@ -285,7 +288,7 @@ class Program:
     """
 
     def __init__(self, program: str, db: pathlib.Path, is_low: bool = False) -> None:
-        self.before = LOW if is_low else ()
+        self.before: tuple[str, ...] = LOW if is_low else ()
         self.program, owner = program, (db if db.exists() else db.parent).stat()
         self.uid, self.gid = owner.st_uid, owner.st_gid
         self.how: dict[str, Any] = (

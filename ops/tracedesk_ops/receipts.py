@@ -11,6 +11,7 @@ import json
 import pathlib
 from collections.abc import Iterator
 
+from tracedesk import records
 from tracedesk_ops import attributes, places, untraced
 
 FOLDER, FILES = "scans", "receipts-*.jsonl"
@@ -30,8 +31,8 @@ def received(line: bytes) -> "tuple[attributes.Reel, str] | None":
     or if it has no attribute that a book could keep.
     """
     try:
-        told = json.loads(line)
-        message = json.loads(told["Message"])
+        told = json.loads(records.shallow(line))
+        message = json.loads(records.shallow(told["Message"].encode()))
         body, sender = message["MessageBody"], message["Source"]
         if told["Status"] != TAKEN or message["MessageName"] != WORD:
             return None
@@ -40,7 +41,8 @@ def received(line: bytes) -> "tuple[attributes.Reel, str] | None":
     except (ValueError, LookupError, TypeError, AttributeError):
         return None
     has_more = any(getattr(reel, name) for name in MORE.values())
-    return (reel, sender) if has_more and not attributes.fault_of(reel) else None
+    is_kept = has_more and not attributes.fault_of(reel) and str(sender).isprintable()
+    return (reel, str(sender)) if is_kept else None
 
 
 class Receipts:

@@ -22,8 +22,8 @@ import urllib.parse
 from collections.abc import Iterable, Iterator, Sequence
 from typing import Any, NoReturn
 
-from tracedesk_ops import chain as chains, files
-from tracedesk_ops import copies, model
+from tracedesk_ops import chain as chains, copies, files, model
+from tracedesk_ops.copies import is_database as is_database
 from tracedesk_ops.copies import log_of as log_of
 from tracedesk_ops.copies import logs_of as logs_of
 from tracedesk_ops.files import keep
@@ -33,17 +33,18 @@ from tracedesk_ops.model import File, Head, Heads, Line, Said
 
 Path = pathlib.Path
 
-MAGIC = b"SQLite format 3\0"
-NAMED = re.compile(rf".*-([0-9a-f]{{{model.DIGITS}}})")  # an archive's name ends in its digits
-ARCHIVE_NAME = re.compile(rf"(.+)(-\d{{8}}T\d{{4}}Z){{2}}{NAMED.pattern}")
+# an archive's name ends in its digits; that of a sealed file has nothing else
+NAMED = re.compile(rf"(?:.*-)?([0-9a-f]{{{model.DIGITS}}})(?:\.desk)?")
+ARCHIVE_NAME = re.compile(rf"(.+)(-\d{{8}}T\d{{4}}Z){{2}}-[0-9a-f]{{{model.DIGITS}}}")
 ENDS = """
     SELECT number, uid, source, own, command, effective FROM accepted
     WHERE number IN (1, (SELECT max(number) FROM accepted)) ORDER BY number"""
 TAKEN = "SELECT uid, source, own, command FROM accepted WHERE number > ? AND source <> ?"
-COMMAND = "SELECT uid, source, own, command FROM accepted WHERE number = ?"
+COMMANDS = """
+    SELECT uid, source, own, command FROM accepted
+    WHERE number BETWEEN ? AND ? ORDER BY number"""
 BETWEEN = "SELECT number, uid FROM accepted WHERE uid >= ? AND uid < ?"  # by the index of uid
 HEADS = BETWEEN + " AND source = ? AND command = 'ClockSet'"
-
 
 Stamp = tuple[Any, ...]  # of a file and its log: it changes if one of them does
 
@@ -58,14 +59,6 @@ class Unreadable(LineFault):
 
 class Broken(LineFault):
     """Why a chain can't be read to its beginning; the text names what is missing."""
-
-
-def is_database(path: Path) -> bool:
-    with contextlib.suppress(FileNotFoundError):
-        if path.is_file():
-            with open(path, "rb") as file:
-                return file.read(len(MAGIC)) == MAGIC
-    return False
 
 
 def stamp_of(path: Path) -> Stamp:
@@ -142,13 +135,12 @@ class Reader:
             )
         return checksum
 
-    def command(self, file: File, number: int) -> Said | None:
+    def commands(self, file: File, first: int, last: int) -> Iterator[Said]:
         try:
             with self.opened(file.path) as database:
-                row = database.execute(COMMAND, [number]).fetchone()
+                yield from (Said(*row) for row in database.execute(COMMANDS, [first, last]))
         except (OSError, sqlite3.Error) as fault:
             raise Unreadable(f"{file.path}: it can't be read: {fault}") from fault
-        return Said(*row) if row else None
 
     def taken(self, file: File) -> frozenset[Said]:
         if file not in self._taken:
@@ -222,8 +214,7 @@ class Reader:
                         "what the desk lacks: once its senders have sent that again, move "
                         f"{path.parent} elsewhere"
                     )
-                named = None if self.believes_names else NAMED.fullmatch(path.parent.name)
-                if named and digits_aside(path) != named[1]:
+                if not self.believes_names and was_changed(path):
                     raise Unreadable(
                         f"{path}: it was changed since a restore put it aside, so nobody knows what"
                         " the desk lacks: once its senders have sent that again, move"
@@ -290,9 +281,20 @@ def folders_in(folder: Path) -> list[Path]:
 
 
 def files_aside(aside: Path) -> list[Path]:
-    """The files that restores put aside, without their logs."""
+    """The files that restores put aside, without their logs: each in a folder of its own, or next
+    to the others by the name of its content.
+    """
     paths = [path for folder in folders_in(aside) for path in sorted(folder.iterdir())]
+    paths += sorted(path for path in aside.iterdir() if path.is_file()) if aside.is_dir() else ()
     return [path for path in paths if not path.name.endswith((*copies.LOGS, "-shm"))]
+
+
+def was_changed(path: Path) -> bool:
+    """Whether a file that a restore put aside isn't the one of its name, or of its folder's."""
+    if path.suffix == ".desk":
+        return sha256_of(path)[: model.DIGITS] != path.stem
+    named = NAMED.fullmatch(path.parent.name)
+    return named is not None and digits_aside(path) != named[1]
 
 
 def is_of(line: Line, chain: Chain, file: File, archives: Sequence[File]) -> bool:

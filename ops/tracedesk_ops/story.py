@@ -4,13 +4,12 @@ chain, and the pieces that may be of another reel than the desk has it: doubtful
 from __future__ import annotations
 
 import bisect
-import datetime
 import functools
 import re
 import sqlite3
 from collections.abc import Iterable, Iterator
 
-from tracedesk_ops import catalogue, untraced
+from tracedesk_ops import untraced
 from tracedesk_ops.handling import (
     Count,
     Handling,
@@ -24,8 +23,10 @@ from tracedesk_ops.handling import (
     Turn,
     Work,
     is_overtaken,
+    minute_of,
     steps,
     tapes_of,
+    work_of,
 )
 
 WORDS = (*untraced.HANDLING, "MaterialsInstalled", "MaterialsScrapped")
@@ -59,6 +60,8 @@ LATE, SHORT, LONG = (
 )
 AFTER, REFUSED = "after such an order, on the same tape", "a refused reel may be on the slot"
 DIFFERS = "the machine names another reel"
+KEPT = "worked though the desk refused it, and not scrapped"
+NO_PIECES = ("MaterialsScrapped", "WorkCompleted")  # reports that place none on a board
 TAKEN_OFF = "taken off"  # what became of a refused reel from which nothing was placed
 
 
@@ -304,7 +307,9 @@ class Story:
         """Whether a recall of this lot, reel or board has to name a piece in doubt. It may be of
         any reel of its part: one that the desk refused may have been on the slot all the same."""
         if kind == "board":
-            return piece.board == name
+            return piece.board == name or not piece.board
+        if not piece.reel:
+            return True  # of which reel it is, nobody knows
         if DIFFERS in piece.why and piece.other_lots[0]:
             return name in (piece.lot, *piece.other_lots, piece.reel, *piece.other_reels)
         if DIFFERS in piece.why and kind == "lot":
@@ -434,6 +439,24 @@ class Story:
             at = told["Board"], name, told["Machine"], "", minute, desk, lots[0]
             yield Piece(*at, (machine,), lots[1:], f"{why} ({record.id[:8]})", "")
 
+    def kept(self, record: untraced.Record) -> Iterator[Piece]:
+        """A board that was worked though the desk refused the report, and is no scrap: a row for
+        each reel that was on the machine, or refused on its tape, since its pieces may be of each.
+        Where none is known the reel is empty: then it may be any.
+        """
+        work, (machine, board) = work_of(record), untraced.said(record)[3:5]
+        if untraced.word_of(record) in NO_PIECES:
+            return
+        reels = self.reels_between(work.machine, work.first, work.last)
+        for on, slot in self.refusals:
+            loads = (it for it in self.slots.get((on, slot), ()) if it.word != SPLICED)
+            since = max((it.own for it in loads if it.effective < work.first), default=-1)
+            found = self.refused_on(on, slot, since, work.last) if on == work.machine else ()
+            reels += [(slot, reel) for reel in sorted(found)]
+        for slot, reel in dict.fromkeys(reels or [("", "")]):
+            at = board, "", machine, slot, work.first, reel, self.lots.get(reel, "")
+            yield Piece(*at, (), (), f"{KEPT} ({record.id[:8]})", "")
+
     def moved(self) -> tuple[list[Count], dict[Slot, list[Turn]]]:
         """The machines on which pieces were taken off a reel that may be another one, when, and how
         many; and by machine and slot the turns of those that are late.
@@ -466,27 +489,3 @@ class Story:
                 for front, it in zip(tape, tape[1:]):
                     found.setdefault(it.reel, []).append((it.turn, front.reel))
         return {reel: sorted(its) for reel, its in found.items()}
-
-
-def minute_of(text: str) -> int | None:
-    """The minute of a time as a message has it, none where that can't be read."""
-    try:
-        then = datetime.datetime.fromisoformat(text)
-        utc = then.astimezone(datetime.timezone.utc).replace(tzinfo=None) if then.tzinfo else then
-    except (ValueError, OverflowError):  # the second of a year that UTC doesn't have
-        return None
-    return (utc - catalogue.EPOCH) // datetime.timedelta(minutes=1)
-
-
-def work_of(record: untraced.Record) -> Work:
-    message, body = record.told["Message"], untraced.body_of(record)
-    designators, quantity = body.get("Designators"), body.get("Quantity")
-    count = quantity if isinstance(quantity, int) and not isinstance(quantity, bool) else 0
-    if isinstance(designators, list):
-        count = len(designators)
-    minutes = sorted(
-        it
-        for it in map(minute_of, (str(message.get("TimeStamp")), record.told["At"]))
-        if it is not None
-    ) or [0, 1 << 40]
-    return Work(str(body.get("Machine")), str(body.get("Slot", "")), count, minutes[0], minutes[-1])

@@ -20,45 +20,31 @@ import contextlib
 import csv
 import datetime
 import hashlib
-import io
 import json
 import os
 import pathlib
 from collections.abc import Iterable
 from typing import Any, NamedTuple
 
-from tracedesk_ops import files, heads, inboxes, places, plant
+from tracedesk import records as sent
+from tracedesk_ops import catalogue, files, heads, inboxes, places, plant
 
 FILE_NAME, INBOX, COLLECTED, STATUS = "untraced.csv", "untraced", "collected.json", "untraced.json"
-HEADER = (
-    "id",
-    "kind",
-    "at",
-    "machine",
-    "board",
-    "what",
-    "refusal",
-    "place",
-    "source",
-    "by",
-    "of",
-    "became",
-    "reason",
-    "record",
-    "chain",
+HEADER = tuple(
+    "id kind at machine board what refusal place source by of became reason record chain".split()
 )
 # columns of tables for readers
 WORK = ("at", "machine", "board", "work", "refusal", "place", "source")
 OUTCOME = ("became", "decided_by", "reason")
 KIND = "untraced"  # of the file's heads, which the line's desk records
 LOST = "lost"  # in place of an id: the rows that no copy has
+SCRAPPED = "scrapped"  # what became of a board: nothing else takes it out of recalls
 HANDLING = ("MaterialsLoaded", "MaterialsSpliced", "MaterialsUnloaded")
 BEGIN = "0" * 64
 MOST_DECIDED = 1_000  # ids that the status file names
-LONGEST = (
-    4 << 20
-)  # bytes of a record: a message has 1,048,576 at most, and is there as read and as it came
-csv.field_size_limit(LONGEST)  # a row has its record as one field
+# bytes of a record: a message has 1,048,576 at most, and is there as read and as it came
+LONGEST = 4 << 20
+MOST_SAID = 2_000  # letters of a column that a reader is shown; the file and the record have all
 
 
 class Record(NamedTuple):
@@ -79,8 +65,10 @@ class Book(NamedTuple):
 
 
 def record_of(text: bytes) -> Record:
-    """The record of these bytes; a ValueError says why they are none."""
-    told = json.loads(text)
+    """The record of these bytes; a ValueError says why they are none. Each list that is deeper than
+    any of a message is null in `told`, and each longer number is a text.
+    """
+    told = json.loads(sent.shallow(text).decode("ascii"), parse_int=sent.number)
     is_refused = (
         isinstance(told, dict)
         and told.get("Kind") == "refused"
@@ -90,7 +78,7 @@ def record_of(text: bytes) -> Record:
     is_decided = has_texts(told, "decided", "Of", "By", "Reason", "Became")
     is_differing = has_texts(told, "differs", "Board", "By", "DeskReel", "Machine", "MachineReel")
     if (
-        not (is_refused or is_decided or is_differing and isinstance(told["Designators"], list))
+        not (is_refused or is_decided or is_differing and isinstance(told.get("Designators"), list))
         or not isinstance(told.get("At"), str)
         or not text.endswith(b"\n")
         or text.count(b"\n") != 1
@@ -111,10 +99,23 @@ def inbox_of(archive: pathlib.Path) -> pathlib.Path:
 
 
 def said(record: Record) -> list[str]:
-    """What a record says to a reader: the columns of its row up to `reason`, of which half a letter
-    is spelled.
+    """What a record says to a reader: the columns of its row up to `reason`, each of a length that
+    can be read.
     """
-    return [it.encode("utf-8", "backslashreplace").decode() for it in columns(record)]
+    return [
+        it if len(it) <= MOST_SAID else f"{it[:MOST_SAID]} .. ({len(it):,} letters)"
+        for it in in_one_line(record)
+    ]
+
+
+def in_one_line(record: Record) -> list[str]:
+    """These columns as the file has them, where a row is one line."""
+    return [*map(catalogue.printable, columns(record))]
+
+
+def row_of(record: Record, chain: str) -> list[str]:
+    """The row of a record behind which the file has this chain."""
+    return [*in_one_line(record), record.text, chain]
 
 
 def columns(record: Record) -> list[str]:
@@ -173,6 +174,12 @@ def is_work(record: Record) -> bool:
 
 def chained(before: str, record: Record) -> str:
     return hashlib.sha256(f"{before}\n{record.text}\n".encode()).hexdigest()
+
+
+def is_read_back(record: Record) -> bool:
+    """Whether the row of a record is read as it is written; no other row is written."""
+    rows = [row_of(record, BEGIN)]
+    return [*catalogue.csv_rows(catalogue.csv_text(rows))] == rows
 
 
 # --- Reading
@@ -246,7 +253,7 @@ def parsed(path: pathlib.Path, text: bytes) -> tuple[list[Record], list[str], st
     chains: list[str] = []
     before = BEGIN
     lines = text[: text.rfind(b"\n") + 1].decode("utf-8", "replace")
-    rows = csv.reader(io.StringIO(lines, newline=""), strict=True)
+    rows = catalogue.csv_rows(lines)
     try:
         for number, row in enumerate(rows):
             if number == 0:
@@ -254,11 +261,7 @@ def parsed(path: pathlib.Path, text: bytes) -> tuple[list[Record], list[str], st
                     return records, chains, f"{path}, line 1: the header is not {','.join(HEADER)}"
                 continue
             record = record_of(row[13].encode() + b"\n") if len(row) == len(HEADER) else None
-            if (
-                record is None
-                or row[:13] != said(record)
-                or row[14] != (before := chained(before, record))
-            ):
+            if record is None or row != row_of(record, before := chained(before, record)):
                 return (
                     records,
                     chains,
@@ -294,16 +297,18 @@ def waiting_in(inbox: pathlib.Path) -> Waiting:
     records, taken, faults = [], [], []
     for file in inboxes.files_in(inbox):
         try:
-            text = file.read_bytes()
+            text = files.read_plain(file, LONGEST + 1)
             record = record_of(text) if len(text) <= LONGEST else None
             if record is None or record.id != inboxes.id_of(file):
                 raise ValueError("its name is not that of its bytes")
+            if not is_read_back(record):
+                raise ValueError("its row would not be read as it is written")
             if (record.told["Kind"] == "decided") == (file.parent != inbox):
                 records.append(record)
                 taken.append(file)
         except FileNotFoundError:
             continue  # collected meanwhile: its row is on disk
-        except (ValueError, UnicodeDecodeError, RecursionError) as fault:
+        except (OSError, ValueError) as fault:
             faults.append(f"{file}: {fault}: look at what its sender has of it, then move it away")
     records.sort(key=lambda it: (it.told["At"], it.id))
     return Waiting({it.id: it for it in records}, taken, faults)
@@ -312,6 +317,11 @@ def waiting_in(inbox: pathlib.Path) -> Waiting:
 def decisions(records: Iterable[Record]) -> dict[str, Record]:
     """The newest decision about each record that was decided, by its id."""
     return {it.told["Of"]: it for it in records if it.told["Kind"] == "decided"}
+
+
+def is_shipped(by: Record | None) -> bool:
+    """Whether a board is decided about, and may be with somebody: recalls go on naming it."""
+    return by is not None and by.told["Became"] != SCRAPPED
 
 
 def refused(records: Iterable[Record]) -> list[Record]:
@@ -402,20 +412,19 @@ def append(path: pathlib.Path, records: list[Record], new: list[Record]) -> None
     before = BEGIN
     for it in records:
         before = chained(before, it)
-    text = io.StringIO()
-    rows = csv.writer(text, lineterminator="\n")
+    rows: list[Iterable[str]] = []
     if not records and not (
         path.exists() and path.read_bytes().startswith(",".join(HEADER).encode() + b"\n")
     ):
-        rows.writerow(HEADER)
+        rows.append(HEADER)
     for it in new:
         before = chained(before, it)
-        rows.writerow([*said(it), it.text, before])
+        rows.append(row_of(it, before))
     with open(path, "a+b") as file:
         file.seek(0)
         kept = file.read()
         file.truncate(kept.rfind(b"\n") + 1)
-        file.write(text.getvalue().encode())
+        file.write(catalogue.csv_text(rows).encode())
         file.flush()
         os.fsync(file.fileno())
     files.keep(path.parent)

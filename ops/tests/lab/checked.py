@@ -10,11 +10,6 @@ from lab.here import call_here
 from lab.tools import Ended, Word, run, tool
 
 MESSAGES = ROOT / "cases/tables_that_were_altered/messages.jsonl"  # each table has a row
-# Things next to the tables that no tool minds.
-LET_BE = """CREATE TABLE note (reel TEXT REFERENCES reel, words TEXT DEFAULT '');
-    INSERT INTO note VALUES ('K1', 'seen'); CREATE VIEW boards AS SELECT board FROM board;
-    CREATE INDEX by_lot ON reel (lot); ALTER TABLE board ADD COLUMN more TEXT;"""
-WHAT_TO_DO = "\nwhat to do ("
 
 
 class Checked:
@@ -70,18 +65,9 @@ class Checked:
         return done
 
     def expect(self, status: int, *texts: str) -> Ended:
-        """A check that ends with this status and says these texts; of a fault it also says what to
-        do."""
-        return says(self.check().expect(status, *texts))
-
-    def expect_cause(self, audit: str, *texts: str) -> None:
-        """A check that says this of the program's audit, and what is wrong."""
-        self.expect(1, f"the program's audit says of a copy: {audit}\n", *texts)
-
-
-def says(done: Ended) -> Ended:
-    """A verdict comes on standard output, with what to do; why there is none on standard error."""
-    assert done.status < 2 or not done.out
-    assert done.status >= 2 or not done.err
-    assert done.status != 1 or WHAT_TO_DO in f"\n{done.said}"
-    return done
+        """A check that ends with this status and says these texts, a verdict on standard output
+        alone.
+        """
+        done = self.check().expect(status, *texts)
+        assert not (done.out if status > 1 else done.err)
+        return done

@@ -7,6 +7,7 @@ import os
 import signal
 import sys
 import traceback
+from collections.abc import Iterator
 from types import ModuleType
 
 from lab.tools import Ended, Word, strings, tool
@@ -28,15 +29,27 @@ def status_of(end: SystemExit) -> int:
     return 0 if end.code is None else 1
 
 
+@contextlib.contextmanager
+def process_as_it_was() -> Iterator[None]:
+    """Puts back what a tool changes of this process: its words, its umask and its signals."""
+    before, mask = sys.argv, os.umask(0o022)
+    signals = {number: signal.getsignal(number) for number in (signal.SIGTERM, signal.SIGHUP)}
+    try:
+        yield
+    finally:
+        sys.argv = before
+        os.umask(mask)
+        for number, handler in signals.items():
+            signal.signal(number, handler)
+
+
 def call_here(name: str, *words: Word) -> Ended:
     """Calls a tool, and puts back what it changes of the process."""
     module = module_of(name)
     said = [io.BytesIO(), io.BytesIO()]
     out, err = (io.TextIOWrapper(its, "utf-8", write_through=True) for its in said)
-    before, mask = sys.argv, os.umask(0o022)
-    signals = {number: signal.getsignal(number) for number in (signal.SIGTERM, signal.SIGHUP)}
-    sys.argv = strings([tool(name), *words])
-    try:
+    with process_as_it_was():
+        sys.argv = strings([tool(name), *words])
         with contextlib.redirect_stdout(out), contextlib.redirect_stderr(err):
             try:
                 status = int(module.main() or 0)
@@ -45,9 +58,5 @@ def call_here(name: str, *words: Word) -> Ended:
             except Exception:
                 traceback.print_exc()
                 status = UNEXPECTED
-    finally:
-        called, sys.argv = sys.argv, before
-        os.umask(mask)
-        for number, handler in signals.items():
-            signal.signal(number, handler)
+        called = sys.argv
     return Ended(tuple(called), status, *(its.getvalue().decode() for its in said))

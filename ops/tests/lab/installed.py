@@ -12,10 +12,9 @@ from lab.machine import ARCHIVE, OFFICE, URL, Block, Machine, blocks, booted, is
 
 
 class Packages(NamedTuple):
-    """Debian's packages, the tarball, and the same packages with a later version."""
+    """Debian's packages, and the same packages with a later version."""
 
     debs: list[pathlib.Path]
-    tarball: pathlib.Path
     newer: list[pathlib.Path]
 
 
@@ -24,8 +23,8 @@ def make_packages(program: pathlib.Path, room: pathlib.Path) -> Packages:
     made = pathlib.Path(os.environ.get("TRACEDESK_PACKAGES") or room / "made")
     if not made.exists():
         run(ROOT / "dev/dist", "--program", program, "--to", made)
-    debs, (tarball,) = sorted(made.glob("*.deb")), made.glob("*.tar.gz")
-    return Packages(debs, tarball, [newer_than(deb, room) for deb in debs])
+    debs = sorted(made.glob("*.deb"))
+    return Packages(debs, [newer_than(deb, room) for deb in debs])
 
 
 def newer_than(deb: pathlib.Path, room: pathlib.Path) -> pathlib.Path:
@@ -65,7 +64,7 @@ def difference(machine: Machine, block: Block) -> str:
 def installed(program: pathlib.Path) -> Iterator[Installed]:
     with tempfile.TemporaryDirectory() as room, booted() as machine:
         packages = make_packages(program, pathlib.Path(room))
-        for file in (*packages.debs, packages.tarball):
+        for file in packages.debs:
             machine.put(file, f"/root/{file.name}")
         for file in packages.newer:
             machine.put(file, f"/root/new/{file.name}")

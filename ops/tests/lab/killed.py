@@ -3,7 +3,7 @@ from __future__ import annotations
 
 import contextlib
 import os
-from typing import Any, Callable, Iterator
+from typing import Any, Callable, Iterator, Sequence
 
 import pytest
 
@@ -15,8 +15,10 @@ class Killed(BaseException):
 
 
 @contextlib.contextmanager
-def killed_at(number: int) -> Iterator[list[str]]:
-    """Kills what is called before its write of this number; the list has its writes."""
+def killed_at(number: int, calls: Sequence[str] = WRITES) -> Iterator[list[str]]:
+    """Kills what is called before its write of this number; the list has its writes, as far as they
+    are among these calls of `os`.
+    """
     writes: list[str] = []
 
     def counted(name: str, call: Callable[..., Any]) -> Callable[..., Any]:
@@ -29,6 +31,6 @@ def killed_at(number: int) -> Iterator[list[str]]:
         return write
 
     with pytest.MonkeyPatch.context() as patch, contextlib.suppress(Killed):
-        for name in WRITES:
+        for name in calls:
             patch.setattr(os, name, counted(name, getattr(os, name)))
         yield writes

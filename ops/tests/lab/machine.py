@@ -35,6 +35,7 @@ HERE = {  # commands, and the packages that bring them
     "debootstrap": "debootstrap",
     "ip": "iproute2",
     "pandoc": "pandoc",
+    "help2man": "help2man",
     "readelf": "binutils",
     "dh_builddeb": "debhelper",
 }

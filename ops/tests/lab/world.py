@@ -16,9 +16,11 @@ from lab.line import Line
 from lab.messages import parts_of
 from lab.tools import Word, call_tool
 from tracedesk_dev import shift
-from tracedesk_ops import catalogue, copies, declared
+from tracedesk_ops import catalogue, copies
 
 RUNNING = catalogue.RUNNING
+# indexes on placement that older programs made, and their columns
+OLDER_LAYOUT = {"placement_reel": ["reel"], "placement_overdue": ["overdue"]}
 
 
 class ArchivedLine(Line):
@@ -38,7 +40,7 @@ class ArchivedLine(Line):
         begins the next one, so many minutes later."""
         file = self.archive / f"{self.name}-{len(self.archived) + 1}"
         with contextlib.closing(sqlite3.connect(self.file, isolation_level=None)) as database:
-            for name, columns in declared.OLDER_LAYOUT.items():
+            for name, columns in OLDER_LAYOUT.items():
                 database.execute(f"DROP INDEX IF EXISTS {name}")
                 if has_indexes:
                     database.execute(f"CREATE INDEX {name} ON placement ({', '.join(columns)})")

@@ -7,7 +7,7 @@ import json
 import pathlib
 from collections.abc import Iterator
 
-from tracedesk_ops import backups, chain, chains, copies, files, judged, model, plant
+from tracedesk_ops import backups, chain, chains, copies, files, model, plant
 from tracedesk_ops import store
 from tracedesk_ops.backups import ARCHIVE
 from tracedesk_ops.backups.make import is_whole, now
@@ -69,8 +69,9 @@ def broken(asked: argparse.Namespace, copy: Path, archives: list[File]) -> Itera
         if not program:
             raise plant.Fault("there is no tracedesk-chain next to tracedesk: CHAIN names it")
         paths = [live.get(file.path, file.path) for file in behind.archives[::-1]]
-        record = judged.record_of(backups.note_of(asked.to, asked.db))
-        judged.check(program, [*paths, line.desk], record)
+        paths.append(line.desk)
+        digits = [store.sha256_of(path)[: model.DIGITS] for path in paths]
+        chains.asked(program, ["check"], paths, digits)
     except (chains.NoAnswer, plant.Fault, store.LineFault) as fault:
         yield f"{copy}: whether its archives and its desk are a chain: {fault}"
 

@@ -12,6 +12,7 @@ import socket
 import stat
 
 from tracedesk_ops import (
+    around,
     attributes,
     backups,
     chain,
@@ -241,6 +242,7 @@ class Backup:
         self.faults += untraced.missing(self.archive, recorded)
         self.faults += attributes.rows_of(self.archive, recorded)[1]
         self.want_newest(behind)
+        self.want_all_of_the_line(behind)
         said = {
             "name": behind.desk.heads.name(),
             "desk": os.path.realpath(self.db),
@@ -295,6 +297,27 @@ class Backup:
                 "back to before it, or that copy is of another machine. Its senders send them "
                 "again, or restore that copy; one of another machine, move to a folder of its own"
             )
+
+    def want_all_of_the_line(self, behind: Chain) -> None:
+        """Names the line's files, also those that a restore put aside, with commands that this copy
+        lacks, as a recall does.
+        """
+        reader = store.Reader(believes_names=True)  # the newest may be in the log of a desk aside
+        unread: list[str] = []
+        try:
+            with plant.as_owner(self.db):
+                beside = reader.beside(self.line, behind, unread)
+                for file in beside:
+                    reader.taken(file)
+            for off in chain.off_chain(behind, beside, reader) if not behind.missing else ():
+                if off.lacking:
+                    unread.append(
+                        f"{off.file.path}: {around.said_of(self.line, off.file)}, and"
+                        f" {off.lacking:,} of its commands are in no copy: {around.AGAIN}"
+                    )
+        except store.LineFault as fault:
+            unread.append(str(fault))
+        self.faults += [why for why in unread if why not in self.faults]
 
     def forget(self, new: Path) -> None:
         """Takes away the desk's copies that are neither of the last days nor of the last months,

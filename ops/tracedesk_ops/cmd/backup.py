@@ -24,8 +24,7 @@ look at its disk, and move it elsewhere.
 
 --check also asks tracedesk-chain whether the archives and the desk of the copy are a chain, and
 writes how that ended next to the copies, for tracedesk-watch. The program is the one next to
-tracedesk, or that of CHAIN in the environment. It reads a file again only if the file's checksum is
-another, or the program is: which files it has judged is kept next to the copies too.
+tracedesk, or that of CHAIN in the environment.
 
 Copies are in the order of what they contain, never of a clock. If somebody set the desk back, or
 two machines went on from one copy, the copies are a fork: each call names those with commands that
@@ -105,6 +104,7 @@ def words() -> argparse.Namespace:
     asked = options.understood(
         reader, wants_desk=not (given.age or given.check or given.restore is not None)
     )
+    options.want_no_folder(reader, asked)
     if asked.days < 1 or asked.months < 0:
         reader.error("at least a day is kept")
     if asked.of_another and not asked.restore:

@@ -12,15 +12,17 @@ examples:
   tracedesk-move K-02 --from line-2/desk --to line-1/desk --as K-02b                 back to where
                                                                                      its name is
                                                                                      used up
+  tracedesk-move K-02 --from /var/lib/tracedesk/L1 --to /var/lib/tracedesk/L2        of two folders
 
 A reel that is received anew begins without exposure, so the new desk is told that it was opened as
 long ago as the old one counted. It is sealed if it is sealed. By the message for the old desk no
 piece of it is left there: they count as scrapped.
 
-OLD and NEW are files of desks that no run has open, or copies, as tracedesk-backup makes. They are
-not changed. Run both commands before anything is sent; then the old desk gets its message first. A
-running desk may have gone on since its copy was made. So standard error has the answer that each
-desk must give: how many pieces the old desk takes off, and the reel's card at the new one.
+OLD and NEW are files of desks that no run has open, or copies, as tracedesk-backup makes. Of a
+line's folder the newest sealed file is read: seal both lines first. They are not changed. Run both
+commands before anything is sent; then the old desk gets its message first. A running desk may have
+gone on since its copy was made. So standard error has the answer that each desk must give: how many
+pieces the old desk takes off, and the reel's card at the new one.
 
 A refusal is on standard error, with the remedy:
   UnknownReel   the old desk has no reel of that name
@@ -39,15 +41,14 @@ unexpected failure.
 from __future__ import annotations
 
 import argparse
-import csv
 import hashlib
-import io
 import pathlib
 import sqlite3
 import sys
 from collections.abc import Iterable, Iterator
 
-from tracedesk_ops import carry, catalogue, copies, options, plant, reader_of
+from tracedesk_ops import carry, catalogue, copies, lineage, options, plant, reader_of
+from tracedesk_ops.line import LineFolder
 
 SOURCE = "move"
 KINDS: dict[type[Exception], str] = {
@@ -65,7 +66,12 @@ class NotMoved(Exception):
 
 
 def desk(path: pathlib.Path, program: str) -> carry.Archive:
-    """What a desk's file says."""
+    """What a desk's file says, or the newest sealed file of a line's folder."""
+    if path.is_dir():
+        found = lineage.of(LineFolder(path))
+        if found.faults:
+            raise NotMoved(f"Unreadable: {path}: {found.faults[0]}")
+        path = found.chain[-1].path
     if not path.is_file():
         raise NotMoved(f"Unreadable: there is no file {path}")
     try:
@@ -179,11 +185,8 @@ def notes(reel: carry.Reel, new: carry.Archive, end: int) -> Iterator[str]:
     if reel.waits_for_its_bake():
         life = "unbaked"
     state = "open" if reel.is_open() else "sealed"
-    card = io.StringIO()
-    csv.writer(card, lineterminator="").writerow(
-        [reel.reel, reel.part, reel.lot, reel.level, left, 0, 0, left, life, state]
-    )
-    yield f"the new desk's card of it has to be: {card.getvalue()}"
+    card = [reel.reel, reel.part, reel.lot, reel.level, left, 0, 0, left, life, state]
+    yield f"the new desk's card of it has to be: {catalogue.csv_text([card])[:-1]}"
     if reel.runs():
         yield (
             "more minutes left there mean that its clock had gone on since the copy: then bake the"
@@ -225,7 +228,7 @@ def words(given: list[str] | None = None) -> argparse.Namespace:
         required=True,
         type=pathlib.Path,
         metavar="OLD",
-        help="the desk's file that it leaves, or a copy",
+        help="the desk's file that it leaves, a copy, or its line's folder",
     )
     reader.add_argument(
         "--to",
@@ -233,7 +236,7 @@ def words(given: list[str] | None = None) -> argparse.Namespace:
         required=True,
         type=pathlib.Path,
         metavar="NEW",
-        help="the one that it comes to, or a copy",
+        help="the one that it comes to, in the same way",
     )
     reader.add_argument(
         "--as",

@@ -16,8 +16,7 @@ examples:
   tracedesk-recall lot L-77 L-78 --part CAP-100N
   tracedesk-recall where date_code=2614 part=CAP-100N
   tracedesk-recall lot L-77 --line L1 http://127.0.0.1:8080 /var/lib/tracedesk/archive/catalogue.csv
-  tracedesk-recall lot L-77 --lines lines.csv --shipped shipped.csv --html L-77.html --evidence
-  recalls/L-77 > boards.csv
+  tracedesk-recall lot L-77 --lines lines.csv --shipped shipped.csv --evidence L-77 > boards.csv
   tracedesk-recall board SN-117 --archives-only --line L1 - archive/catalogue.csv      no desk runs
   tracedesk-recall reel K-01 --lines lines.csv --show reels
   tracedesk-recall lot L-77 --line L1 ssh:line-1 - --line L2 ssh:line-2 -              two lines on
@@ -67,6 +66,8 @@ is 3.
                 tracedesk-verify verifies it. With `-` it goes to standard output as a tar, in place
                 of the table, for the lines of this computer alone: so another one asks. Its
                 evidence has that tar
+--token NAME    the certificate has it, with the words of the question: so another computer knows
+                that the answer is to its own
 --key FILE      the private key that signs the evidence, as ssh-keygen makes it; without it the
                 `key` of the line's set-up file
 --unsigned      the evidence is not signed, and its certificate says so
@@ -300,7 +301,8 @@ def parse() -> argparse.Namespace:
         parser.add_argument(f"--{option}", type=pathlib.Path, metavar=metavar)
     for option in ("archives-only", "unsigned"):
         parser.add_argument(f"--{option}", action="store_true")
-    parser.add_argument("--customer", metavar="NAME")
+    for option in ("customer", "token"):
+        parser.add_argument(f"--{option}", metavar="NAME")
     parser.add_argument(
         "--program",
         default=os.environ.get("PROGRAM", "tracedesk"),
@@ -386,9 +388,11 @@ def asked(
             for text in (*(f"NOT ASKED: {why}" for why in its.faults), *its.notes):
                 plant.tell(text)
             stop(f"no reel is one of {its.question.name}", 3 if its.faults else 1)
-        there = hosts.Asking(lines, [kind, *names, *(["--part", words.part] if words.part else [])])
+        its_words = [kind, *([f"--part={words.part}"] if words.part else []), "--", *names]
+        there = hosts.Asking(lines, its_words)
         chain = chains.Asker(words.program, its.question.words(listed_in(room, its.question)))
         recall = Recall(its.question, lines, desk_of, chain, words.archives_only, there.take)
+        recall.words, recall.token = its_words, words.token or ""
         recall.faults += its.faults
         recall.notes += its.notes
         recall.ask()

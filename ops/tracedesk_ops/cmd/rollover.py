@@ -106,6 +106,7 @@ def words() -> argparse.Namespace:
     )
     options.offer(reader)
     asked = options.understood(reader)
+    options.want_no_folder(reader, asked)
     asked.chain = plant.chain_of(asked.program)
     if not (asked.chain or asked.due):
         reader.error(

@@ -13,13 +13,14 @@ examples:
   tracedesk-untraced list                        what nobody decided yet, as CSV
   tracedesk-untraced list --all                  all of it, with the decisions, and each refused
                                                  load, splice and unload
-  tracedesk-untraced decide 3f0c9a.. --by 'A. Person' --became scrapped --reason 'built with the
-  expired reel'
+  tracedesk-untraced decide 3f0c9a --by 'A. Person' --became scrapped \\
+      --reason 'built with the expired reel'
 
 Senders put a record of each refused report of work into the line's inbox, which its set-up file
 names: else the folder `untraced` next to that of the archives. `collect` appends it to
 untraced.csv, next to the catalogue. A recall names each board that is in it, and ends with status 3
-until somebody decided what became of the board. `collect` also takes the attributes of reels out of
+until somebody decided what became of the board. Only `scrapped` takes it out of recalls: with each
+other decision it stays doubtful, with status 5. `collect` also takes the attributes of reels out of
 their receipts, into reels.csv. ID may be the beginning of an id, if no other has it. A refused
 load, splice or unload has a record too, and needs no decision. If a recall names pieces as doubtful
 because of it, and nothing was placed from that reel, decide --became 'taken off'. If a recall says

@@ -61,6 +61,7 @@ from tracedesk_ops import (
     model,
     plant,
     reader_of,
+    sealed_watch,
     store,
     untraced,
 )
@@ -76,8 +77,11 @@ FAULTS = (
     *plant.FAULTS[:-1],
     http.client.HTTPException,
     ValueError,
-    KeyError,
+    LookupError,
     TypeError,
+    AttributeError,
+    ArithmeticError,
+    RecursionError,
     subprocess.SubprocessError,
     csv.Error,
 )
@@ -167,7 +171,7 @@ class Watch:
     def __init__(self, asked: argparse.Namespace) -> None:
         self.asked, self.desk = asked, Desk(asked.port, asked.timeout)
         self.reader = store.Reader(believes_names=True, without_logs=True)
-        self.is_up = False
+        self.is_up, self.is_folder = False, asked.archive.name == model.SEALED
 
     def tried(self, name: str, source: Samples) -> Generator[Sample, None, bool]:
         """The samples of a source, and whether it gave all; else the reason is told."""
@@ -267,6 +271,8 @@ class Watch:
 
     def backup(self) -> Samples:
         """The newest copy that lacks no archive; one of the future is none to trust."""
+        if self.is_folder:
+            yield from sealed_watch.newest(self.asked.archive)
         if not is_there(self.asked.backups):
             return
         if told := read_if_there(backups.note_of(self.asked.backups, self.asked.db)):
@@ -282,6 +288,10 @@ class Watch:
 
     def archive(self) -> Samples:
         folder = self.asked.archive
+        if self.is_folder:
+            has = self.desk.has if self.is_up else lambda _: False
+            yield from sealed_watch.archives(folder, has)
+            return
         survey = around.Folder(folder, [], None, self.reader).survey()
         if survey.faults:
             raise plant.Fault(survey.faults[0])
@@ -378,7 +388,8 @@ def text_of(samples: Samples) -> str:
 
 def labels_of(labels: dict[str, str]) -> str:
     escaped = str.maketrans({"\\": r"\\", '"': r"\"", "\n": r"\n"})
-    written = [f'{name}="{value.translate(escaped)}"' for name, value in labels.items()]
+    texts = {name: it.encode("utf-8", "replace").decode() for name, it in labels.items()}
+    written = [f'{name}="{text.translate(escaped)}"' for name, text in texts.items()]
     return f"{{{','.join(written)}}}" if written else ""
 
 
@@ -453,7 +464,7 @@ def words() -> argparse.Namespace:
     )
     options.set_up(reader, copies="backups")
     asked = reader.parse_args()
-    asked.archive = asked.archive or asked.db.parent / "archive"
+    asked.archive = asked.archive or places.archive_of(asked.db)
     asked.status = asked.status or places.of_desk(asked.db).status
     if asked.timeout <= 0:
         reader.error("--timeout: an answer takes some time")

@@ -11,7 +11,7 @@ from werkzeug.exceptions import HTTPException
 
 from tracedesk_ops import carry
 from tracedesk_ops.recallpage import pages, papers, view
-from tracedesk_ops.recallpage.jobs import KINDS, MOST_SHOWN, Asked, Full, Job, Queue
+from tracedesk_ops.recallpage.jobs import KINDS, MOST_BYTES, MOST_SHOWN, Asked, Full, Job, Queue
 from tracedesk_ops.recalls import sets
 from tracedesk_ops.recalls.wording import readable
 
@@ -35,7 +35,6 @@ STATES = {
     5: "complete, with doubtful pieces",
 }
 MOST_NAMES = 50
-MOST_BYTES = 16 << 20  # of a request, with its list of shipped boards
 SECONDS_UNTIL_AGAIN = 3
 POLICY = "default-src 'none'; " + "; ".join(
     (
@@ -109,9 +108,9 @@ def make(folder: pathlib.Path) -> flask.Flask:
 
     def form(refused: str, status: int, values: "dict[str, str]") -> tuple[str, int]:
         jobs = [
-            {"name": job.name, "title": title_of(job.asked), "reader": job.asked.reader}
-            | {"at": job.asked.at, "state": state_of(queue, job)}
-            for job in reversed(queue.all()[-MOST_SHOWN:])
+            {"name": job.name, "title": title_of(question), "reader": question.reader}
+            | {"at": question.at, "state": state_of(queue, job)}
+            for job, question in queue.questions(reversed(queue.all()[-MOST_SHOWN:]))
         ]
         asked = {name: values.get(name, "") for name in ("kind", "names", "part")}
         its = {"refused": refused, "kinds": KIND_TEXTS, "asked": asked, "jobs": jobs}

@@ -7,10 +7,13 @@
     ended.json     how it ended
 
 A recall without `ended.json` waits, in the order of the names, or runs. A kill loses none: the
-worker runs it anew.
+worker runs it anew. The page, the proxy and the worker may write there, and the worker alone may
+read the line's files: so what is asked is typed data to it, and it follows no link there.
 """
 from __future__ import annotations
 
+import argparse
+import contextlib
 import dataclasses
 import datetime
 import json
@@ -19,12 +22,17 @@ import pathlib
 import re
 import secrets
 import shutil
-from typing import Any
+from collections.abc import Iterable, Iterator, Sequence
+from typing import Any, BinaryIO
 
-from tracedesk_ops import files
+from tracedesk import records
+from tracedesk_ops import carry, files
+from tracedesk_ops.recalls import sets
 
 NAME = re.compile(r"\d{8}T\d{6}\.\d{6}Z-[0-9a-f]{8}")
-ASKED = "asked.json"
+ASKED, SHIPPED, SAID, ENDED = "asked.json", "shipped.csv", "said.txt", "ended.json"
+LONGEST = 1 << 20  # bytes of a question, with its fifty names
+MOST_BYTES = 16 << 20  # of a request of the page, with its list of shipped boards
 NEW = ".new-"  # the beginning of the name of a folder that is not whole yet
 MOST_WAITING = 50
 MOST_OF_ONE = 10  # that wait for one reader
@@ -47,13 +55,36 @@ class Asked:
     at: str
     has_list: bool = False
 
-    def words(self) -> list[str]:
-        """The words of tracedesk-recall."""
-        part = ["--part", self.part] if self.part else []
-        return [self.kind, *self.names, *part]
+    def words(self, options: Sequence[str] = ()) -> list[str]:
+        """The words of tracedesk-recall, of which no name is an option."""
+        part = [f"--part={self.part}"] if self.part else []
+        return [self.kind, *part, *options, "--", *self.names]
 
     def same(self, other: "Asked") -> bool:
         return self.words() == other.words() and not (self.has_list or other.has_list)
+
+
+def asked_in(text: bytes) -> Asked:
+    """The question of a file; a ValueError if it is none."""
+    told: Any = json.loads(records.shallow(text))
+    names = told["names"] if isinstance(told, dict) and set(told) == FIELDS else None
+    if not (isinstance(names, list) and names and told["kind"] in KINDS):
+        raise ValueError("it is no question of the page")
+    texts = [told[name] for name in ("part", "reader", "at")]
+    if not all(isinstance(it, str) for it in (*names, *texts)):
+        raise ValueError("a name is no text")
+    for name in (*names, *([told["part"]] if told["part"] else [])):
+        try:
+            carry.identifier(name)
+        except argparse.ArgumentTypeError as fault:
+            raise ValueError(str(fault)) from fault
+    if told["kind"] == "where":
+        sets.terms_of(names)
+    its: dict[str, Any] = {**told, "names": tuple(names), "has_list": bool(told["has_list"])}
+    return Asked(**its)
+
+
+FIELDS = {field.name for field in dataclasses.fields(Asked)}
 
 
 @dataclasses.dataclass(frozen=True)
@@ -68,15 +99,14 @@ class Job:
 
     @property
     def asked(self) -> Asked:
-        told: dict[str, Any] = json.loads((self.folder / ASKED).read_text(encoding="utf-8"))
-        told["names"] = tuple(told["names"])
-        return Asked(**told)
+        """The question; an OSError or a ValueError if there is none that can be read."""
+        return asked_in(files.read_plain(self.folder / ASKED, LONGEST))
 
     @property
     def ended(self) -> dict[str, Any] | None:
         """How it ended, with the status of tracedesk-recall; None if it hasn't."""
         try:
-            return dict(json.loads((self.folder / "ended.json").read_text(encoding="utf-8")))
+            return dict(json.loads((self.folder / ENDED).read_text(encoding="utf-8")))
         except FileNotFoundError:
             return None
 
@@ -88,16 +118,76 @@ class Job:
     def said(self) -> str:
         """What was said so far."""
         try:
-            return (self.folder / "said.txt").read_text(encoding="utf-8", errors="replace")
+            return (self.folder / SAID).read_text(encoding="utf-8", errors="replace")
         except FileNotFoundError:
             return ""
 
     @property
     def is_running(self) -> bool:
-        return (self.folder / "said.txt").exists() and self.ended is None
+        return (self.folder / SAID).exists() and self.ended is None
+
+    @contextlib.contextmanager
+    def opened(self) -> Iterator[Place]:
+        """Its folder, for the worker."""
+        number = os.open(self.folder, FOLDER)
+        try:
+            yield Place(number)
+        finally:
+            os.close(number)
+
+
+FOLDER = os.O_RDONLY | os.O_DIRECTORY | os.O_NOFOLLOW | os.O_CLOEXEC
+NEW_FILE = os.O_WRONLY | os.O_CREAT | os.O_EXCL | os.O_NOFOLLOW | os.O_CLOEXEC
+
+
+@dataclasses.dataclass(frozen=True)
+class Place:
+    """An open folder where others write too: nothing is read, written or deleted through a link,
+    also if one is put there meanwhile.
+    """
+
+    number: int
+
+    def read(self, name: str, most: int) -> bytes:
+        return files.read_plain(name, most, self.number)
+
+    def new(self, name: str) -> BinaryIO:
+        """A new file of this name, in place of what is there."""
+        self.remove(name)
+        return open(os.open(name, NEW_FILE, 0o640, dir_fd=self.number), "wb")
+
+    def remove(self, name: str) -> None:
+        try:
+            os.unlink(name, dir_fd=self.number)
+        except FileNotFoundError:
+            return
+        except IsADirectoryError:
+            shutil.rmtree(name, dir_fd=self.number)
+
+    def put(self, source: pathlib.Path) -> None:
+        """Copies a file, or a folder of files, under its name."""
+        if not source.is_dir():
+            with open(source, "rb") as from_there, self.new(source.name) as to:
+                shutil.copyfileobj(from_there, to)
+            return
+        self.remove(source.name)
+        os.mkdir(source.name, 0o750, dir_fd=self.number)
+        inner = Place(os.open(source.name, FOLDER, dir_fd=self.number))
+        try:
+            for path in sorted(source.iterdir()):
+                inner.put(path)
+        finally:
+            os.close(inner.number)
 
     def end(self, **how: Any) -> None:
-        files.put(self.folder / "ended.json", json.dumps(how) + "\n", 0o640)
+        """Says how the recall ended, whole or not at all."""
+        unfinished = f"{ENDED}.{secrets.token_hex(8)}.new"
+        with self.new(unfinished) as file:
+            file.write(json.dumps(how).encode() + b"\n")
+            file.flush()
+            os.fsync(file.fileno())
+        os.replace(unfinished, ENDED, src_dir_fd=self.number, dst_dir_fd=self.number)
+        os.fsync(self.number)
 
 
 class Queue:
@@ -109,15 +199,21 @@ class Queue:
     def all(self) -> list[Job]:
         """All of them, from the oldest on; a folder that is being deleted is none any more."""
         there = (path for path in self.folder.iterdir() if NAME.fullmatch(path.name))
-        return [Job(path) for path in sorted(there) if (path / ASKED).is_file()]
+        return [Job(it) for it in sorted(there) if not it.is_symlink() and (it / ASKED).is_file()]
 
     def waiting(self) -> list[Job]:
-        return [job for job in self.all() if not (job.folder / "ended.json").exists()]
+        return [job for job in self.all() if not (job.folder / ENDED).exists()]
+
+    def questions(self, jobs: Iterable[Job]) -> Iterator[tuple[Job, Asked]]:
+        """These recalls with their questions, without those whose question can't be read."""
+        for job in jobs:
+            with contextlib.suppress(OSError, ValueError):
+                yield job, job.asked
 
     def job(self, name: str) -> Job | None:
         """The recall of this name, which may come from anybody."""
-        is_there = NAME.fullmatch(name) and (self.folder / name / ASKED).is_file()
-        return Job(self.folder / name) if is_there else None
+        its = (job for job in self.all() if job.name == name)
+        return next((job for job, _ in self.questions(its)), None)
 
     def place(self, job: Job) -> int:
         """How many are before it."""
@@ -128,24 +224,24 @@ class Queue:
         taken in its place.
         """
         waiting = self.waiting()
-        for job in waiting:
-            if job.asked.same(asked):
+        questions = list(self.questions(waiting))
+        for job, other in questions:
+            if other.same(asked):
                 return job
         if len(waiting) >= MOST_WAITING:
             raise Full(f"{len(waiting)} recalls wait already. Come again later.")
-        own = sum(1 for job in waiting if job.asked.reader == asked.reader)
+        own = sum(1 for _, other in questions if other.reader == asked.reader)
         if own >= MOST_OF_ONE:
             raise Full(f"{own} recalls of yours wait already. Come again once they are done.")
         now = datetime.datetime.now(datetime.timezone.utc)
         name = f"{now:%Y%m%dT%H%M%S.%fZ}-{secrets.token_hex(4)}"
         room = self.folder / f"{NEW}{name}"
-        room.mkdir(mode=0o770)
-        room.chmod(0o2770)
         try:
+            room.mkdir(mode=0o770)  # of the queue's group, as that folder's bit has it
             text = json.dumps(dataclasses.asdict(asked)) + "\n"
             files.put(room / ASKED, text, 0o640)
             if shipped:
-                (room / "shipped.csv").write_bytes(shipped)
+                (room / SHIPPED).write_bytes(shipped)
             os.rename(room, self.folder / name)
         except BaseException:
             shutil.rmtree(room, ignore_errors=True)

@@ -69,6 +69,7 @@ h2 { font-size: 11pt; break-after: avoid }
 .answer { font-size: 14pt; border-width: 2px }
 .grey { font-size: 8pt }
 td, th { padding: .1rem .3rem }
+td { overflow-wrap: normal }  /* view.brief has broken long words: `anywhere` takes their square */
 """
 HEAD = """<!DOCTYPE html>
 <html lang="en"><head><meta charset="utf-8"><meta name="viewport" content="width=device-width">

@@ -1,13 +1,13 @@
 """What a page says of a recall, by its evidence alone: sentences, without a path of the server."""
 from __future__ import annotations
 
-import csv
 import dataclasses
 import json
 import pathlib
 import re
 from typing import Any
 
+from tracedesk_ops import catalogue
 from tracedesk_ops.recalls.certificate import FILE_NAME
 from tracedesk_ops.recalls.wording import readable
 
@@ -56,12 +56,14 @@ LEFT_OUT = {  # on a page, and not in the spreadsheet
 }
 MINUTE = re.compile(r"(\d{4}-\d\d-\d\d)T(\d\d:\d\d)(:00)?Z")
 MOST_ROWS = 2_000  # of a table on a page
+WORD = re.compile(r"(\S{16})(?=\S)")  # as long as a line of a narrow column
 NOT_SHIPPED = "Not shipped, or not on the list"
 TOOL = "tracedesk-recall: "  # begins each line that it says
 REFUSED = 2  # statuses of tracedesk-recall
 MEANINGS = {
     4: "The answer could not be written.",
     9: "The recall failed in a way that nobody foresaw. Report what it said.",
+    124: "The recall was stopped, since it took too long. Ask again, or for less at once.",
 }
 TO_DO = {
     "not_asked": "Mend what is named, then ask again.",
@@ -99,8 +101,7 @@ def spelled(value: str) -> str:
 
 
 def rows_in(evidence: pathlib.Path, name: str) -> list[dict[str, str]]:
-    with open(evidence / f"{name}.csv", encoding="utf-8", newline="") as file:
-        return list(csv.DictReader(file))
+    return catalogue.csv_table((evidence / f"{name}.csv").read_bytes().decode())
 
 
 def count(number: int, one: str, many: str = "") -> str:
@@ -197,6 +198,23 @@ def answer_of(evidence: pathlib.Path) -> Answer:
         facts=facts,
         limits=told["cannot_know"],
     )
+
+
+def brief(answer: Answer, most: int) -> Answer:
+    """The same answer with so many letters of each cell and note at most, and in each long word
+    places where a line may end.
+    """
+
+    def cut(text: str) -> str:
+        its = text if len(text) <= most else f"{text[:most]} .. ({len(text):,} letters)"
+        return WORD.sub("\\1\u200b", its)
+
+    tables = [
+        dataclasses.replace(table, rows=[[cut(value) for value in row] for row in table.rows])
+        for table in answer.tables
+    ]
+    notes = {name: [*map(cut, getattr(answer, name))] for name in ("reasons", "notes")}
+    return dataclasses.replace(answer, tables=tables, **notes)
 
 
 def without_answer(status: int, said: str) -> tuple[str, list[str]]:

@@ -75,6 +75,7 @@ def certificate(
     return {
         "certificate": KIND,
         "question": dict(recall.question.about()),
+        **({"words": recall.words, "token": recall.token} if recall.token else {}),
         "asked_at": f"{recall.minute:%Y-%m-%dT%H:%M:00Z}",
         "answer": {
             "status": status,

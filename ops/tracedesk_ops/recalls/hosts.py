@@ -7,14 +7,17 @@ import concurrent.futures
 import io
 import pathlib
 import re
+import secrets
 import shlex
 import subprocess
 import sys
 import tarfile
+import tempfile
 from collections.abc import Iterator, Sequence
+from types import SimpleNamespace
 from typing import Any, NamedTuple
 
-from tracedesk_ops import catalogue, places, plant
+from tracedesk_ops import catalogue, places, plant, story, untraced
 from tracedesk_ops.firstlook import Piece, Reel
 from tracedesk_ops.recalls import sets, verifying
 from tracedesk_ops.recalls.certificate import LISTED
@@ -36,6 +39,12 @@ SSH = (
     "-o",
     "ServerAliveInterval=20",
 )
+MOST_SECONDS = 4 * 3600  # of a recall there, as of one here
+MOST_BYTES = 512 << 20  # of what it prints
+HEADERS = {
+    "untraced": ["line", *untraced.WORK, "id", "reels", *untraced.OUTCOME],
+    "doubtful": ["line", *story.HEADER],
+}
 
 
 class NoAnswer(Exception):
@@ -65,7 +74,11 @@ class Answer(NamedTuple):
             yield from (f"{self.host}: {text}" for text in self.told[name])
 
     def rows(self, name: str) -> list[dict[str, str]]:
-        return verifying.rows_of(self.contents, name)
+        rows = verifying.rows_of(self.contents, name)
+        for row in rows:
+            if None in (*row, *row.values()) or [*row] != HEADERS.get(name, [*row]):
+                raise ValueError(f"{name}.csv has other columns")
+        return rows
 
     def pieces(self) -> Iterator[Piece]:
         for row in self.rows("pieces"):
@@ -102,26 +115,61 @@ def host_of(url: str) -> str:
 
 def ask(host: str, words: Sequence[str]) -> Answer:
     """What a computer answers for its lines; a NoAnswer if it doesn't."""
-    command = shlex.join(["tracedesk-recall", *words, "--evidence", str(PRINTED)])
+    token = secrets.token_hex(16)
+    options = [f"--token={token}", f"--evidence={PRINTED}"]
+    command = shlex.join(["tracedesk-recall", *options, *words])
+    status, printed, said = printed_by(host, command)
+    if not printed:
+        raise NoAnswer(f"{command} ended with status {status}: {said}")
     try:
-        done = subprocess.run(
-            [*SSH, "--", host, command], stdin=subprocess.DEVNULL, capture_output=True
-        )
-    except OSError as fault:
-        raise NoAnswer(f"ssh: {fault.strerror}: apt-get install openssh-client") from fault
-    said = done.stderr.decode(errors="backslashreplace").strip().splitlines()
-    if not done.stdout:
-        raise NoAnswer(f"{command} ended with status {done.returncode}: {'; '.join(said[-1:])}")
-    try:
-        contents = verifying.checked(unpacked(done.stdout), host)
+        contents = verifying.checked(unpacked(printed), host)
         told = verifying.told_in(contents)
         verifying.want_pieces(contents, told)
-        answer = Answer(host, done.stdout, contents, told)
-    except (verifying.Refused, tarfile.TarError, KeyError, ValueError) as fault:
-        raise NoAnswer(f"what it printed is no evidence of a recall: {fault}") from fault
-    if told["answer"]["status"] != done.returncode:
-        raise NoAnswer(f"it ended with status {done.returncode}, which its evidence has not")
+        answer = Answer(host, printed, contents, told)
+        want_answer(answer, status, [*words], token)
+        put(answer, (), SimpleNamespace(**{name: [] for name in LISTS}, known=False))
+    except NoAnswer:
+        raise
+    except Exception as fault:  # whatever another computer prints, the others are asked
+        raise NoAnswer(f"what it printed is no evidence of a recall: {fault!r:.500}") from fault
     return answer
+
+
+LISTS = "asked doubts notes elsewhere faults pieces reels untraced doubtful".split()  # of a recall
+
+
+def printed_by(host: str, command: str) -> tuple[int, bytes, str]:
+    """The status of a command at another computer, what it printed, and the last line that it
+    said.
+    """
+    bounded = ("prlimit", f"--fsize={MOST_BYTES}", "--", *SSH, "--", host, command)
+    with tempfile.TemporaryFile() as out, tempfile.TemporaryFile() as err:
+        try:
+            done = subprocess.run(
+                bounded, stdin=subprocess.DEVNULL, stdout=out, stderr=err, timeout=MOST_SECONDS
+            )
+        except subprocess.TimeoutExpired as fault:
+            raise NoAnswer(f"it gave no answer in {MOST_SECONDS:,} seconds") from fault
+        except OSError as fault:
+            raise NoAnswer(f"prlimit: {fault.strerror}: apt-get install util-linux") from fault
+        for file in (out, err):
+            file.seek(max(0, file.tell() - (4096 if file is err else MOST_BYTES)))
+        said = err.read().decode(errors="backslashreplace").strip().splitlines()
+        return done.returncode, out.read(), "; ".join(said[-1:])
+
+
+def want_answer(answer: Answer, status: int, words: list[str], token: str) -> None:
+    """A NoAnswer if it is of another question or another time, or not as complete as it says."""
+    told = answer.told
+    if told.get("token") != token or told.get("words") != words:
+        raise NoAnswer("it answered another question, or this one at another time")
+    if told["answer"]["status"] != status:
+        raise NoAnswer(f"it ended with status {status}, which its evidence has not")
+    lacks = [*answer.why_not_whole(), *(row for row in answer.rows("asked") if row["why"])]
+    lacks += [row for row in answer.rows("untraced") if not row["became"]]
+    is_whole, says = status in (0, 1, 5), told["answer"]["is_complete"]
+    if is_whole != (says is True) or is_whole and lacks or not is_whole and status != 3:
+        raise NoAnswer(f"it ended with status {status}, which is not what its evidence says")
 
 
 class Asking:
@@ -161,7 +209,7 @@ class Asking:
         return sorted(names), more
 
 
-def put(answer: Answer, names: Sequence[str], recall: Recall) -> None:
+def put(answer: Answer, names: Sequence[str], recall: Any) -> None:
     """Puts the answer of a computer into a recall, which asks it about these lines."""
     told = answer.told["lines"]
     lines = {line["line"]: (line["desk"], line["epoch"]) for line in told}
@@ -200,7 +248,10 @@ def packed(folder: pathlib.Path) -> bytes:
 def unpacked(text: bytes) -> Contents:
     """The files of such a tar."""
     with tarfile.open(fileobj=io.BytesIO(text), mode="r:") as tar:
-        files = [(member.name, tar.extractfile(member)) for member in tar.getmembers()]
+        members = tar.getmembers()
+        if odd := [it.name for it in members if not it.isreg() or it.issparse()]:
+            raise ValueError(f"{odd[0]} is no plain file")
+        files = [(member.name, tar.extractfile(member)) for member in members]
         return {name: file.read() for name, file in files if file}
 
 

@@ -83,6 +83,8 @@ class Recall:
         self.elsewhere: list[Elsewhere] = []
         self.question, self.lines, self.desk_of, self.chain = question, lines, desk_of, chain
         self.archives_only = archives_only
+        self.words: list[str] = []  # of the question, as another computer gave them
+        self.token = ""  # by which that one knows that this answer is to its question
         self.minute = datetime.datetime.now(datetime.timezone.utc)
         self.known = False
         self.pieces: list[Piece] = []
@@ -456,7 +458,7 @@ class Concern:
     def __contains__(self, piece: handling.Piece) -> bool:
         if not self.is_set:
             return self.story.concerns(piece, self.question.kind, self.question.name)
-        if self.reels & {piece.reel, *piece.other_reels}:
+        if self.reels & {piece.reel, *piece.other_reels} or not piece.reel:
             return True
         if story.DIFFERS in piece.why:  # of what lot and part an unknown reel is, nobody knows
             return not piece.other_lots[0]

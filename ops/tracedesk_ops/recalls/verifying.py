@@ -3,9 +3,7 @@ archives.
 """
 from __future__ import annotations
 
-import csv
 import hashlib
-import io
 import json
 import pathlib
 import re
@@ -17,7 +15,7 @@ from tracedesk_ops.recalls import certificate, signing
 from tracedesk_ops.recalls.certificate import LISTED, bytes_of
 from tracedesk_ops.recalls.evidence import Contents, sums_of
 
-ROW = re.compile(rb"([0-9a-f]{64})  ([^/\n]+)\n")
+ROW = re.compile(rb"([0-9a-f]{64})  ([^/\n]+)")
 TABLES = ("boards", "pieces", "reels", "asked", "untraced", "doubtful", "serials")
 TRACE = ("board", "designator", "part", "lot", "reel", "machine", "slot", "overdue")
 
@@ -44,7 +42,9 @@ def checked(texts: Contents, of: object) -> Contents:
     sums = texts.pop(signing.SUMS)
     texts.pop(signing.SIGNATURE, None)
     named = {
-        name.decode(errors="backslashreplace"): its.decode() for its, name in ROW.findall(sums)
+        row[2].decode(errors="backslashreplace"): row[1].decode()
+        for row in map(ROW.fullmatch, sums.split(b"\n"))
+        if row
     }
     if missing := sorted(named.keys() - texts.keys()):
         raise Refused(f"{missing[0]} is missing")
@@ -67,14 +67,13 @@ def told_in(contents: Contents) -> dict[str, Any]:
         for name in TABLES:
             if f"{name}.csv" in contents and len(rows_of(contents, name)) != told["answer"][name]:
                 raise Refused(f"{name}.csv has not the rows that {certificate.FILE_NAME} names")
-    except (KeyError, ValueError, TypeError) as fault:
+    except (KeyError, ValueError, TypeError, RecursionError) as fault:
         raise Refused(f"{certificate.FILE_NAME} is missing or can't be read: {fault!r}") from fault
     return dict(told)
 
 
 def rows_of(contents: Contents, name: str) -> list[dict[str, str]]:
-    text = contents[f"{name}.csv"].decode()
-    return list(csv.DictReader(io.StringIO(text, newline=""), strict=True))
+    return catalogue.csv_table(contents[f"{name}.csv"].decode())
 
 
 def want_pieces(contents: Contents, told: dict[str, Any]) -> None:
@@ -87,9 +86,7 @@ def want_pieces(contents: Contents, told: dict[str, Any]) -> None:
     for line in told["lines"]:
         if line["chain"] and line["chain"]["file"] in contents:
             proved.add(line["line"])
-            answer = csv.DictReader(
-                io.StringIO(contents[line["chain"]["file"]].decode(), newline="")
-            )
+            answer = catalogue.csv_table(contents[line["chain"]["file"]].decode())
             wanted += [
                 [line["line"], row["file"], *(row[name] for name in TRACE)] for row in answer
             ]

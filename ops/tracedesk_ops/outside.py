@@ -9,23 +9,34 @@ import pwd
 import stat
 import subprocess
 from collections.abc import Iterator
-from typing import Any
+from typing import Any, NamedTuple
 
 from tracedesk_ops import copies, store
-from tracedesk_ops.checks.findings import (
-    CUT,
-    FOLDER,
-    Finding,
-    HEAD,
-    JOURNAL,
-    NO_DATABASE,
-    NO_FILE,
-    NO_ROOM,
-    OTHER_NAME,
-    RIGHTS,
-    ROOM_OF_AN_OPENING,
-    SMALLEST,
-)
+
+HEAD = 100  # bytes of a database's head
+SMALLEST = 512  # bytes of a page
+ROOM_OF_AN_OPENING = 65_536  # bytes that an opening may write to its log
+RIGHTS, NO_ROOM, OTHER_NAME, JOURNAL = "no permission", "no room", "another name", "half written"
+NO_FILE, NO_DATABASE = "no file", "not a database"
+RESTORE = "restore the newest sealed file"
+REMEDIES = {  # by the cause
+    RIGHTS: "give the file and its log back to the owner of their folder, by chown",
+    NO_ROOM: "make room there; a disk that is mounted read only mostly failed: journalctl --dmesg",
+    OTHER_NAME: "take the other name away, and not the file; put the log where its link is",
+    JOURNAL: f"delete neither of both: move them aside together, and {RESTORE}",
+    NO_FILE: f"is the name right, and is its disk there (findmnt)? Else {RESTORE}",
+    NO_DATABASE: f"is the name right? Else move it aside, look at the disk, and {RESTORE}",
+}
+
+
+class Finding(NamedTuple):
+    """What keeps the program from a file: the cause, and words of its own."""
+
+    cause: str
+    words: str
+
+    def text(self) -> str:
+        return f"{self.cause}: {self.words}: {REMEDIES[self.cause]}"
 
 
 def holder(file: str) -> str | None:
@@ -154,7 +165,7 @@ def no_database(file: str) -> Finding | None:
         head = it.read(HEAD)
     if not size and log:
         return Finding(
-            CUT,
+            NO_DATABASE,
             (
                 f"it has no bytes, and {log.name} has {os.stat(log).st_size:,}: copy the log before"
                 " anything else, since an opening empties it"
@@ -165,13 +176,13 @@ def no_database(file: str) -> Finding | None:
             NO_FILE,
             "it has no bytes: feed and serve make a new desk of it, all others say NotADesk",
         )
-    if not store.MAGIC.startswith(head[: len(store.MAGIC)]):
+    if not copies.MAGIC.startswith(head[: len(copies.MAGIC)]):
         return Finding(
             NO_DATABASE,
-            f"it begins with {begins(head)!r}, and a database with {begins(store.MAGIC)!r}",
+            f"it begins with {begins(head)!r}, and a database with {begins(copies.MAGIC)!r}",
         )
     return (
-        Finding(CUT, f"it has {size:,} bytes, which is less than a page")
+        Finding(NO_DATABASE, f"it has {size:,} bytes, which is less than a page")
         if size < SMALLEST
         else None
     )
@@ -179,40 +190,7 @@ def no_database(file: str) -> Finding | None:
 
 def begins(head: bytes) -> str:
     """The first letters of a database's, or what stands there."""
-    return head[: len(store.MAGIC) - 1].decode("ascii", "backslashreplace")
-
-
-def cut(file: str | pathlib.Path) -> str | None:
-    """How a file is shorter than its head says, in words, or none. Where the log has pages only its
-    head can tell.
-    """
-    with open(file, "rb") as it:
-        head = it.read(HEAD)
-    page, pages, size = (
-        int.from_bytes(head[16:18], "big"),
-        int.from_bytes(head[28:32], "big"),
-        os.stat(file).st_size,
-    )
-    page = 65_536 if page == 1 else page
-    if page >= SMALLEST and size < page * pages:
-        return (
-            f"it has {size:,} bytes, and by its head {pages:,} pages of {page:,}, which are"
-            f" {page * pages:,}"
-        )
-    return None
-
-
-def head_faults(file: pathlib.Path) -> Iterator[str]:
-    """What the head of a database says that the program doesn't read."""
-    with open(file, "rb") as it:
-        head = it.read(HEAD)
-    if any(head[52:56]):
-        yield "the database vacuums itself: PRAGMA auto_vacuum = 0; VACUUM"
-    if head[56:60] not in (b"\0\0\0\0", b"\0\0\0\1"):
-        yield (
-            "its texts are in UTF-16: a desk's are in UTF-8, and nothing but a new file changes"
-            " that"
-        )
+    return head[: len(copies.MAGIC) - 1].decode("ascii", "backslashreplace")
 
 
 def no_file(file: str) -> Finding | None:
@@ -224,10 +202,8 @@ def no_file(file: str) -> Finding | None:
             NO_FILE,
             f"there is no {file}: feed and serve make a new desk there, all others say NotADesk",
         )
-    if stat.S_ISDIR(mode):
-        return Finding(FOLDER, "it is a folder")
     return (
         None
         if stat.S_ISREG(mode)
-        else Finding(NO_DATABASE, "it is no file, but a pipe, a socket or a device")
+        else Finding(NO_DATABASE, "it is no file, but a folder, a pipe, a socket or a device")
     )

@@ -1,0 +1,95 @@
+"""Folders of lines whose desks are tables alone, without the program."""
+from __future__ import annotations
+
+import pathlib
+import sys
+from unittest import mock
+
+from lab import files
+from lab.killed import Killed
+from tracedesk_ops import copies, plant, rollover, sealed, sealing
+from tracedesk_ops.line import LineFolder
+
+Path = pathlib.Path
+
+# of the calls of a tool that change a file; what is in work/ by then doesn't count
+CALLS = ("mkdir", "rmdir", "unlink", "chmod", "fsync", "replace")
+BEHIND = "SELECT uid, command FROM accepted WHERE number > ? ORDER BY number"
+ACCEPT = """INSERT INTO accepted
+    SELECT count(*) + 1, ?, 'S', 0, count(*) + 1, ?, '' FROM accepted"""
+
+
+def audit(file: Path) -> int:
+    """Stands for the program's, which these files without rows of state would fail."""
+    with sealed.opened(file) as database:
+        numbers = [number for (number,) in database.execute("SELECT number FROM accepted")]
+    assert sorted(numbers) == list(range(1, len(numbers) + 1))
+    return len(numbers)
+
+
+def line_of(folder: Path, *uids: str) -> LineFolder:
+    """A line whose desk has accepted these."""
+    folder.mkdir()
+    line = LineFolder(folder)
+    files.desk(line.desk, uids)
+    return line
+
+
+def seal(line: LineFolder, *uids: str) -> sealed.Sealed:
+    """Seals the desk once it has accepted these too."""
+    files.accept(line.desk, uids)
+    return sealing.seal(line, 0, audit)
+
+
+# --- Roll-overs
+
+
+class Senders:
+    """A desk's service, and what its senders say while it runs."""
+
+    def __init__(self, line: LineFolder, said: list[tuple[str, str]]) -> None:
+        self.line, self.said, self.is_running, self.have_said = line, said, True, False
+
+    def drain(self, gives_up: bool = False) -> None:
+        self.have_said = True
+        with files.opened(self.line.desk) as database:
+            for said in self.said:
+                database.execute(ACCEPT, said)
+
+    def stop(self) -> None:
+        self.is_running = False
+
+    def start(self, pieces: int = 0) -> float:
+        """A tool that was killed starts nothing."""
+        self.is_running |= not isinstance(sys.exc_info()[1], Killed)
+        return 0
+
+
+class NewTables:
+    """The desk that goes on from a sealed file."""
+
+    def __init__(self, work: Path, is_low: bool) -> None:
+        self.path = work / "new"
+
+    def begin(self, file: sealed.Sealed) -> None:
+        files.desk(self.path, mark=file.digits)
+
+    def take(self, file: sealed.Sealed, end: Path) -> None:
+        with sealed.opened(end) as old:
+            rows = copies.rows(old, BEHIND, file.commands)
+        with files.opened(self.path) as database:
+            for row in rows:
+                database.execute(ACCEPT, row)
+
+
+def rolled_over(line: LineFolder, *said: tuple[str, str]) -> Senders:
+    """Rolls a line over, whose desk accepts this meanwhile: its UniqueIDs and texts."""
+    service = Senders(line, [*said])
+
+    def made(work: Path) -> sealed.Sealed:
+        sealing.copied_stopped(line.desk, work / "desk", audit)
+        return sealing.put(line, work / "desk")
+
+    with mock.patch.object(plant, "is_open", lambda _: bool(said)):
+        rollover.roll_over(line, service, made, NewTables, False)
+    return service

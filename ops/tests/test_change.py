@@ -1,0 +1,292 @@
+"""Restores: what they say beforehand, what they keep, and what is there after a kill."""
+from __future__ import annotations
+
+import contextlib
+import os
+import pathlib
+import shutil
+import sqlite3
+import subprocess
+import sys
+
+import pytest
+
+from lab import files
+from lab.folders import CALLS, audit, line_of, rolled_over, seal
+from lab.killed import killed_at
+from tracedesk_ops import change, copies, lineage, plant, sealed
+from tracedesk_ops.line import LineFolder
+
+Path = pathlib.Path
+
+HOLDER = """
+import fcntl, sys
+file = open(sys.argv[1], "r+b")
+fcntl.lockf(file, fcntl.LOCK_EX, 512, 1 << 30)
+print("held", flush=True)
+sys.stdin.read()
+"""
+
+
+def restored(line: LineFolder, file: sealed.Sealed) -> change.RestorePlan:
+    its = change.plan(line, file)
+    change.restore(line, its, audit)
+    return its
+
+
+def uids(file: Path) -> list[str]:
+    with contextlib.closing(sqlite3.connect(file)) as database:
+        return [uid for (uid,) in database.execute("SELECT uid FROM accepted ORDER BY number")]
+
+
+def with_log(line: LineFolder, uid: str) -> None:
+    """The desk has its last command in its log alone, as after SIGTERM."""
+    with sqlite3.connect(line.desk) as database:
+        database.execute("PRAGMA journal_mode = WAL")
+        database.execute("INSERT INTO accepted SELECT 2, ?, 'S', 0, 2, 'PartDefined\tb', ''", [uid])
+        database.commit()
+        for tail in ("", "-wal"):
+            shutil.copyfile(f"{line.desk}{tail}", f"{line.path}/copy{tail}")
+    database.close()
+    for tail in ("", "-wal"):
+        os.replace(f"{line.path}/copy{tail}", f"{line.desk}{tail}")
+    assert copies.log_of(line.desk)
+
+
+def test_a_restore_does_what_was_said_and_keeps_the_desk(folder: Path) -> None:
+    line = line_of(folder / "L1", "a")
+    older = seal(line)
+    seal(line, "b")
+    files.accept(line.desk, ["c"])
+    before = {path: path.read_bytes() for path in line.path.rglob("*") if path.is_file()}
+    its = change.plan(line, older)
+    assert before == {path: path.read_bytes() for path in line.path.rglob("*") if path.is_file()}
+    assert its.commands == 3 and [lacked.commands for lacked in its.lacked] == [2]
+    change.restore(line, its, audit)
+    assert uids(line.desk) == ["a"] and uids(line.lost / its.taken_off) == ["a", "b", "c"]
+    assert line.desk.stat().st_mode & 0o777 == 0o600
+    seal(line, "d")
+    found = lineage.of(line)
+    assert not found.faults and [lacked.commands for lacked in found.lacked] == [2]
+
+
+def test_the_log_of_the_desk_is_kept_and_never_next_to_another_one(folder: Path) -> None:
+    line = line_of(folder / "L1", "a")
+    older = seal(line)
+    with_log(line, "b")
+    its = restored(line, older)
+    assert not copies.logs_of(line.desk) and uids(line.desk) == ["a"]
+    assert uids(line.lost / its.taken_off) == ["a", "b"] and its.lacked[0].commands == 1
+
+
+def test_a_desk_that_cant_be_read_is_kept_with_its_log_and_is_a_fault(folder: Path) -> None:
+    line = line_of(folder / "L1", "a")
+    older = seal(line)
+    line.desk.write_bytes(b"no database" * 1000)
+    log = b"no log" * 1000
+    Path(f"{line.desk}-wal").write_bytes(log)
+    its = restored(line, older)
+    assert its.commands is None and "can't be read" in its.text()
+    lost = line.lost / its.taken_off
+    assert lost.read_bytes() == b"no database" * 1000
+    assert Path(f"{lost}-wal").read_bytes() == log
+    assert uids(line.desk) == ["a"] and not copies.logs_of(line.desk)
+    seal(line, "b")
+    assert any(str(lost) in fault for fault in lineage.of(line).faults)
+
+
+def test_a_line_without_a_desk_gets_one_and_one_that_lacks_nothing_leaves_nothing(
+    folder: Path,
+) -> None:
+    line = line_of(folder / "L1", "a")
+    newest = seal(line, "b")
+    restored(line, newest)
+    assert not [*line.lost.iterdir()]
+    line.desk.unlink()
+    its = restored(line, change.chosen(line, ""))
+    assert not its.taken_off and uids(line.desk) == ["a", "b"]
+
+
+def test_what_was_taken_off_can_be_restored_itself(folder: Path) -> None:
+    line = line_of(folder / "L1", "a")
+    older = seal(line)
+    files.accept(line.desk, ["b"])
+    first = restored(line, older)
+    seal(line, "c")
+    second = restored(line, change.chosen(line, first.taken_off))
+    assert uids(line.desk) == ["a", "b"]
+    assert [path.name for path in line.lost.iterdir()] == [second.taken_off]
+    found = lineage.of(line)
+    assert found.chain[-1].path.name == first.taken_off and not found.faults
+    assert [lacked.commands for lacked in found.lacked] == [1]
+
+
+def test_behind_a_restored_file_are_its_archives(folder: Path) -> None:
+    line = line_of(folder / "L1", "a")
+    rolled_over(line)
+    newest = seal(line, "b")
+    archive = lineage.of(line).chain[0]
+    files.accept(line.desk, ["c"])
+    its = restored(line, newest)
+    assert [lacked.commands for lacked in its.lacked] == [1]
+    archive.path.unlink()
+    with pytest.raises(lineage.Missing, match=archive.digits):
+        change.plan(line, newest)
+
+
+def test_a_restore_that_is_killed_at_any_call_loses_nothing(folder: Path) -> None:
+    calls: list[str] = []
+    number = 0
+    while len(calls) == number:
+        number += 1
+        line = line_of(folder / f"L{number}", "a")
+        older = seal(line)
+        with_log(line, "b")
+        its = change.plan(line, older)
+        with killed_at(number, CALLS) as calls:
+            change.restore(line, its, audit)
+        assert not copies.log_of(line.desk) or uids(line.desk) == ["a", "b"]
+        there = uids(line.desk)
+        assert there == ["a", "b"] or uids(line.lost / its.taken_off) == ["a", "b"]
+        restored(line, older)
+        assert uids(line.desk) == ["a"] and not line.work.exists()
+        seal(line, "c")
+        found = lineage.of(line)
+        assert not found.faults and [lacked.commands for lacked in found.lacked] == [1]
+        seal(line, "b")
+        assert not lineage.of(line).lacked
+    assert number > 10
+
+
+def test_a_kill_before_the_rename_leaves_nothing_that_the_next_seal_finds_lost(
+    folder: Path,
+) -> None:
+    calls: list[str] = []
+    number = 0
+    while len(calls) == number:
+        number += 1
+        line = line_of(folder / f"L{number}", "a")
+        older = seal(line)
+        files.accept(line.desk, ["b"])
+        its = change.plan(line, older)
+        with killed_at(number, CALLS) as calls:
+            change.restore(line, its, audit)
+        if uids(line.desk) == ["a", "b"]:
+            made = seal(line)
+            found = lineage.of(line)
+            assert found.chain == [made] and not found.faults and not found.lost
+
+
+def test_the_desk_of_the_plan_is_taken_off_and_no_other(folder: Path) -> None:
+    line = line_of(folder / "L1", "a")
+    older = seal(line)
+    its = change.plan(line, older)
+    files.accept(line.desk, ["b"])
+    with pytest.raises(change.NotChanged, match="planned for"):
+        change.restore(line, its, audit)
+    assert uids(line.desk) == ["a", "b"] and not [*line.lost.iterdir()]
+
+
+def test_a_desk_that_runs_is_not_restored(folder: Path) -> None:
+    line = line_of(folder / "L1", "a")
+    older = seal(line)
+    files.accept(line.desk, ["b"])
+    its = change.plan(line, older)
+    words = [sys.executable, "-c", HOLDER, str(line.desk)]
+    with subprocess.Popen(words, stdin=subprocess.PIPE, stdout=subprocess.PIPE) as run:
+        assert run.stdout and run.stdout.readline()
+        with pytest.raises(change.NotChanged, match="stop the line's service"):
+            change.plan(line, older)
+        with pytest.raises(copies.InUse):
+            change.restore(line, its, audit)
+        run.communicate()
+    assert uids(line.desk) == ["a", "b"] and not [*line.lost.iterdir()]
+
+
+def test_a_file_that_the_audit_refuses_is_not_restored(folder: Path) -> None:
+    line = line_of(folder / "L1", "a")
+    its = change.plan(line, seal(line))
+    with pytest.raises(change.NotChanged, match="take another file"):
+        change.restore(line, its, lambda file: 7)
+    with pytest.raises(plant.Fault, match="no audit"):
+        change.restore(line, its, refused)
+    assert uids(line.desk) == ["a"] and not line.work.exists()
+
+
+def refused(file: Path) -> int:
+    raise plant.Fault("no audit")
+
+
+def test_a_name_that_several_files_have_is_no_choice(folder: Path) -> None:
+    line = line_of(folder / "L1", "a")
+    made = [seal(line), *(seal(line, f"b-{number}") for number in range(16))]
+    with pytest.raises(change.NotChanged, match="0 files"):
+        change.chosen(line, "no-such")
+    twice = next(it.digits[0] for it in made if sum(it.digits[0] == o.digits[0] for o in made) > 1)
+    with pytest.raises(change.NotChanged, match="name one of them"):
+        change.chosen(line, twice)
+    assert change.chosen(line, str(made[3].path)) == made[3]
+
+
+# --- A folder of 1.0.0
+
+
+def old_folder(folder: Path) -> Path:
+    """An older line that was rolled over twice and restored once: b is in no file of its chain."""
+    folder.mkdir()
+    old = files.line(folder, ["a"])
+    files.roll_over(old)
+    copied = files.copy(old, folder / "copy")
+    files.accept(old.desk, ["b"])
+    files.restore(old, copied)
+    files.accept(old.desk, ["c"])
+    files.roll_over(old)
+    files.accept(old.desk, ["d"])
+    return folder
+
+
+def test_a_folder_of_an_older_release_is_taken_over(folder: Path) -> None:
+    old = old_folder(folder / "old")
+    before = {path: path.read_bytes() for path in old.rglob("*") if path.is_file()}
+    (folder / "L1").mkdir()
+    line = LineFolder(folder / "L1")
+    made = change.take_over(line, old, audit)
+    assert before == {path: path.read_bytes() for path in old.rglob("*") if path.is_file()}
+    found = lineage.of(line)
+    assert not found.faults and found.chain[-1] == made and len(found.chain) == 3
+    assert [lacked.commands for lacked in found.lacked] == [1] and len(found.lost) == 1
+    assert line.desk.read_bytes() == made.path.read_bytes() and not line.work.exists()
+    with pytest.raises(change.NotChanged, match="has a desk"):
+        change.take_over(line, old, audit)
+    seal(line, "b")
+    assert not lineage.of(line).lacked
+
+
+def test_without_an_archive_nothing_is_taken_over_until_it_is_back(folder: Path) -> None:
+    old = old_folder(folder / "old")
+    (folder / "L1").mkdir()
+    line = LineFolder(folder / "L1")
+    archive = next(path for path in sorted((old / "archive").iterdir()) if path.is_file())
+    archive.rename(folder / "away")
+    with pytest.raises(change.NotChanged, match="is missing"):
+        change.take_over(line, old, audit)
+    assert not line.desk.exists()
+    (folder / "away").rename(archive)
+    change.take_over(line, old, audit)
+    assert not lineage.of(line).faults
+
+
+def test_a_take_over_that_is_killed_at_any_call_is_called_again(folder: Path) -> None:
+    old, number = old_folder(folder / "old"), 0
+    calls: list[str] = []
+    while len(calls) == number:
+        number += 1
+        (folder / f"L{number}").mkdir()
+        line = LineFolder(folder / f"L{number}")
+        with killed_at(number, CALLS) as calls:
+            change.take_over(line, old, audit)
+        if not line.desk.exists():
+            change.take_over(line, old, audit)
+        found = lineage.of(line)
+        assert not found.faults and len(found.chain) == 3 and len(found.lacked) == 1
+    assert number > 15

@@ -1,0 +1,210 @@
+"""Each unit of the packages on a fresh Debian 12, with a real request, and its journal: what is
+packaged is run as packaged. By its name it comes after the other files of the installed Debian:
+what was untraced stays with the desk, and their restores and recalls would name it.
+"""
+import datetime
+import json
+import re
+import shlex
+from typing import Callable, Iterator
+
+import pytest
+from lab import ROOT
+from lab.installed import archives_of, metrics_of
+from lab.machine import ARCHIVE, COPIES, URL, Machine, part
+from lab.waits import wait_for
+from test_installed_line import CLOCK_ALONE
+
+pytestmark = [pytest.mark.root, pytest.mark.xdist_group("machine")]
+
+WRONG = re.compile(
+    r"Traceback|\w*Error\b|Errno|denied|not permitted|Failed with result|nobody foresaw"
+)
+ANNA = "--user anna:anna-pass --cacert /etc/tracedesk/server.crt"
+PAGE = """
+cd /etc/tracedesk
+printf 'anna:%s\\n' "$(openssl passwd -6 anna-pass)" > recallers
+chown root:www-data recallers; chmod 640 recallers
+systemctl enable --now tracedesk-recall-page tracedesk-recall-work
+systemctl reload nginx
+"""
+ASK = f"curl -sS -o /tmp/body -w '%{{http_code}} %{{redirect_url}}' {ANNA}"
+PAPERS = {
+    "recall.pdf": b"%PDF",
+    "recall.xlsx": b"PK",
+    "evidence.zip": b"PK",
+    "boards.csv": b"board",
+}
+
+
+@pytest.fixture
+def journal(machine: Machine) -> Iterator[Callable[[str], None]]:
+    """Looks at what a unit said since the test began."""
+    machine.shell("sleep 1")  # the journal's times are seconds
+    since = machine.shell("date '+%F %T'").strip()
+
+    def look(unit: str) -> None:
+        said = machine.shell(f"journalctl --unit {unit} --since '{since}' --output cat --no-pager")
+        wrong = [line for line in said.splitlines() if WRONG.search(line)]
+        assert not wrong, f"{unit} said:\n{said}"
+
+    yield look
+
+
+def state_of(machine: Machine, unit: str) -> list[str]:
+    """The result of a unit's last run, and how often it was started again by itself."""
+    return machine.shell(f"systemctl show -P Result -P NRestarts {unit}").split()
+
+
+def ran(machine: Machine, unit: str) -> None:
+    """Runs a unit that ends, as its timer does."""
+    machine.shell(f"systemctl reset-failed {unit} 2> /dev/null || true; systemctl start {unit}")
+    assert state_of(machine, unit)[0] == "success"
+
+
+def test_no_unit_is_left_out(machine: Machine) -> None:
+    """Each has a test here by its name."""
+    units = machine.shell("cd /lib/systemd/system; ls tracedesk*.service").split()
+    packaged = {path.name for path in (ROOT / "packaging").glob("tracedesk*.service")}
+    assert set(units) == packaged
+    names = [name.removesuffix(".service").removesuffix("@") for name in units]
+    tests = {name.replace("-", "_") for name in names}
+    assert tests == {name.removeprefix("test_") for name in globals() if name[5:] in tests}
+
+
+def test_tracedesk(machine: Machine, journal: Callable[[str], None]) -> None:
+    """A message, by the proxy."""
+    assert machine.post("each-unit") == "200"
+    journal("tracedesk")
+
+
+def test_tracedesk_send(machine: Machine, journal: Callable[[str], None]) -> None:
+    """A file of a message, from its folder to the desk's answer."""
+    at = "/var/lib/tracedesk-send/m1"
+    machine.write(f"{part('each-send')}\n", "/tmp/each.tmp")
+    machine.shell(f"cp /tmp/each.tmp {at}/out/each.tmp; mv {at}/out/each.tmp {at}/out/each.jsonl")
+    answered = f"grep -h each-send {at}/spool/answers/*.jsonl 2> /dev/null || true"
+    wait_for("the answer", lambda: "Accepted" in machine.shell(answered))
+    journal("tracedesk-send@m1")
+
+
+def test_tracedesk_backup(machine: Machine, journal: Callable[[str], None]) -> None:
+    before = machine.shell(f"ls {COPIES}").split()
+    ran(machine, "tracedesk-backup")
+    (new,) = set(machine.shell(f"ls {COPIES}").split()) - set(before)
+    machine.wait_for_desk()
+    machine.shell(f"cd {COPIES}/{new}; sha256sum --check --quiet SHA256SUMS")
+    journal("tracedesk-backup")
+
+
+def test_tracedesk_chain(machine: Machine, journal: Callable[[str], None]) -> None:
+    """The nightly check of the newest copy."""
+    archives_of(machine, 1)
+    machine.restart("tracedesk-backup")
+    ran(machine, "tracedesk-chain")
+    journal("tracedesk-chain")
+
+
+def test_tracedesk_rollover(machine: Machine, journal: Callable[[str], None]) -> None:
+    """As its timer calls it, but for how many pieces make it due."""
+    before = archives_of(machine, 1)
+    assert machine.post("each-rollover") == "200"
+    at = "/run/systemd/system/tracedesk-rollover.service.d"
+    call = "[Service]\nExecStart=\nExecStart=/usr/bin/tracedesk-rollover --if-due --pieces 0\n"
+    machine.write(call, f"{at}/due.conf")
+    try:
+        machine.shell("systemctl daemon-reload")
+        ran(machine, "tracedesk-rollover")
+    finally:
+        machine.shell(f"rm -r {at}; systemctl daemon-reload")
+    machine.wait_for_desk()
+    assert len(archives_of(machine, 1)) == len(before) + 1
+    journal("tracedesk-rollover")
+
+
+def test_tracedesk_watch(machine: Machine, journal: Callable[[str], None]) -> None:
+    assert metrics_of(machine)["tracedesk_up"] == "1"
+    assert state_of(machine, "tracedesk-watch")[0] == "success"
+    journal("tracedesk-watch")
+
+
+def test_tracedesk_clock(machine: Machine, journal: Callable[[str], None]) -> None:
+    """To a desk of its own, as if the machine's clock were in sync."""
+    sent = re.search(r"^\{.*", machine.shell(CLOCK_ALONE % "yes"), re.MULTILINE)
+    assert sent and json.loads(sent[0])["Answer"] == "Accepted"
+    journal("tracedesk-clock")
+
+
+@pytest.fixture
+def page(machine: Machine) -> Machine:
+    """The machine with the page of recalls."""
+    machine.shell(PAGE)
+    wait_for("the page", lambda: machine.by_client(f"{ASK} {URL}/recall/").startswith("200"))
+    return machine
+
+
+def recalled(machine: Machine, lot: str) -> str:
+    """The address of a recall's answer, once it is there."""
+    told = machine.by_client(f"{ASK} -F kind=lot -F names={lot} -F part= {URL}/recall/").split()
+    assert told[0] == "303", machine.by_client("cat /tmp/body")
+    ended = f"ls /var/lib/tracedesk-recall/{told[1].rstrip('/').rpartition('/')[2]}"
+    wait_for("the recall's end", lambda: "ended.json" in machine.shell(ended), 3600)
+    return told[1]
+
+
+def test_tracedesk_recall_page(page: Machine, journal: Callable[[str], None]) -> None:
+    """A recall from the log-in to its papers, by both units."""
+    at = recalled(page, "L-77")
+    assert page.by_client(f"{ASK} {at}").startswith("200")
+    said = page.by_client("cat /tmp/body")
+    assert 'id="answer">Complete: ' in said, re.sub(r"<[^>]*>", " ", said)
+    assert "is not installed" not in said and "too much time" not in said
+    for name, begin in PAPERS.items():
+        assert page.by_client(f"{ASK} {at}{name}").startswith("200"), name
+        assert page.by_client("head -c 9 /tmp/body").startswith(begin.decode()), name
+    again = recalled(page, "no-such-lot")  # and the next one
+    page.by_client(f"{ASK} {again}")
+    assert "none of these lines knows" in page.by_client("cat /tmp/body")
+    left = page.shell("cd /var/lib/tracedesk-recall; ls -A | grep '^.new' || true; stat -c %a 2*")
+    assert set(left.split()) == {"2770"}
+    for unit in ("tracedesk-recall-page", "tracedesk-recall-work"):
+        assert page.shell(f"systemctl is-active {unit}").strip() == "active"
+        assert state_of(page, unit) == ["success", "0"]
+        journal(unit)
+
+
+def test_tracedesk_recall_work(page: Machine, journal: Callable[[str], None]) -> None:
+    """What is no question of the page's is ended, and the next recall is run."""
+    name = f"{datetime.datetime(2020, 1, 1):%Y%m%dT%H%M%S.%fZ}-00000000"
+    folder = f"/var/lib/tracedesk-recall/{name}"
+    bad = {"kind": "lot", "names": ["L", "--program", "/x"], "part": 7, "reader": "x", "at": ""}
+    told = shlex.quote(json.dumps({**bad, "has_list": False}))
+    put = f"umask 007; mkdir {folder}; printf %s {told} > {folder}/asked.json"
+    page.shell(f"runuser -u tracedesk-recall -- sh -c {shlex.quote(put)}")
+    recalled(page, "L-77")
+    assert '"status": 2' in page.shell(f"cat {folder}/ended.json")
+    journal("tracedesk-recall-work")
+
+
+def test_tracedesk_untraced(machine: Machine, journal: Callable[[str], None]) -> None:
+    """A report that the desk refuses, from its sender to a row and a decision."""
+    machine.shell("systemctl enable --now tracedesk-untraced")
+    body = {"Machine": "no-machine", "Board": "SN-each\r"}
+    word = {"MessageName": "TraceDesk.WorkStarted", "MessageBody": body}
+    said = {**json.loads(part("each-untraced")), **word}
+    send = "tracedesk-send --url https://desk.plant --ca /etc/tracedesk/server.crt --user m1"
+    how = "--password-file /etc/tracedesk/m1.password --spool /tmp/each-spool"
+    machine.write(f"{json.dumps(said)}\n", "/tmp/each-untraced.jsonl")
+    call = f"{send} {how} --untraced {URL}/line/untraced"
+    machine.by_client(f"rm -rf /tmp/each-spool; {send} {how} --put /tmp/each-untraced.jsonl")
+    machine.by_client(f"{call} || test $? = 1")
+    row = "tracedesk-untraced list 2> /dev/null | grep SN-each || true"
+    wait_for("its row", lambda: machine.shell(row))
+    name = machine.shell(row).partition(",")[0]
+    machine.shell(
+        f"tracedesk-untraced decide {name} --by 'A. Person' --became scrapped --reason tried"
+    )
+    assert machine.shell(row) == ""
+    assert "SN-each" in machine.shell(f"cat {ARCHIVE}/untraced.csv")
+    assert state_of(machine, "tracedesk-untraced") == ["success", "0"]
+    journal("tracedesk-untraced")

@@ -1,0 +1,204 @@
+"""The subcommands that keep a line's files: what they do, what they say, and their statuses."""
+from __future__ import annotations
+
+import os
+import pathlib
+import shutil
+import sys
+
+import pytest
+
+from lab import files
+from lab.desk import Desk
+from lab.here import process_as_it_was
+from lab.messages import FIRST_LINE, part
+from tracedesk_ops import chains, cli, held, lineage, plant, sealed
+from tracedesk_ops.line import LineFolder
+
+Path = pathlib.Path
+
+
+class Called:
+    """The command, in this process."""
+
+    def __init__(self, line: LineFolder, patch: pytest.MonkeyPatch) -> None:
+        self.line, self.patch = line, patch
+
+    def ends(self, subcommand: str, *more: object) -> int:
+        words = ["tracedesk-ops", subcommand, str(self.line.path), *map(str, more)]
+        with process_as_it_was():
+            self.patch.setattr(sys, "argv", words)
+            return cli.main()
+
+    def files(self) -> list[int]:
+        return sorted(file.commands for file in lineage.of(self.line).files)
+
+
+@pytest.fixture
+def called(folder: Path, monkeypatch: pytest.MonkeyPatch) -> Called:
+    """The same of a desk without rows of state, with a stand-in for the program."""
+
+    def audit(_: plant.Program, file: Path) -> int:
+        with sealed.opened(file) as database:
+            return sealed.size(database, sealed.HISTORY)
+
+    monkeypatch.setattr(plant.Program, "audit", audit)
+    monkeypatch.setattr(plant, "chain_of", lambda _: "chain")
+    monkeypatch.setattr(chains, "asked", lambda *_: None)
+    monkeypatch.setenv("PROGRAM", "true")
+    line = LineFolder(folder / "L1")
+    line.path.mkdir()
+    files.desk(line.desk, ["a"])
+    return Called(line, monkeypatch)
+
+
+def test_seals_of_a_line_that_goes_on_end_with_0_and_three_are_kept(called: Called) -> None:
+    for number in range(6):
+        files.accept(called.line.desk, [f"b-{number}"])
+        assert called.ends("seal") == 0
+    assert called.files() == [5, 6, 7]
+    assert called.ends("check") == 0
+
+
+def test_what_a_restore_took_off_is_said_by_each_seal(
+    called: Called, capsys: pytest.CaptureFixture[str]
+) -> None:
+    called.ends("seal")
+    (older,) = lineage.of(called.line).files
+    files.accept(called.line.desk, ["b", "c"])
+    capsys.readouterr()
+    assert called.ends("restore", "--dry-run") == 4
+    planned = capsys.readouterr().out
+    assert "2 commands of S have to be sent again, the first of 1970-01-01T00:02:00Z" in planned
+    assert called.ends("restore", older.digits[:6]) == 4 and capsys.readouterr().out == planned
+    (lost,) = called.line.lost.iterdir()
+    for uid in ("d", "e", "b", "f", "g"):
+        files.accept(called.line.desk, [uid])
+        assert called.ends("seal") == 4
+        assert f"{lost}, the first of" in capsys.readouterr().err
+    assert called.ends("check") == 3
+    files.accept(called.line.desk, ["c"])
+    assert called.ends("seal") == 0 and called.ends("check") == 0
+
+
+def test_a_desk_that_was_set_back_is_said_and_nothing_goes(
+    called: Called, capsys: pytest.CaptureFixture[str]
+) -> None:
+    kept = called.line.path.with_name("snapshot")
+    shutil.copyfile(called.line.desk, kept)
+    for number in range(3):
+        files.accept(called.line.desk, [f"b-{number}"])
+        called.ends("seal")
+    shutil.copyfile(kept, called.line.desk)
+    assert called.ends("seal") == 4
+    assert "set back" in capsys.readouterr().err
+    files.accept(called.line.desk, ["c"])
+    assert called.ends("seal") == 4
+    assert "two histories" in capsys.readouterr().err
+    assert called.files() == [1, 2, 2, 3, 4]
+    assert called.ends("check") == 3
+
+
+def test_a_folder_that_another_tool_has_and_one_that_is_not_there(
+    called: Called, capsys: pytest.CaptureFixture[str]
+) -> None:
+    called.ends("seal")
+    with called.line.held():
+        assert called.ends("seal") == 3 and called.ends("check") == 3
+        assert "another tool works in" in capsys.readouterr().err
+    shutil.move(called.line.path, called.line.path.with_name("L9"))
+    with pytest.raises(SystemExit) as end:
+        called.ends("seal")
+    assert end.value.code == 2
+
+
+def test_no_desk_and_one_that_is_none(called: Called, capsys: pytest.CaptureFixture[str]) -> None:
+    called.ends("seal")
+    called.line.desk.write_bytes(b"no database" * 100)
+    assert called.ends("check") == 1
+    assert "restore the newest sealed file" in capsys.readouterr().err
+    assert called.ends("seal") == 3
+    called.line.desk.unlink()
+    assert called.ends("check") == 1
+    assert "no file" in capsys.readouterr().err
+    assert called.ends("seal") == 3
+    assert called.files() == [1]
+
+
+def test_without_room_nothing_is_begun(
+    called: Called, capsys: pytest.CaptureFixture[str], monkeypatch: pytest.MonkeyPatch
+) -> None:
+    called.ends("seal")
+    files.accept(called.line.desk, ["b"])
+    usage = shutil.disk_usage(called.line.path)
+    monkeypatch.setattr(shutil, "disk_usage", lambda _: usage._replace(free=10_000))
+    assert called.ends("seal") == 3 and called.ends("restore") == 3
+    said = capsys.readouterr().err
+    assert said.count("10,000 bytes are free") == 2 and "make room" in said
+    assert called.files() == [1] and not called.line.work.exists()
+
+
+def test_a_second_name_of_the_desk_keeps_it_from_running(
+    called: Called, capsys: pytest.CaptureFixture[str]
+) -> None:
+    called.ends("seal")
+    os.link(called.line.desk, called.line.path / "other")
+    assert called.ends("check") == 1
+    assert "another name" in capsys.readouterr().err
+
+
+def test_a_check_writes_nothing(called: Called) -> None:
+    called.ends("seal")
+    files.accept(called.line.desk, ["b"])
+    before = {path: path.stat().st_mtime_ns for path in called.line.path.rglob("*")}
+    called.ends("check")
+    assert before == {path: path.stat().st_mtime_ns for path in called.line.path.rglob("*")}
+
+
+# --- The program
+
+
+@pytest.fixture
+def served(program: Path, folder: Path) -> Desk:
+    desk = Desk(program, folder / "L1" / "desk")
+    desk.feed(FIRST_LINE)
+    desk.serve()
+    return desk
+
+
+def test_a_running_desk_is_sealed_and_checked(
+    served: Desk, monkeypatch: pytest.MonkeyPatch, capsys: pytest.CaptureFixture[str]
+) -> None:
+    monkeypatch.setenv("PROGRAM", str(served.program))
+    called = Called(LineFolder(served.file.parent), monkeypatch)
+    try:
+        for number in range(4):
+            served.accept(part(f"P{number}"))
+            assert called.ends("seal", "--port", served.port) == 0
+        assert len(called.files()) == 3
+        assert called.ends("check") == 0
+        assert called.ends("seal") == 3
+        assert "nothing says on which port" in capsys.readouterr().err
+    finally:
+        served.end()
+    assert called.ends("seal") == 0 and called.ends("check") == 0
+
+
+def test_another_desk_on_the_port_and_one_that_has_accepted_nothing(
+    served: Desk, program: Path, folder: Path, monkeypatch: pytest.MonkeyPatch
+) -> None:
+    monkeypatch.setenv("PROGRAM", str(program))
+    monkeypatch.setattr(held, "TRIES", 1)
+    called = Called(LineFolder(served.file.parent), monkeypatch)
+    other = Desk(program, folder / "L2" / "desk")
+    try:
+        other.feed([])
+        other.serve()
+        assert Called(LineFolder(other.file.parent), monkeypatch).ends("seal") == 3
+        assert called.ends("seal", "--port", other.port) == 3
+        other.accept(*FIRST_LINE)
+        assert called.ends("seal", "--port", other.port) == 3
+        assert not [*called.line.sealed.iterdir()]
+    finally:
+        served.end()
+        other.end()

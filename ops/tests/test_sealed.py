@@ -1,0 +1,306 @@
+"""Sealed files: their order, what they lack, and how a desk that is stopped gets one."""
+from __future__ import annotations
+
+import hashlib
+import os
+import pathlib
+import resource
+import shutil
+import sqlite3
+
+import pytest
+
+from lab import files
+from lab.folders import CALLS, audit, line_of, rolled_over, seal
+from lab.killed import killed_at
+from tracedesk_ops import change, copies, lineage, plant, sealed, sealing
+from tracedesk_ops.line import Busy, LineFolder
+
+Path = pathlib.Path
+
+FILES, DESCRIPTORS = 600, 256
+
+
+def restored(line: LineFolder, file: sealed.Sealed) -> Path:
+    """Where the desk is after a restore that took it off."""
+    its = change.plan(line, file)
+    change.restore(line, its, audit)
+    return line.lost / its.taken_off
+
+
+def said(line: LineFolder) -> str:
+    return "; ".join(lineage.of(line).faults)
+
+
+# --- A seal
+
+
+def test_a_seal_is_named_by_its_content_and_nobody_writes_it(folder: Path) -> None:
+    line = line_of(folder / "L1", "a", "b")
+    made = seal(line)
+    assert made.path == line.sealed / f"{made.digits}.desk"
+    assert hashlib.sha256(made.path.read_bytes()).hexdigest().startswith(made.digits)
+    assert (made.commands, made.entries, made.begun) == (2, 0, "")
+    assert made.path.stat().st_mode & 0o777 == 0o400
+    assert not line.work.exists()
+    assert seal(line) == made, "the same desk is the same file"
+
+
+def test_the_log_of_a_stopped_desk_is_sealed_with_it(folder: Path) -> None:
+    line = line_of(folder / "L1", "a")
+    with sqlite3.connect(line.desk) as database:
+        database.execute("PRAGMA journal_mode = WAL")
+        database.execute("INSERT INTO accepted VALUES (2, 'b', 'S', 0, 2, 'PartDefined\tb', '')")
+        database.commit()
+        shutil.copyfile(line.desk, folder / "copy")
+        shutil.copyfile(f"{line.desk}-wal", folder / "copy-wal")
+    database.close()
+    for tail in ("", "-wal"):
+        shutil.move(folder / f"copy{tail}", f"{line.desk}{tail}")
+    assert copies.log_of(line.desk)
+    assert sealing.seal(line, 0, audit).commands == 2
+    assert copies.log_of(line.desk), "the desk stays as it was"
+
+
+@pytest.mark.parametrize("number", [0, 3])
+def test_a_copy_that_the_audit_finds_otherwise_is_not_kept(folder: Path, number: int) -> None:
+    line = line_of(folder / "L1", "a", "b")
+    with pytest.raises(sealing.NotSealed, match="has 2 commands"):
+        sealing.seal(line, 0, lambda file: number)
+    assert not [*line.sealed.iterdir()] and not line.work.exists()
+
+
+def test_a_copy_that_the_audit_refuses_is_not_kept(folder: Path) -> None:
+    line = line_of(folder / "L1", "a", "b")
+
+    def refused(file: Path) -> int:
+        raise plant.Fault("the audit says TableDiffers")
+
+    with pytest.raises(sealing.NotSealed, match="TableDiffers"):
+        sealing.seal(line, 0, refused)
+    assert not [*line.sealed.iterdir()] and not line.work.exists()
+
+
+def test_a_seal_that_is_killed_at_any_call_leaves_a_whole_file_or_none(folder: Path) -> None:
+    calls: list[str] = []
+    number = 0
+    while len(calls) == number:
+        number += 1
+        line = line_of(folder / f"L{number}", "a")
+        first = seal(line)
+        files.accept(line.desk, ["b"])
+        with killed_at(number, CALLS) as calls:
+            sealing.seal(line, 0, audit)
+        found = lineage.of(line)
+        assert not found.faults and [file.commands for file in found.files] in ([1], [1, 2], [2, 1])
+        assert first.path in [file.path for file in found.files]
+        assert seal(line).commands == 2 and not line.work.exists()
+    assert number > 5 and {"replace", "fsync"} <= set(calls)
+
+
+def test_two_tools_at_once_and_a_folder_that_cant_be_written(folder: Path) -> None:
+    line = line_of(folder / "L1", "a")
+    with line.changed():
+        with pytest.raises(Busy):
+            sealing.seal(line, 0, audit)
+    assert seal(line).commands == 1
+
+
+# --- Order
+
+
+def test_a_history_continues_another_only_row_by_row(folder: Path) -> None:
+    """The last row, or any sample, says nothing: one command is another, in the middle."""
+    one, other = (line_of(folder / name, "a", name, "c", "d") for name in ("L1", "L2"))
+    files.accept(other.desk, ["e"])
+    older, newer = seal(one), seal(other)
+    assert not sealed.continues(newer, older)
+    assert sealed.lacked(newer, older) == sealed.RowPlace("accepted", 2)
+    assert sealed.lacked(older, newer) == sealed.RowPlace("accepted", 2)
+    assert sealed.continues(seal(one, "e"), older) and not sealed.continues(older, seal(one))
+
+
+def test_a_host_that_went_on_by_itself_is_a_fork_and_nothing_is_superfluous(folder: Path) -> None:
+    line, rig = line_of(folder / "L1", "first"), line_of(folder / "rig")
+    seal(line)
+    shutil.copyfile(line.desk, rig.desk)
+    for number in range(4):
+        seal(line, f"own-{number}")
+    made = seal(rig, "test-1")
+    assert not lineage.of(line).faults
+    assert len(lineage.superfluous(lineage.of(line).files)) == 2
+    shutil.copyfile(made.path, line.sealed / made.path.name)
+    found = lineage.of(line)
+    assert found.chain == [] and "command 2, since 1970-01-01T00:02:00Z" in said(line)
+    assert str(line.sealed / made.path.name) in said(line)
+    assert not lineage.superfluous(found.files)
+
+
+def test_two_desks_with_the_same_first_message_are_no_one_line(folder: Path) -> None:
+    line, other = line_of(folder / "L1", "setup", "a"), line_of(folder / "L2", "setup", "b")
+    seal(line)
+    shutil.copy(seal(other).path, line.sealed)
+    assert "two histories" in said(line)
+
+
+def test_files_without_a_common_command_are_of_two_desks(folder: Path) -> None:
+    line, other = line_of(folder / "L1", "a"), line_of(folder / "L2", "b")
+    seal(line)
+    shutil.copy(seal(other).path, line.sealed)
+    assert "of two desks" in said(line)
+
+
+def test_a_desk_that_was_set_back_is_told_at_its_next_seal(folder: Path) -> None:
+    line = line_of(folder / "L1", "a")
+    older = seal(line)
+    newer = seal(line, "b")
+    line.desk.unlink()
+    shutil.copyfile(older.path, line.desk)
+    found = lineage.of(line)
+    assert found.chain == [newer] and not found.faults
+    (fault,) = sealing.faults_since(seal(line), lineage.of(line))
+    assert "set back" in fault and str(newer.path) in fault
+    seal(line, "c")
+    assert "two histories" in said(line)
+
+
+def test_an_archive_that_is_missing_is_named_also_behind_what_was_taken_off(folder: Path) -> None:
+    line = line_of(folder / "L1", "a")
+    first = seal(line)
+    files.accept(line.desk, ["b"])
+    rolled_over(line)
+    archive = next(file for file in lineage.of(line).files if file.commands == 2)
+    seal(line, "c")
+    assert [file.commands for file in lineage.of(line).chain] == [2, 2]
+    archive.path.unlink()
+    assert archive.path.name in said(line)
+    restored(line, first)
+    assert archive.path.name in said(line)
+
+
+def test_a_roll_over_and_its_own_fork(folder: Path) -> None:
+    """The old desk goes on, as on a machine that wasn't told."""
+    line, rig = line_of(folder / "L1", "a"), line_of(folder / "rig")
+    shutil.copyfile(line.desk, rig.desk)
+    rolled_over(line)
+    seal(line, "b")
+    assert [file.commands for file in lineage.of(line).chain] == [1, 2]
+    shutil.copy(seal(rig, "b").path, line.sealed)
+    assert "two histories" in said(line) and "command 2" in said(line)
+
+
+# --- What is lacking
+
+
+def test_one_command_that_was_not_sent_again_is_lacking(folder: Path) -> None:
+    """What is sent again, and a message of the clock, give the last command its old number."""
+    line = line_of(folder / "L1", "a")
+    older = seal(line)
+    files.accept(line.desk, ["lost", "b", "c"])
+    lost = restored(line, older)
+    with files.opened(line.desk) as database:
+        database.execute(files.INSERT, [2, "epoch-1", "tracedesk", 2, "ClockSet"])
+        for number, uid in ((3, "b"), (4, "c")):
+            database.execute(files.INSERT, [number, uid, "S", number, f"PartDefined\t{uid}"])
+    sealing.seal(line, 0, audit)
+    found = lineage.of(line)
+    assert not found.faults and found.lacked == [lineage.Lacked(lost, "S", 1, 2)]
+    seal(line, "lost")
+    assert lineage.of(line).lacked == []
+
+
+def test_work_of_any_source_is_lacking_and_the_same_name_with_another_text_too(
+    folder: Path,
+) -> None:
+    line = line_of(folder / "L1", "a")
+    older = seal(line)
+    with files.opened(line.desk) as database:
+        database.execute(files.INSERT, [2, "x", "tracedesk", 2, "PartDefined\tx"])
+        database.execute(files.INSERT, [3, "y", "S", 3, "PartDefined\told"])
+        database.execute(files.INSERT, [4, "t", "S", 4, "ClockSet"])
+    lost = restored(line, older)
+    seal(line, "y")
+    lacked = lineage.of(line).lacked
+    assert lacked == [lineage.Lacked(lost, "S", 1, 3), lineage.Lacked(lost, "tracedesk", 1, 2)]
+
+
+def test_what_cant_be_read_in_lost_is_a_fault(folder: Path) -> None:
+    line = line_of(folder / "L1", "a")
+    older = seal(line)
+    files.accept(line.desk, ["b"])
+    lost = restored(line, older)
+    seal(line, "c")
+    lost.chmod(0o600)
+    lost.write_bytes(lost.read_bytes()[:-1])
+    assert str(lost) in said(line)
+
+
+# --- Damage
+
+
+@pytest.mark.parametrize("what", ["a bit", "its end", "all of it", "another's", "its name"])
+def test_a_changed_file_is_named(folder: Path, what: str) -> None:
+    line = line_of(folder / "L1", "a")
+    first, made = seal(line), seal(line, "b")
+    content = made.path.read_bytes()
+    other = bytes([content[0] ^ 1]) + content[1:]
+    texts = {"a bit": other, "its end": content[:-1], "all of it": b""}
+    made.path.unlink()
+    if what == "its name":
+        made = sealed.Sealed(line.sealed / "desk.desk", "", "", 0, 0)
+    made.path.write_bytes(texts.get(what, first.path.read_bytes()))
+    assert str(made.path) in said(line)
+
+
+def test_a_log_next_to_a_sealed_file_is_refused_and_nothing_is_written(folder: Path) -> None:
+    line = line_of(folder / "L1", "a")
+    made = seal(line)
+    log = Path(f"{made.path}-wal")
+    log.write_bytes(b"x" * 5000)
+    content = made.path.read_bytes()
+    assert log.name in said(line)
+    assert made.path.read_bytes() == content and log.stat().st_size == 5000
+
+
+def test_a_folder_that_is_gone_is_a_fault(folder: Path) -> None:
+    line = line_of(folder / "L1", "a")
+    seal(line)
+    shutil.rmtree(line.lost)
+    assert str(line.lost) in said(line)
+    shutil.rmtree(line.sealed)
+    assert str(line.sealed) in said(line)
+
+
+# --- Many
+
+
+def test_superfluous_are_those_that_a_newer_one_continues_but_the_newest(folder: Path) -> None:
+    line = line_of(folder / "L1", "a")
+    made = [seal(line, f"b-{number}") for number in range(5)]
+    found = lineage.of(line)
+    assert found.chain == made[-1:]
+    assert lineage.superfluous(found.files) == made[:-3]
+    rolled_over(line)
+    seal(line, "c")
+    gone = lineage.superfluous(lineage.of(line).files)
+    assert made[-1] not in gone and {file.commands for file in gone} == {2, 3, 4}
+
+
+def test_six_hundred_files_want_few_descriptors(folder: Path) -> None:
+    line = line_of(folder / "L1", "a")
+    line.sealed.mkdir()
+    line.lost.mkdir()
+    digits = ""
+    for number in range(FILES):
+        path = folder / "made"
+        files.desk(path, [f"c-{number}"], mark=digits)
+        digits = sealed.digits_of(path)
+        os.rename(path, line.sealed / sealed.name_of(digits))
+    was = resource.getrlimit(resource.RLIMIT_NOFILE)
+    resource.setrlimit(resource.RLIMIT_NOFILE, (DESCRIPTORS, was[1]))
+    try:
+        found = lineage.of(line)
+        lacked = lineage.lacking(found.chain, found.files)
+    finally:
+        resource.setrlimit(resource.RLIMIT_NOFILE, was)
+    assert len(found.chain) == FILES and not found.faults and not lacked

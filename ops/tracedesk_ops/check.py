@@ -1,0 +1,58 @@
+"""What keeps a line's desk from running, and whether its files are a chain.
+
+A file that is damaged is not explained row by row: the proved audit judges it, and the remedy is
+always to restore the newest sealed file.
+
+    check.hindrances(line.desk, program.audit)     # why the desk can't run
+    check.chain_faults("tracedesk", lineage.of(line))
+"""
+from __future__ import annotations
+
+import pathlib
+from collections.abc import Iterator
+
+from tracedesk_ops import chains, copies, files, outside, plant, sealing
+from tracedesk_ops.lineage import Lineage
+
+Path = pathlib.Path
+
+
+def hindrances(desk: Path, audit: sealing.Audit) -> list[str]:
+    """Why a desk that no run has open can't run; nothing if it can. The audit is asked only if
+    nothing else is in the way.
+    """
+    file = str(desk)
+    if nothing := outside.no_file(file):
+        return [nothing.text()]
+    found = [*outside.outside(file)]
+    if nothing := outside.no_database(file):
+        found.append(nothing)
+    return [finding.text() for finding in found] or [*unlawful(desk, audit)]
+
+
+def unlawful(desk: Path, audit: sealing.Audit) -> Iterator[str]:
+    """What the audit finds in a copy, which is made where temporary files are."""
+    with files.Room() as room:
+        plant.want_room(room, sealing.bytes_of(desk), f"a copy of {desk}: TMPDIR names another one")
+        copy = Path(room, "desk")
+        copies.copy(desk, copy)
+        try:
+            audit(copy)
+        except plant.Fault as fault:
+            remedy = f"look at the disk (journalctl --dmesg), and {outside.RESTORE}"
+            yield f"not lawful: {str(fault).replace(str(copy), f'a copy of {desk}')}: {remedy}"
+
+
+def chain_faults(program: str, found: Lineage) -> Iterator[str]:
+    """Why tracedesk-chain finds that the files are no chain."""
+    if not found.chain:
+        return
+    paths = [file.path for file in found.chain]
+    digits = [file.digits for file in found.chain]
+    if not (chain := plant.chain_of(program)):
+        yield "there is no tracedesk-chain next to tracedesk: CHAIN names it"
+        return
+    try:
+        chains.asked(chain, ["check"], paths, digits)
+    except (chains.NoAnswer, plant.Fault) as fault:
+        yield f"{paths[0].parent}: its files are no chain: {fault}. Take them from a mirror"

@@ -1,0 +1,118 @@
+"""Seals a line's desk: copies it while it stands still, has the copy audited, and names it by its
+content. A copy that fails is not kept.
+
+A running desk answers one connection at a time. So it is held by that connection for the time of
+the copy: held.py. One that is stopped is held by SQLite's lock.
+
+    made = sealing.seal(line, 8080, program.audit)
+    sealing.faults_since(made, lineage.of(line))
+"""
+from __future__ import annotations
+
+import os
+import pathlib
+import secrets
+from collections.abc import Callable
+
+from tracedesk_ops import copies, files, heads, held, lineage, model, plant, sealed, stored
+from tracedesk_ops.line import LineFolder
+from tracedesk_ops.lineage import Lineage
+from tracedesk_ops.sealed import FilesFault, Sealed
+
+Path = pathlib.Path
+Audit = Callable[[Path], int]  # how many commands a lawful file has; else a plant.Fault
+
+
+class NotSealed(FilesFault):
+    """Why there is no new sealed file. The desk goes on as before."""
+
+
+def seal(line: LineFolder, port: int, audit: Audit) -> Sealed:
+    """Seals the desk, which may run: then it answers on this port."""
+    with line.changed() as work:
+        return sealed_in(line, work, port, audit)
+
+
+def sealed_in(line: LineFolder, work: Path, port: int, audit: Audit) -> Sealed:
+    """The same within a change of the line."""
+    copy = work / "desk"
+    try:
+        plant.want_room(work, bytes_of(line.desk), f"a copy of {line.desk}")
+        if plant.is_open(line.desk):
+            copied_running(line.desk, port, copy, audit)
+        else:
+            copied_stopped(line.desk, copy, audit)
+    except (held.NoCopy, copies.InUse, heads.NoAnswer, plant.Fault) as fault:
+        raise NotSealed(f"{line.desk} was not sealed: {fault}") from fault
+    made = put(line, copy)
+    drop_found(line, made)
+    return made
+
+
+def bytes_of(desk: Path) -> int:
+    """How long a desk is, with its log."""
+    return sum(path.stat().st_size for path in (desk, *copies.logs_of(desk)))
+
+
+def copied_running(desk: Path, port: int, to: Path, audit: Audit) -> None:
+    """Copies a running desk, up to a command that this call gives it: so another desk on the port
+    is noticed.
+    """
+    if not port:
+        raise NotSealed(f"{desk} runs, and nothing says on which port it answers: say by --port")
+    if not has_minute(port):
+        raise NotSealed(f"{desk} has accepted nothing, so there is nothing to seal")
+    held.lawful(desk, port, held.new_marker, to, audit)
+    plant.without_log(to)
+
+
+def has_minute(port: int) -> bool:
+    """Whether a desk has accepted something. The first command of one sets its minute."""
+    name = f"none-{secrets.token_hex(16)}"
+    body = {"Machine": name, "Slot": "-"}
+    question = stored.line(name, model.SOURCE, heads.LAST_MINUTE, "MaterialsUnloaded", body)
+    return heads.said(port, question).get("Refusal") == "TooFarAhead"
+
+
+def copied_stopped(desk: Path, to: Path, audit: Audit) -> None:
+    """Copies a desk that no run has open, with its log."""
+    copies.copy(desk, to)
+    copies.fold(to)
+    commands = audit(to)
+    plant.without_log(to)
+    with sealed.opened(to) as database:
+        found = sealed.size(database, sealed.HISTORY)
+    if not found or found != commands:
+        raise NotSealed(f"{desk} has {found} commands, and the audit of a copy says {commands}")
+
+
+def put(line: LineFolder, made: Path) -> Sealed:
+    """Gives a file of work/ its name in sealed/, where all of it is on disk before. A file that is
+    there has the same content, or was changed: then this mends it.
+    """
+    made.chmod(0o400)
+    files.keep(made)
+    path = line.sealed / sealed.name_of(sealed.digits_of(made))
+    os.replace(made, path)
+    files.keep(line.sealed)
+    return sealed.read(path)
+
+
+def drop_found(line: LineFolder, newest: Sealed) -> None:
+    """Takes out of lost/ what this file has all of: it isn't lost. A restore that was cut off has
+    left it.
+    """
+    for file in lineage.read_all(line.lost, []):
+        if lineage.is_held(file, newest):
+            file.path.unlink()
+
+
+def faults_since(made: Sealed, found: Lineage) -> list[str]:
+    """What is wrong with the line's files once this one was sealed."""
+    faults = list(found.faults)
+    if found.chain and not sealed.continues(made, found.chain[-1]):
+        faults.append(
+            f"the desk was set back: {found.chain[-1].path} has commands that it lacks. Restore"
+            " that file, or ask the senders to send again"
+        )
+    return faults
